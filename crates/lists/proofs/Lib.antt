@@ -1,0 +1,10 @@
+pub mod Rows
+pub mod Tests
+pub mod Insert
+pub mod Stores
+pub mod Clear
+pub mod Keep
+pub mod First
+pub mod Outcomes
+pub mod Members
+pub mod Tables

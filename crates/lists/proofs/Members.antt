@@ -1,0 +1,11 @@
+-- Members of a list of numbers. Assumes nothing.
+use Prim.Native.Nat.{ℕ}
+use mathlib.Core.List.{List, [], _∷_}
+use mathlib.Core.Logic.{_⊎_, inl, inr}
+use Rattle.lists.specs.Members.{In, Fresh}
+
+-- what stands nowhere in a list is no member
+pub fresh-in : (u : ℕ) (l : List ℕ) → Fresh u l → In u l → ⊥
+fresh-in u [] f i = i
+fresh-in u (x ∷ l) f (inl e) = f .0 e
+fresh-in u (x ∷ l) f (inr i) = fresh-in u l (f .1) i

@@ -1,0 +1,38 @@
+-- Runs of stores, `sets` of `lib.Seq`: what is read back within the run and beside it. Assumes nothing.
+use mathlib.Core.Path.{_≡_, refl, sym, ap, ap₂, subst, _∙_}
+use mathlib.Core.List.{List, [], _∷_, _++_, map}
+use mathlib.Core.Bool.{Bool, true, false, cond, _||_}
+use Prim.Native.Nat.{ℕ, zero, suc, _+_, _-_, _≤_, _<_, zero-le, suc-le-suc}
+use native.Mathlib.Nat.{sub-zero, suc-sub-suc, le-of-suc-le-suc, not-suc-le-zero, sub-self, add-zero, add-suc, suc-add, zero-add}
+use native.Mathlib.Numerals.{add-one}
+use native.Mathlib.Omega.{arith}
+use lib.ListN.{length, getD, take, drop, set, replicate, length-set, length-map, length-take, drop-of-length-le}
+use mathlib.Core.Logic.{_≢_}
+use lib.Seq.{take-suc, take-suc-set, drop-cons, getD-take, append-snoc, sets, getD-set-other, getD-set-same}
+use Rattle.lists.specs.Rows.{tabulate, insertAt, insertCol, clearFrom, keepIf, firstFrom, firstIn, anyOf, anyFrom}
+
+-- ---- runs of stores
+module _ {A : Type 0} where
+  pub getD-sets-other : (l : List A) (i : ℕ) (vs : List A) (j : ℕ) (d : A) → ((k : ℕ) → k < length vs → j ≢ i + k) → getD (sets l i vs) j d ≡ getD l j d
+  getD-sets-other l i [] j d h = refl
+  getD-sets-other l i (v ∷ vs) j d h =
+      getD-sets-other (set l i v) (suc i) vs j d (λ k q e. h (suc k) (suc-le-suc q) (e ∙ suc-add i k ∙ sym (add-suc i k)))
+      ∙ getD-set-other l i j v d (λ e. h 0 (suc-le-suc zero-le) (e ∙ sym (add-zero i)))
+
+  pub getD-sets-at : (l : List A) (i : ℕ) (vs : List A) (k : ℕ) (d : A) → k < length vs → i + length vs ≤ length l → getD (sets l i vs) (i + k) d ≡ getD vs k d
+  getD-sets-at l i [] k d h q = absurd (not-suc-le-zero h)
+  getD-sets-at l i (v ∷ vs) zero d h q =
+      ap (λ (m : ℕ). getD (sets (set l i v) (suc i) vs) m d) (add-zero i)
+      ∙ getD-sets-other (set l i v) (suc i) vs i d (λ k p. omega arith)
+      ∙ getD-set-same l i v d (omega arith)
+  getD-sets-at l i (v ∷ vs) (suc k) d h q =
+      ap (λ (m : ℕ). getD (sets (set l i v) (suc i) vs) m d) (add-suc i k ∙ sym (suc-add i k))
+      ∙ getD-sets-at (set l i v) (suc i) vs k d (le-of-suc-le-suc h) (simp length-set (omega arith))
+
+  pub sets-sets : (l : List A) (i : ℕ) (vs : List A) (j : ℕ) (ws : List A) → j ≡ i + length vs → sets (sets l i vs) j ws ≡ sets l i (vs ++ ws)
+  sets-sets l i [] j ws e = ap (λ (m : ℕ). sets l m ws) (e ∙ add-zero i)
+  sets-sets l i (v ∷ vs) j ws e = sets-sets (set l i v) (suc i) vs j ws (e ∙ add-suc i (length vs) ∙ sym (suc-add i (length vs)))
+
+  -- a run of stores after another that ends where it begins is one run
+  pub sets-then : {b′ b : List A} (b₀ : List A) (i : ℕ) (vs : List A) (j : ℕ) (ws : List A) → b′ ≡ sets b j ws → b ≡ sets b₀ i vs → j ≡ i + length vs → b′ ≡ sets b₀ i (vs ++ ws)
+  sets-then b₀ i vs j ws e′ e h = e′ ∙ ap (λ (l : List A). sets l j ws) e ∙ sets-sets b₀ i vs j ws h

@@ -1,0 +1,4 @@
+pub mod Rows
+pub mod Outcome
+pub mod Members
+pub mod Tables
