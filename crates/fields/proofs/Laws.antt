@@ -1,7 +1,7 @@
 -- What is read after a store: the number stored, and beside the store what was there before. A field is its bytes, so both follow from what is known of
 -- one byte after a run of stores; the widths 16, 32 and 64 are cases of one law over the width and the byte order. Assumes nothing.
 use mathlib.Core.Path.{_≡_, refl, sym, ap, ap₂, _∙_}
-use mathlib.Core.List.{List, [], _∷_}
+use mathlib.Core.List.{List, _∷_}
 use mathlib.Core.Logic.{_≢_}
 use Prim.Native.Nat.{ℕ, zero, suc, _+_, _*_, _/_, _%_, _^_, _≤_, _<_, suc-le-suc}
 use native.Mathlib.Nat.{add-zero, add-suc, suc-add, zero-lt-suc, pow-suc, pow-succ', one-le-pow, mod-one, mod-eq-of-lt, div-div-eq-div-mul}

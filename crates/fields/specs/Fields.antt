@@ -1,12 +1,17 @@
 -- Numbers in bytes. Document 01, "Records and ceilings": "A record is a four-byte length of its payload, a two-byte kind, the payload; all little-endian."
 -- `le16`, `le32` and `le64` are the numbers of 2, 4 and 8 bytes from an offset on, the lowest byte first; `enc16`, `enc32` and `enc64` are a number's bytes.
 -- Both are the little-endian case of one pair over the byte order and the width in bytes, `numberAt` and `bytesOf`; an ELF file may ask the other order.
+-- A signed field (a relocation's "addend 8 signed", a unit's order) is the number that its word is in two's complement, as the language reads an i32 or i64.
 -- Callers use the laws of proofs/Laws.antt: `read-back` (what was stored is read), `read-in` (a field within a longer run of stores), `read-beside` (a store beside
--- a field leaves it), and these at each width: `le16-back`, `le16-in`, `le16-beside`, and so for 32 and 64.
+-- a field leaves it), these at each width, as `le16-back`, `le16-in` and `le16-beside`, and `round16`, that a number's bytes give it back; and `signed32-back` and
+-- `signed64-back` of proofs/Signed.antt.
 use Prim.Native.Nat.{ℕ, zero, suc, _+_, _*_, _/_, _%_, _^_, _<_}
 use mathlib.Core.Path.{_≡_}
 use mathlib.Core.List.{List, [], _∷_, _++_}
 use lib.ListN.{getD}
+use lib.IntN.{ℤ}
+use mir.Syntax.{w32, w64}
+use mir.Val.{toZ, ofZ}
 
 -- ---- little-endian, at the widths of the records
 
@@ -33,6 +38,24 @@ enc32 v = v % 256 ∷ v / 256 % 256 ∷ v / 65536 % 256 ∷ v / 16777216 % 256 �
 -- the 8 bytes of a number
 abbrev pub enc64 : ℕ → List ℕ
 enc64 v = enc32 (v % 4294967296) ++ enc32 (v / 4294967296)
+
+-- ---- signed numbers, in two's complement
+
+-- the number that a word of 32 bits is: v below 2 ^ 31, else v less 2 ^ 32
+abbrev pub signed32 : ℕ → ℤ
+signed32 v = toZ w32 v
+
+-- the number that a word of 64 bits is: v below 2 ^ 63, else v less 2 ^ 64
+abbrev pub signed64 : ℕ → ℤ
+signed64 v = toZ w64 v
+
+-- the word of 32 bits of a number
+abbrev pub word32 : ℤ → ℕ
+word32 z = ofZ w32 z
+
+-- the word of 64 bits of a number
+abbrev pub word64 : ℤ → ℕ
+word64 z = ofZ w64 z
 
 -- ---- any width, either order
 

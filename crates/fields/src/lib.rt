@@ -3,7 +3,7 @@ ghost use mathlib.Core.Path.{_≡_};
 ghost use Prim.Native.Nat.{_+_, _≤_, _<_};
 ghost use lib.ListN.{length};
 ghost use lib.Seq.{sets};
-ghost use Rattle.fields.specs.Fields.{le16, le32, le64, enc16, enc32, enc64, Byte};
+ghost use Rattle.fields.specs.Fields.{le16, le32, le64, enc16, enc32, enc64, signed32, signed64, word32, word64, Byte};
 
 // A byte as a number of 16 bits.
 fn byte16(s: &[u8], at: usize) -> u16
@@ -75,4 +75,76 @@ pub fn put64(b: &mut [u8], at: usize, v: u64)
 {
     put32(b, at, (v % 4294967296) as u32);
     put32(b, at + 4, (v / 4294967296) as u32);
+}
+
+// The number that a word of 32 bits is in two's complement.
+fn number32(v: u32) -> i32
+    ensures { λ r. ⌜ r ≡ signed32 v ⌝ }
+{
+    if v < 2147483648 {
+        return v as i32;
+    }
+    -1 - ((4294967295 - v) as i32)
+}
+
+// The word of 32 bits of a number.
+fn bits32(z: i32) -> u32
+    ensures { λ r. ⌜ r ≡ word32 z ⌝ }
+{
+    if z < 0 {
+        return 4294967295 - ((-1 - z) as u32);
+    }
+    z as u32
+}
+
+// The signed number of 4 bytes at `at`.
+pub fn get_i32(s: &[u8], at: usize) -> i32
+    requires { ⌜ at + 4 ≤ length (now s) ⌝ }
+    ensures { λ r. ⌜ r ≡ signed32 (le32 (now (s .entry)) at) ⌝ }
+{
+    number32(get32(s, at))
+}
+
+// Stores the word of v as 4 bytes at `at`.
+pub fn put_i32(b: &mut [u8], at: usize, v: i32)
+    requires { ⌜ at + 4 ≤ length (now b) ⌝ }
+    ensures { λ _. ⌜ now (b .exit) ≡ sets (now (b .entry)) at (enc32 (word32 v)) ⌝ }
+{
+    put32(b, at, bits32(v));
+}
+
+// The number that a word of 64 bits is in two's complement.
+fn number64(v: u64) -> i64
+    ensures { λ r. ⌜ r ≡ signed64 v ⌝ }
+{
+    if v < 9223372036854775808 {
+        return v as i64;
+    }
+    -1 - ((18446744073709551615 - v) as i64)
+}
+
+// The word of 64 bits of a number.
+fn bits64(z: i64) -> u64
+    ensures { λ r. ⌜ r ≡ word64 z ⌝ }
+{
+    if z < 0 {
+        return 18446744073709551615 - ((-1 - z) as u64);
+    }
+    z as u64
+}
+
+// The signed number of 8 bytes at `at`.
+pub fn get_i64(s: &[u8], at: usize) -> i64
+    requires { ⌜ at + 8 ≤ length (now s) ⌝ }
+    ensures { λ r. ⌜ r ≡ signed64 (le64 (now (s .entry)) at) ⌝ }
+{
+    number64(get64(s, at))
+}
+
+// Stores the word of v as 8 bytes at `at`.
+pub fn put_i64(b: &mut [u8], at: usize, v: i64)
+    requires { ⌜ at + 8 ≤ length (now b) ⌝ }
+    ensures { λ _. ⌜ now (b .exit) ≡ sets (now (b .entry)) at (enc64 (word64 v)) ⌝ }
+{
+    put64(b, at, bits64(v));
 }
