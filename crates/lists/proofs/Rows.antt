@@ -9,7 +9,7 @@ use native.Mathlib.Numerals.{add-one}
 use native.Mathlib.Omega.{arith}
 use lib.ListN.{length, getD, take, drop, set, replicate, length-set, length-map, length-take, drop-of-length-le}
 use mathlib.Core.Logic.{_≢_}
-use lib.Seq.{take-suc, take-suc-set, drop-cons, getD-take, append-snoc, sets, getD-set-other, getD-set-same}
+use lib.Seq.{take-all, take-suc, take-suc-set, drop-cons, getD-take, append-snoc, sets, getD-set-other, getD-set-same}
 use Rattle.lists.specs.Rows.{tabulate, insertAt, insertCol, clearFrom, keepIf, firstFrom, firstIn, anyOf, anyFrom}
 
 module _ {A : Type 0} (f : ℕ → A) where
@@ -80,6 +80,19 @@ module _ {A : Type 0} where
 
   pub tabulate-set : (f g : ℕ → A) (x : A) (k n : ℕ) → ((j : ℕ) → j < k → f j ≡ g j) → f k ≡ x → ((j : ℕ) → k < j → j < n → f j ≡ g j) → tabulate f 0 n ≡ set (tabulate g 0 n) k x
   tabulate-set f g x k n lo at hi = set-from f g x 0 k n (λ j h. rw zero-add (lo j h)) (rw zero-add at) (λ j a h. rw zero-add (hi j a h))
+
+-- ---- a column filled from the front: its first i places are those of the rows
+module _ {A : Type 0} (f : ℕ → A) (n : ℕ) where
+  pub fill-turn : (i : ℕ) (l : List A) (x : A) → i < n → length l ≡ n → x ≡ f i → take i l ≡ take i (tabulate f 0 n)
+      → take (i + 1) (set l i x) ≡ take (i + 1) (tabulate f 0 n)
+  fill-turn i l x h long e q =
+      let there : i < length (tabulate f 0 n) = rw (length-tabulate f 0 n) h in
+      let here : i < length l = omega arith in
+      rw (add-one, take-suc-set l i x here, take-suc (tabulate f 0 n) i x there, getD-tabulate f 0 n i x h, zero-add i, q, e)
+
+  pub fill-done : (i : ℕ) (l : List A) → n ≤ i → length l ≡ n → take i l ≡ take i (tabulate f 0 n) → l ≡ tabulate f 0 n
+  fill-done i l h long q =
+      sym (take-all i l (omega arith)) ∙ q ∙ take-all i (tabulate f 0 n) (rw (length-tabulate f 0 n) h)
 
 -- what owning an array of structs tells of its list: there the structs stand as tuples
 pub unmapped : (X Y : Type 0) (f : X → Y) (l : List X) (n : ℕ) → length (map f l) ≡ n → length l ≡ n

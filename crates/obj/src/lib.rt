@@ -5,7 +5,8 @@ ghost use mathlib.Core.Path.{_≡_};
 ghost use Prim.Native.Nat.{_+_, _<_, _≤_};
 ghost use lib.ListN.{length, getD};
 ghost use Rattle.obj.specs.Records.{sectionAt, symbolAt, relocAt, splitAt, unitAt, Held};
-ghost use Rattle.obj.specs.Answers.{word};
+ghost use Rattle.obj.specs.Answers.{word, place};
+ghost use Rattle.obj.specs.declared.Answer.the-variants.{Refused};
 use fields::get_i32;
 use fields::get_i64;
 use fields::get16;
@@ -182,6 +183,26 @@ pub fn unit_at(b: &[u8], places: &[u32], k: usize) -> Unit
     ensures { λ r. ⌜ r ≡ unitAt (now (b .entry)) (getD (now (places .entry)) k 0) ⌝ }
 {
     read_unit(b, places[k] as usize)
+}
+
+pub fn refusal(number: u16, section: u16, address: u32) -> Answer
+    ensures { λ r. ⌜ r ≡ Refused number section address ⌝ }
+{
+    Answer::Refused {
+        number,
+        section,
+        address,
+    }
+}
+
+// A record's number as the address of a refusal.
+pub fn place_of(k: usize) -> u32
+    ensures { λ r. ⌜ r ≡ place k ⌝ }
+{
+    if k < 0x1_0000_0000 {
+        return k as u32;
+    }
+    0xFFFF_FFFF
 }
 
 // What an entry answers: 0, or number, section and address of a refusal in 16, 16 and 32 bits from the top.

@@ -4,13 +4,12 @@ use mathlib.Core.Path.{_≡_, refl, sym, ap, ap₂, _∙_}
 use mathlib.Core.List.{List, [], _∷_, _++_, append-assoc, append-nil}
 use mathlib.Core.Bool.{Bool, true, false, cond}
 use Prim.Native.Nat.{ℕ, zero, suc, _+_, _*_, _/_, _%_, _-_, _≤_, _<_}
-use native.Mathlib.Nat.{le-of-suc-le-suc, not-suc-le-zero}
 use native.Mathlib.Numerals.{add-one}
 use native.Mathlib.Omega.{arith}
 use borrow.Author.Tests.{leb-true, leb-false}
 use lib.Dec.{leb}
 use lib.ListN.{length, getD, take, drop, replicate, length-append, length-replicate, length-take, drop-of-length-le}
-use lib.Seq.{sets, sets-eq, length-sets, drop-cons, take-append-le}
+use lib.Seq.{sets, sets-eq, length-sets, drop-cons, take-all, take-append-le, take-append-seam}
 use Rattle.lists.specs.Tables.{laid}
 use Rattle.lists.specs.Rows.{clearFrom}
 use Rattle.lists.proofs.Clear.{clear-is}
@@ -49,23 +48,9 @@ pub laid-after : (out bytes : List ℕ) (n : ℕ) → n ≡ length bytes → len
 laid-after out bytes n e h =
     clear-is 0 n (sets out 0 bytes)
     ∙ ap₂ (λ (t : List ℕ) (k : ℕ). t ++ replicate (k - n) 0) (ap (take n) (sets-eq bytes out 0 (omega arith))) (length-sets out 0 bytes)
-    ∙ rw (e, take-front bytes (drop (0 + length bytes) out))
-  where
-    take-front : (l r : List ℕ) → take (length l) (l ++ r) ≡ l
-    take-front [] r = refl
-    take-front (x ∷ l) r = ap (λ (t : List ℕ). x ∷ t) (take-front l r)
+    ∙ rw (e, take-append-seam bytes (drop (0 + length bytes) out))
 
 -- ---- the counts
-
-take-all : (l : List ℕ) (n : ℕ) → length l ≤ n → take n l ≡ l
-take-all [] zero h = refl
-take-all [] (suc n) h = refl
-take-all (x ∷ l) zero h = absurd (not-suc-le-zero h)
-take-all (x ∷ l) (suc n) h = ap (λ (t : List ℕ). x ∷ t) (take-all l n (le-of-suc-le-suc h))
-
--- what comes after a full part is not taken
-take-full : (l m : List ℕ) (n : ℕ) → n ≤ length l → take n (l ++ m) ≡ take n l
-take-full l m n h = take-append-le n l m h
 
 length-laid : (size : ℕ) (bytes : List ℕ) → length bytes ≤ size → length (laid size bytes) ≡ size
 length-laid size bytes h = simp (length-append, length-replicate) (omega arith)
@@ -110,11 +95,11 @@ module _ (size : ℕ) where
           ≡ laid size (halves (take (size / 2) (done ++ (c ∷ []))))
       go true e =
           let h = leb-true (2 * length done + 2) size e in
-          rw (take-all done (size / 2) (omega arith), take-all (done ++ (c ∷ [])) (size / 2) (simp length-append (omega arith)))
+          rw (take-all (size / 2) done (omega arith), take-all (size / 2) (done ++ (c ∷ [])) (simp length-append (omega arith)))
           (laid-more size done c h)
       go false e =
           let h = leb-false (2 * length done + 2) size e in
-          ap (λ (l : List ℕ). laid size (halves l)) (sym (take-full done (c ∷ []) (size / 2) (omega arith)))
+          ap (λ (l : List ℕ). laid size (halves l)) (sym (take-append-le (size / 2) done (c ∷ []) (omega arith)))
 
   more-counts : (done counts : List ℕ) → storeCounts (length done) counts (countsOf size done) ≡ countsOf size (done ++ counts)
   unfolding storeCounts
