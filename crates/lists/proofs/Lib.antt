@@ -2,6 +2,7 @@ pub mod Rows
 pub mod Tests
 pub mod Insert
 pub mod Stores
+pub mod Fill
 pub mod Clear
 pub mod Keep
 pub mod First

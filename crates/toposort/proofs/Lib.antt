@@ -1,0 +1,13 @@
+pub mod Edges
+pub mod Chains
+pub mod Climb
+pub mod Moves
+pub mod Nodes
+pub mod Safe
+pub mod Seen
+pub mod Rights
+pub mod Steps
+pub mod Theorems
+pub mod Walk
+pub mod Sorting
+pub mod Cases
