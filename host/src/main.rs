@@ -1,0 +1,104 @@
+//! The test host: calls the entries of libentries.a over the C convention beside
+//! the Rust that they port, and compares. README.md has the commands.
+mod bytes;
+mod c_programs;
+mod document;
+mod entries;
+mod lent;
+mod random;
+mod stored;
+mod tally;
+mod text;
+mod toposort;
+mod vast;
+
+use std::{path::Path, process::ExitCode};
+
+use oracle::answers;
+use tally::Tally;
+
+/// How one entry is checked.
+struct Entry {
+    name: &'static str,
+    /// The numbers that it can answer, 0 for accepted. Random cases and stored ones
+    /// must have each.
+    outcomes: &'static [u16],
+    /// Cases whose outcome document 01 decides by itself.
+    alone: fn(&mut Tally),
+    /// Cases made from a seed, beside the Rust.
+    beside: fn(u64, &mut Tally),
+    /// One stored line.
+    replay: fn(&str, &mut Tally) -> Result<(), String>,
+    /// The stored lines for a seed, after a description of their fields.
+    store: fn(u64) -> String,
+}
+
+const ENTRIES: [Entry; 1] = [toposort::ENTRY];
+
+const SEED: u64 = 1;
+
+const NO_SOURCES: &str = "the Rust sources were not there at the build (ORACLE_SRC)";
+
+const USAGE: &str = "\
+host [check [SEED]]   compares beside the Rust, with its stored answers, and from C
+host replay [FILE]    compares with the stored answers, or with the cases of a file
+host store [SEED]     stores the Rust's answers in stored/
+Exit: 0 nothing differs, 1 something does, 2 not done.";
+
+fn main() -> ExitCode {
+    let args: Vec<String> = std::env::args().skip(1).collect();
+    let args: Vec<&str> = args.iter().map(String::as_str).collect();
+    let seed = args.get(1).map_or(Ok(SEED), |word| word.parse());
+    match (args.as_slice(), seed) {
+        ([] | ["check"] | ["check", _], Ok(seed)) => compare(|tally| check(seed, tally)),
+        (["replay"], _) => compare(replay),
+        (["replay", file], _) => compare(|tally| stored::replay_file(Path::new(file), &[], tally)),
+        (["store"] | ["store", _], Ok(seed)) => store(seed),
+        _ => not_done(USAGE),
+    }
+}
+
+fn not_done(why: &str) -> ExitCode {
+    eprintln!("{why}");
+    ExitCode::from(2)
+}
+
+/// Compares, and writes the last line.
+fn compare(all: impl FnOnce(&mut Tally)) -> ExitCode {
+    let mut tally = Tally::default();
+    all(&mut tally);
+    println!("host: {} compared, {} differ", tally.compared, tally.differ);
+    ExitCode::from((tally.differ > 0) as u8)
+}
+
+fn check(seed: u64, tally: &mut Tally) {
+    for entry in &ENTRIES {
+        (entry.alone)(tally);
+        if answers::PRESENT {
+            (entry.beside)(seed, tally);
+        }
+    }
+    if !answers::PRESENT {
+        println!("{NO_SOURCES}: its stored answers are all that is compared with");
+    }
+    replay(tally);
+    c_programs::run(tally);
+}
+
+fn replay(tally: &mut Tally) {
+    for entry in &ENTRIES {
+        stored::replay(entry, tally);
+    }
+}
+
+fn store(seed: u64) -> ExitCode {
+    if !answers::PRESENT {
+        return not_done(&format!("{NO_SOURCES}: nothing is stored"));
+    }
+    for entry in &ENTRIES {
+        if let Err(e) = stored::store(entry, seed) {
+            return not_done(&format!("stored/{}.txt: {e}", entry.name));
+        }
+    }
+    ExitCode::SUCCESS
+}

@@ -1,0 +1,90 @@
+/*
+ * The entries of libentries.a, for C and C++ on x86-64 Linux.
+ *
+ * Tables. Every table is plain bytes: its records one after another, little-endian, packed, without a header. A pointer may
+ * have any alignment.
+ *
+ * Lending. Each table is lent for one call, as a pointer and a length in bytes. The pointer must not be NULL, even where the
+ * length is 0, and the whole length must be readable, for an output also writable. NO TWO LENT TABLES OF ONE CALL MAY
+ * OVERLAP, and nothing else may write to them during the call: an entry can't see either. There is no other duty: every
+ * content and every length has an answer.
+ *
+ * Inputs are never written. An accepted output holds its records, and then zeros to the end of the lent bytes. After a
+ * refusal every output is zeros throughout, unless the refusal says otherwise (61).
+ *
+ * Counts. Each entry with outputs is lent `counts` last: for each output before it, in order, how many records it holds, a
+ * number of two bytes. `counts` is cut to what is lent: a number for which fewer than two bytes are left is not written, and
+ * lent bytes without a number are zeros. Being short is never a reason to refuse.
+ */
+#ifndef MIZHAKKON_H
+#define MIZHAKKON_H
+
+#include <stddef.h>
+#include <stdint.h>
+
+#ifdef __cplusplus
+extern "C" {
+#endif
+
+/*
+ * Answers. 0 is accepted. Any other answer is a refusal: its number in the upper 16 bits, then its place, a section in 16
+ * bits and an address in 32 bits.
+ */
+#define MIZHAKKON_ACCEPTED ((uint64_t)0)
+
+static inline uint16_t mizhakkon_number(uint64_t answer)
+{
+    return (uint16_t)(answer >> 48);
+}
+
+static inline uint16_t mizhakkon_section(uint64_t answer)
+{
+    return (uint16_t)(answer >> 32);
+}
+
+static inline uint32_t mizhakkon_address(uint64_t answer)
+{
+    return (uint32_t)answer;
+}
+
+/* Refusals. */
+#define MIZHAKKON_CUT 1        /* a table isn't whole records; address: how many whole ones it has, at most 0xFFFFFFFF */
+#define MIZHAKKON_TOO_MANY 2   /* a count above its ceiling; address: the first record too many */
+#define MIZHAKKON_CYCLE 61     /* the edges hold a cycle */
+#define MIZHAKKON_NO_NODE 62   /* an edge from or to no node; address: the edge's number */
+#define MIZHAKKON_NO_ROOM 76   /* an output table has fewer places than are needed */
+
+/* Ceilings. */
+#define MIZHAKKON_MAX_NODES 1024
+#define MIZHAKKON_MAX_EDGES 2048
+
+/*
+ * Sorts nodes so that every edge goes from an earlier to a later node, or finds a cycle.
+ *
+ *   nodes      how many nodes there are; they have the numbers 0 to nodes - 1
+ *   edges      records of 4 bytes: from 2, to 2
+ *   out_nodes  out: records of 2 bytes, a node each, in order
+ *   counts     out: the number of records in out_nodes
+ *
+ * Of the possible orders it is that of a depth-first search that takes the nodes by number and a node's edges as they
+ * stand in the table: when the last edge of a node is done, the node is put before all that were put so far.
+ *
+ * Refused, the first that holds:
+ *   2   at (0, 1024)   more than 1,024 nodes
+ *   1   at (0, n)      edges_len is no multiple of 4; n whole edges
+ *   2   at (0, 2048)   more than 2,048 edges
+ *   62  at (0, n)      edge n, the first such, is from or to a number that is no node's
+ *   76  at (0, 0)      out_nodes has fewer places than there are nodes
+ *   61  at (0, 0)      a cycle: out_nodes holds its nodes, each with an edge to the next and the last with one to the first,
+ *                      then zeros, and counts holds its length
+ */
+uint64_t toposort(uint32_t nodes,
+                  const uint8_t *edges, size_t edges_len,
+                  uint8_t *out_nodes, size_t out_nodes_len,
+                  uint8_t *counts, size_t counts_len);
+
+#ifdef __cplusplus
+}
+#endif
+
+#endif
