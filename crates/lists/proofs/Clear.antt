@@ -28,7 +28,7 @@ module _ {A : Type 0} (z : A) where
   clear-done zero (x ∷ l) h = absurd (not-suc-le-zero h)
   clear-done (suc k) (x ∷ l) h = ap (λ (t : List A). x ∷ t) (clear-done k l (le-of-suc-le-suc h))
 
-  clear-all : (l : List A) → clearFrom z 0 l ≡ replicate (length l) z
+  pub clear-all : (l : List A) → clearFrom z 0 l ≡ replicate (length l) z
   unfolding clearFrom
   clear-all [] = refl
   clear-all (x ∷ l) = ap (λ (t : List A). z ∷ t) (clear-all l)

@@ -83,16 +83,14 @@ module _ {A : Type 0} where
 
 -- ---- a column filled from the front: its first i places are those of the rows
 module _ {A : Type 0} (f : ℕ → A) (n : ℕ) where
-  pub fill-turn : (i : ℕ) (l : List A) (x : A) → i < n → length l ≡ n → x ≡ f i → take i l ≡ take i (tabulate f 0 n)
+  pub fill-turn : (i : ℕ) (l : List A) (x : A) → i < n → i < length l → x ≡ f i → take i l ≡ take i (tabulate f 0 n)
       → take (i + 1) (set l i x) ≡ take (i + 1) (tabulate f 0 n)
-  fill-turn i l x h long e q =
+  fill-turn i l x h here e q =
       let there : i < length (tabulate f 0 n) = rw (length-tabulate f 0 n) h in
-      let here : i < length l = omega arith in
       rw (add-one, take-suc-set l i x here, take-suc (tabulate f 0 n) i x there, getD-tabulate f 0 n i x h, zero-add i, q, e)
 
-  pub fill-done : (i : ℕ) (l : List A) → n ≤ i → length l ≡ n → take i l ≡ take i (tabulate f 0 n) → l ≡ tabulate f 0 n
-  fill-done i l h long q =
-      sym (take-all i l (omega arith)) ∙ q ∙ take-all i (tabulate f 0 n) (rw (length-tabulate f 0 n) h)
+  pub fill-done : (i : ℕ) (l : List A) → i ≡ n → take i l ≡ take i (tabulate f 0 n) → take n l ≡ tabulate f 0 n
+  fill-done i l e q = rw e at q ∙ take-all n (tabulate f 0 n) (rw (length-tabulate f 0 n) (omega arith))
 
 -- what owning an array of structs tells of its list: there the structs stand as tuples
 pub unmapped : (X Y : Type 0) (f : X → Y) (l : List X) (n : ℕ) → length (map f l) ≡ n → length l ≡ n
