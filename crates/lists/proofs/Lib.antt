@@ -9,3 +9,5 @@ pub mod First
 pub mod Outcomes
 pub mod Members
 pub mod Tables
+pub mod FirstIn
+pub mod Some

@@ -36,6 +36,17 @@ module _ {A : Type 0} (f : ℕ → A) where
   getD-tabulate i (suc n) zero d h = ap f (sym (add-zero i))
   getD-tabulate i (suc n) (suc k) d h = getD-tabulate (suc i) n k d (le-of-suc-le-suc h) ∙ ap f (suc-add i k ∙ sym (add-suc i k))
 
+  -- one row more
+  tabulate-suc : (i n : ℕ) → tabulate f i (suc n) ≡ tabulate f i n ++ (f (i + n) ∷ [])
+  unfolding tabulate
+  tabulate-suc i zero = ap (λ (k : ℕ). f k ∷ []) (sym (add-zero i))
+  tabulate-suc i (suc n) =
+      ap (λ (l : List A). f i ∷ l)
+      (tabulate-suc (suc i) n ∙ ap (λ (k : ℕ). tabulate f (suc i) n ++ (f k ∷ [])) (suc-add i n ∙ sym (add-suc i n)))
+
+  pub tabulate-more : (n : ℕ) → tabulate f 0 (n + 1) ≡ tabulate f 0 n ++ (f n ∷ [])
+  tabulate-more n = ap (tabulate f 0) (add-one n) ∙ tabulate-suc 0 n ∙ ap (λ (k : ℕ). tabulate f 0 n ++ (f k ∷ [])) (zero-add n)
+
 -- rows f are rows g with x at place p, where they agree so at each place
 module _ {A : Type 0} where
   pub tabulate-ext : (f g : ℕ → A) (i j n : ℕ) → ((k : ℕ) → k < n → f (i + k) ≡ g (j + k)) → tabulate f i n ≡ tabulate g j n

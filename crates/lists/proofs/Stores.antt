@@ -1,14 +1,14 @@
 -- Runs of stores, `sets` of `lib.Seq`: what is read back within the run and beside it. Assumes nothing.
 use mathlib.Core.Path.{_≡_, refl, sym, ap, ap₂, subst, _∙_}
-use mathlib.Core.List.{List, [], _∷_, _++_, map}
+use mathlib.Core.List.{List, [], _∷_, _++_, map, append-assoc}
 use mathlib.Core.Bool.{Bool, true, false, cond, _||_}
 use Prim.Native.Nat.{ℕ, zero, suc, _+_, _-_, _≤_, _<_, zero-le, suc-le-suc}
 use native.Mathlib.Nat.{sub-zero, suc-sub-suc, le-of-suc-le-suc, not-suc-le-zero, sub-self, add-zero, add-suc, suc-add, zero-add}
 use native.Mathlib.Numerals.{add-one}
 use native.Mathlib.Omega.{arith}
-use lib.ListN.{length, getD, take, drop, set, replicate, length-set, length-map, length-take, drop-of-length-le}
+use lib.ListN.{length, getD, take, drop, set, replicate, length-set, length-map, length-take, length-drop, take-append-drop, drop-of-length-le}
 use mathlib.Core.Logic.{_≢_}
-use lib.Seq.{take-suc, take-suc-set, drop-cons, getD-take, append-snoc, sets, getD-set-other, getD-set-same}
+use lib.Seq.{take-suc, take-suc-set, drop-cons, getD-take, append-snoc, sets, sets-eq, length-take-le, take-append-le, take-append-seam, drop-append-le, drop-at, getD-set-other, getD-set-same}
 use Rattle.lists.specs.Rows.{tabulate, insertAt, insertCol, clearFrom, keepIf, firstFrom, firstIn, anyOf, anyFrom}
 
 -- ---- runs of stores
@@ -36,3 +36,40 @@ module _ {A : Type 0} where
   -- a run of stores after another that ends where it begins is one run
   pub sets-then : {b′ b : List A} (b₀ : List A) (i : ℕ) (vs : List A) (j : ℕ) (ws : List A) → b′ ≡ sets b j ws → b ≡ sets b₀ i vs → j ≡ i + length vs → b′ ≡ sets b₀ i (vs ++ ws)
   sets-then b₀ i vs j ws e′ e h = e′ ∙ ap (λ (l : List A). sets l j ws) e ∙ sets-sets b₀ i vs j ws h
+
+  -- a run of stores at the front stands there
+  pub take-sets : (l : List A) (vs : List A) → length vs ≤ length l → take (length vs) (sets l 0 vs) ≡ vs
+  take-sets l vs h = ap (take (length vs)) (sets-eq vs l 0 (omega arith)) ∙ take-append-seam vs (drop (0 + length vs) l)
+
+  -- a turn of a loop that stores a list, element by element
+  pub sets-turn : (l : List A) (at : ℕ) (vs : List A) (i : ℕ) (d : A) → i < length vs
+      → sets (set l (at + i) (getD vs i d)) (at + (i + 1)) (drop (i + 1) vs) ≡ sets l (at + i) (drop i vs)
+  sets-turn l at vs i d h =
+      rw (add-one, drop-cons vs i d h) (ap (λ (k : ℕ). sets (set l (at + i) (getD vs i d)) k (drop (suc i) vs)) (add-suc at i))
+
+  pub sets-ended : (l : List A) (at : ℕ) (vs : List A) (i : ℕ) → length vs ≤ i → sets l (at + i) (drop i vs) ≡ l
+  sets-ended l at vs i h = rw (drop-of-length-le vs h)
+
+  -- a part of the first of two lists
+  pub part-append : (l r : List A) (at size : ℕ) → at + size ≤ length l → take size (drop at (l ++ r)) ≡ take size (drop at l)
+  part-append l r at size h =
+      ap (take size) (drop-append-le at l r (omega arith)) ∙ take-append-le size (drop at l) r (simp length-drop (omega arith))
+
+  -- a part below a run of stores, and the run itself
+  module _ (l : List A) (i : ℕ) (vs : List A) (h : i + length vs ≤ length l) where
+    around : sets l i vs ≡ take i l ++ (vs ++ drop (i + length vs) l)
+    around = sets-eq vs l i h ∙ append-assoc (take i l) vs (drop (i + length vs) l)
+
+    pub part-below-sets : (at size : ℕ) → at + size ≤ i → take size (drop at (sets l i vs)) ≡ take size (drop at l)
+    part-below-sets at size q =
+        let long : length (take i l) ≡ i = length-take-le i l (omega arith) in
+        ap (λ (m : List A). take size (drop at m)) around
+        ∙ part-append (take i l) (vs ++ drop (i + length vs) l) at size (omega arith)
+        ∙ sym (part-append (take i l) (drop i l) at size (omega arith))
+        ∙ ap (λ (m : List A). take size (drop at m)) (take-append-drop i l)
+
+    pub part-sets : take (length vs) (drop i (sets l i vs)) ≡ vs
+    part-sets =
+        ap (λ (m : List A). take (length vs) (drop i m)) around
+        ∙ ap (take (length vs)) (drop-at (take i l) (vs ++ drop (i + length vs) l) i (length-take-le i l (omega arith)))
+        ∙ take-append-seam vs (drop (i + length vs) l)

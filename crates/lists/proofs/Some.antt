@@ -1,0 +1,20 @@
+-- Whether some element passes a test, `some`: what is left from a place on, and none left at the end. Assumes nothing.
+use mathlib.Core.Path.{_≡_}
+use mathlib.Core.List.{List}
+use mathlib.Core.Bool.{Bool, false, _||_}
+use Prim.Native.Nat.{ℕ, _+_, _≤_, _<_}
+use native.Mathlib.Numerals.{add-one}
+use lib.ListN.{length, getD, drop, drop-of-length-le}
+use lib.Seq.{drop-cons}
+use Rattle.lists.specs.Rows.{some}
+
+module _ {A : Type 0} (p : A → Bool) where
+  -- the elements from i on: element i, and those from i + 1 on
+  pub some-turn : (l : List A) (i : ℕ) (d : A) → i < length l → some p (drop i l) ≡ (p (getD l i d) || some p (drop (i + 1) l))
+  unfolding some
+  some-turn l i d h = rw (add-one, drop-cons l i d h)
+
+  -- none are left at the end
+  pub some-none : (l : List A) (i : ℕ) → length l ≤ i → some p (drop i l) ≡ false
+  unfolding some
+  some-none l i h = rw (drop-of-length-le l h)

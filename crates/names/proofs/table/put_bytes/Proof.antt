@@ -1,0 +1,66 @@
+-- `names::table::put_bytes` meets its contract. Invariant: storing the bytes that are left from here on stores them all.
+-- Assumes nothing.
+use native.Mathlib.Omega.{arith}
+use mathlib.Core.Path.{_≡_, refl, sym, _∙_}
+use Prim.Native.Nat.{_+_, _-_, _≤_}
+use native.Mathlib.Nat.{add-zero}
+use lib.ListN.{length, drop, length-set}
+use lib.Seq.{sets}
+use Rattle.lists.proofs.Stores.{sets-turn, sets-ended}
+use Rattle.names.proofs.table.put_bytes.Statement.{statement}
+use Rattle.names.proofs.table.put_bytes.Tie as tie
+
+abbrev Inv-loop : tie.InvT-loop
+Inv-loop out₀ at from i₀ out i = (i ≤ length from) × (length out ≡ length out₀) × (sets out (at + i) (drop i from) ≡ sets out₀ at from)
+
+abbrev μ-loop : tie.MeasureT-loop
+μ-loop out₀ at from i₀ out i = length from - i
+
+loop-holds : tie.Need-loop-holds Inv-loop μ-loop
+loop-holds c = (omega arith, refl, rw add-zero)
+
+shared-slice-read-out : tie.Need-shared-slice-read-out Inv-loop μ-loop
+shared-slice-read-out c = omega arith
+
+add-out : tie.Need-add-out Inv-loop μ-loop
+add-out c = omega arith
+
+slice-write-out : tie.Need-slice-write-out Inv-loop μ-loop
+slice-write-out c = omega arith
+
+add-i : tie.Need-add-i Inv-loop μ-loop
+add-i c = omega arith
+
+loop-less : tie.Need-loop-less Inv-loop μ-loop
+loop-less c = omega arith
+
+loop-again : tie.Need-loop-again Inv-loop μ-loop
+loop-again c =
+    let t = c .before in
+    let l = t .before .loop in (
+      omega arith,
+      simp length-set (l .inv .1),
+      sets-turn _ _ _ _ 0 (t .loop-test .taken) ∙ l .inv .2,
+    )
+
+same-length : tie.Need-same-length Inv-loop μ-loop
+same-length c = omega arith
+
+returns : tie.Need-returns Inv-loop μ-loop
+returns c = sym (sets-ended _ _ _ _ (c .loop-test .left)) ∙ c .before .loop .inv .2
+
+pub put-bytes-spec : {M : Type 1} → statement M
+put-bytes-spec =
+    tie.close
+    (tie.spec
+    Inv-loop
+    μ-loop
+    loop-holds
+    shared-slice-read-out
+    add-out
+    slice-write-out
+    add-i
+    loop-less
+    loop-again
+    same-length
+    returns)
