@@ -23,6 +23,21 @@ module _ {B : Type 0} (number section address : ℕ) (t : Bool) (m : Outcome B) 
   unfolding _>>_ refuse
   passes e = rw e
 
+-- a rule by itself: its refusal, or what an accepted one tells of its test
+module _ (number section address : ℕ) (t : Bool) where
+  pub refuses : t ≡ true → refuse number section address t ≡ refused number section address
+  unfolding refuse
+  refuses e = rw e
+
+  pub allows : t ≡ false → refuse number section address t ≡ accepted tt
+  unfolding refuse
+  allows e = rw e
+
+pub refuse-inv : (number section address : ℕ) (t : Bool) → refuse number section address t ≡ accepted tt → t ≡ false
+unfolding refuse
+refuse-inv number section address true e = absurd (not-both e)
+refuse-inv number section address false e = refl
+
 -- an accepted chain: each test failed, and what follows is accepted
 pub then-inv : {B : Type 0} (number section address : ℕ) (t : Bool) (m : Outcome B) (b : B)
     → (refuse number section address t >> m) ≡ accepted b → (t ≡ false) × (m ≡ accepted b)

@@ -106,3 +106,21 @@ module _ {A : Type 0} (f : ℕ → A) (n : ℕ) where
 -- what owning an array of structs tells of its list: there the structs stand as tuples
 pub unmapped : (X Y : Type 0) (f : X → Y) (l : List X) (n : ℕ) → length (map f l) ≡ n → length l ≡ n
 unmapped X Y f l n p = sym (length-map l f) ∙ p
+
+-- the rows made of a list: at a place within it, and past its end
+module _ {A B : Type 0} (f : A → B) where
+  pub getD-map : (l : List A) (k : ℕ) (d : A) (e : B) → k < length l → getD (map f l) k e ≡ f (getD l k d)
+  getD-map [] k d e h = absurd (not-suc-le-zero h)
+  getD-map (x ∷ l) zero d e h = refl
+  getD-map (x ∷ l) (suc k) d e h = getD-map l k d e (le-of-suc-le-suc h)
+
+  pub getD-map-past : (l : List A) (k : ℕ) (e : B) → length l ≤ k → getD (map f l) k e ≡ e
+  getD-map-past [] k e h = refl
+  getD-map-past (x ∷ l) zero e h = absurd (not-suc-le-zero h)
+  getD-map-past (x ∷ l) (suc k) e h = getD-map-past l k e (le-of-suc-le-suc h)
+
+-- a column of one value has it everywhere, past its end too
+pub getD-same : {A : Type 0} (n i : ℕ) (a : A) → getD (replicate n a) i a ≡ a
+getD-same zero i a = refl
+getD-same (suc n) zero a = refl
+getD-same (suc n) (suc i) a = getD-same n i a

@@ -1,7 +1,7 @@
 -- Where the two arms of a test meet, and what is known where none of several tests holds. Assumes nothing.
 use mathlib.Core.Path.{_≡_, refl, sym, ap, ap₂, subst, _∙_}
 use mathlib.Core.List.{List, [], _∷_, _++_, map}
-use mathlib.Core.Bool.{Bool, true, false, cond, _||_}
+use mathlib.Core.Bool.{Bool, true, false, cond, _&&_, _||_}
 use Prim.Native.Nat.{ℕ, zero, suc, _+_, _-_, _≤_, _<_, zero-le, suc-le-suc}
 use native.Mathlib.Nat.{sub-zero, suc-sub-suc, le-of-suc-le-suc, not-suc-le-zero, sub-self, add-zero, add-suc, suc-add, zero-add}
 use native.Mathlib.Numerals.{add-one}
@@ -37,3 +37,8 @@ pub none-of : (l : List Bool) (i : ℕ) → anyOf l ≡ false → getD l i false
 unfolding anyOf
 none-of [] i e = refl
 none-of (t ∷ l) i e = none-from-here t l i e
+
+-- not both tests hold, and the first does
+pub and-false : (a b : Bool) → (a && b) ≡ false → a ≡ true → b ≡ false
+and-false true b e h = e
+and-false false b e h = absurd (let z : _≡_ {A = ℕ} 0 1 = cc in omega arith)

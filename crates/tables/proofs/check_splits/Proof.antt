@@ -1,0 +1,54 @@
+-- `tables::check_splits` meets its contract. Invariant: no record before i has a fault.
+-- Assumes nothing.
+use Prim.Native.Nat.{_-_}
+use native.Mathlib.Omega.{arith}
+use lib.ListN.{length}
+use Rattle.tables.specs.Records.{sectionsIn, splitFault, splitsIn}
+use Rattle.tables.proofs.Loops.{Going, going, stops, goes-on, passes-all}
+use Rattle.tables.proofs.check_splits.Statement.{statement}
+use Rattle.tables.proofs.check_splits.Tie as tie
+
+abbrev Inv-loop : tie.InvT-loop
+Inv-loop lengths heads head-places b places i₀ i = Going (splitFault lengths (sectionsIn heads head-places) (splitsIn b places)) (length places) i
+
+abbrev μ-loop : tie.MeasureT-loop
+μ-loop lengths heads head-places b places i₀ i = length places - i
+
+loop-holds : tie.Need-loop-holds Inv-loop μ-loop
+loop-holds c = going
+
+split-fault-requires : tie.Need-split-fault-requires Inv-loop μ-loop
+split-fault-requires c κs = (c .before .before .before .before .before .before .before .pre .0, c .before .before .before .before .before .before .before .pre .1, c .loop-test .taken)
+
+cast-t10 : tie.Need-cast-t10 Inv-loop μ-loop
+cast-t10 c = omega (arith, c .before .before .before .before .before .before .before .before .before .pre .1 .few)
+
+returns : tie.Need-returns Inv-loop μ-loop
+returns c = stops (c .before .before .before .loop .inv) (c .before .before .loop-test .taken) (c .before .split-fault .ensures) (c .if1 .taken)
+
+add-i : tie.Need-add-i Inv-loop μ-loop
+add-i c = omega arith
+
+loop-less : tie.Need-loop-less Inv-loop μ-loop
+loop-less c = omega arith
+
+loop-again : tie.Need-loop-again Inv-loop μ-loop
+loop-again c = goes-on (c .before .before .before .loop .inv) (c .before .before .loop-test .taken) (c .before .split-fault .ensures) (c .if1 .left)
+
+returns-2 : tie.Need-returns-2 Inv-loop μ-loop
+returns-2 c = passes-all (c .before .loop .inv) (c .loop-test .left)
+
+pub check-splits-spec : {M : Type 1} → statement M
+check-splits-spec =
+    tie.close
+    (tie.spec
+    Inv-loop
+    μ-loop
+    loop-holds
+    split-fault-requires
+    cast-t10
+    returns
+    add-i
+    loop-less
+    loop-again
+    returns-2)
