@@ -30,11 +30,12 @@ pub enum Sorted {
     Short,
 }
 
-// What an open node does next: the root has opened every node, a node has passed its last edge, or the edge to a node is taken.
+// What an open node does next: the root has opened every node, a node has passed its last edge, or an edge is taken (where the node's next
+// edge is looked for then, and the node that the edge enters).
 pub enum Move {
     Finish,
     Close,
-    Take { next: usize, node: usize },
+    Take(usize, usize),
 }
 
 // The first edge from or to no node, or the number of edges.
@@ -172,19 +173,13 @@ pub fn next_move(
         if next == n {
             return Move::Finish;
         }
-        return Move::Take {
-            next: next + 1,
-            node: next,
-        };
+        return Move::Take(next + 1, next);
     }
     let e = next_edge(from, heads, chain, cur, next);
     if e == from.len() {
         return Move::Close;
     }
-    Move::Take {
-        next: e + 1,
-        node: to[e] as usize,
-    }
+    Move::Take(e + 1, to[e] as usize)
 }
 
 // All 1,025 records unseen, but the root's.
@@ -230,10 +225,7 @@ pub fn search(
                 table[left] = cur as u16;
                 cur = parent as usize;
             }
-            Move::Take {
-                next: after,
-                node: adj,
-            } => {
+            Move::Take(after, adj) => {
                 nodes[cur] = open(after, parent as usize);
                 let met = nodes[adj];
                 let met_state = met.state;
