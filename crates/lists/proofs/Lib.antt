@@ -11,3 +11,10 @@ pub mod Members
 pub mod Tables
 pub mod FirstIn
 pub mod Some
+pub mod Compare
+pub mod All
+pub mod Filter
+pub mod Sort
+pub mod Merge
+pub mod Between
+pub mod Rising

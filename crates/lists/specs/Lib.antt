@@ -2,3 +2,4 @@ pub mod Rows
 pub mod Outcome
 pub mod Members
 pub mod Tables
+pub mod Sort
