@@ -18,3 +18,4 @@ pub mod Sort
 pub mod Merge
 pub mod Between
 pub mod Rising
+pub mod Stands

@@ -1,0 +1,4 @@
+pub mod Laws
+pub mod Unique
+pub mod Parts
+pub mod Sections
