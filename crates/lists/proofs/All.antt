@@ -1,5 +1,4 @@
 -- What holds of each element of a list, `All`: of a list put together, of a part, and of the list sorted. Assumes nothing.
-use mathlib.Core.Path.{_≡_, refl}
 use mathlib.Core.List.{List, [], _∷_, _++_}
 use mathlib.Core.Bool.{Bool, true, false, cond}
 use Prim.Native.Nat.{ℕ, zero, suc, _<_}

@@ -2,7 +2,6 @@
 -- first with the higher. A binary search finds such a place by what one element's key says of it. Assumes nothing.
 use mathlib.Core.Path.{_≡_, refl, sym, ap, _∙_}
 use mathlib.Core.List.{List, [], _∷_}
-use mathlib.Core.Bool.{Bool, true, false, cond, _&&_}
 use mathlib.Core.Logic.{_⊎_, inl, inr}
 use Prim.Native.Nat.{ℕ, zero, suc, _-_, _≤_, _<_, zero-le, suc-le-suc}
 use native.Mathlib.Nat.{le-of-suc-le-suc, not-suc-le-zero, le-trans, suc-sub-suc, sub-zero}
@@ -11,7 +10,7 @@ use lib.Dec.{leb, ltb}
 use lib.ListN.{length, getD, take, drop}
 use borrow.Author.Tests.{le-leb, lt-leb, lt-ltb, le-ltb}
 use Rattle.lists.specs.Rows.{keepIf, firstIn}
-use Rattle.lists.specs.Sort.{All, each, Sorted, between, atLeast}
+use Rattle.lists.specs.Sort.{Sorted, between, atLeast}
 use Rattle.lists.proofs.Compare.{lt-or-ge, and-fails, and-holds}
 use Rattle.lists.proofs.All.{all-at, all-map}
 use Rattle.lists.proofs.Filter.{keep-same, keep-nothing}

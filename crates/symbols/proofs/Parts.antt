@@ -1,0 +1,83 @@
+-- The parts of the symbol order, told by section and address: between two keys of one section lie those of the section's symbols whose
+-- addresses pass the range's test. Assumes nothing.
+use mathlib.Core.Path.{_≡_, refl, sym, ap, subst, _∙_}
+use mathlib.Core.List.{List, []}
+use mathlib.Core.Bool.{Bool, true, not, _&&_}
+use Prim.Native.Nat.{ℕ, suc, _+_, _-_, _≤_, _<_, zero-le}
+use native.Mathlib.Omega.{arith}
+use lib.Dec.{leb, ltb, eqb}
+use lib.ListN.{length, getD, take, drop}
+use borrow.Author.Tests.{le-leb, lt-ltb}
+use Rattle.lists.specs.Rows.{keepIf, firstIn}
+use Rattle.lists.specs.Sort.{All, between, atLeast}
+use Rattle.lists.proofs.Compare.{same-leb}
+use Rattle.lists.proofs.All.{all-any, all-keep, all-sort}
+use Rattle.lists.proofs.Filter.{keep-all, keep-some}
+use Rattle.lists.proofs.Sort.{length-sort}
+use Rattle.lists.proofs.Rising.{numbers-below}
+use Rattle.lists.proofs.Between.{part-between}
+use Rattle.obj.specs.declared.Symbol.{Symbol}
+use Rattle.symbol_order.specs.Order.{symbolOf, key, keyAt, numbers, inSection, symbolsOf, Readable, Order}
+use Rattle.symbol_order.proofs.Parts.{order-sorted}
+use Rattle.symbol_order.proofs.Sections.{section-part}
+use Rattle.symbols.specs.Ranges.{symbolsBetween, symbolsThrough, symbolsBelow, hasSymbols}
+
+module _ (b places order : List ℕ) (o : Order b places order) where
+  -- the part between two places that a binary search gave
+  module _ (low high from to : ℕ) (ef : from ≡ firstIn (atLeast (keyAt b places) low) order) (et : to ≡ firstIn (atLeast (keyAt b places) high) order) where
+    pub part-some : take (to - from) (drop from order) ≡ keepIf (between (keyAt b places) low high) order
+    part-some = rw (ef, et) (part-between (keyAt b places) low high order (order-sorted b places order o))
+
+    pub part-none : to ≤ from → [] ≡ keepIf (between (keyAt b places) low high) order
+    part-none h = let z : to - from ≡ 0 = omega arith in sym (ap (λ (m : ℕ). take m (drop from order)) z) ∙ part-some
+
+  module _ (bytes : (j : ℕ) → getD b j 0 < 256) (n : ℕ) where
+    abbrev symbol : ℕ → Symbol
+    symbol = symbolOf b places
+
+    abbrev part : ℕ → ℕ → List ℕ
+    part low high = keepIf (between (keyAt b places) low high) order
+
+    pub whole-section : (low : ℕ) → low ≡ key n 0 → part low (low + 4294967296) ≡ symbolsOf symbol (length places) n
+    whole-section low e =
+        rw e (ap (part (key n 0)) (let z : key n 0 + 4294967296 ≡ key n 4294967296 = omega arith in z)
+        ∙ section-part b places order o bytes n 0 4294967296 (omega arith) (omega arith) (λ y. true)
+        (λ i h. let z : 0 ≤ symbol i .address = zero-le in rw (le-leb _ _ z, lt-ltb _ _ h))
+        ∙ keep-all (λ i. true) (symbolsOf symbol (length places) n) (all-any (λ i. refl) (symbolsOf symbol (length places) n)))
+
+    module _ (low high end : ℕ) (small : end < 4294967296) (eh : high ≡ key n end) where
+      pub below-part : low ≡ key n 0 → part low high ≡ symbolsBelow symbol (length places) n end
+      below-part el =
+          rw (el, eh) (section-part b places order o bytes n 0 end (omega arith) (omega arith) (λ y. ltb (y .address) end)
+          (λ i h. let z : 0 ≤ symbol i .address = zero-le in rw (le-leb _ _ z)))
+
+      module _ (start : ℕ) (fits : start < 4294967296) (el : low ≡ key n start) where
+        pub between-part : part low high ≡ symbolsBetween symbol (length places) n start end
+        between-part =
+            rw (el, eh) (section-part b places order o bytes n start end (omega arith) (omega arith)
+            (λ y. leb start (y .address) && ltb (y .address) end) (λ i h. refl))
+
+        pub through-part : part low (high + 1) ≡ symbolsThrough symbol (length places) n start end
+        through-part =
+            rw (el, eh) (ap (part (key n start)) (let z : key n end + 1 ≡ key n (end + 1) = omega arith in z)
+            ∙ section-part b places order o bytes n start (end + 1) (omega arith) (omega arith)
+            (λ y. leb start (y .address) && leb (y .address) end)
+            (λ i h. ap (λ (t : Bool). leb start (symbol i .address) && t) (same-leb (suc (symbol i .address)) (end + 1) (symbol i .address) end (λ q. omega arith) (λ q. omega arith))))
+
+-- what is kept of a section's symbols can be read
+pub part-readable : (b places order : List ℕ) → Order b places order → (n : ℕ) {part : List ℕ} (p : ℕ → Bool)
+    → part ≡ keepIf p (symbolsOf (symbolOf b places) (length places) n) → Readable b places part
+unfolding symbolsOf
+part-readable b places order o n p e = record {
+  whole = o .whole;
+  inside =
+      subst (λ (l : List ℕ). All (λ i. i < length places) l) (sym e)
+      (all-keep p (all-sort (λ i. symbolOf b places i .address) (all-keep (λ i. inSection n (symbolOf b places i)) (numbers-below (length places)))));
+}
+
+-- a section has a symbol exactly if its list of symbols has one
+pub has-some : (symbol : ℕ → Symbol) (count n : ℕ) → not (eqb (length (symbolsOf symbol count n)) 0) ≡ hasSymbols symbol count n
+unfolding hasSymbols symbolsOf
+has-some symbol count n =
+    ap (λ (m : ℕ). not (eqb m 0)) (length-sort (λ i. symbol i .address) (keepIf (λ i. inSection n (symbol i)) (numbers count)))
+    ∙ keep-some (λ i. inSection n (symbol i)) (numbers count)
