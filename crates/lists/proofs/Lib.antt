@@ -19,3 +19,8 @@ pub mod Merge
 pub mod Between
 pub mod Rising
 pub mod Stands
+pub mod Parts
+pub mod InsertBy
+pub mod Settle
+pub mod FilterRows
+pub mod SomeRows

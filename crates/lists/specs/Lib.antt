@@ -3,3 +3,4 @@ pub mod Outcome
 pub mod Members
 pub mod Tables
 pub mod Sort
+pub mod InsertBy
