@@ -1,0 +1,4 @@
+pub mod Alignment
+pub mod Rows
+pub mod Bytes
+pub mod Rising

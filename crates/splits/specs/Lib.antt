@@ -1,0 +1,5 @@
+pub mod Columns
+pub mod Updates
+pub mod Questions
+pub mod Bytes
+pub mod Rising
