@@ -50,3 +50,18 @@ pub bind-inv : {A B : Type 0} (m : Outcome A) (f : A → Outcome B) (b : B) → 
 unfolding _>>=_
 bind-inv (accepted a) f b e = (a, refl, e)
 bind-inv (refused number section address) f b e = absurd (not-both e)
+
+-- one outcome after another: a refusal stands, what was accepted goes on, and an accepted chain has accepted both
+module _ {w m : Outcome (Unit {0})} (said : w ≡ m) where
+  pub then-stops : {number section address : ℕ} (n : Outcome (Unit {0})) → w ≡ refused number section address → w ≡ (m >> n)
+  unfolding _>>_
+  then-stops n e = let q = sym said ∙ e in rw q e
+
+  pub then-goes : {B : Type 0} (n : Outcome B) → w ≡ accepted tt → n ≡ (m >> n)
+  unfolding _>>_
+  then-goes n e = let q = sym said ∙ e in rw q
+
+pub then-both : {B : Type 0} (m : Outcome (Unit {0})) (n : Outcome B) (b : B) → (m >> n) ≡ accepted b → (m ≡ accepted tt) × (n ≡ accepted b)
+unfolding _>>_
+then-both (accepted u) n b e = (refl, e)
+then-both (refused number section address) n b e = absurd (not-both e)
