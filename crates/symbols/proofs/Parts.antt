@@ -18,7 +18,7 @@ use Rattle.lists.proofs.Rising.{numbers-below}
 use Rattle.lists.proofs.Between.{part-between}
 use Rattle.obj.specs.declared.Symbol.{Symbol}
 use Rattle.symbol_order.specs.Order.{symbolOf, key, keyAt, numbers, inSection, symbolsOf, Readable, Order}
-use Rattle.symbol_order.proofs.Parts.{order-sorted}
+use Rattle.symbol_order.proofs.Parts.{order-sorted, readable-keep}
 use Rattle.symbol_order.proofs.Sections.{section-part}
 use Rattle.symbols.specs.Ranges.{symbolsBetween, symbolsThrough, symbolsBelow, hasSymbols}
 
@@ -64,16 +64,20 @@ module _ (b places order : List ℕ) (o : Order b places order) where
             (λ y. leb start (y .address) && leb (y .address) end)
             (λ i h. ap (λ (t : Bool). leb start (symbol i .address) && t) (same-leb (suc (symbol i .address)) (end + 1) (symbol i .address) end (λ q. omega arith) (λ q. omega arith))))
 
--- what is kept of a section's symbols can be read
+-- a section's symbols can be read, and so can what is kept of them
+module _ (b places order : List ℕ) (o : Order b places order) (n : ℕ) {part : List ℕ} where
+  pub section-readable : part ≡ symbolsOf (symbolOf b places) (length places) n → Readable b places part
+  unfolding symbolsOf
+  section-readable e = record {
+    whole = o .whole;
+    inside =
+        subst (λ (l : List ℕ). All (λ i. i < length places) l) (sym e)
+        (all-sort (λ i. symbolOf b places i .address) (all-keep (λ i. inSection n (symbolOf b places i)) (numbers-below (length places))));
+  }
+
 pub part-readable : (b places order : List ℕ) → Order b places order → (n : ℕ) {part : List ℕ} (p : ℕ → Bool)
     → part ≡ keepIf p (symbolsOf (symbolOf b places) (length places) n) → Readable b places part
-unfolding symbolsOf
-part-readable b places order o n p e = record {
-  whole = o .whole;
-  inside =
-      subst (λ (l : List ℕ). All (λ i. i < length places) l) (sym e)
-      (all-keep p (all-sort (λ i. symbolOf b places i .address) (all-keep (λ i. inSection n (symbolOf b places i)) (numbers-below (length places)))));
-}
+part-readable b places order o n {part} p e = readable-keep b places _ part (section-readable b places order o n refl) p e
 
 -- a section has a symbol exactly if its list of symbols has one
 pub has-some : (symbol : ℕ → Symbol) (count n : ℕ) → not (eqb (length (symbolsOf symbol count n)) 0) ≡ hasSymbols symbol count n

@@ -1,0 +1,6 @@
+pub mod Laws
+pub mod Zero
+pub mod Loop
+pub mod Nobits
+pub mod Cases
+pub mod Larger

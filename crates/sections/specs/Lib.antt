@@ -1,0 +1,4 @@
+pub mod Image
+pub mod Bytes
+pub mod Ends
+pub mod Alignment
