@@ -1,0 +1,4 @@
+pub mod Inserted
+pub mod Sorting
+pub mod Renaming
+pub mod Order
