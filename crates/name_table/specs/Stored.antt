@@ -19,6 +19,10 @@ nameStarts ends n = tabulate (startOf ends) 0 n
 unfoldable pub nameLengths : (ends bytes : List ℕ) → ℕ → List ℕ
 nameLengths ends bytes n = map length (stageNames ends bytes n)
 
+-- how many bytes each name of a stage's table has
+abbrev pub stageLengths : (ends bytes : List ℕ) → List ℕ
+stageLengths ends bytes = nameLengths ends bytes (length ends / 2)
+
 -- the lent columns have room for at most `most` names
 pub record Room (most : ℕ) (places lengths heads chain : List ℕ) : Type 0 where
   pub few : most ≤ 4096

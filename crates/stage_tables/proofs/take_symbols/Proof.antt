@@ -1,0 +1,74 @@
+-- `stage_tables::take_symbols` meets its contract. A refused size is the table's refusal; else the places are those of its records, and what is said of the
+-- records there is said of the table. Assumes nothing.
+use Prim.Native.Nat.{ℕ, _/_}
+use mathlib.Core.Path.{sym, ap}
+use mathlib.Core.List.{List}
+use native.Mathlib.Omega.{arith}
+use lib.ListN.{length}
+use Rattle.obj.specs.Answers.{meaning}
+use Rattle.obj.specs.Records.{stagePlaces}
+use Rattle.tables.specs.Records.{sectionsIn, symbolsIn, symbolFault}
+use Rattle.stage_tables.proofs.Laws.{size-refused, size-few, size-places, size-held, records-said}
+use borrow.Author.Needs.{needs}
+use Rattle.stage_tables.proofs.take_symbols.Statement.{statement}
+use Rattle.stage_tables.proofs.take_symbols.Tie as tie
+
+-- the fault of a record, by the places of the records
+unfoldable fault : tie.Start → List ℕ → ℕ → ℕ
+fault s p = let a = s .args in symbolFault (a .names) (sectionsIn (a .heads .now) (a .head-places .now)) (symbolsIn (a .b .now) p)
+
+fill-table-requires : tie.Need-fill-table-requires
+fill-table-requires c κs = search needs
+
+enum-told : tie.Need-enum-told
+enum-told c = search needs
+
+same-length : tie.Need-same-length
+same-length c = search needs
+
+returns : tie.Need-returns
+unfolding fault
+returns c =
+    let s = c .before .before .before .before .before .before .before .before .before .before in
+    size-refused 20 _ (s .args .b .now) _ (c .before .before .before .before .fill-table .ensures) (fault s (stagePlaces 20 (length (s .args .b .now) / 20))) (ap meaning (c .enum-told .given .1))
+
+enum-told-2 : tie.Need-enum-told-2
+enum-told-2 c = search needs
+
+slice-reshare-prefix-check-symbols : tie.Need-slice-reshare-prefix-check-symbols
+slice-reshare-prefix-check-symbols c =
+    let s = c .before .before .before .before .before .before .before .before .before .before in
+    let t = c .before .before .before .before .fill-table in
+    omega (arith, size-few 20 (s .args .ceiling) (s .args .b .now) (t .last .1 .1 .1 .0) (t .ensures) (ap meaning (c .enum-told2 .given .1)), t .kept .1 .1 .1 .0, s .pre .1 .long)
+
+slice-aggregate-check-symbols : tie.Need-slice-aggregate-check-symbols
+slice-aggregate-check-symbols c = sym (size-places 20 _ (c .before .before .before .before .before .before .before .before .before .before .before .args .b .now) _ (c .before .before .before .before .before .fill-table .ensures) (ap meaning (c .before .enum-told2 .given .1)))
+
+check-symbols-requires : tie.Need-check-symbols-requires
+check-symbols-requires c κs =
+    let s = c .before .before .before .before .before .before .before .before .before .before .before in
+    (s .pre .0, size-held 20 _ (s .args .b .now) _ (c .before .before .before .before .before .fill-table .ensures) (ap meaning (c .before .enum-told2 .given .1)) (s .pre .1 .few))
+
+same-length-2 : tie.Need-same-length-2
+same-length-2 c = search needs
+
+returns-2 : tie.Need-returns-2
+unfolding fault
+returns-2 c =
+    let s = c .before .before .before .before .before .before .before .before .before .before .before .before in
+    records-said 20 _ (s .args .b .now) _ (c .before .before .before .before .before .before .fill-table .ensures) (ap meaning (c .before .before .enum-told2 .given .1)) (fault s) (c .check-symbols .ensures)
+
+pub take-symbols-spec : {M : Type 1} → statement M
+take-symbols-spec =
+    tie.close
+    (tie.spec
+    fill-table-requires
+    enum-told
+    same-length
+    returns
+    enum-told-2
+    slice-reshare-prefix-check-symbols
+    slice-aggregate-check-symbols
+    check-symbols-requires
+    same-length-2
+    returns-2)
