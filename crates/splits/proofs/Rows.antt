@@ -2,13 +2,13 @@
 -- its four numbers' equations. Assumes nothing.
 use mathlib.Core.Path.{_≡_, refl, ap, _∙_}
 use mathlib.Core.List.{List}
-use Prim.Native.Nat.{ℕ, _+_, _*_, _/_, _%_, _<_}
+use Prim.Native.Nat.{ℕ, _+_, _*_, _/_, _%_, _≤_, _<_}
 use native.Mathlib.Omega.{arith}
 use lib.ListN.{length, getD, set, length-set}
 use lib.Seq.{getD-set-same, getD-set-other}
 use Rattle.lists.proofs.Rows.{tabulate-set}
 use Rattle.obj.specs.declared.Split.{Split}
-use Rattle.splits.specs.Columns.{alignmentOf, Good, packed, sectionIn, renameIn, flagsIn, Columns, columns, rowOf, rowAt, rows}
+use Rattle.splits.specs.Columns.{alignmentOf, Good, packed, sectionIn, renameIn, flagsIn, Columns, columns, rowOf, rowAt, rows, Long}
 use Rattle.splits.specs.Updates.{withEnd}
 
 -- ---- the packed number
@@ -87,6 +87,16 @@ same-stored a b c d k start end unit rest c₀ s =
       ends = length-set b k end ∙ s .ends;
       units = length-set c k unit ∙ s .units;
       rest = length-set d k rest ∙ s .rest;
+    }
+
+-- rows that stood in columns of the same lengths stand in these
+pub long-same : (c c₀ : Columns) (m n : ℕ) → Same c c₀ → m ≤ n → Long c₀ n → Long c m
+long-same c c₀ m n s h l =
+    record {
+      starts = omega (arith, s .starts, l .starts);
+      ends = omega (arith, s .ends, l .ends);
+      units = omega (arith, s .units, l .units);
+      rest = omega (arith, s .rest, l .rest);
     }
 
 -- ---- an end stored at place k

@@ -32,8 +32,15 @@ pub record Hit (p : Split → Bool) (c : Columns) (n from r : ℕ) : Type 0 wher
   pub past : from ≤ r
   pub small : r ≤ n
 
+-- a hand split among those that pass; one of another unit
+abbrev pub byHand : (Split → Bool) → Split → Bool
+byHand p y = p y && not (isAuto y)
+
+abbrev pub ofOther : (Split → Bool) → ℕ → Split → Bool
+ofOther p unit y = p y && (not (isAuto y) && not (eqb (y .unit) unit))
+
 -- what the rows that pass are: whether there are any, a hand split among them, a hand split of another unit among them
 pub record Meets (p : Split → Bool) (unit : ℕ) (l : List Split) (r : Met) : Type 0 where
   pub any : r .any ≡ some p l
-  pub hand : r .hand ≡ some (λ y. p y && not (isAuto y)) l
-  pub other : r .other ≡ some (λ y. p y && (not (isAuto y) && not (eqb (y .unit) unit))) l
+  pub hand : r .hand ≡ some (byHand p) l
+  pub other : r .other ≡ some (ofOther p unit) l

@@ -51,7 +51,9 @@ slice-write-units c = omega arith
 
 rest-of-requires : tie.Need-rest-of-requires Inv-loop μ-loop
 rest-of-requires c κs =
-    good-alignment (c .split-at .result .alignment) (ap (λ (s : Split). badAlign (s .alignment)) (c .split-at .ensures) ∙ c .before .before .before .before .before .before .before .before .before .pre .0 .aligned (c .before .before .loop .i) (c .before .loop-test .taken))
+    let s = c .split-at in
+    let aligned = c .before .before .before .before .before .before .before .before .before .pre .0 .aligned (c .before .before .loop .i) (c .before .loop-test .taken) in
+    good-alignment (s .result .alignment) (ap (λ (r : Split). badAlign (r .alignment)) (s .ensures) ∙ aligned)
 
 mul-rest : tie.Need-mul-rest Inv-loop μ-loop
 mul-rest c = omega arith
@@ -68,11 +70,15 @@ loop-less c = omega arith
 loop-again : tie.Need-loop-again Inv-loop μ-loop
 loop-again c =
     let l = c .before .before .before .loop in
-    let s = c .before .split-at .result in (
+    let s = c .before .split-at .result in
+    let r = c .rest-of .result in (
       omega arith,
-      same-stored (l .starts) (l .ends) (l .units) (l .rest) (l .i) (s .start) (s .end) (s .unit) (c .rest-of .result) _ (l .inv .1),
-      below-more _ _ (λ k h. row-other (l .starts) (l .ends) (l .units) (l .rest) (l .i) (s .start) (s .end) (s .unit) (c .rest-of .result) k (λ z. omega arith) ∙ l .inv .2 k h)
-          (row-stored (l .starts) (l .ends) (l .units) (l .rest) (l .i) (s .start) (s .end) (s .unit) (c .rest-of .result) (omega arith) (omega arith) (omega arith) (omega arith) ∙ c .rest-of .ensures ∙ c .before .split-at .ensures),
+      same-stored (l .starts) (l .ends) (l .units) (l .rest) (l .i) (s .start) (s .end) (s .unit) r _ (l .inv .1),
+      below-more _ _
+          (λ k h. row-other (l .starts) (l .ends) (l .units) (l .rest) (l .i) (s .start) (s .end) (s .unit) r k (λ z. omega arith) ∙ l .inv .2 k h)
+          (row-stored (l .starts) (l .ends) (l .units) (l .rest) (l .i) (s .start) (s .end) (s .unit) r (omega arith) (omega arith) (omega arith) (omega arith)
+          ∙ c .rest-of .ensures
+          ∙ c .before .split-at .ensures),
     )
 
 same-length : tie.Need-same-length Inv-loop μ-loop

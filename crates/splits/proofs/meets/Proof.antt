@@ -2,7 +2,7 @@
 -- Assumes nothing.
 use mathlib.Core.Path.{_≡_, sym, ap, ap₂, _∙_}
 use mathlib.Core.Bool.{Bool, not, _&&_, _||_}
-use Prim.Native.Nat.{_+_, _-_, _≤_}
+use Prim.Native.Nat.{ℕ, _+_, _-_, _≤_}
 use native.Mathlib.Omega.{arith}
 use lib.Dec.{eqb}
 use lib.ListN.{getD}
@@ -10,17 +10,21 @@ use Rattle.lists.specs.Rows.{tabulate, some}
 use Rattle.lists.proofs.Parts.{tabulate-all}
 use Rattle.lists.proofs.SomeRows.{some-row, some-ended}
 use Rattle.obj.specs.declared.Split.{Split}
-use Rattle.splits.specs.Columns.{columns, rowOf, rowAt, rows}
-use Rattle.splits.specs.Questions.{within, isAuto}
+use Rattle.splits.specs.Columns.{Columns, columns, rowOf, rowAt, rows}
+use Rattle.splits.specs.Questions.{within, byHand, ofOther}
 use Rattle.splits.proofs.meets.Statement.{statement}
 use Rattle.splits.proofs.meets.Tie as tie
+
+-- `seen`, or the answer of the rows from i on, is the answer of the table
+abbrev Left : Bool → (Split → Bool) → Columns → ℕ → ℕ → Type 0
+Left seen p c n i = (seen || some p (tabulate (rowAt c) i (n - i))) ≡ some p (rows c n)
 
 abbrev Inv-loop : tie.InvT-loop
 Inv-loop starts ends units rest n section from to unit any₀ hand₀ other₀ i₀ any hand other i =
     (i ≤ n)
-    × ((any || some (within section from to) (tabulate (rowAt (columns starts ends units rest)) i (n - i))) ≡ some (within section from to) (rows (columns starts ends units rest) n))
-    × ((hand || some (λ y. within section from to y && not (isAuto y)) (tabulate (rowAt (columns starts ends units rest)) i (n - i))) ≡ some (λ y. within section from to y && not (isAuto y)) (rows (columns starts ends units rest) n))
-    × ((other || some (λ y. within section from to y && (not (isAuto y) && not (eqb (y .unit) unit))) (tabulate (rowAt (columns starts ends units rest)) i (n - i))) ≡ some (λ y. within section from to y && (not (isAuto y) && not (eqb (y .unit) unit))) (rows (columns starts ends units rest) n))
+    × Left any (within section from to) (columns starts ends units rest) n i
+    × Left hand (byHand (within section from to)) (columns starts ends units rest) n i
+    × Left other (ofOther (within section from to) unit) (columns starts ends units rest) n i
 
 abbrev μ-loop : tie.MeasureT-loop
 μ-loop starts ends units rest n section from to unit any₀ hand₀ other₀ i₀ any hand other i = n - i
@@ -65,15 +69,16 @@ loop-again c =
     let a = c .before .before .before .before .before .before .before .before .before .before .before .args in
     let h = c .before .before .before .before .before .loop-test .taken in
     let f = rowAt (columns (a .starts .now) (a .ends .now) (a .units .now) (a .rest .now)) in
-    let p0 = within (a .section) (a .from) (a .to) in
-    let p1 : Split → Bool = λ y. p0 y && not (isAuto y) in
-    let p2 : Split → Bool = λ y. p0 y && (not (isAuto y) && not (eqb (y .unit) (a .unit))) in
-    let e0 = c .before .before .is-within .ensures in
-    let e1 = c .before .is-hand .ensures in (
+    let p = within (a .section) (a .from) (a .to) in
+    let inside = c .before .before .is-within .ensures in
+    let by-hand = c .before .is-hand .ensures in
+    let left : (Split → Bool) → Bool = λ q. some q (tabulate f (l .i + 1) (a .n - (l .i + 1))) in (
       omega arith,
-      ap (λ (x : Bool). (l .any || x) || some p0 (tabulate f (l .i + 1) (a .n - (l .i + 1)))) e0 ∙ some-row p0 f (a .n) (l .i) (l .any) h ∙ l .inv .1,
-      ap₂ (λ (x y : Bool). (l .hand || (x && y)) || some p1 (tabulate f (l .i + 1) (a .n - (l .i + 1)))) e0 e1 ∙ some-row p1 f (a .n) (l .i) (l .hand) h ∙ l .inv .2,
-      ap₂ (λ (x y : Bool). (l .other || (x && (y && not (eqb (getD (a .units .now) (l .i) 0) (a .unit))))) || some p2 (tabulate f (l .i + 1) (a .n - (l .i + 1)))) e0 e1 ∙ some-row p2 f (a .n) (l .i) (l .other) h ∙ l .inv .3,
+      ap (λ (x : Bool). (l .any || x) || left p) inside ∙ some-row p f (a .n) (l .i) (l .any) h ∙ l .inv .1,
+      ap₂ (λ (x y : Bool). (l .hand || (x && y)) || left (byHand p)) inside by-hand ∙ some-row (byHand p) f (a .n) (l .i) (l .hand) h ∙ l .inv .2,
+      ap₂ (λ (x y : Bool). (l .other || (x && (y && not (eqb (getD (a .units .now) (l .i) 0) (a .unit))))) || left (ofOther p (a .unit))) inside by-hand
+          ∙ some-row (ofOther p (a .unit)) f (a .n) (l .i) (l .other) h
+          ∙ l .inv .3,
     )
 
 returns : tie.Need-returns Inv-loop μ-loop

@@ -12,7 +12,11 @@ use Rattle.splits.proofs.next_of_unit.Statement.{statement}
 use Rattle.splits.proofs.next_of_unit.Tie as tie
 
 abbrev Inv-loop : tie.InvT-loop
-Inv-loop starts ends units rest n section unit at i₀ i = (at ≤ i) × (i ≤ n) × (keepIf (ofUnit section unit) (tabulate (rowAt (columns starts ends units rest)) at (n - at)) ≡ keepIf (ofUnit section unit) (tabulate (rowAt (columns starts ends units rest)) i (n - i)))
+Inv-loop starts ends units rest n section unit at i₀ i =
+    (at ≤ i)
+    × (i ≤ n)
+    × (keepIf (ofUnit section unit) (tabulate (rowAt (columns starts ends units rest)) at (n - at))
+    ≡ keepIf (ofUnit section unit) (tabulate (rowAt (columns starts ends units rest)) i (n - i)))
 
 abbrev μ-loop : tie.MeasureT-loop
 μ-loop starts ends units rest n section unit at i₀ i = n - i
@@ -41,8 +45,9 @@ returns c =
     let l = c .before .before .before .before .before .loop in
     let a = c .before .before .before .before .before .before .before .before .before .before .args in
     let h = c .before .before .before .before .loop-test .taken in
+    let f = rowAt (columns (a .starts .now) (a .ends .now) (a .units .now) (a .rest .now)) in
     record {
-      is = l .inv .2 ∙ filter-hit (ofUnit (a .section) (a .unit)) (rowAt (columns (a .starts .now) (a .ends .now) (a .units .now) (a .rest .now))) (a .n) (l .i) h (sym (c .before .is-of-unit .ensures) ∙ c .if1 .taken) ∙ rw (lt-ltb (l .i) (a .n) h);
+      is = l .inv .2 ∙ filter-hit (ofUnit (a .section) (a .unit)) f (a .n) (l .i) h (sym (c .before .is-of-unit .ensures) ∙ c .if1 .taken) ∙ rw (lt-ltb (l .i) (a .n) h);
       past = omega arith;
       small = omega arith;
     }
@@ -58,14 +63,18 @@ unfolding rowOf
 loop-again c =
     let l = c .before .before .before .before .before .loop in
     let a = c .before .before .before .before .before .before .before .before .before .before .args in
-    (omega arith, omega arith, l .inv .2 ∙ filter-miss (ofUnit (a .section) (a .unit)) (rowAt (columns (a .starts .now) (a .ends .now) (a .units .now) (a .rest .now))) (a .n) (l .i) (c .before .before .before .before .loop-test .taken) (sym (c .before .is-of-unit .ensures) ∙ c .if1 .left))
+    let f = rowAt (columns (a .starts .now) (a .ends .now) (a .units .now) (a .rest .now)) in
+    let miss = filter-miss (ofUnit (a .section) (a .unit)) f (a .n) (l .i) (c .before .before .before .before .loop-test .taken) (sym (c .before .is-of-unit .ensures) ∙ c .if1 .left) in
+    (omega arith, omega arith, l .inv .2 ∙ miss)
 
 returns-2 : tie.Need-returns-2 Inv-loop μ-loop
 returns-2 c =
     let l = c .before .loop in
     let a = c .before .before .before .before .before .before .args in
+    let h = c .loop-test .left in
+    let f = rowAt (columns (a .starts .now) (a .ends .now) (a .units .now) (a .rest .now)) in
     record {
-      is = l .inv .2 ∙ filter-none (ofUnit (a .section) (a .unit)) (rowAt (columns (a .starts .now) (a .ends .now) (a .units .now) (a .rest .now))) (a .n) (l .i) (c .loop-test .left) ∙ rw (le-ltb (l .i) (a .n) (c .loop-test .left));
+      is = l .inv .2 ∙ filter-none (ofUnit (a .section) (a .unit)) f (a .n) (l .i) h ∙ rw (le-ltb (l .i) (a .n) h);
       past = omega arith;
       small = omega arith;
     }

@@ -51,24 +51,46 @@ add-put16-2 c = search needs
 
 put16-requires-3 : tie.Need-put16-requires-3
 put16-requires-3 c κs =
+    let after-alignment = c .before .before .before in
+    let after-unit = after-alignment .before .before .before .before in
+    let after-end = after-unit .before .before .before .before in
+    let after-start = after-end .before .before .before .before in
+    let after-section = after-start .before .before .before .before in
     simp length-set
-    (omega
-    (arith, c .before .before .before .put323 .kept .0, c .before .before .before .before .before .before .before .put162 .kept .0, c .before .before .before .before .before .before .before .before .before .before .before .put322 .kept .0, c .before .before .before .before .before .before .before .before .before .before .before .before .before .before .before .put32 .kept .0, c .before .before .before .before .before .before .before .before .before .before .before .before .before .before .before .before .before .before .before .put16 .kept .0, c .before .before .before .before .before .before .before .before .before .before .before .before .before .before .before .before .before .before .before .before .before .before .pre))
+    (omega (
+      arith,
+      after-alignment .put323 .kept .0,
+      after-unit .put162 .kept .0,
+      after-end .put322 .kept .0,
+      after-start .put32 .kept .0,
+      after-section .put16 .kept .0,
+      after-section .before .before .before .pre,
+    ))
 
 -- the stores one after another are one run
 written : tie.Need-returns
 unfolding splitBytes
 written c =
-    let a = c .before .before .before .before .before .before .before .before .before .before .before .before .before .before .before .before .before .before .before .before .before .before .before .before .before .args in
+    let after-rename = c .before .before in
+    let after-alignment = after-rename .before .before .before .before in
+    let after-unit = after-alignment .before .before .before .before in
+    let after-end = after-unit .before .before .before .before in
+    let after-start = after-end .before .before .before .before in
+    let after-section = after-start .before .before .before .before in
+    let a = after-section .before .before .before .args in
     let s = a .s in
-    let at = a .at in
-    let out = a .out .now in
-    sets-then out at (enc16 (s .section) ++ enc32 (s .start) ++ enc32 (s .end) ++ enc16 (s .unit) ++ enc32 (s .alignment) ++ (s .flags ∷ [])) (at + 17) (enc16 (s .rename)) (c .before .before .put163 .ensures)
-    (sets-then out at (enc16 (s .section) ++ enc32 (s .start) ++ enc32 (s .end) ++ enc16 (s .unit) ++ enc32 (s .alignment)) (at + 16) (s .flags ∷ []) refl
-    (sets-then out at (enc16 (s .section) ++ enc32 (s .start) ++ enc32 (s .end) ++ enc16 (s .unit)) (at + 12) (enc32 (s .alignment)) (c .before .before .before .before .before .before .put323 .ensures)
-    (sets-then out at (enc16 (s .section) ++ enc32 (s .start) ++ enc32 (s .end)) (at + 10) (enc16 (s .unit)) (c .before .before .before .before .before .before .before .before .before .before .put162 .ensures)
-    (sets-then out at (enc16 (s .section) ++ enc32 (s .start)) (at + 6) (enc32 (s .end)) (c .before .before .before .before .before .before .before .before .before .before .before .before .before .before .put322 .ensures)
-    (sets-then out at (enc16 (s .section)) (at + 2) (enc32 (s .start)) (c .before .before .before .before .before .before .before .before .before .before .before .before .before .before .before .before .before .before .put32 .ensures) (c .before .before .before .before .before .before .before .before .before .before .before .before .before .before .before .before .before .before .before .before .before .before .put16 .ensures) refl) refl) refl) refl) refl) refl
+    let section = enc16 (s .section) in
+    let start = section ++ enc32 (s .start) in
+    let end = start ++ enc32 (s .end) in
+    let unit = end ++ enc16 (s .unit) in
+    let alignment = unit ++ enc32 (s .alignment) in
+    let flags = alignment ++ (s .flags ∷ []) in
+    sets-then (a .out .now) (a .at) flags (a .at + 17) (enc16 (s .rename)) (after-rename .put163 .ensures)
+    (sets-then (a .out .now) (a .at) alignment (a .at + 16) (s .flags ∷ []) refl
+    (sets-then (a .out .now) (a .at) unit (a .at + 12) (enc32 (s .alignment)) (after-alignment .put323 .ensures)
+    (sets-then (a .out .now) (a .at) end (a .at + 10) (enc16 (s .unit)) (after-unit .put162 .ensures)
+    (sets-then (a .out .now) (a .at) start (a .at + 6) (enc32 (s .end)) (after-end .put322 .ensures)
+    (sets-then (a .out .now) (a .at) section (a .at + 2) (enc32 (s .start)) (after-start .put32 .ensures) (after-section .put16 .ensures) refl) refl) refl) refl) refl) refl
 
 same-length : tie.Need-same-length
 same-length c = ap length (written c) ∙ simp length-sets

@@ -1,6 +1,6 @@
 -- `splits::row_of` meets its contract: each part of `rest` is cut out as the definition does it.
 -- Assumes nothing.
-use Rattle.splits.specs.Columns.{rowOf}
+use Rattle.splits.specs.Columns.{rowOf, sectionIn, flagsIn, renameIn}
 use borrow.Author.Needs.{needs}
 use Rattle.splits.proofs.row_of.Statement.{statement}
 use Rattle.splits.proofs.row_of.Tie as tie
@@ -19,7 +19,17 @@ cast-t15 c = search needs
 
 returns : tie.Need-returns
 unfolding rowOf
-returns c = (cc)
+returns c =
+    let a = c .before .args in
+    λ i. record {
+      section = sectionIn (a .rest);
+      start = a .start;
+      end = a .end;
+      unit = a .unit;
+      alignment = c .alignment-of .ensures i;
+      flags = flagsIn (a .rest);
+      rename = renameIn (a .rest);
+    }
 
 pub row-of-spec : {M : Type 1} → statement M
 row-of-spec = tie.close (tie.spec cast-t6 alignment-of-requires cast-t12 cast-t15 returns)
