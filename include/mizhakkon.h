@@ -50,6 +50,12 @@ static inline uint32_t mizhakkon_address(uint64_t answer)
 /* Refusals. */
 #define MIZHAKKON_CUT 1        /* a table isn't whole records; address: how many whole ones it has, at most 0xFFFFFFFF */
 #define MIZHAKKON_TOO_MANY 2   /* a count above its ceiling; address: the first record too many */
+#define MIZHAKKON_NAME 3       /* a name's byte or length; address: the record */
+#define MIZHAKKON_SECTION 4    /* a section's end, kind or name; address: the record */
+#define MIZHAKKON_SYMBOL 5     /* a symbol's section, name, kind, size known, start, end or alignment; address: the record */
+#define MIZHAKKON_RELOCATION 6 /* a relocation's kind, section, target or address; address: the record */
+#define MIZHAKKON_SPLIT 7      /* a split's names, alignment, flags, start or end; address: the record */
+#define MIZHAKKON_UNIT 8       /* a unit's name or yes-or-no byte; address: the record */
 #define MIZHAKKON_CYCLE 61     /* the edges hold a cycle */
 #define MIZHAKKON_NO_NODE 62   /* an edge from or to no node; address: the edge's number */
 #define MIZHAKKON_NO_ROOM 76   /* an output table has fewer places than are needed */
@@ -57,6 +63,13 @@ static inline uint32_t mizhakkon_address(uint64_t answer)
 /* Ceilings. */
 #define MIZHAKKON_MAX_NODES 1024
 #define MIZHAKKON_MAX_EDGES 2048
+#define MIZHAKKON_MAX_FILE 65536 /* bytes of a record file */
+#define MIZHAKKON_MAX_NAMES 4096
+#define MIZHAKKON_MAX_SECTIONS 64
+#define MIZHAKKON_MAX_SYMBOLS 4096
+#define MIZHAKKON_MAX_RELOCATIONS 4096
+#define MIZHAKKON_MAX_SPLITS 1024
+#define MIZHAKKON_MAX_UNITS 1024
 
 /*
  * Sorts nodes so that every edge goes from an earlier to a later node, or finds a cycle.
@@ -82,6 +95,25 @@ uint64_t toposort(uint32_t nodes,
                   const uint8_t *edges, size_t edges_len,
                   uint8_t *out_nodes, size_t out_nodes_len,
                   uint8_t *counts, size_t counts_len);
+
+/*
+ * Checks a record file as the run does before it starts.
+ *
+ *   file    records one after another: the length of the payload 4, a kind 2, the payload (name 1, section 2, symbol 3,
+ *           relocation 4, partial split 5, unit 6)
+ *   counts  out: how many names, sections, symbols, relocations, splits and units it has, a repeated name not counted;
+ *           zeros after a refusal
+ *
+ * A record refers only to records before it; a split's section isn't asked.
+ *
+ * Refused, the first that holds, n being the record's number in the file, from 0:
+ *   1       at (0, 0)   file_len above 65,536
+ *   1       at (0, n)   record n is cut, of unknown kind, or its payload has a length that its kind doesn't have
+ *   2       at (0, n)   one more of its kind than its ceiling
+ *   3 to 8  at (0, n)   a fault of its kind, kind + 2: name 3, section 4, symbol 5, relocation 6, split 7, unit 8
+ */
+uint64_t check_file(const uint8_t *file, size_t file_len,
+                    uint8_t *counts, size_t counts_len);
 
 #ifdef __cplusplus
 }
