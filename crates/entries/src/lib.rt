@@ -1,8 +1,11 @@
 // The stage entries over the C convention, "extern "C" on numbers and byte slices": each asks nothing of its caller, and its contract says
 // the answer and every byte of its outputs for every input. The header is include/mizhakkon.h.
+ghost use mathlib.Core.Path.{_≡_};
 ghost use lib.ListN.{length};
 ghost use Rattle.tables.specs.Tables.{mainCeilings};
 ghost use Rattle.load.specs.Load.{loadOf};
+ghost use Rattle.obj.specs.Answers.{outcomeWord};
+ghost use Rattle.entry_check_tables.specs.Entry.{tablesOf};
 ghost use Rattle.entry_toposort.specs.Entry.{toposortOf, Leaves};
 ghost use Rattle.entry_check_file.specs.Entry.{Leaves as LeavesCounts};
 
@@ -18,4 +21,31 @@ pub extern "C" fn check_file(file: &[u8], counts: &mut [u8]) -> u64
     ensures { λ r. ⌜ LeavesCounts (loadOf mainCeilings (now (file .entry))) (length (now (counts .entry))) r (now (counts .exit)) ⌝ }
 {
     entry_check_file::check_file(file, counts)
+}
+
+#[no_mangle]
+pub extern "C" fn check_tables(
+    name_ends: &[u8],
+    name_bytes: &[u8],
+    sections: &[u8],
+    section_places: &[u8],
+    image: &[u8],
+    symbols: &[u8],
+    relocations: &[u8],
+    splits: &[u8],
+    units: &[u8],
+) -> u64
+    ensures { λ r. ⌜ r ≡ outcomeWord (tablesOf (now («name_ends» .entry)) (now («name_bytes» .entry)) (now (sections .entry)) (now («section_places» .entry)) (now (image .entry)) (now (symbols .entry)) (now (relocations .entry)) (now (splits .entry)) (now (units .entry))) ⌝ }
+{
+    entry_check_tables::check_tables(
+        name_ends,
+        name_bytes,
+        sections,
+        section_places,
+        image,
+        symbols,
+        relocations,
+        splits,
+        units,
+    )
 }

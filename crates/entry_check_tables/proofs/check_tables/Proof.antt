@@ -1,0 +1,20 @@
+-- `entry_check_tables::check_tables` meets its contract: the word of what was checked.
+-- Assumes nothing.
+use mathlib.Core.Path.{ap, _∙_}
+use Rattle.obj.specs.Answers.{outcomeWord}
+use Rattle.entry_check_tables.proofs.Laws.{word-means}
+use borrow.Author.Needs.{needs}
+use Rattle.entry_check_tables.proofs.check_tables.Statement.{statement}
+use Rattle.entry_check_tables.proofs.check_tables.Tie as tie
+
+checked-requires : tie.Need-checked-requires
+checked-requires c κs = search needs
+
+word-of-requires : tie.Need-word-of-requires
+word-of-requires c κs = search needs
+
+returns : tie.Need-returns
+returns c = c .word-of .ensures ∙ word-means (c .before .checked .result) ∙ ap outcomeWord (c .before .checked .ensures)
+
+pub check-tables-spec : {M : Type 1} → statement M
+check-tables-spec = tie.close (tie.spec checked-requires word-of-requires returns)
