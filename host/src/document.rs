@@ -1,5 +1,8 @@
 //! Document 01's rules read a second time, plainly and apart from the entries'
-//! own definitions: a module for each entry.
+//! own definitions: a module for each entry, and what they share about records.
+pub mod check_file;
+pub mod check_tables;
+pub mod records;
 pub mod toposort;
 
 #[derive(Clone, Copy, Debug, Eq, PartialEq)]

@@ -2,10 +2,13 @@
 //! the Rust that they port, and compares. README.md has the commands.
 mod bytes;
 mod c_programs;
+mod check_file;
+mod check_tables;
 mod document;
 mod entries;
 mod lent;
 mod random;
+mod records;
 mod stored;
 mod tally;
 mod text;
@@ -23,26 +26,28 @@ struct Entry {
     /// The numbers that it can answer, 0 for accepted. Random cases and stored ones
     /// must have each.
     outcomes: &'static [u16],
-    /// Cases whose outcome document 01 decides by itself.
-    alone: fn(&mut Tally),
-    /// Cases made from a seed, beside the Rust.
-    beside: fn(u64, &mut Tally),
+    /// Cases whose outcome document 01 decides by itself; random ones from a seed.
+    alone: fn(u64, &mut Tally),
+    /// Cases made from a seed, beside the Rust, where it has such a function.
+    beside: Option<fn(u64, &mut Tally)>,
+    /// Who gives the stored answers.
+    answers: &'static str,
     /// One stored line.
     replay: fn(&str, &mut Tally) -> Result<(), String>,
     /// The stored lines for a seed, after a description of their fields.
     store: fn(u64) -> String,
 }
 
-const ENTRIES: [Entry; 1] = [toposort::ENTRY];
+const ENTRIES: [Entry; 3] = [toposort::ENTRY, check_file::ENTRY, check_tables::ENTRY];
 
 const SEED: u64 = 1;
 
 const NO_SOURCES: &str = "the Rust sources were not there at the build (ORACLE_SRC)";
 
 const USAGE: &str = "\
-host [check [SEED]]   compares beside the Rust, with its stored answers, and from C
+host [check [SEED]]   compares beside the Rust and document 01, with stored answers, and from C
 host replay [FILE]    compares with the stored answers, or with the cases of a file
-host store [SEED]     stores the Rust's answers in stored/
+host store [SEED]     stores the right answers in stored/
 Exit: 0 nothing differs, 1 something does, 2 not done.";
 
 fn main() -> ExitCode {
@@ -73,13 +78,13 @@ fn compare(all: impl FnOnce(&mut Tally)) -> ExitCode {
 
 fn check(seed: u64, tally: &mut Tally) {
     for entry in &ENTRIES {
-        (entry.alone)(tally);
-        if answers::PRESENT {
-            (entry.beside)(seed, tally);
+        (entry.alone)(seed, tally);
+        if let (Some(beside), true) = (entry.beside, answers::PRESENT) {
+            beside(seed, tally);
         }
     }
     if !answers::PRESENT {
-        println!("{NO_SOURCES}: its stored answers are all that is compared with");
+        println!("{NO_SOURCES}: its stored answers are all of it that is compared with");
     }
     replay(tally);
     c_programs::run(tally);

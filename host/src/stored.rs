@@ -1,4 +1,4 @@
-//! The Rust's answers in files, stored/NAME.txt for the entry NAME: a case on a
+//! Right answers in files, stored/NAME.txt for the entry NAME: a case on a
 //! line, in the form of `text`.
 use std::{
     fs, io,
@@ -14,9 +14,9 @@ fn path(entry: &Entry) -> PathBuf {
 
 pub fn store(entry: &Entry, seed: u64) -> io::Result<()> {
     let head = format!(
-        "# Answers of the Rust for the entry {name}. Seed {seed}, made in host/ by\n\
-         #   cargo run --release -- store {seed}\n\
-         # A line is a case: the entry's name, then fields, each a word and its decimal numbers:\n",
+        "# Answers of {answers} for the entry {name}. Seed {seed}, made in host/ by\n\
+         #   cargo run --release -- store {seed}\n",
+        answers = entry.answers,
         name = entry.name
     );
     fs::write(path(entry), head + &(entry.store)(seed))

@@ -21,7 +21,7 @@ impl Tally {
     }
 
     /// One comparison whose right outcome has this number (0: accepted); `note`
-    /// says what the Rust does there.
+    /// says what the Rust does there, or what the outcome rests on.
     pub fn count(&mut self, number: u16, note: &str) {
         self.compared += 1;
         *self.outcomes.entry((number, note.to_string())).or_default() += 1;
@@ -36,6 +36,13 @@ impl Tally {
             for line in lines {
                 println!("  {line}");
             }
+        }
+    }
+
+    /// A group with this note that never came up is a difference, as in `end`.
+    pub fn want(&mut self, number: u16, note: &str) {
+        if !self.outcomes.contains_key(&(number, note.to_string())) {
+            self.difference("-", &[format!("no case is {}{note}", name(number))]);
         }
     }
 

@@ -6,7 +6,7 @@ use oracle::answers::{self, Toposort};
 
 use crate::{
     Entry,
-    bytes::{half_at, hex, put_half},
+    bytes::{differing, half_at, hex, put_half},
     document::{self, toposort::Found},
     entries,
     lent::Lent,
@@ -19,7 +19,8 @@ pub const ENTRY: Entry = Entry {
     name: "toposort",
     outcomes: &[0, 1, 2, 61, 62, 76],
     alone,
-    beside,
+    beside: Some(beside),
+    answers: "the Rust",
     replay,
     store: graphs::store,
 };
@@ -121,14 +122,6 @@ fn shifts(case: &Case) -> [usize; 3] {
     [random.below(16), random.below(16), random.below(16)]
 }
 
-/// The first place where two byte strings of one length differ, and what follows it.
-fn differing(what: &str, right: &[u8], given: &[u8]) -> Option<String> {
-    let at = right.iter().zip(given).position(|(r, g)| r != g)?;
-    let end = right.len().min(at + 16);
-    let (right, given) = (hex(&right[at..end]), hex(&given[at..end]));
-    Some(format!("{what}: from byte {at} on {right} is right, given {given}"))
-}
-
 fn beside(seed: u64, tally: &mut Tally) {
     tally.begin("toposort, every graph of at most 3 nodes and 4 edges, edges to one number more");
     graphs::every_small(|graph, lengths| {
@@ -149,7 +142,7 @@ fn beside(seed: u64, tally: &mut Tally) {
 }
 
 /// Edge tables longer than any memory: only their length can be looked at.
-fn alone(tally: &mut Tally) {
+fn alone(_seed: u64, tally: &mut Tally) {
     const MANY: usize = 4 << 32;
     let Some(zeros) = vast::zeros(MANY + 8) else {
         println!("toposort, edge tables above 32 bits: not tried, the system grants no such range");

@@ -5,6 +5,7 @@ use super::{Case, edge_bytes, edges_in};
 use crate::text::{self, Field};
 
 pub const FORMAT: &str = "\
+# A line is a case: the entry's name, then fields, each a word and its decimal numbers:
 #   nodes N          how many nodes
 #   edges F T ..     the edge table: from and to of each edge
 #   cut B ..         bytes after the last whole edge (left out if there are none)
