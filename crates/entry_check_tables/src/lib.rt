@@ -63,7 +63,7 @@ fn from_symbols(
 fn from_sections(
     lengths: &[u8],
     sections: &[u8],
-    section_places: &[u8],
+    image_places: &[u8],
     image: usize,
     symbols: &[u8],
     relocations: &[u8],
@@ -74,17 +74,10 @@ fn from_sections(
     floors: &mut [u32],
 ) -> Answer
     requires { ⌜ Scratch (now heads) (now places) (now floors) ⌝ }
-    ensures { λ r. ⌜ meaning r ≡ fromSections (length (now (lengths .entry))) (now (lengths .entry)) (now (sections .entry)) (now («section_places» .entry)) image (now (symbols .entry)) (now (relocations .entry)) (now (splits .entry)) (now (units .entry)) ⌝ }
+    ensures { λ r. ⌜ meaning r ≡ fromSections (length (now (lengths .entry))) (now (lengths .entry)) (now (sections .entry)) (now («image_places» .entry)) image (now (symbols .entry)) (now (relocations .entry)) (now (splits .entry)) (now (units .entry)) ⌝ }
 {
     let most = main_ceilings();
-    let a = take_image(
-        lengths,
-        section_places,
-        image,
-        sections,
-        most.sections,
-        heads,
-    );
+    let a = take_image(lengths, image_places, image, sections, most.sections, heads);
     if let Answer::Refused { .. } = a {
         return a;
     }
@@ -135,8 +128,8 @@ fn named_tables(
 
 // All tables, with the names in lent columns.
 fn all_tables(
-    name_ends: &[u8],
-    name_bytes: &[u8],
+    ends: &[u8],
+    bytes: &[u8],
     sections: &[u8],
     section_places: &[u8],
     image: &[u8],
@@ -150,22 +143,14 @@ fn all_tables(
     chain: &mut [u16],
 ) -> Answer
     requires { ⌜ Room 4096 (now places) (now lengths) (now heads) (now chain) ⌝ }
-    ensures { λ r. ⌜ meaning r ≡ tablesOf (now («name_ends» .entry)) (now («name_bytes» .entry)) (now (sections .entry)) (now («section_places» .entry)) (now (image .entry)) (now (symbols .entry)) (now (relocations .entry)) (now (splits .entry)) (now (units .entry)) ⌝ }
+    ensures { λ r. ⌜ meaning r ≡ tablesOf (now (ends .entry)) (now (bytes .entry)) (now (sections .entry)) (now («section_places» .entry)) (now (image .entry)) (now (symbols .entry)) (now (relocations .entry)) (now (splits .entry)) (now (units .entry)) ⌝ }
 {
     let most = main_ceilings();
-    let a = check_names(
-        name_ends,
-        name_bytes,
-        most.names,
-        places,
-        lengths,
-        heads,
-        chain,
-    );
+    let a = check_names(ends, bytes, most.names, places, lengths, heads, chain);
     if let Answer::Refused { .. } = a {
         return a;
     }
-    let n = name_ends.len() / 2;
+    let n = ends.len() / 2;
     let size = image.len();
     named_tables(
         &lengths[..n],

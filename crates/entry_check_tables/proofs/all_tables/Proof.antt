@@ -22,15 +22,15 @@ start c = c .before .before .before .before .before .before .before .before .bef
 -- what the names were found to be
 names-said : (c : tie.After-check-names)
     → let a = start c .args in
-    meaning (c .check-names .result) ≡ namesCheck 4096 (a .name-ends .now) (a .name-bytes .now)
+    meaning (c .check-names .result) ≡ namesCheck 4096 (a .ends .now) (a .bytes .now)
 names-said c =
     let a = start c .args in
-    c .check-names .ensures .said ∙ ap (λ (m : Ceilings). namesCheck (m .names) (a .name-ends .now) (a .name-bytes .now)) (c .before .before .before .before .before .main-ceilings .ensures)
+    c .check-names .ensures .said ∙ ap (λ (m : Ceilings). namesCheck (m .names) (a .ends .now) (a .bytes .now)) (c .before .before .before .before .before .main-ceilings .ensures)
 
 -- they were accepted: the columns hold them
 stored : (c : tie.After-enum-told2)
     → let t = c .before .before .before .before .before .before .before .before .before .before in let a = start t .args in let last = t .check-names .last .1 .1 .1 in
-    Stored (a .name-ends .now) (a .name-bytes .now) (last .0) (last .1 .0) (last .1 .1 .0) (last .1 .1 .1 .0) (length (a .name-ends .now) / 2)
+    Stored (a .ends .now) (a .bytes .now) (last .0) (last .1 .0) (last .1 .1 .0) (last .1 .1 .1 .0) (length (a .ends .now) / 2)
 stored c = let s = c .before .before .before .before .before .before .before .before .before .before .check-names .ensures in s .stored (sym (s .said) ∙ ap meaning (c .enum-told2 .given .1))
 
 main-ceilings-requires : tie.Need-main-ceilings-requires

@@ -20,7 +20,7 @@ start c = c .before .before .before .before .before .before .before .before .bef
 -- what the sections were found to be
 image-said : (c : tie.After-take-image)
     → let a = start c .args in
-    meaning (c .take-image .result) ≡ imageCheck 64 (a .lengths .now) (a .section-places .now) (a .image) (a .sections .now)
+    meaning (c .take-image .result) ≡ imageCheck 64 (a .lengths .now) (a .image-places .now) (a .image) (a .sections .now)
 image-said c = below _ _ _ _ _ (c .take-image .ensures .said) (ap (λ (m : Ceilings). m .sections) (c .before .before .main-ceilings .ensures))
 
 main-ceilings-requires : tie.Need-main-ceilings-requires
