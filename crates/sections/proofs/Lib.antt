@@ -4,3 +4,4 @@ pub mod Loop
 pub mod Nobits
 pub mod Cases
 pub mod Larger
+pub mod Kept
