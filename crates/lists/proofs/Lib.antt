@@ -24,3 +24,4 @@ pub mod InsertBy
 pub mod Settle
 pub mod FilterRows
 pub mod SomeRows
+pub mod Both

@@ -5,3 +5,4 @@ pub mod Nobits
 pub mod Cases
 pub mod Larger
 pub mod Kept
+pub mod Good
