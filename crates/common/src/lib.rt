@@ -255,6 +255,34 @@ pub fn mark_columns(
     }
 }
 
+// ---- the marking, on a lent slice of split records
+
+// One split: it becomes common, if it is a split of the section from the address on.
+pub fn marked_split(s: Split, section: u16, address: u32) -> Split
+    ensures { λ r. ⌜ r ≡ marked section address s ⌝ }
+{
+    if (s.section == section) & (address <= s.start) {
+        let mut r = s;
+        r.flags = s.flags / 2 * 2 + 1;
+        return r;
+    }
+    s
+}
+
+// "A thin function over a lent slice of split structs sets common from an address on".
+#[no_mangle]
+pub extern "C" fn mark_common_splits(splits: &mut [Split], section: u16, address: u32)
+    ensures { λ _. ⌜ now (splits .exit) ≡ map (marked section address) (now (splits .entry)) ⌝ }
+{
+    let mut i: usize = 0;
+    while i < splits.len() {
+        splits[i] = marked_split(splits[i], section, address);
+        i += 1;
+    }
+}
+
+// ---- the stage
+
 // The stage on the split table's columns.
 pub fn update_common_splits(
     name_bytes: &[u8],

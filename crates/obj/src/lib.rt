@@ -41,6 +41,7 @@ pub struct Reloc {
     pub module: u32,
 }
 
+#[repr(C)]
 pub struct Split {
     pub section: u16,
     pub start: u32,
