@@ -1,0 +1,5 @@
+pub mod Laws
+pub mod Parts
+pub mod Ranks
+pub mod Twice
+pub mod Records
