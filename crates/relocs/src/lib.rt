@@ -1,0 +1,1 @@
+// The relocations of a section: those in a range are a part of its relocations.

@@ -1,0 +1,1 @@
+// The unit that takes the pieces of a split, by its name.
