@@ -1,26 +1,23 @@
--- `file_cases::bytes` is safe and ends: the measure is what is left of the bytes.
+-- `check_cases::numbered_names` is safe and ends: the measure is what is left.
 use Prim.Native.Nat.{_-_}
 use mathlib.Core.Path.{_≡_, refl, _∙_}
 use native.Mathlib.Omega.{arith}
 use lib.ListN.{length}
 use borrow.Author.Needs.{needs}
-use Rattle.file_cases.proofs.bytes.Statement.{statement}
-use Rattle.file_cases.proofs.bytes.Tie as tie
+use Rattle.check_cases.proofs.numbered_names.Statement.{statement}
+use Rattle.check_cases.proofs.numbered_names.Tie as tie
 
 abbrev Inv-loop : tie.InvT-loop
-Inv-loop b₀ at from end₀ i₀ b end i = length b ≡ length b₀
+Inv-loop bytes₀ used end₀ i₀ bytes end i = length bytes ≡ length bytes₀
 
 abbrev μ-loop : tie.MeasureT-loop
-μ-loop b₀ at from end₀ i₀ b end i = length from - i
+μ-loop bytes₀ used end₀ i₀ bytes end i = 4096 - i
 
 loop-holds : tie.Need-loop-holds Inv-loop μ-loop
 loop-holds c = refl
 
-shared-slice-read-byte : tie.Need-shared-slice-read-byte Inv-loop μ-loop
-shared-slice-read-byte c = omega arith
-
-byte-requires : tie.Need-byte-requires Inv-loop μ-loop
-byte-requires c κs = search needs
+numbered-name-requires : tie.Need-numbered-name-requires Inv-loop μ-loop
+numbered-name-requires c κs = search needs
 
 add-i : tie.Need-add-i Inv-loop μ-loop
 add-i c = omega arith
@@ -29,7 +26,7 @@ loop-less : tie.Need-loop-less Inv-loop μ-loop
 loop-less c = omega arith
 
 loop-again : tie.Need-loop-again Inv-loop μ-loop
-loop-again c = c .before .before .byte .kept .0 ∙ c .before .before .before .before .before .before .loop .inv
+loop-again c = c .before .before .numbered-name .kept .0 ∙ c .before .before .before .before .before .loop .inv
 
 same-length : tie.Need-same-length Inv-loop μ-loop
 same-length c = c .before .loop .inv
@@ -37,15 +34,14 @@ same-length c = c .before .loop .inv
 returns : tie.Need-returns Inv-loop μ-loop
 returns c = search needs
 
-pub bytes-spec : {M : Type 1} → statement M
-bytes-spec =
+pub numbered-names-spec : {M : Type 1} → statement M
+numbered-names-spec =
     tie.close
     (tie.spec
     Inv-loop
     μ-loop
     loop-holds
-    shared-slice-read-byte
-    byte-requires
+    numbered-name-requires
     add-i
     loop-less
     loop-again

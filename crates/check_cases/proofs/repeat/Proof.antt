@@ -1,23 +1,23 @@
--- `file_cases::full_names` is safe and ends: the measure is what is left of the names.
+-- `check_cases::repeat` is safe and ends: the measure is what is left.
 use Prim.Native.Nat.{_-_}
 use mathlib.Core.Path.{_≡_, refl, _∙_}
 use native.Mathlib.Omega.{arith}
 use lib.ListN.{length}
 use borrow.Author.Needs.{needs}
-use Rattle.file_cases.proofs.full_names.Statement.{statement}
-use Rattle.file_cases.proofs.full_names.Tie as tie
+use Rattle.check_cases.proofs.repeat.Statement.{statement}
+use Rattle.check_cases.proofs.repeat.Tie as tie
 
 abbrev Inv-loop : tie.InvT-loop
-Inv-loop b₀ n₀ i₀ b n i = length b ≡ length b₀
+Inv-loop bytes₀ used width count end₀ i₀ bytes end i = length bytes ≡ length bytes₀
 
 abbrev μ-loop : tie.MeasureT-loop
-μ-loop b₀ n₀ i₀ b n i = 4096 - i
+μ-loop bytes₀ used width count end₀ i₀ bytes end i = count - i
 
 loop-holds : tie.Need-loop-holds Inv-loop μ-loop
 loop-holds c = refl
 
-numbered-name-requires : tie.Need-numbered-name-requires Inv-loop μ-loop
-numbered-name-requires c κs = search needs
+again-requires : tie.Need-again-requires Inv-loop μ-loop
+again-requires c κs = search needs
 
 add-i : tie.Need-add-i Inv-loop μ-loop
 add-i c = omega arith
@@ -26,7 +26,7 @@ loop-less : tie.Need-loop-less Inv-loop μ-loop
 loop-less c = omega arith
 
 loop-again : tie.Need-loop-again Inv-loop μ-loop
-loop-again c = c .before .before .numbered-name .kept .0 ∙ c .before .before .before .before .before .loop .inv
+loop-again c = c .before .before .again .kept .0 ∙ c .before .before .before .before .before .loop .inv
 
 same-length : tie.Need-same-length Inv-loop μ-loop
 same-length c = c .before .loop .inv
@@ -34,14 +34,14 @@ same-length c = c .before .loop .inv
 returns : tie.Need-returns Inv-loop μ-loop
 returns c = search needs
 
-pub full-names-spec : {M : Type 1} → statement M
-full-names-spec =
+pub repeat-spec : {M : Type 1} → statement M
+repeat-spec =
     tie.close
     (tie.spec
     Inv-loop
     μ-loop
     loop-holds
-    numbered-name-requires
+    again-requires
     add-i
     loop-less
     loop-again

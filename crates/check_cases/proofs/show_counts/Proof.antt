@@ -1,10 +1,10 @@
--- `file_cases::show_counts` is safe and ends: the measure is what is left of the counts.
+-- `check_cases::show_counts` is safe and ends: the measure is what is left of the counts.
 use Prim.Native.Nat.{_-_, _/_}
 use native.Mathlib.Omega.{arith}
 use lib.ListN.{length}
 use borrow.Author.Needs.{needs}
-use Rattle.file_cases.proofs.show_counts.Statement.{statement}
-use Rattle.file_cases.proofs.show_counts.Tie as tie
+use Rattle.check_cases.proofs.show_counts.Statement.{statement}
+use Rattle.check_cases.proofs.show_counts.Tie as tie
 
 abbrev Inv-loop : tie.InvT-loop
 Inv-loop counts i₀ t3 t4 i = Unit {0}
