@@ -281,6 +281,15 @@ pub extern "C" fn mark_common_splits(splits: &mut [Split], section: u16, address
     }
 }
 
+// The same on a table by value, whose rows are lent: whoever calls it needs no walk by hand.
+pub fn marked_rows(rows: [Split; 1024], section: u16, address: u32) -> [Split; 1024]
+    ensures { λ r. ⌜ r ≡ map (marked section address) rows ⌝ }
+{
+    let mut table = rows;
+    mark_common_splits(&mut table, section, address);
+    table
+}
+
 // ---- the stage
 
 // The stage on the split table's columns.
