@@ -5,12 +5,13 @@ ghost use mathlib.Core.List.{map};
 ghost use mathlib.Core.Bool.{_&&_};
 ghost use lib.Dec.{eqb};
 ghost use Prim.Native.Nat.{ℕ, _/_, _%_, _<_, _≤_};
-ghost use lib.ListN.{length};
+ghost use lib.ListN.{length, take};
 ghost use Rattle.lists.specs.Rows.{keepIf};
 ghost use Rattle.lists.specs.Outcome.{accepted};
 ghost use Rattle.splits.specs.Columns.{columns, rowOf, rows, Long};
 ghost use Rattle.splits.specs.Questions.{Hit};
 ghost use Rattle.common.specs.Common.{commonIn, commonStart, startMeaning, startOf, marked, commonOf, answered};
+ghost use Rattle.common.specs.Records.{Kept};
 ghost use Rattle.common.specs.Sections.{bssAt, bssIn, bssOf, firstOf, givenOf, Sections, Next};
 use names::is_bss;
 use names::name_at;
@@ -18,6 +19,8 @@ use obj::Answer;
 use obj::Split;
 use obj::refusal;
 use obj::section_at;
+use splits::rest_of;
+use splits::row;
 
 // The sections named `.bss`.
 pub enum Bss {
@@ -290,6 +293,68 @@ pub fn marked_rows(rows: [Split; 1024], section: u16, address: u32) -> [Split; 1
     table
 }
 
+// The first n rows as split records.
+fn records(starts: &[u32], ends: &[u32], units: &[u16], rest: &[u64], n: usize) -> [Split; 1024]
+    requires { ⌜ Long (columns (now starts) (now ends) (now units) (now rest)) n × (n ≤ 1024) ⌝ }
+    ensures { λ r. ⌜ take n r ≡ rows (columns (now (starts .entry)) (now (ends .entry)) (now (units .entry)) (now (rest .entry))) n ⌝ }
+{
+    let none = Split {
+        section: 0,
+        start: 0,
+        end: 0,
+        unit: 0,
+        alignment: 0,
+        flags: 0,
+        rename: 0,
+    };
+    let mut table = [none; 1024];
+    let mut i: usize = 0;
+    while i < n {
+        table[i] = row(starts, ends, units, rest, i);
+        i += 1;
+    }
+    table
+}
+
+// The first n records back into the column that may have changed.
+fn put_records(
+    table: [Split; 1024],
+    starts: &[u32],
+    ends: &[u32],
+    units: &[u16],
+    rest: &mut [u64],
+    n: usize,
+)
+    requires { ⌜ Long (columns (now starts) (now ends) (now units) (now rest)) n × (n ≤ 1024) × Kept (columns (now starts) (now ends) (now units) (now rest)) table n ⌝ }
+    ensures { λ _. ⌜ rows (columns (now (starts .entry)) (now (ends .entry)) (now (units .entry)) (now (rest .exit))) n ≡ take n table ⌝ }
+{
+    let mut i: usize = 0;
+    while i < n {
+        rest[i] = rest_of(table[i]);
+        i += 1;
+    }
+}
+
+// What `mark_columns` does, on split records.
+pub fn mark_records(
+    starts: &[u32],
+    ends: &[u32],
+    units: &[u16],
+    rest: &mut [u64],
+    n: usize,
+    section: u16,
+    address: u32,
+)
+    requires { ⌜ Long (columns (now starts) (now ends) (now units) (now rest)) n × (n ≤ 1024) ⌝ }
+    ensures { λ _. ⌜
+        rows (columns (now (starts .entry)) (now (ends .entry)) (now (units .entry)) (now (rest .exit))) n
+        ≡ map (marked section address) (rows (columns (now (starts .entry)) (now (ends .entry)) (now (units .entry)) (now (rest .entry))) n) ⌝ }
+{
+    let table = records(starts, ends, units, rest, n);
+    let marked = marked_rows(table, section, address);
+    put_records(marked, starts, ends, units, rest, n);
+}
+
 // ---- the stage
 
 // The stage on the split table's columns.
@@ -331,6 +396,52 @@ pub fn update_common_splits(
         CommonStart::Nowhere => Answer::Accepted,
         CommonStart::On(section, address) => {
             mark_columns(starts, ends, units, rest, n, section, address);
+            Answer::Accepted
+        }
+        CommonStart::Several => refusal(30, 0, 0),
+        CommonStart::Absent => refusal(31, 0, 0),
+    }
+}
+
+// The same on split records.
+pub fn update_common_records(
+    name_bytes: &[u8],
+    name_places: &[u32],
+    name_lengths: &[u8],
+    heads: &[u8],
+    places: &[u32],
+    starts: &[u32],
+    ends: &[u32],
+    units: &[u16],
+    rest: &mut [u64],
+    n: usize,
+    has_start: bool,
+    start: u32,
+) -> Answer
+    requires { ⌜ Sections (now «name_bytes») (now «name_places») (now «name_lengths») (now heads) (now places) × Long (columns (now starts) (now ends) (now units) (now rest)) n × (n ≤ 1024) ⌝ }
+    ensures { λ r. ⌜
+        answered r (rows (columns (now (starts .entry)) (now (ends .entry)) (now (units .entry)) (now (rest .exit))) n)
+        ≡ commonOf «has_start» start (bssIn (now («name_bytes» .entry)) (now («name_places» .entry)) (now («name_lengths» .entry)) (now (heads .entry)) (now (places .entry)))
+        (rows (columns (now (starts .entry)) (now (ends .entry)) (now (units .entry)) (now (rest .entry))) n) ⌝ }
+{
+    let from = common_start(
+        name_bytes,
+        name_places,
+        name_lengths,
+        heads,
+        places,
+        starts,
+        ends,
+        units,
+        rest,
+        n,
+        has_start,
+        start,
+    );
+    match from {
+        CommonStart::Nowhere => Answer::Accepted,
+        CommonStart::On(section, address) => {
+            mark_records(starts, ends, units, rest, n, section, address);
             Answer::Accepted
         }
         CommonStart::Several => refusal(30, 0, 0),
