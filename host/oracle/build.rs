@@ -21,8 +21,10 @@ fn main() {
     }
     let out = PathBuf::from(env::var_os("OUT_DIR").unwrap());
     let walk = out.join("split_obj_sections.rs");
-    fs::write(&walk, section_loop(&read(&src, "util/split.rs"))).unwrap();
+    let split = read(&src, "util/split.rs");
+    fs::write(&walk, section_loop(&split)).unwrap();
     fs::write(out.join("root.rs"), root(&src, &walk)).unwrap();
+    println!("cargo:rustc-env=CTORS_LINE={}", ctors_line(&split));
     println!("cargo:rustc-cfg=sources");
 }
 
@@ -48,6 +50,17 @@ fn cut<'a>(text: &'a str, from: &str, to: &str) -> &'a str {
 fn replace_once(text: &str, from: &str, to: &str) -> String {
     assert_eq!(text.matches(from).count(), 1, "{from:?} must occur once");
     text.replace(from, to)
+}
+
+/// Where the last four bytes of `.ctors` and `.dtors` are taken: a panic there is 10.
+fn ctors_line(split: &str) -> usize {
+    let lines: Vec<usize> = (1..)
+        .zip(split.lines())
+        .filter(|(_, line)| line.contains("data.len() - 4"))
+        .map(|(number, _)| number)
+        .collect();
+    assert_eq!(lines.len(), 1, "one line must take the last four bytes");
+    lines[0]
 }
 
 /// `split_obj`, ended after its section loop. The original stays in the module too.

@@ -20,6 +20,7 @@ pub const ENTRY: Entry = Entry {
     outcomes: &[0, 1, 2, 3, 4, 5, 6, 7, 8],
     alone,
     beside: None,
+    some: None,
     answers: "document 01, read a second time in src/document,",
     replay,
     store: files::store,

@@ -20,6 +20,7 @@ pub const ENTRY: Entry = Entry {
     outcomes: &[0, 1, 2, 3, 4, 5, 6, 7, 8],
     alone,
     beside: None,
+    some: None,
     answers: "document 01, read a second time in src/document,",
     replay,
     store: sets::store,
@@ -36,7 +37,7 @@ pub const SPLIT_TABLE: usize = 7;
 pub const UNIT_TABLE: usize = 8;
 
 /// The tables in the order in which they are lent, and the bytes of their records.
-const TABLES: [(&str, usize); 9] = [
+pub const TABLES: [(&str, usize); 9] = [
     ("name_ends", 2),
     ("name_bytes", 1),
     ("sections", 15),
@@ -51,7 +52,7 @@ const TABLES: [(&str, usize); 9] = [
 /// What is lent for one call.
 pub type Set = [Vec<u8>; 9];
 
-fn lend<'a>(slices: [&'a [u8]; 9]) -> Tables<'a> {
+pub fn lend<'a>(slices: [&'a [u8]; 9]) -> Tables<'a> {
     let [name_ends, name_bytes, sections, section_places, image, ..] = slices;
     let [.., symbols, relocations, splits, units] = slices;
     Tables {

@@ -1,7 +1,11 @@
 //! Document 01's rules read a second time, plainly and apart from the entries'
-//! own definitions: a module for each entry, and what they share about records.
+//! own definitions: a module for each entry, and what they share about records,
+//! decoded tables and outputs.
 pub mod check_file;
 pub mod check_tables;
+pub mod ends;
+pub mod image;
+pub mod outputs;
 pub mod records;
 pub mod toposort;
 

@@ -1,6 +1,8 @@
 //! The entries of libentries.a behind safe functions: slices in and out, lent by
 //! `&` and `&mut`, so that no two lent slices can overlap. include/mizhakkon.h
 //! says what each entry does.
+pub mod stages;
+
 use crate::document::check_tables::Tables;
 
 mod c {

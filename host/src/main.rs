@@ -9,6 +9,7 @@ mod entries;
 mod lent;
 mod random;
 mod records;
+mod stage;
 mod stored;
 mod tally;
 mod text;
@@ -30,6 +31,8 @@ struct Entry {
     alone: fn(u64, &mut Tally),
     /// Cases made from a seed, beside the Rust, where it has such a function.
     beside: Option<fn(u64, &mut Tally)>,
+    /// So many of the random cases, for one entry alone.
+    some: Option<fn(u64, usize, &mut Tally)>,
     /// Who gives the stored answers.
     answers: &'static str,
     /// One stored line.
@@ -38,7 +41,13 @@ struct Entry {
     store: fn(u64) -> String,
 }
 
-const ENTRIES: [Entry; 3] = [toposort::ENTRY, check_file::ENTRY, check_tables::ENTRY];
+const ENTRIES: [Entry; 5] = [
+    toposort::ENTRY,
+    check_file::ENTRY,
+    check_tables::ENTRY,
+    stage::entry::<stage::ends::EndForSection>(),
+    stage::entry::<stage::ends::SplitAlignment>(),
+];
 
 const SEED: u64 = 1;
 
@@ -47,17 +56,20 @@ const NO_SOURCES: &str = "the Rust sources were not there at the build (ORACLE_S
 const USAGE: &str = "\
 host [check [SEED]]   compares beside the Rust and document 01, with stored answers, and from C
 host replay [FILE]    compares with the stored answers, or with the cases of a file
+host some ENTRY COUNT [SEED]   compares so many random cases of one stage entry
 host store [SEED]     stores the right answers in stored/
 Exit: 0 nothing differs, 1 something does, 2 not done.";
 
 fn main() -> ExitCode {
     let args: Vec<String> = std::env::args().skip(1).collect();
     let args: Vec<&str> = args.iter().map(String::as_str).collect();
-    let seed = args.get(1).map_or(Ok(SEED), |word| word.parse());
+    let seed = args.last().filter(|_| args.len() > 1).map_or(Ok(SEED), |word| word.parse());
     match (args.as_slice(), seed) {
         ([] | ["check"] | ["check", _], Ok(seed)) => compare(|tally| check(seed, tally)),
         (["replay"], _) => compare(replay),
         (["replay", file], _) => compare(|tally| stored::replay_file(Path::new(file), &[], tally)),
+        (["some", name, count], _) => some(name, count, SEED),
+        (["some", name, count, _], Ok(seed)) => some(name, count, seed),
         (["store"] | ["store", _], Ok(seed)) => store(seed),
         _ => not_done(USAGE),
     }
@@ -88,6 +100,14 @@ fn check(seed: u64, tally: &mut Tally) {
     }
     replay(tally);
     c_programs::run(tally);
+}
+
+fn some(name: &str, count: &str, seed: u64) -> ExitCode {
+    let entry = ENTRIES.iter().find(|entry| entry.name == name);
+    match (entry.and_then(|entry| entry.some), count.parse()) {
+        (Some(some), Ok(count)) => compare(|tally| some(seed, count, tally)),
+        _ => not_done(USAGE),
+    }
 }
 
 fn replay(tally: &mut Tally) {

@@ -2,7 +2,7 @@
 use std::collections::BTreeMap;
 
 /// How many differences of a group are shown in full.
-const SHOWN: u64 = 3;
+const SHOWN: usize = 3;
 
 #[derive(Default)]
 pub struct Tally {
@@ -10,6 +10,8 @@ pub struct Tally {
     pub differ: u64,
     title: String,
     group_differ: u64,
+    /// The first differences of the group.
+    shown: Vec<String>,
     outcomes: BTreeMap<(u16, String), u64>,
 }
 
@@ -17,13 +19,30 @@ impl Tally {
     pub fn begin(&mut self, title: &str) {
         self.title = title.to_string();
         self.group_differ = 0;
+        self.shown.clear();
         self.outcomes.clear();
+    }
+
+    /// Takes over what another tally counted for this group.
+    pub fn absorb(&mut self, part: Tally) {
+        self.compared += part.compared;
+        self.differ += part.differ;
+        self.group_differ += part.group_differ;
+        self.shown.extend(part.shown);
+        for (outcome, count) in part.outcomes {
+            *self.outcomes.entry(outcome).or_default() += count;
+        }
     }
 
     /// One comparison whose right outcome has this number (0: accepted); `note`
     /// says what the Rust does there, or what the outcome rests on.
     pub fn count(&mut self, number: u16, note: &str) {
         self.compared += 1;
+        self.reach(number, note);
+    }
+
+    /// A case whose outcome has this number, but that is compared with nothing.
+    pub fn reach(&mut self, number: u16, note: &str) {
         *self.outcomes.entry((number, note.to_string())).or_default() += 1;
     }
 
@@ -31,11 +50,9 @@ impl Tally {
     pub fn difference(&mut self, case: &str, lines: &[String]) {
         self.differ += 1;
         self.group_differ += 1;
-        if self.group_differ <= SHOWN {
-            println!("difference in {}:\n  case {case}", self.title);
-            for line in lines {
-                println!("  {line}");
-            }
+        if self.shown.len() < SHOWN {
+            let lines: String = lines.iter().map(|line| format!("\n  {line}")).collect();
+            self.shown.push(format!("  case {case}{lines}"));
         }
     }
 
@@ -46,6 +63,16 @@ impl Tally {
         }
     }
 
+    /// A number that came up less often is a difference.
+    pub fn want_often(&mut self, number: u16, least: u64) {
+        let outcomes = self.outcomes.iter().filter(|((n, _), _)| *n == number);
+        let count: u64 = outcomes.map(|(_, count)| count).sum();
+        if count < least {
+            let few = format!("{count} cases are {}, wanted {least}", name(number));
+            self.difference("-", &[few]);
+        }
+    }
+
     /// Prints the counts. An outcome of `wanted` that never came up is a
     /// difference too: its rule wasn't tried.
     pub fn end(&mut self, wanted: &[u16]) {
@@ -53,6 +80,9 @@ impl Tally {
             if !self.outcomes.keys().any(|(n, _)| *n == number) {
                 self.difference("-", &[format!("no case is {}", name(number))]);
             }
+        }
+        for difference in self.shown.iter().take(SHOWN) {
+            println!("difference in {}:\n{difference}", self.title);
         }
         println!("{}", self.title);
         for ((number, note), count) in &self.outcomes {

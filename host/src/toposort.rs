@@ -20,6 +20,7 @@ pub const ENTRY: Entry = Entry {
     outcomes: &[0, 1, 2, 61, 62, 76],
     alone,
     beside: Some(beside),
+    some: None,
     answers: "the Rust",
     replay,
     store: graphs::store,

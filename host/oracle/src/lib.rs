@@ -6,6 +6,8 @@
 pub mod answers;
 
 #[cfg(sources)]
+mod asked;
+#[cfg(sources)]
 pub mod records;
 #[cfg(sources)]
 pub mod shims;

@@ -2,10 +2,11 @@
 //! gives.
 use super::{
     Refusal,
+    outputs::counts_then_zeros,
     records::{self, *},
     word,
 };
-use crate::bytes::{half_at, put_half, word_at};
+use crate::bytes::{half_at, word_at};
 
 const HEADER: usize = 6;
 const LONGEST: usize = 65_536;
@@ -127,14 +128,4 @@ fn take<'a>(kind: u16, payload: &'a [u8], known: &mut Known<'a>) -> Result<(), (
 /// How many there are of each kind, in the order of the kinds.
 fn counts_of(k: &Known) -> [usize; 6] {
     [k.names.len(), k.sections.len(), k.symbols, k.relocations, k.splits, k.units]
-}
-
-/// A count for which two bytes weren't lent is left out whole.
-fn counts_then_zeros(counts: &[usize], len: usize) -> Vec<u8> {
-    let mut bytes = vec![];
-    for &count in counts.iter().take(len / 2) {
-        put_half(&mut bytes, u16::try_from(count).unwrap());
-    }
-    bytes.resize(len, 0);
-    bytes
 }

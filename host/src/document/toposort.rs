@@ -1,6 +1,10 @@
 //! The entry `toposort`: its checks in their order, and what it leaves in the lent
 //! bytes. The search itself is asked of the Rust.
-use super::{Refusal, word};
+use super::{
+    Refusal,
+    outputs::{counts_then_zeros, zeros_after},
+    word,
+};
 use crate::bytes::{half_at, put_half};
 
 /// What the search finds in a graph whose edges all join nodes.
@@ -69,7 +73,7 @@ pub fn answer(
     Some(Answer {
         word: word(refused),
         out_nodes: nodes_then_zeros(kept, out_len),
-        counts: count_then_zeros(kept.len(), counts_len),
+        counts: counts_then_zeros(&[kept.len()], counts_len),
     })
 }
 
@@ -78,16 +82,5 @@ fn nodes_then_zeros(kept: &[usize], len: usize) -> Vec<u8> {
     for &node in kept {
         put_half(&mut bytes, u16::try_from(node).unwrap());
     }
-    bytes.resize(len, 0);
-    bytes
-}
-
-/// A count for which two bytes weren't lent is left out whole.
-fn count_then_zeros(count: usize, len: usize) -> Vec<u8> {
-    let mut bytes = vec![];
-    if len >= 2 {
-        put_half(&mut bytes, u16::try_from(count).unwrap());
-    }
-    bytes.resize(len, 0);
-    bytes
+    zeros_after(bytes, len)
 }

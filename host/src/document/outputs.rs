@@ -1,0 +1,36 @@
+//! What an entry leaves in the lent outputs.
+use super::{Refusal, word};
+use crate::bytes::put_half;
+
+/// An entry's answer word, and every byte of its outputs in the order of the parameters.
+#[derive(Clone, Debug, Eq, PartialEq)]
+pub struct Answer {
+    pub word: u64,
+    pub outputs: Vec<Vec<u8>>,
+}
+
+/// After a refusal all outputs are zeros throughout. `lent`: how many bytes each has.
+pub fn refused(refusal: Refusal, lent: &[usize]) -> Answer {
+    Answer { word: word(Some(refusal)), outputs: lent.iter().map(|len| vec![0; *len]).collect() }
+}
+
+pub fn zeros_after(mut records: Vec<u8>, len: usize) -> Vec<u8> {
+    assert!(records.len() <= len, "the ceilings keep the records within the lent bytes");
+    records.resize(len, 0);
+    records
+}
+
+/// A count for which two bytes weren't lent is left out whole.
+pub fn counts_then_zeros(counts: &[usize], len: usize) -> Vec<u8> {
+    let mut bytes = vec![];
+    for &count in counts.iter().take(len / 2) {
+        put_half(&mut bytes, u16::try_from(count).unwrap());
+    }
+    zeros_after(bytes, len)
+}
+
+/// A number of four bytes, all of them or none.
+pub fn number_then_zeros(number: u32, len: usize) -> Vec<u8> {
+    let bytes = if len < 4 { vec![] } else { number.to_le_bytes().to_vec() };
+    zeros_after(bytes, len)
+}

@@ -1,0 +1,211 @@
+//! What the stage entries share: their cases, the call between guard bytes, the
+//! comparison with the second reading and the Rust, random cases on all processors.
+pub mod ends;
+mod line;
+mod make;
+mod rust;
+
+use std::{
+    sync::atomic::{AtomicUsize, Ordering},
+    thread,
+};
+
+use crate::{
+    Entry,
+    bytes::differing,
+    check_tables::{Set, TABLES, lend},
+    document::{self, check_tables::Tables, outputs::Answer},
+    entries::stages::{Call, StageEntry},
+    lent::Lent,
+    random::Random,
+    tally::Tally,
+};
+
+/// What is lent for one call, and the numbers that go with it.
+#[derive(Clone, Debug, Default)]
+pub struct Case {
+    /// Tables that the entry doesn't take are empty.
+    set: Set,
+    partials: Vec<u8>,
+    numbers: Vec<u32>,
+    /// The lengths of the outputs.
+    lent: Vec<usize>,
+}
+
+impl Case {
+    fn tables(&self) -> Tables<'_> {
+        lend(self.set.each_ref().map(|table| &table[..]))
+    }
+
+    fn table(&self, name: &str) -> &[u8] {
+        match TABLES.iter().position(|(table, _)| *table == name) {
+            Some(at) => &self.set[at],
+            None => &self.partials,
+        }
+    }
+
+    fn table_mut(&mut self, name: &str) -> &mut Vec<u8> {
+        match TABLES.iter().position(|(table, _)| *table == name) {
+            Some(at) => &mut self.set[at],
+            None => &mut self.partials,
+        }
+    }
+}
+
+/// What the Rust says to a case.
+pub enum Beside {
+    /// It can't be given the case, or isn't there.
+    NotAsked,
+    /// The same as the second reading: its number there, and how, in words.
+    Same(u16, &'static str),
+    Differs(Vec<String>),
+}
+
+pub trait Stage {
+    const ENTRY: StageEntry;
+    /// How many random cases a check makes.
+    const COUNT: usize;
+    /// The numbers that these must come to, 0 for accepted, each at least `LEAST` times.
+    const OUTCOMES: &'static [u16];
+    fn random(r: &mut Random) -> Case;
+    /// The second reading of document 01.
+    fn right(case: &Case) -> Answer;
+    /// The Rust beside the reading without the ceilings of the lent outputs.
+    fn beside(case: &Case) -> Beside;
+}
+
+pub const fn entry<S: Stage>() -> Entry {
+    Entry {
+        name: S::ENTRY.name,
+        outcomes: S::OUTCOMES,
+        alone: |seed, tally| random::<S>(seed, S::COUNT, tally),
+        beside: None,
+        some: Some(random::<S>),
+        answers: "the Rust where it has one, else of document 01, read a second time in src/document,",
+        replay: replay::<S>,
+        store: line::store::<S>,
+    }
+}
+
+fn compare<S: Stage>(case: &Case, tally: &mut Tally) {
+    let right = S::right(case);
+    let number = document::number(right.word);
+    let beside = S::beside(case);
+    match beside {
+        Beside::NotAsked if S::ENTRY.call.is_none() => {
+            tally.reach(number, ", compared with nothing");
+        }
+        Beside::Same(unlimited, note) if unlimited == number => tally.count(number, note),
+        Beside::Same(..) => tally.count(number, ", the Rust has no such ceiling"),
+        _ => tally.count(number, ""),
+    }
+    let mut lines = if let Beside::Differs(lines) = beside { lines } else { vec![] };
+    if let Some(call) = S::ENTRY.call {
+        lines.extend(called(&S::ENTRY, call, case, &right));
+    }
+    if !lines.is_empty() {
+        tally.difference(&line::put(&S::ENTRY, case, &right), &lines);
+    }
+}
+
+/// Calls the entry, and says what isn't right.
+fn called(entry: &StageEntry, call: Call, case: &Case, right: &Answer) -> Vec<String> {
+    let mut shifts = shifts(case);
+    let mut input = |name: &&str| Lent::input(case.table(name), shifts.below(16));
+    let inputs: Vec<Lent> = entry.inputs.iter().map(&mut input).collect();
+    let output = |len: &usize| Lent::output(*len, shifts.below(16));
+    let mut outputs: Vec<Lent> = case.lent.iter().map(output).collect();
+    let word = {
+        let inputs: Vec<&[u8]> = inputs.iter().map(Lent::slice).collect();
+        let mut outputs: Vec<&mut [u8]> = outputs.iter_mut().map(Lent::slice_mut).collect();
+        call(&inputs, &case.numbers, &mut outputs)
+    };
+    let mut lines = vec![];
+    if word != right.word {
+        let (right, given) = (document::describe(right.word), document::describe(word));
+        lines.push(format!("answer: {right} is right, given {given}"));
+    }
+    for (name, (right, output)) in entry.outputs.iter().zip(right.outputs.iter().zip(&outputs)) {
+        lines.extend(differing(name, right, output.slice()));
+    }
+    for (name, input) in entry.inputs.iter().zip(&inputs) {
+        lines.extend(differing(&format!("{name}, lent as input"), case.table(name), input.slice()));
+    }
+    if !inputs.iter().chain(&outputs).all(Lent::guards_whole) {
+        lines.push("bytes outside the lent ones were written".to_string());
+    }
+    lines
+}
+
+/// Where the slices start; fixed by the case, so that a replay repeats it.
+fn shifts(case: &Case) -> Random {
+    let bytes = case.set.iter().flatten().chain(&case.partials);
+    let sum: u64 = bytes.map(|b| *b as u64).sum();
+    Random::new(sum ^ (case.lent.iter().sum::<usize>() as u64) << 32)
+}
+
+/// How often the random cases must come to each number.
+const LEAST: u64 = 100;
+
+/// The random cases are made in so many parts, each from a seed of its own, so that they
+/// don't depend on the number of processors.
+const PARTS: usize = 64;
+
+/// For the merge's rounds, which the Rust does by recursion.
+const STACK: usize = 64 << 20;
+
+fn random<S: Stage>(seed: u64, count: usize, tally: &mut Tally) {
+    tally.begin(&format!("{}, {count} random cases, seed {seed}", S::ENTRY.name));
+    let mut seeds = Random::new(seed);
+    let seeds: Vec<u64> = (0..PARTS).map(|_| seeds.next()).collect();
+    let next = AtomicUsize::new(0);
+    let work = || {
+        let mut part_tally = Tally::default();
+        while let Some(part) = Some(next.fetch_add(1, Ordering::SeqCst)).filter(|p| *p < PARTS) {
+            let mut r = Random::new(seeds[part]);
+            for _ in part * count / PARTS..(part + 1) * count / PARTS {
+                compare::<S>(&made::<S>(&mut r), &mut part_tally);
+            }
+        }
+        part_tally
+    };
+    thread::scope(|scope| {
+        let worker =
+            |_| thread::Builder::new().stack_size(STACK).spawn_scoped(scope, work).unwrap();
+        let processors = thread::available_parallelism().map_or(1, |n| n.get());
+        let workers: Vec<_> = (0..processors).map(worker).collect();
+        for worker in workers {
+            tally.absorb(worker.join().unwrap());
+        }
+    });
+    for number in S::OUTCOMES {
+        // A part of the cases owes a part of the minimum.
+        tally.want_often(*number, LEAST * count as u64 / S::COUNT as u64);
+    }
+    tally.end(&[]);
+}
+
+/// A random case with only the tables that the entry takes.
+fn made<S: Stage>(r: &mut Random) -> Case {
+    let mut case = S::random(r);
+    for (name, _) in TABLES.iter().filter(|(name, _)| !S::ENTRY.inputs.contains(name)) {
+        case.table_mut(name).clear();
+    }
+    if r.one_in(8) {
+        make::damage(&mut case, S::ENTRY.inputs, r);
+    }
+    case
+}
+
+/// One stored line: the entry, the reading, and the Rust where it is there, must give the
+/// stored answer.
+fn replay<S: Stage>(line: &str, tally: &mut Tally) -> Result<(), String> {
+    let (case, stored) = line::read(&S::ENTRY, line)?;
+    let now = S::right(&case);
+    if stored.is_some_and(|stored| stored != now) {
+        let now = line::put(&S::ENTRY, &case, &now);
+        tally.difference(line, &[format!("the reading gives {now}")]);
+    }
+    compare::<S>(&case, tally);
+    Ok(())
+}

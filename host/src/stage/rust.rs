@@ -1,0 +1,77 @@
+//! The questions of the stages to the Rust, and its replies beside the second reading's.
+use oracle::answers::{self, Question, Reply, Stop};
+
+use super::{Beside, Case};
+use crate::{
+    document::{Refusal, check_tables::Tables, image},
+    records::packed,
+};
+
+/// Parts of the Rust's messages, and the numbers that document 01 gives them.
+const NUMBERS: &[(&str, u16)] = &[("Invalid section index", 20)];
+
+/// Document 01's number for what the Rust stopped with.
+fn number(stop: &Stop) -> Option<u16> {
+    match stop {
+        Stop::Error(message) => {
+            let found = NUMBERS.iter().find(|(part, _)| message.contains(part));
+            found.map(|(_, number)| *number)
+        }
+        Stop::Panic(panic) if panic.message.contains("subtract with overflow") => {
+            panic.at_ctors.then_some(10)
+        }
+        Stop::Panic(panic) => match panic.message.as_str() {
+            message if message.contains("range start is greater than range end") => Some(11),
+            message if message.contains("unwrap()") => Some(54),
+            _ => None,
+        },
+    }
+}
+
+/// Asks, and holds the reading to the reply.
+pub fn beside(case: &Case, question: Question, reading: Result<Reply, Refusal>) -> Beside {
+    let Some(asked) = answers::ask(&file(&case.tables()), question) else {
+        return Beside::NotAsked;
+    };
+    match (&reading, &asked) {
+        (Ok(reading), Ok(reply)) if reading == reply => Beside::Same(0, ", as the Rust"),
+        (Err(refusal), Err(stop)) if number(stop) == Some(refusal.number) => {
+            let how = match stop {
+                Stop::Error(_) => ", as the Rust's error",
+                Stop::Panic(_) => ", as the Rust's panic",
+            };
+            Beside::Same(refusal.number, how)
+        }
+        _ => Beside::Differs(vec![
+            format!("the reading gives {reading:?}"),
+            format!("the Rust gives    {asked:?}"),
+        ]),
+    }
+}
+
+/// Tables that passed their checks, as a record file.
+fn file(t: &Tables) -> Vec<u8> {
+    let mut file = vec![];
+    let mut add = |kind: u64, payload: &[&[u8]]| {
+        let payload = payload.concat();
+        file.extend(packed(&[(payload.len() as u64, 4), (kind, 2)]));
+        file.extend(payload);
+    };
+    let image = image::Image::of(t);
+    for name in &image.names {
+        add(1, &[name]);
+    }
+    for (head, section) in t.sections.chunks_exact(15).zip(&image.sections) {
+        // A stage that isn't lent the image asks for no bytes: the Rust is given none.
+        let kind = if section.bytes.len() as u32 == section.size { section.kind } else { 3 };
+        add(2, &[&head[..2], &[kind], &head[3..], section.bytes]);
+    }
+    for (kind, table, width) in
+        [(3, t.symbols, 20), (4, t.relocations, 23), (5, t.splits, 19), (6, t.units, 8)]
+    {
+        for record in table.chunks_exact(width) {
+            add(kind, &[record]);
+        }
+    }
+    file
+}
