@@ -3,11 +3,14 @@
 //! decoded tables and outputs.
 pub mod check_file;
 pub mod check_tables;
+pub mod common;
 pub mod ends;
 pub mod image;
 pub mod outputs;
 pub mod records;
 pub mod toposort;
+pub mod trim;
+pub mod validate;
 
 #[derive(Clone, Copy, Debug, Eq, PartialEq)]
 pub struct Refusal {

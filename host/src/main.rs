@@ -41,12 +41,16 @@ struct Entry {
     store: fn(u64) -> String,
 }
 
-const ENTRIES: [Entry; 5] = [
+const ENTRIES: [Entry; 9] = [
     toposort::ENTRY,
     check_file::ENTRY,
     check_tables::ENTRY,
     stage::entry::<stage::ends::EndForSection>(),
     stage::entry::<stage::ends::SplitAlignment>(),
+    stage::entry::<stage::validate::ValidateSplits>(),
+    stage::entry::<stage::common::UpdateCommonSplits>(),
+    stage::entry::<stage::common::MarkCommonSplits>(),
+    stage::entry::<stage::trim::TrimSplits>(),
 ];
 
 const SEED: u64 = 1;

@@ -1,9 +1,12 @@
 //! What the stage entries share: their cases, the call between guard bytes, the
 //! comparison with the second reading and the Rust, random cases on all processors.
+pub mod common;
 pub mod ends;
 mod line;
 mod make;
 mod rust;
+pub mod trim;
+pub mod validate;
 
 use std::{
     sync::atomic::{AtomicUsize, Ordering},
@@ -72,6 +75,8 @@ pub trait Stage {
     fn right(case: &Case) -> Answer;
     /// The Rust beside the reading without the ceilings of the lent outputs.
     fn beside(case: &Case) -> Beside;
+    /// Whether its tables are checked.
+    const CHECKED: bool = true;
 }
 
 pub const fn entry<S: Stage>() -> Entry {
@@ -191,7 +196,7 @@ fn made<S: Stage>(r: &mut Random) -> Case {
     for (name, _) in TABLES.iter().filter(|(name, _)| !S::ENTRY.inputs.contains(name)) {
         case.table_mut(name).clear();
     }
-    if r.one_in(8) {
+    if S::CHECKED && r.one_in(8) {
         make::damage(&mut case, S::ENTRY.inputs, r);
     }
     case

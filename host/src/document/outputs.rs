@@ -14,6 +14,15 @@ pub fn refused(refusal: Refusal, lent: &[usize]) -> Answer {
     Answer { word: word(Some(refusal)), outputs: lent.iter().map(|len| vec![0; *len]).collect() }
 }
 
+/// The records of each output and how many there are; the counts are the last output.
+pub fn accepted(outputs: Vec<(Vec<u8>, usize)>, lent: &[usize]) -> Answer {
+    let (bytes, counts): (Vec<_>, Vec<_>) = outputs.into_iter().unzip();
+    let mut outputs: Vec<_> =
+        bytes.into_iter().zip(lent).map(|(b, len)| zeros_after(b, *len)).collect();
+    outputs.push(counts_then_zeros(&counts, lent[counts.len()]));
+    Answer { word: 0, outputs }
+}
+
 pub fn zeros_after(mut records: Vec<u8>, len: usize) -> Vec<u8> {
     assert!(records.len() <= len, "the ceilings keep the records within the lent bytes");
     records.resize(len, 0);

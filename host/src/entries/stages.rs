@@ -1,5 +1,6 @@
 //! The stage entries. Each is one line below, with `linked` where libentries.a has it and
 //! `absent` where it doesn't yet: then the second reading is compared with the Rust alone.
+use crate::document::image::{Split, split_table, splits_in};
 
 /// An entry on byte tables: which ones it takes and gives, in the order of its
 /// parameters, the numbers between them, and the call if libentries.a has it.
@@ -49,8 +50,55 @@ macro_rules! stage_entry {
     };
 }
 
+macro_rules! call_of_mark {
+    (absent) => {
+        None
+    };
+    (linked) => {{
+        unsafe extern "C" {
+            fn mark_common_splits(splits: *mut Split, count: usize, section: u16, from: u32);
+        }
+        let call: Call = |inputs, numbers, outputs| {
+            marked(inputs[0], outputs[0], |splits| {
+                // SAFETY: the pointer and count are a whole slice of such structs.
+                unsafe {
+                    let (first, count) = (splits.as_mut_ptr(), splits.len());
+                    mark_common_splits(first, count, numbers[0] as u16, numbers[1]);
+                }
+            })
+        };
+        Some(call)
+    }};
+}
+
+/// The records as structs, lent between two that must stay as they are, and back. No
+/// answer word: 0, or another where one of the two was written.
+#[allow(dead_code, reason = "while the entry is absent")]
+fn marked(records: &[u8], out: &mut [u8], mark: impl Fn(&mut [Split])) -> u64 {
+    let guard = Split::read(&[0x55; 19]);
+    let mut splits = [vec![guard], splits_in(records), vec![guard]].concat();
+    let end = splits.len() - 1;
+    mark(&mut splits[1..end]);
+    out.copy_from_slice(&split_table(&splits[1..end]).0);
+    if splits[0] == guard && splits[end] == guard { 0 } else { u64::MAX }
+}
+
 pub const END_FOR_SECTION: StageEntry = stage_entry!(absent end_for_section
     (name_ends, name_bytes, sections, section_places, image, symbols) (section: u16) (end));
 
 pub const SPLIT_ALIGNMENT: StageEntry = stage_entry!(absent split_alignment
     (name_ends, name_bytes, sections, section_places, image, symbols, splits) (which: u16) (alignment));
+
+pub const VALIDATE_SPLITS: StageEntry = stage_entry!(absent validate_splits
+    (name_ends, name_bytes, sections, symbols, splits) () ());
+
+pub const UPDATE_COMMON_SPLITS: StageEntry = stage_entry!(absent update_common_splits
+    (name_ends, name_bytes, sections, splits) (has_start: u8, start: u32) (out_splits, counts));
+
+pub const TRIM_SPLITS: StageEntry = stage_entry!(absent trim_splits
+    (name_ends, name_bytes, sections, section_places, image, symbols, splits) ()
+    (out_splits, counts));
+
+/// Takes and gives split records here, and structs over the C convention.
+pub const MARK_COMMON_SPLITS: StageEntry = stage_entry!(call_of_mark!(absent), mark_common_splits
+    (splits) (section: u16, from: u32) (out_splits));

@@ -215,6 +215,25 @@ impl Maker {
         }
     }
 
+    /// Splits that lie one behind another over each section, but for a few holes and faults.
+    pub fn tidy_splits(&mut self, most: usize, faults: usize, r: &mut Random) {
+        for section in 0..self.sections.len() {
+            let Place { start, end } = self.sections[section];
+            let mut starts: Vec<u32> =
+                (0..r.below(most)).map(|_| self.inside(section, r)).collect();
+            starts.push(start);
+            starts.sort();
+            starts.dedup();
+            for i in 0..starts.len() {
+                let next = starts.get(i + 1).copied().unwrap_or(end);
+                let end = if r.one_in(faults) { self.near(section, r) } else { next };
+                if !r.one_in(faults) {
+                    self.split(section, starts[i], end, r);
+                }
+            }
+        }
+    }
+
     pub fn case(mut self, numbers: Vec<u32>, lent: Vec<usize>) -> Case {
         for name in &self.names {
             self.set[NAME_BYTES].extend(name);
@@ -245,6 +264,23 @@ fn section_bytes(size: usize, r: &mut Random) -> Vec<u8> {
         bytes[size - zeros..].fill(0);
     }
     bytes
+}
+
+/// A length for an output that needs so many records: mostly enough, some that are too short.
+pub fn room(width: usize, records: usize, r: &mut Random) -> usize {
+    let full = width * records;
+    match r.below(16) {
+        0 => 0,
+        1 => r.below(full + 1),
+        2 => full.saturating_sub(1),
+        3..7 => full,
+        _ => full + width * r.below(4) + r.below(width),
+    }
+}
+
+/// A length for so many counts: mostly all of them.
+pub fn counts_room(counts: usize, r: &mut Random) -> usize {
+    if r.one_in(2) { 2 * counts } else { r.below(2 * counts + 3) }
 }
 
 /// Damage to one of the tables that the entry takes.

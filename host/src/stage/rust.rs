@@ -8,7 +8,14 @@ use crate::{
 };
 
 /// Parts of the Rust's messages, and the numbers that document 01 gives them.
-const NUMBERS: &[(&str, u16)] = &[("Invalid section index", 20)];
+const NUMBERS: &[(&str, u16)] = &[
+    ("overlaps with previous split", 50),
+    ("Invalid split end", 51),
+    ("overlaps symbol", 52),
+    ("ends within symbol", 53),
+    ("Multiple sections", 30),
+    ("Failed to find .bss", 31),
+];
 
 /// Document 01's number for what the Rust stopped with.
 fn number(stop: &Stop) -> Option<u16> {
@@ -74,4 +81,19 @@ fn file(t: &Tables) -> Vec<u8> {
         }
     }
     file
+}
+
+/// A reading's splits with the names themselves.
+pub fn named(splits: &[image::Split], names: &[impl AsRef<[u8]>]) -> Reply {
+    let name = |number: u16| String::from_utf8(names[number as usize].as_ref().to_vec()).unwrap();
+    let split = |s: &image::Split| answers::Split {
+        section: s.section as u32,
+        start: s.start,
+        end: s.end,
+        unit: name(s.unit),
+        alignment: (s.alignment != 0).then_some(s.alignment),
+        flags: s.flags,
+        rename: (s.rename != image::NONE).then(|| name(s.rename)),
+    };
+    Reply::Splits(splits.iter().map(split).collect())
 }
