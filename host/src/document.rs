@@ -6,6 +6,7 @@ pub mod check_tables;
 pub mod common;
 pub mod ends;
 pub mod image;
+pub mod merge;
 pub mod outputs;
 pub mod records;
 pub mod toposort;

@@ -41,7 +41,7 @@ struct Entry {
     store: fn(u64) -> String,
 }
 
-const ENTRIES: [Entry; 9] = [
+const ENTRIES: [Entry; 10] = [
     toposort::ENTRY,
     check_file::ENTRY,
     check_tables::ENTRY,
@@ -51,6 +51,7 @@ const ENTRIES: [Entry; 9] = [
     stage::entry::<stage::common::UpdateCommonSplits>(),
     stage::entry::<stage::common::MarkCommonSplits>(),
     stage::entry::<stage::trim::TrimSplits>(),
+    stage::entry::<stage::merge::AddSplits>(),
 ];
 
 const SEED: u64 = 1;
@@ -74,6 +75,7 @@ fn main() -> ExitCode {
         (["replay", file], _) => compare(|tally| stored::replay_file(Path::new(file), &[], tally)),
         (["some", name, count], _) => some(name, count, SEED),
         (["some", name, count, _], Ok(seed)) => some(name, count, seed),
+        (["endless"], _) => stage::merge::endless(),
         (["store"] | ["store", _], Ok(seed)) => store(seed),
         _ => not_done(USAGE),
     }

@@ -4,6 +4,7 @@ pub mod common;
 pub mod ends;
 mod line;
 mod make;
+pub mod merge;
 mod rust;
 pub mod trim;
 pub mod validate;
@@ -75,6 +76,8 @@ pub trait Stage {
     fn right(case: &Case) -> Answer;
     /// The Rust beside the reading without the ceilings of the lent outputs.
     fn beside(case: &Case) -> Beside;
+    /// What a check does besides.
+    fn more(_seed: u64, _tally: &mut Tally) {}
     /// Whether its tables are checked.
     const CHECKED: bool = true;
 }
@@ -83,7 +86,10 @@ pub const fn entry<S: Stage>() -> Entry {
     Entry {
         name: S::ENTRY.name,
         outcomes: S::OUTCOMES,
-        alone: |seed, tally| random::<S>(seed, S::COUNT, tally),
+        alone: |seed, tally| {
+            random::<S>(seed, S::COUNT, tally);
+            S::more(seed, tally);
+        },
         beside: None,
         some: Some(random::<S>),
         answers: "the Rust where it has one, else of document 01, read a second time in src/document,",

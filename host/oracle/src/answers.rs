@@ -41,6 +41,8 @@ pub enum Question {
     /// With the start that is given, if one is.
     Common(Option<u32>),
     Trim,
+    /// The split records from this number on are the partial list.
+    Merge(usize),
 }
 
 #[derive(Clone, Debug, Eq, PartialEq)]
@@ -67,6 +69,8 @@ pub struct Split {
 pub enum Stop {
     Error(String),
     Panic(Panic),
+    /// A merge went into more rounds than there are splits to take away.
+    Endless,
 }
 
 #[derive(Clone, Debug, Default, Eq, PartialEq)]
@@ -86,7 +90,18 @@ pub fn ask(_file: &[u8], _question: Question) -> Option<Result<Reply, Stop>> {
     None
 }
 
+/// Asks with no end to the rounds of a merge: one that goes round without end overflows
+/// the stack.
+pub fn ask_without_end(file: &[u8], question: Question) -> Option<Result<Reply, Stop>> {
+    ROUNDS_END.set(false);
+    let reply = ask(file, question);
+    ROUNDS_END.set(true);
+    reply
+}
+
 thread_local! {
+    /// Whether the rounds of a merge are counted.
+    pub(crate) static ROUNDS_END: Cell<bool> = const { Cell::new(true) };
     static ASKING: Cell<bool> = const { Cell::new(false) };
     static PANIC: RefCell<Panic> = RefCell::default();
 }

@@ -2,23 +2,28 @@
 use anyhow::Result;
 
 use crate::{
-    answers::{Question, Reply, Split, Stop, quietly},
-    obj::ObjInfo,
-    records::Tables,
+    answers::{Question, ROUNDS_END, Reply, Split, Stop, quietly},
+    obj::{ObjInfo, ObjSplit, SectionIndex},
+    records::{PartialSplit, Tables},
     util::split::{end_for_section, probe},
 };
 
 pub fn ask(file: &[u8], question: Question) -> Result<Reply, Stop> {
-    let tables = Tables::parse(file).expect("the tables were checked");
+    let mut tables = Tables::parse(file).expect("the tables were checked");
+    let partials = match question {
+        Question::Merge(table) => tables.splits.split_off(table),
+        _ => vec![],
+    };
     let mut obj = tables.object_with_table().expect("the tables were checked");
-    match quietly(|| reply(&mut obj, question)) {
+    match quietly(|| reply(&mut obj, question, partials)) {
         Ok(Ok(reply)) => Ok(reply),
         Ok(Err(e)) => Err(Stop::Error(e.to_string())),
+        Err(panic) if panic.message == log::ENDLESS => Err(Stop::Endless),
         Err(panic) => Err(Stop::Panic(panic)),
     }
 }
 
-fn reply(obj: &mut ObjInfo, question: Question) -> Result<Reply> {
+fn reply(obj: &mut ObjInfo, question: Question, partials: Vec<PartialSplit>) -> Result<Reply> {
     match question {
         Question::End(section) => Ok(Reply::Number(end_for_section(obj, section)?.address)),
         Question::Alignment(which) => {
@@ -35,11 +40,23 @@ fn reply(obj: &mut ObjInfo, question: Question) -> Result<Reply> {
             probe::trim_linker(obj)?;
             Ok(Reply::Splits(splits(obj)))
         }
+        Question::Merge(_) => {
+            for PartialSplit { section, start, split } in partials {
+                // Each round but the last takes a split away.
+                allow_rounds(obj.sections.all_splits().count() + 1);
+                obj.add_split(section, start, split)?;
+            }
+            Ok(Reply::Splits(splits(obj)))
+        }
     }
 }
 
+fn allow_rounds(rounds: usize) {
+    log::allow_rounds(if ROUNDS_END.get() { rounds } else { usize::MAX });
+}
+
 fn splits(obj: &ObjInfo) -> Vec<Split> {
-    let split = |(section, _, start, split): (_, _, _, &crate::obj::ObjSplit)| Split {
+    let split = |(section, _, start, split): (SectionIndex, _, u32, &ObjSplit)| Split {
         section,
         start,
         end: split.end,

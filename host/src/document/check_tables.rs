@@ -54,6 +54,17 @@ pub fn checked<'a>(tables: &Tables<'a>, limits: &Limits) -> Result<Known<'a>, Re
     check(tables, limits).map_err(|fault| fault.refusal())
 }
 
+/// "The merge's partial list is checked as records."
+pub fn checked_partials(partials: &[u8], known: &Known) -> Result<(), Refusal> {
+    let check = || {
+        for (i, record) in whole(SPLITS, partials)?.enumerate() {
+            sound(SPLITS, i, split_faults(record, known))?;
+        }
+        Ok(())
+    };
+    check().map_err(|fault: Fault| fault.refusal())
+}
+
 struct Fault {
     number: u16,
     record: usize,

@@ -99,6 +99,9 @@ pub const TRIM_SPLITS: StageEntry = stage_entry!(absent trim_splits
     (name_ends, name_bytes, sections, section_places, image, symbols, splits) ()
     (out_splits, counts));
 
+pub const ADD_SPLITS: StageEntry = stage_entry!(absent add_splits
+    (name_ends, name_bytes, sections, splits, partials) () (out_splits, counts));
+
 /// Takes and gives split records here, and structs over the C convention.
 pub const MARK_COMMON_SPLITS: StageEntry = stage_entry!(call_of_mark!(absent), mark_common_splits
     (splits) (section: u16, from: u32) (out_splits));

@@ -55,7 +55,7 @@ pub struct Place {
 #[derive(Default)]
 pub struct Maker {
     names: Vec<Vec<u8>>,
-    set: Set,
+    pub set: Set,
     pub sections: Vec<Place>,
     pub splits: Vec<Split>,
     /// Most addresses are multiples of it from a section's start.
@@ -188,16 +188,22 @@ impl Maker {
         ]));
     }
 
-    /// Adds a split with a random unit, alignment, flags and rename.
+    /// Adds a split whose end isn't above that of its section.
     pub fn split(&mut self, section: usize, start: u32, end: u32, r: &mut Random) {
+        let end = end.min(self.sections[section].end);
+        let split = self.made_split(section, start, end, r);
+        self.splits.push(split);
+    }
+
+    /// A random unit, alignment, flags and rename.
+    pub fn made_split(&self, section: usize, start: u32, end: u32, r: &mut Random) -> Split {
         let unit = r.pick(&self.units);
         let rename = if r.one_in(8) { r.pick(&self.units) } else { 0xFFFF };
         let flag = |bit: u8, rarity: usize, r: &mut Random| if r.one_in(rarity) { bit } else { 0 };
         let flags = flag(1, 8, r) | flag(2, 3, r) | flag(4, 10, r);
         let section = section as u16;
-        let end = end.min(self.sections[section as usize].end);
         let alignment = if r.one_in(3) { alignment(r) } else { 0 };
-        self.splits.push(Split { section, start, end, unit, alignment, flags, rename });
+        Split { section, start, end, unit, alignment, flags, rename }
     }
 
     /// Splits of any kind in each section: equal starts, open ends, ends below starts.
@@ -230,6 +236,18 @@ impl Maker {
                 if !r.one_in(faults) {
                     self.split(section, starts[i], end, r);
                 }
+            }
+        }
+    }
+
+    /// Gives the splits of each section different units, as far as there are enough.
+    pub fn part_units(&mut self, r: &mut Random) {
+        let mut units = self.units.clone();
+        for section in 0..self.sections.len() {
+            r.shuffle(&mut units);
+            let splits = self.splits.iter_mut().filter(|s| s.section as usize == section);
+            for (split, unit) in splits.zip(&units) {
+                split.unit = *unit;
             }
         }
     }

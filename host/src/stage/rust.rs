@@ -3,12 +3,18 @@ use oracle::answers::{self, Question, Reply, Stop};
 
 use super::{Beside, Case};
 use crate::{
-    document::{Refusal, check_tables::Tables, image},
+    document::{Refusal, image},
     records::packed,
 };
 
 /// Parts of the Rust's messages, and the numbers that document 01 gives them.
 const NUMBERS: &[(&str, u16)] = &[
+    ("Invalid section index", 20),
+    ("is outside section", 21),
+    ("Multiple splits for unit", 22),
+    ("Conflicting alignment", 23),
+    ("Conflicting common flag", 24),
+    ("overlaps existing split", 25),
     ("overlaps with previous split", 50),
     ("Invalid split end", 51),
     ("overlaps symbol", 52),
@@ -24,6 +30,7 @@ fn number(stop: &Stop) -> Option<u16> {
             let found = NUMBERS.iter().find(|(part, _)| message.contains(part));
             found.map(|(_, number)| *number)
         }
+        Stop::Endless => Some(26),
         Stop::Panic(panic) if panic.message.contains("subtract with overflow") => {
             panic.at_ctors.then_some(10)
         }
@@ -37,7 +44,7 @@ fn number(stop: &Stop) -> Option<u16> {
 
 /// Asks, and holds the reading to the reply.
 pub fn beside(case: &Case, question: Question, reading: Result<Reply, Refusal>) -> Beside {
-    let Some(asked) = answers::ask(&file(&case.tables()), question) else {
+    let Some(asked) = answers::ask(&file(case), question) else {
         return Beside::NotAsked;
     };
     match (&reading, &asked) {
@@ -46,6 +53,7 @@ pub fn beside(case: &Case, question: Question, reading: Result<Reply, Refusal>) 
             let how = match stop {
                 Stop::Error(_) => ", as the Rust's error",
                 Stop::Panic(_) => ", as the Rust's panic",
+                Stop::Endless => ", the Rust goes round without end",
             };
             Beside::Same(refusal.number, how)
         }
@@ -56,8 +64,11 @@ pub fn beside(case: &Case, question: Question, reading: Result<Reply, Refusal>) 
     }
 }
 
-/// Tables that passed their checks, as a record file.
-fn file(t: &Tables) -> Vec<u8> {
+/// Tables that passed their checks, as a record file; the partial splits stand behind the
+/// split table.
+pub fn file(case: &Case) -> Vec<u8> {
+    let t = &case.tables();
+    let splits = [t.splits, &case.partials].concat();
     let mut file = vec![];
     let mut add = |kind: u64, payload: &[&[u8]]| {
         let payload = payload.concat();
@@ -74,7 +85,7 @@ fn file(t: &Tables) -> Vec<u8> {
         add(2, &[&head[..2], &[kind], &head[3..], section.bytes]);
     }
     for (kind, table, width) in
-        [(3, t.symbols, 20), (4, t.relocations, 23), (5, t.splits, 19), (6, t.units, 8)]
+        [(3, t.symbols, 20), (4, t.relocations, 23), (5, &splits, 19), (6, t.units, 8)]
     {
         for record in table.chunks_exact(width) {
             add(kind, &[record]);
@@ -83,9 +94,13 @@ fn file(t: &Tables) -> Vec<u8> {
     file
 }
 
+pub fn text(name: impl AsRef<[u8]>) -> String {
+    String::from_utf8(name.as_ref().to_vec()).unwrap()
+}
+
 /// A reading's splits with the names themselves.
 pub fn named(splits: &[image::Split], names: &[impl AsRef<[u8]>]) -> Reply {
-    let name = |number: u16| String::from_utf8(names[number as usize].as_ref().to_vec()).unwrap();
+    let name = |number: u16| text(&names[number as usize]);
     let split = |s: &image::Split| answers::Split {
         section: s.section as u32,
         start: s.start,
