@@ -7,6 +7,7 @@ pub mod common;
 pub mod ends;
 pub mod image;
 pub mod merge;
+pub mod order;
 pub mod outputs;
 pub mod records;
 pub mod toposort;

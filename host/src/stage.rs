@@ -5,6 +5,7 @@ pub mod ends;
 mod line;
 mod make;
 pub mod merge;
+pub mod order;
 mod rust;
 pub mod trim;
 pub mod validate;
@@ -71,6 +72,8 @@ pub trait Stage {
     const COUNT: usize;
     /// The numbers that these must come to, 0 for accepted, each at least `LEAST` times.
     const OUTCOMES: &'static [u16];
+    /// Numbers that must come up more often, and how often.
+    const OFTEN: &'static [(u16, u64)] = &[];
     fn random(r: &mut Random) -> Case;
     /// The second reading of document 01.
     fn right(case: &Case) -> Answer;
@@ -189,9 +192,10 @@ fn random<S: Stage>(seed: u64, count: usize, tally: &mut Tally) {
             tally.absorb(worker.join().unwrap());
         }
     });
-    for number in S::OUTCOMES {
+    let least = S::OUTCOMES.iter().map(|number| (*number, LEAST));
+    for (number, least) in least.chain(S::OFTEN.iter().copied()) {
         // A part of the cases owes a part of the minimum.
-        tally.want_often(*number, LEAST * count as u64 / S::COUNT as u64);
+        tally.want_often(number, least * count as u64 / S::COUNT as u64);
     }
     tally.end(&[]);
 }

@@ -102,6 +102,9 @@ pub const TRIM_SPLITS: StageEntry = stage_entry!(absent trim_splits
 pub const ADD_SPLITS: StageEntry = stage_entry!(absent add_splits
     (name_ends, name_bytes, sections, splits, partials) () (out_splits, counts));
 
+pub const RESOLVE_LINK_ORDER: StageEntry = stage_entry!(absent resolve_link_order
+    (name_ends, name_bytes, sections, splits, units) () (out_units, counts));
+
 /// Takes and gives split records here, and structs over the C convention.
 pub const MARK_COMMON_SPLITS: StageEntry = stage_entry!(call_of_mark!(absent), mark_common_splits
     (splits) (section: u16, from: u32) (out_splits));

@@ -21,6 +21,7 @@ const NUMBERS: &[(&str, u16)] = &[
     ("ends within symbol", 53),
     ("Multiple sections", 30),
     ("Failed to find .bss", 31),
+    ("Duplicate order", 60),
 ];
 
 /// Document 01's number for what the Rust stopped with.
@@ -48,6 +49,9 @@ pub fn beside(case: &Case, question: Question, reading: Result<Reply, Refusal>) 
         return Beside::NotAsked;
     };
     match (&reading, &asked) {
+        (Ok(reading), Ok(Reply::Cycle(cycle))) if *reading == Reply::Cycle(cycle.clone()) => {
+            Beside::Same(61, ", the Rust's cycle")
+        }
         (Ok(reading), Ok(reply)) if reading == reply => Beside::Same(0, ", as the Rust"),
         (Err(refusal), Err(stop)) if number(stop) == Some(refusal.number) => {
             let how = match stop {
