@@ -5,6 +5,7 @@ pub mod check_file;
 pub mod check_tables;
 pub mod common;
 pub mod ends;
+pub mod gaps;
 pub mod image;
 pub mod merge;
 pub mod order;

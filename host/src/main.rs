@@ -41,7 +41,7 @@ struct Entry {
     store: fn(u64) -> String,
 }
 
-const ENTRIES: [Entry; 11] = [
+const ENTRIES: [Entry; 12] = [
     toposort::ENTRY,
     check_file::ENTRY,
     check_tables::ENTRY,
@@ -52,6 +52,7 @@ const ENTRIES: [Entry; 11] = [
     stage::entry::<stage::common::MarkCommonSplits>(),
     stage::entry::<stage::trim::TrimSplits>(),
     stage::entry::<stage::merge::AddSplits>(),
+    stage::entry::<stage::gaps::CreateGapSplits>(),
     stage::entry::<stage::order::ResolveLinkOrder>(),
 ];
 

@@ -2,6 +2,7 @@
 //! comparison with the second reading and the Rust, random cases on all processors.
 pub mod common;
 pub mod ends;
+pub mod gaps;
 mod line;
 mod make;
 pub mod merge;

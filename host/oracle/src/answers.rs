@@ -43,6 +43,7 @@ pub enum Question {
     Trim,
     /// The split records from this number on are the partial list.
     Merge(usize),
+    Gaps,
     Order,
 }
 

@@ -48,6 +48,14 @@ fn reply(obj: &mut ObjInfo, question: Question, partials: Vec<PartialSplit>) -> 
             }
             Ok(Reply::Splits(splits(obj)))
         }
+        Question::Gaps => {
+            // A gap for each section, symbol and split at most, and a merge for each gap.
+            let splits_count = obj.sections.all_splits().count();
+            let gaps = obj.sections.len() as usize + obj.symbols.count() as usize + splits_count;
+            allow_rounds(2 * gaps + splits_count);
+            probe::create_gaps(obj)?;
+            Ok(Reply::Splits(splits(obj)))
+        }
         Question::Order => order(obj),
     }
 }

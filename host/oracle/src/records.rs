@@ -1,6 +1,8 @@
 //! Document 01's record files. Only the form is read here: what the Rust can't be
 //! given (a cut file, an unknown number) is an `Err`; document 01's table checks
 //! are not repeated.
+use std::collections::HashSet;
+
 use flagset::FlagSet;
 
 use crate::obj::{
@@ -91,6 +93,7 @@ pub struct PartialSplit {
 #[derive(Debug, Default)]
 pub struct Tables {
     pub names: Vec<String>,
+    known_names: HashSet<String>,
     pub sections: Vec<ObjSection>,
     pub symbols: Vec<ObjSymbol>,
     pub splits: Vec<PartialSplit>,
@@ -169,7 +172,7 @@ impl Tables {
 
     fn add_name(&mut self, p: &mut Payload) -> Result<(), String> {
         let name = std::str::from_utf8(p.rest()).map_err(|e| e.to_string())?.to_string();
-        if !self.names.contains(&name) {
+        if self.known_names.insert(name.clone()) {
             self.names.push(name);
         }
         Ok(())

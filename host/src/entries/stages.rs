@@ -102,6 +102,10 @@ pub const TRIM_SPLITS: StageEntry = stage_entry!(absent trim_splits
 pub const ADD_SPLITS: StageEntry = stage_entry!(absent add_splits
     (name_ends, name_bytes, sections, splits, partials) () (out_splits, counts));
 
+pub const CREATE_GAP_SPLITS: StageEntry = stage_entry!(absent create_gap_splits
+    (name_ends, name_bytes, sections, section_places, image, symbols, splits) ()
+    (out_name_ends, out_name_bytes, out_splits, counts));
+
 pub const RESOLVE_LINK_ORDER: StageEntry = stage_entry!(absent resolve_link_order
     (name_ends, name_bytes, sections, splits, units) () (out_units, counts));
 

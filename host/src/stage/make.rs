@@ -50,11 +50,12 @@ const UNITS: [&[u8]; 8] = [b"a", b"b", b"c", b"d.c", b"e.c", b"f", b"g", b"h"];
 pub struct Place {
     pub start: u32,
     pub end: u32,
+    pub name: u16,
 }
 
-#[derive(Default)]
+#[derive(Clone, Default)]
 pub struct Maker {
-    names: Vec<Vec<u8>>,
+    pub names: Vec<Vec<u8>>,
     pub set: Set,
     pub sections: Vec<Place>,
     pub splits: Vec<Split>,
@@ -112,8 +113,8 @@ impl Maker {
         const STARTS: [u32; 9] =
             [0, 0x20, 0x1000, 0x1000, 0x1000, 0x1002, 0x1004, 0x8000_1000, TOP];
         let start = r.pick(&STARTS).min(TOP - size);
-        self.sections.push(Place { start, end: start + size });
         let (name, offset) = (self.name(name), r.pick(&[0, 0x40, 0xFFFF_FFFF]));
+        self.sections.push(Place { start, end: start + size, name });
         let fields = [(start as u64, 4), (size as u64, 4), (offset, 4)];
         let head = [&[(name as u64, 2), (kind as u64, 1)], &fields[..]].concat();
         self.set[HEADS].extend(packed(&head));
@@ -131,7 +132,7 @@ impl Maker {
 
     /// An address in the section, seldom outside it; none above the top.
     pub fn near(&self, section: usize, r: &mut Random) -> u32 {
-        let Place { start, end } = self.sections[section];
+        let Place { start, end, .. } = self.sections[section];
         let steps = (end - start) / self.step;
         let inside = start + self.step * r.below(steps as usize + 1) as u32;
         match r.below(24) {
@@ -145,7 +146,7 @@ impl Maker {
 
     /// The same, but always where a symbol may lie.
     pub fn inside(&self, section: usize, r: &mut Random) -> u32 {
-        let Place { start, end } = self.sections[section];
+        let Place { start, end, .. } = self.sections[section];
         self.near(section, r).clamp(start, end)
     }
 
@@ -224,7 +225,7 @@ impl Maker {
     /// Splits that lie one behind another over each section, but for a few holes and faults.
     pub fn tidy_splits(&mut self, most: usize, faults: usize, r: &mut Random) {
         for section in 0..self.sections.len() {
-            let Place { start, end } = self.sections[section];
+            let Place { start, end, .. } = self.sections[section];
             let mut starts: Vec<u32> =
                 (0..r.below(most)).map(|_| self.inside(section, r)).collect();
             starts.push(start);

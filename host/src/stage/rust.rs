@@ -9,6 +9,8 @@ use crate::{
 
 /// Parts of the Rust's messages, and the numbers that document 01 gives them.
 const NUMBERS: &[(&str, u16)] = &[
+    ("Need to split at", 41),
+    ("Duplicate symbols at", 42),
     ("Invalid section index", 20),
     ("is outside section", 21),
     ("Multiple splits for unit", 22),
@@ -25,8 +27,15 @@ const NUMBERS: &[(&str, u16)] = &[
 ];
 
 /// Document 01's number for what the Rust stopped with.
-fn number(stop: &Stop) -> Option<u16> {
+fn number(question: Question, stop: &Stop) -> Option<u16> {
     match stop {
+        // The check has the same words for 50.
+        Stop::Error(message)
+            if message.contains("overlaps with previous split")
+                && matches!(question, Question::Gaps) =>
+        {
+            Some(40)
+        }
         Stop::Error(message) => {
             let found = NUMBERS.iter().find(|(part, _)| message.contains(part));
             found.map(|(_, number)| *number)
@@ -53,7 +62,7 @@ pub fn beside(case: &Case, question: Question, reading: Result<Reply, Refusal>) 
             Beside::Same(61, ", the Rust's cycle")
         }
         (Ok(reading), Ok(reply)) if reading == reply => Beside::Same(0, ", as the Rust"),
-        (Err(refusal), Err(stop)) if number(stop) == Some(refusal.number) => {
+        (Err(refusal), Err(stop)) if number(question, stop) == Some(refusal.number) => {
             let how = match stop {
                 Stop::Error(_) => ", as the Rust's error",
                 Stop::Panic(_) => ", as the Rust's panic",
