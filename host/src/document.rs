@@ -14,6 +14,7 @@ pub mod records;
 pub mod toposort;
 pub mod trim;
 pub mod validate;
+pub mod walk;
 
 #[derive(Clone, Copy, Debug, Eq, PartialEq)]
 pub struct Refusal {

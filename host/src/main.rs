@@ -41,7 +41,7 @@ struct Entry {
     store: fn(u64) -> String,
 }
 
-const ENTRIES: [Entry; 12] = [
+const ENTRIES: [Entry; 13] = [
     toposort::ENTRY,
     check_file::ENTRY,
     check_tables::ENTRY,
@@ -54,6 +54,7 @@ const ENTRIES: [Entry; 12] = [
     stage::entry::<stage::merge::AddSplits>(),
     stage::entry::<stage::gaps::CreateGapSplits>(),
     stage::entry::<stage::order::ResolveLinkOrder>(),
+    stage::entry::<stage::walk::SplitObj>(),
 ];
 
 const SEED: u64 = 1;

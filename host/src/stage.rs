@@ -10,6 +10,7 @@ pub mod order;
 mod rust;
 pub mod trim;
 pub mod validate;
+pub mod walk;
 
 use std::{
     sync::atomic::{AtomicUsize, Ordering},

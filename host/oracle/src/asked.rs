@@ -2,9 +2,12 @@
 use anyhow::Result;
 
 use crate::{
-    answers::{Question, ROUNDS_END, Reply, Split, Stop, Unit, quietly},
-    obj::{ObjInfo, ObjSplit, ObjUnit, SectionIndex},
-    records::{PartialSplit, Tables},
+    answers::{
+        Piece, PieceSymbol, Question, ROUNDS_END, Relocation, Reply, Split, Stop, Unit, WalkedUnit,
+        quietly,
+    },
+    obj::{ObjInfo, ObjReloc, ObjSection, ObjSplit, ObjSymbol, ObjUnit, SectionIndex, SymbolIndex},
+    records::{PartialSplit, Tables, flags_out, reloc_kind_out},
     util::split::{end_for_section, probe},
 };
 
@@ -57,6 +60,11 @@ fn reply(obj: &mut ObjInfo, question: Question, partials: Vec<PartialSplit>) -> 
             Ok(Reply::Splits(splits(obj)))
         }
         Question::Order => order(obj),
+        Question::Walk => {
+            let (objects, kept) = probe::split_obj_sections(obj, None, false)?;
+            let units = objects.iter().zip(&kept);
+            Ok(Reply::Walked(units.map(|(unit, kept)| walked(unit, kept)).collect()))
+        }
     }
 }
 
@@ -89,4 +97,47 @@ fn splits(obj: &ObjInfo) -> Vec<Split> {
         rename: split.rename.clone(),
     };
     obj.sections.all_splits().map(split).collect()
+}
+
+/// `kept`: the unit's number for each symbol of the image.
+fn walked(unit: &ObjInfo, kept: &[Option<SymbolIndex>]) -> WalkedUnit {
+    let image_number = |i| kept.iter().position(|n| *n == Some(i)).unwrap();
+    let symbols = unit.symbols.iter().map(|(i, symbol)| piece_symbol(image_number(i), symbol));
+    WalkedUnit {
+        pieces: unit.sections.iter().map(|(_, section)| piece(section)).collect(),
+        symbols: symbols.collect(),
+    }
+}
+
+fn piece(section: &ObjSection) -> Piece {
+    let relocation = |(offset, r): (u32, &ObjReloc)| Relocation {
+        offset,
+        kind: reloc_kind_out(r.kind),
+        target: r.target_symbol,
+        addend: r.addend,
+        module: r.module,
+    };
+    Piece {
+        name: section.name.clone(),
+        address: section.virtual_address.unwrap(),
+        size: section.size,
+        alignment: section.align,
+        file_offset: section.file_offset,
+        bytes: section.data.clone(),
+        relocations: section.relocations.iter().map(relocation).collect(),
+    }
+}
+
+fn piece_symbol(number: usize, symbol: &ObjSymbol) -> PieceSymbol {
+    PieceSymbol {
+        number,
+        name: symbol.name.clone(),
+        piece: symbol.section,
+        address: symbol.address,
+        size: symbol.size,
+        known: symbol.size_known,
+        kind: symbol.kind as u8,
+        flags: flags_out(&symbol.flags),
+        alignment: symbol.align,
+    }
 }

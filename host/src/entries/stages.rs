@@ -109,6 +109,10 @@ pub const CREATE_GAP_SPLITS: StageEntry = stage_entry!(absent create_gap_splits
 pub const RESOLVE_LINK_ORDER: StageEntry = stage_entry!(absent resolve_link_order
     (name_ends, name_bytes, sections, splits, units) () (out_units, counts));
 
+pub const SPLIT_OBJ: StageEntry = stage_entry!(absent split_obj
+    (name_ends, name_bytes, sections, section_places, image, symbols, relocations, splits, units) ()
+    (pieces, piece_symbols, piece_relocations, counts));
+
 /// Takes and gives split records here, and structs over the C convention.
 pub const MARK_COMMON_SPLITS: StageEntry = stage_entry!(call_of_mark!(absent), mark_common_splits
     (splits) (section: u16, from: u32) (out_splits));

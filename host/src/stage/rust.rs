@@ -24,6 +24,21 @@ const NUMBERS: &[(&str, u16)] = &[
     ("Multiple sections", 30),
     ("Failed to find .bss", 31),
     ("Duplicate order", 60),
+    ("No split found", 70),
+    ("outside of section", 72),
+    ("Unsplit data", 73),
+    ("not in link order", 74),
+    ("Invalid alignment", 75),
+    ("not found", 71),
+];
+
+/// The same for its panics: an end below a start as a range of symbols or relocations, as a
+/// piece's size and as its bytes; the split that the trim doesn't find.
+const PANICS: &[(&str, u16)] = &[
+    ("range start is greater than range end", 11),
+    ("subtract with overflow", 11),
+    ("slice index starts at", 11),
+    ("unwrap()", 54),
 ];
 
 /// Document 01's number for what the Rust stopped with.
@@ -41,14 +56,11 @@ fn number(question: Question, stop: &Stop) -> Option<u16> {
             found.map(|(_, number)| *number)
         }
         Stop::Endless => Some(26),
-        Stop::Panic(panic) if panic.message.contains("subtract with overflow") => {
-            panic.at_ctors.then_some(10)
+        Stop::Panic(panic) if panic.at_ctors => Some(10),
+        Stop::Panic(panic) => {
+            let found = PANICS.iter().find(|(part, _)| panic.message.contains(part));
+            found.map(|(_, number)| *number)
         }
-        Stop::Panic(panic) => match panic.message.as_str() {
-            message if message.contains("range start is greater than range end") => Some(11),
-            message if message.contains("unwrap()") => Some(54),
-            _ => None,
-        },
     }
 }
 
