@@ -25,3 +25,4 @@ pub mod Settle
 pub mod FilterRows
 pub mod SomeRows
 pub mod Both
+pub mod Each

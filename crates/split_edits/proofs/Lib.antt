@@ -2,3 +2,4 @@ pub mod Inserted
 pub mod Sorting
 pub mod Renaming
 pub mod Order
+pub mod Each
