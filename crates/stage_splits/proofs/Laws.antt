@@ -13,7 +13,7 @@ use Rattle.lists.specs.Outcome.{Outcome, accepted, refused, _>>_}
 use Rattle.lists.specs.Rows.{clearFrom}
 use Rattle.lists.specs.Tables.{laid}
 use Rattle.lists.proofs.Clear.{clear-all}
-use Rattle.lists.proofs.Outcomes.{not-both}
+use Rattle.lists.proofs.Outcomes.{not-both, same-accepted}
 use Rattle.lists.proofs.Rows.{getD-map}
 use Rattle.align.specs.Align.{badAlign}
 use Rattle.obj.specs.Answers.{word, meaning, outcomeWord}
@@ -33,7 +33,7 @@ use Rattle.outputs.specs.Outputs.{halves, countsOf, storeCount, storeCounts}
 use Rattle.outputs.proofs.Laws.{counts-stored}
 use Rattle.splits.specs.Columns.{Columns, rows}
 use Rattle.splits.specs.Bytes.{tableBytes, Loadable}
-use Rattle.stage_splits.specs.StageSplits.{roomOf, Leaves, Taken, said, Gives}
+use Rattle.stage_splits.specs.StageSplits.{roomOf, Leaves, Taken, Laid, said, Gives}
 
 -- ---- the room
 pub room-low : (size : ℕ) → roomOf size ≤ 1024
@@ -130,6 +130,15 @@ no-count size = go (size / 2) refl
     go (suc (suc n)) e = two (omega arith)
 
 -- ---- an outcome on its way through an entry
+module _ {size counts-size : ℕ} {out counts : List ℕ} where
+  -- a stage that was refused, and one whose rows were given
+  pub gives-refused : {o : Outcome (List Split)} {number section address : ℕ} → refused number section address ≡ o
+      → Gives o (Refused number section address) size counts-size out counts
+  gives-refused e = rw (sym e) (record { answered = refl; given = λ l z. absurd (not-both z) })
+
+  pub gives-laid : {o : Outcome (List Split)} {l : List Split} → accepted l ≡ o → Laid l size counts-size out counts → Gives o Accepted size counts-size out counts
+  gives-laid {l = l} e d = rw (sym e) (record { answered = refl; given = λ m z. subst (λ (x : List Split). Laid x size counts-size out counts) (same-accepted z) d })
+
 module _ {a : Answer} {size counts-size : ℕ} {out counts : List ℕ} where
   -- the same outcome, said otherwise
   pub gives-as : {o p : Outcome (List Split)} → o ≡ p → Gives o a size counts-size out counts → Gives p a size counts-size out counts
@@ -175,3 +184,12 @@ module _ (o : Outcome (List Split)) (out counts : List ℕ) where
         splits = f ∙ clear-all 0 out ∙ nothing-laid (length out);
         counted = g ∙ clear-all 0 counts ∙ no-count (length counts);
       }
+
+-- `finish` after a function that gave its outputs: what was lent has its length still
+pub finished : (o : Outcome (List Split)) {a : Answer} {size counts-size answer : ℕ} (out counts : List ℕ) {out′ counts′ : List ℕ} → length out ≡ size → length counts ≡ counts-size
+    → Gives o a size counts-size out counts
+    → ((p : Outcome (List Split)) → Gives p a (length out) (length counts) out counts → Leaves p (length out) (length counts) answer out′ counts′)
+    → Leaves o size counts-size answer out′ counts′
+finished o {a} {size} {counts-size} {answer} out counts {out′} {counts′} e f w h =
+    let there = subst (λ (m : ℕ). Gives o a m (length counts) out counts) (sym e) (subst (λ (n : ℕ). Gives o a size n out counts) (sym f) w) in
+    subst (λ (m : ℕ). Leaves o m counts-size answer out′ counts′) e (subst (λ (n : ℕ). Leaves o (length out) n answer out′ counts′) f (h o there))
