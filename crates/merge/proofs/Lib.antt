@@ -1,0 +1,6 @@
+pub mod Rounds
+pub mod Decisions
+pub mod Keeping
+pub mod Tables
+pub mod Refusals
+pub mod Cases

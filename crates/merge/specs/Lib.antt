@@ -1,0 +1,3 @@
+pub mod Merge
+pub mod Answers
+pub mod Kept
