@@ -12,9 +12,12 @@
  * Inputs are never written. An accepted output holds its records, and then zeros to the end of the lent bytes. After a
  * refusal every output is zeros throughout, unless the refusal says otherwise (61).
  *
- * Counts. Each entry with outputs is lent `counts` last: for each output before it, in order, how many records it holds, a
- * number of two bytes. `counts` is cut to what is lent: a number for which fewer than two bytes are left is not written, and
- * lent bytes without a number are zeros. Being short is never a reason to refuse.
+ * Counts. Each entry whose outputs hold records is lent `counts` last: for each output before it, in order, how many records
+ * it holds, a number of two bytes. `counts` is cut to what is lent: a number for which fewer than two bytes are left is not
+ * written, and lent bytes without a number are zeros. Being short is never a reason to refuse.
+ *
+ * Numbers. An entry that gives one number has an output of four bytes for it. Where fewer are lent it is not written and they
+ * are zeros, which is no reason to refuse either; lent bytes past it are zeros.
  */
 #ifndef MIZHAKKON_H
 #define MIZHAKKON_H
@@ -57,6 +60,9 @@ static inline uint32_t mizhakkon_address(uint64_t answer)
 #define MIZHAKKON_RELOCATION 6 /* a relocation's kind, section, target or address; address: the record */
 #define MIZHAKKON_SPLIT 7      /* a split's names, alignment, flags, start or end; address: the record */
 #define MIZHAKKON_UNIT 8       /* a unit's name or yes-or-no byte; address: the record */
+#define MIZHAKKON_SHORT_LIST 10 /* `.ctors` or `.dtors` has 1 to 3 bytes; at the section and its start */
+#define MIZHAKKON_BACKWARDS 11 /* a range starts above its end; at its section and its start */
+#define MIZHAKKON_NO_SECTION 20 /* a section or split that was asked for isn't there; each entry says its place */
 #define MIZHAKKON_CYCLE 61     /* the edges hold a cycle */
 #define MIZHAKKON_NO_NODE 62   /* an edge from or to no node; address: the edge's number */
 #define MIZHAKKON_NO_ROOM 76   /* an output table has fewer places than are needed */
@@ -167,6 +173,55 @@ uint64_t check_tables(const uint8_t *name_ends, size_t name_ends_len,
                       const uint8_t *relocations, size_t relocations_len,
                       const uint8_t *splits, size_t splits_len,
                       const uint8_t *units, size_t units_len);
+
+/*
+ * Gives the splitting end of a section: how far it may be split. That is its address plus its size; less 4 if it is `.ctors`
+ * or `.dtors` and its last four bytes are zero; and then, while the last symbol below it has a linker object's name, that
+ * symbol's address. Symbols here are the section's objects (kind 2) of known size above 0 that aren't stripped, the last by
+ * address and then by number; the names are `_eti_init_info`, `_rom_copy_info`, `_bss_init_info`, `_ctors$99` and
+ * `_dtors$99`. A section of kind 3 or of size 0 ends at its address plus its size, whatever its name and its symbols.
+ *
+ *   name_ends .. symbols  the tables as check_tables takes them
+ *   section               the number of the section that is asked
+ *   end                   out: the end, 4 bytes
+ *
+ * Refused, the first that holds:
+ *   1 to 5  as check_tables refuses these tables
+ *   20      at (section, 0)          there is no section of this number
+ *   10      at (section, its start)  it is `.ctors` or `.dtors`, not of kind 3, and has 1 to 3 bytes
+ */
+uint64_t end_for_section(const uint8_t *name_ends, size_t name_ends_len,
+                         const uint8_t *name_bytes, size_t name_bytes_len,
+                         const uint8_t *sections, size_t sections_len,
+                         const uint8_t *section_places, size_t section_places_len,
+                         const uint8_t *image, size_t image_len,
+                         const uint8_t *symbols, size_t symbols_len,
+                         uint16_t section,
+                         uint8_t *end, size_t end_len);
+
+/*
+ * Gives the alignment of a split: the given one, else the larger of its section's default (4 for code, `.ctors`, `.dtors`,
+ * `extab` and `extabindex`, else 8) and the highest alignment of the section's symbols of known size above 0, stripped ones
+ * too, that lie at or above its start and below its end.
+ *
+ *   name_ends .. splits  the tables as check_tables takes them, without relocations
+ *   which                the number of the split that is asked
+ *   alignment            out: the alignment, 4 bytes
+ *
+ * Refused, the first that holds:
+ *   1 to 5, 7  as check_tables refuses these tables
+ *   20         at (0, which)                there is no split of this number
+ *   11         at (its section, its start)  no alignment is given, it starts above its end, and its section has a symbol
+ */
+uint64_t split_alignment(const uint8_t *name_ends, size_t name_ends_len,
+                         const uint8_t *name_bytes, size_t name_bytes_len,
+                         const uint8_t *sections, size_t sections_len,
+                         const uint8_t *section_places, size_t section_places_len,
+                         const uint8_t *image, size_t image_len,
+                         const uint8_t *symbols, size_t symbols_len,
+                         const uint8_t *splits, size_t splits_len,
+                         uint16_t which,
+                         uint8_t *alignment, size_t alignment_len);
 
 #ifdef __cplusplus
 }

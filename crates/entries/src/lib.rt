@@ -8,6 +8,7 @@ ghost use Rattle.obj.specs.Answers.{outcomeWord};
 ghost use Rattle.entry_check_tables.specs.Entry.{tablesOf};
 ghost use Rattle.entry_toposort.specs.Entry.{toposortOf, Leaves};
 ghost use Rattle.entry_check_file.specs.Entry.{Leaves as LeavesCounts};
+ghost use Rattle.entry_questions.specs.Entry.{endAnswer, alignmentAnswer, Leaves as LeavesNumber};
 
 #[no_mangle]
 pub extern "C" fn toposort(nodes: u32, edges: &[u8], out: &mut [u8], counts: &mut [u8]) -> u64
@@ -47,5 +48,57 @@ pub extern "C" fn check_tables(
         relocations,
         splits,
         units,
+    )
+}
+
+#[no_mangle]
+pub extern "C" fn end_for_section(
+    name_ends: &[u8],
+    name_bytes: &[u8],
+    sections: &[u8],
+    section_places: &[u8],
+    image: &[u8],
+    symbols: &[u8],
+    section: u16,
+    end: &mut [u8],
+) -> u64
+    ensures { λ r. ⌜ LeavesNumber (endAnswer (now («name_ends» .entry)) (now («name_bytes» .entry)) (now (sections .entry)) (now («section_places» .entry)) (now (image .entry)) (now (symbols .entry)) section) (length (now (end .entry))) r (now (end .exit)) ⌝ }
+{
+    entry_questions::end_for_section(
+        name_ends,
+        name_bytes,
+        sections,
+        section_places,
+        image,
+        symbols,
+        section,
+        end,
+    )
+}
+
+#[no_mangle]
+pub extern "C" fn split_alignment(
+    name_ends: &[u8],
+    name_bytes: &[u8],
+    sections: &[u8],
+    section_places: &[u8],
+    image: &[u8],
+    symbols: &[u8],
+    splits: &[u8],
+    which: u16,
+    alignment: &mut [u8],
+) -> u64
+    ensures { λ r. ⌜ LeavesNumber (alignmentAnswer (now («name_ends» .entry)) (now («name_bytes» .entry)) (now (sections .entry)) (now («section_places» .entry)) (now (image .entry)) (now (symbols .entry)) (now (splits .entry)) which) (length (now (alignment .entry))) r (now (alignment .exit)) ⌝ }
+{
+    entry_questions::split_alignment(
+        name_ends,
+        name_bytes,
+        sections,
+        section_places,
+        image,
+        symbols,
+        splits,
+        which,
+        alignment,
     )
 }
