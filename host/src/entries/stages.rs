@@ -83,10 +83,10 @@ fn marked(records: &[u8], out: &mut [u8], mark: impl Fn(&mut [Split])) -> u64 {
     if splits[0] == guard && splits[end] == guard { 0 } else { u64::MAX }
 }
 
-pub const END_FOR_SECTION: StageEntry = stage_entry!(absent end_for_section
+pub const END_FOR_SECTION: StageEntry = stage_entry!(linked end_for_section
     (name_ends, name_bytes, sections, section_places, image, symbols) (section: u16) (end));
 
-pub const SPLIT_ALIGNMENT: StageEntry = stage_entry!(absent split_alignment
+pub const SPLIT_ALIGNMENT: StageEntry = stage_entry!(linked split_alignment
     (name_ends, name_bytes, sections, section_places, image, symbols, splits) (which: u16) (alignment));
 
 pub const VALIDATE_SPLITS: StageEntry = stage_entry!(absent validate_splits
