@@ -1,21 +1,19 @@
 -- Where the common splits begin: the sections named `.bss` found one after the other, and the cases of the answer. Assumes nothing.
 use mathlib.Core.Path.{_≡_, refl, sym, ap, _∙_}
 use mathlib.Core.List.{List, [], _∷_, map}
-use mathlib.Core.Bool.{Bool, cond}
+use mathlib.Core.Bool.{Bool}
 use Prim.Native.Nat.{ℕ, suc, _+_, _-_, _≤_, _<_}
 use native.Mathlib.Omega.{arith}
 use borrow.Author.Tests.{lt-ltb, le-ltb}
-use lib.Dec.{ltb}
 use lib.ListN.{length}
 use Rattle.lists.specs.Rows.{tabulate, keepIf}
-use Rattle.lists.specs.Outcome.{Outcome, accepted, refused, refuse, _>>_, _>>=_}
+use Rattle.lists.specs.Outcome.{accepted, refused, refuse, _>>_, _>>=_}
 use Rattle.lists.proofs.Parts.{tabulate-all}
 use Rattle.obj.specs.declared.Split.{Split}
 use Rattle.splits.specs.Columns.{Columns, rowAt, rows}
 use Rattle.splits.specs.Questions.{Hit}
-use Rattle.common.specs.declared.Bss.{Bss}
 use Rattle.common.specs.declared.Bss.the-variants.{None, One, Many}
-use Rattle.common.specs.Common.{From, nowhere, on, bssSections, givenStart, firstCommon, startOf, commonIn, commonStart, markedFrom, marked, commonOf, startMeaning}
+use Rattle.common.specs.Common.{nowhere, on, bssSections, givenStart, firstCommon, startOf, commonIn, commonStart, markedFrom, marked, commonOf, startMeaning}
 use Rattle.common.specs.Sections.{bssOf, firstOf, givenOf, Next}
 
 -- ---- the sections named `.bss`

@@ -1,4 +1,3 @@
 pub mod Laws
 pub mod Marking
-pub mod Mapping
 pub mod Written

@@ -1,7 +1,7 @@
 -- Marking in the columns: the common flag is bit 32 of a row's rest, and setting it changes nothing else of the row. Assumes nothing.
 use mathlib.Core.Path.{_≡_, refl, ap, _∙_}
 use mathlib.Core.List.{List, map}
-use mathlib.Core.Bool.{Bool, true, false, cond, _&&_}
+use mathlib.Core.Bool.{true, false, _&&_}
 use Prim.Native.Nat.{ℕ, _+_, _-_, _*_, _/_, _%_, _≤_, _<_}
 use native.Mathlib.Omega.{arith}
 use lib.Dec.{eqb, leb}
@@ -9,7 +9,6 @@ use lib.ListN.{length, getD, set, length-set}
 use lib.Seq.{getD-set-same, getD-set-other}
 use borrow.Author.Count.{below-more}
 use Rattle.lists.proofs.Parts.{tabulate-map}
-use Rattle.obj.specs.declared.Split.{Split}
 use Rattle.splits.specs.Columns.{alignmentOf, sectionIn, renameIn, flagsIn, columns, rowOf, rowAt, rows}
 use Rattle.splits.specs.Updates.{withCommon}
 use Rattle.common.specs.Common.{marked}

@@ -11,12 +11,12 @@ use lib.Seq.{getD-set-same, getD-set-other, getD-take}
 use borrow.Author.Count.{below-more}
 use Rattle.lists.proofs.Rows.{getD-tabulate, getD-map}
 use Rattle.obj.specs.declared.Split.{Split}
-use Rattle.splits.specs.Columns.{Good, Columns, columns, rowOf, rowAt, rows}
+use Rattle.splits.specs.Columns.{Good, columns, rowOf, rowAt, rows}
 use Rattle.splits.specs.Updates.{withCommon}
 use Rattle.splits.proofs.Rows.{good-row}
 use Rattle.common.specs.Common.{marked}
 use Rattle.common.specs.Records.{noSplit, Kept}
-use Rattle.common.proofs.Mapping.{take-map, tabulate-take}
+use Rattle.lists.proofs.Mapping.{take-map, tabulate-take}
 
 -- ---- the records up to i are written back
 pub record Writing (starts ends units rest₀ rest : List ℕ) (table : List Split) (i : ℕ) : Type 0 where

@@ -8,6 +8,7 @@ use lib.Dec.{ltb}
 use lib.ListN.{length, getD}
 use Rattle.lists.specs.Rows.{tabulate, keepIf}
 use Rattle.obj.specs.Records.{sectionAt, Held}
+use Rattle.obj.specs.declared.Split.{Split}
 use Rattle.names.specs.Names.{nameAt, Named}
 use Rattle.names.specs.Fixed.{isBss}
 use Rattle.common.specs.declared.Bss.{Bss}
@@ -15,7 +16,6 @@ use Rattle.common.specs.declared.Bss.the-variants.{None, One, Many}
 use Rattle.common.specs.declared.CommonStart.{CommonStart}
 use Rattle.common.specs.declared.CommonStart.the-variants.{On, Several, Absent}
 use Rattle.common.specs.Common.{From, nowhere, bssSections, startOf, commonIn}
-use Rattle.obj.specs.declared.Split.{Split}
 
 -- section k is named `.bss`
 unfoldable pub bssAt : (name-bytes name-places name-lengths heads places : List ℕ) → ℕ → Bool

@@ -273,8 +273,7 @@ pub fn marked_split(s: Split, section: u16, address: u32) -> Split
 }
 
 // "A thin function over a lent slice of split structs sets common from an address on".
-#[no_mangle]
-pub extern "C" fn mark_common_splits(splits: &mut [Split], section: u16, address: u32)
+pub fn mark_common_splits(splits: &mut [Split], section: u16, address: u32)
     ensures { λ _. ⌜ now (splits .exit) ≡ map (marked section address) (now (splits .entry)) ⌝ }
 {
     let mut i: usize = 0;

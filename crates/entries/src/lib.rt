@@ -1,6 +1,7 @@
 // The stage entries over the C convention, "extern "C" on numbers and byte slices": each asks nothing of its caller, and its contract says
 // the answer and every byte of its outputs for every input. The header is include/mizhakkon.h.
 ghost use mathlib.Core.Path.{_≡_};
+ghost use mathlib.Core.List.{map};
 ghost use lib.ListN.{length};
 ghost use Rattle.tables.specs.Tables.{mainCeilings};
 ghost use Rattle.load.specs.Load.{loadOf};
@@ -9,6 +10,10 @@ ghost use Rattle.entry_check_tables.specs.Entry.{tablesOf};
 ghost use Rattle.entry_toposort.specs.Entry.{toposortOf, Leaves};
 ghost use Rattle.entry_check_file.specs.Entry.{Leaves as LeavesCounts};
 ghost use Rattle.entry_questions.specs.Entry.{endAnswer, alignmentAnswer, Leaves as LeavesNumber};
+ghost use Rattle.stage_splits.specs.StageSplits.{Leaves as LeavesSplits};
+ghost use Rattle.common.specs.Common.{marked};
+ghost use Rattle.entry_update_common_splits.specs.Entry.{updateOf};
+use obj::Split;
 
 #[no_mangle]
 pub extern "C" fn toposort(nodes: u32, edges: &[u8], out: &mut [u8], counts: &mut [u8]) -> u64
@@ -101,4 +106,39 @@ pub extern "C" fn split_alignment(
         which,
         alignment,
     )
+}
+
+#[no_mangle]
+pub extern "C" fn update_common_splits(
+    name_ends: &[u8],
+    name_bytes: &[u8],
+    sections: &[u8],
+    splits: &[u8],
+    has_start: u8,
+    start: u32,
+    out: &mut [u8],
+    counts: &mut [u8],
+) -> u64
+    ensures { λ r. ⌜
+        LeavesSplits (updateOf (now («name_ends» .entry)) (now («name_bytes» .entry)) (now (sections .entry)) (now (splits .entry)) «has_start» start (length (now (out .entry))))
+        (length (now (out .entry))) (length (now (counts .entry))) r (now (out .exit)) (now (counts .exit)) ⌝ }
+{
+    entry_update_common_splits::update_common_splits(
+        name_ends,
+        name_bytes,
+        sections,
+        splits,
+        has_start,
+        start,
+        out,
+        counts,
+    )
+}
+
+// The marking alone, "on a lent slice of split records": its proof is a walk by hand.
+#[no_mangle]
+pub extern "C" fn mark_common_splits(splits: &mut [Split], section: u16, address: u32)
+    ensures { λ _. ⌜ now (splits .exit) ≡ map (marked section address) (now (splits .entry)) ⌝ }
+{
+    common::mark_common_splits(splits, section, address)
 }

@@ -1,18 +1,18 @@
 -- The stage's answer on its way into the outputs, and what the tables leave in the columns: the sections with their names, and which of them are named `.bss`.
 -- Assumes nothing.
-use Prim.Native.Nat.{ℕ, zero, suc, _+_, _/_, _≤_, _<_}
-use mathlib.Core.Path.{_≡_, refl, sym, ap, ap₂, subst, _∙_}
+use Prim.Native.Nat.{ℕ, _/_, _≤_, _<_}
+use mathlib.Core.Path.{_≡_, sym, ap, ap₂, subst, _∙_}
 use mathlib.Core.List.{List, []}
 use mathlib.Core.Bool.{Bool}
 use mathlib.Core.Logic.{_⊎_, inl, inr}
 use native.Mathlib.Omega.{arith}
 use lib.ListN.{length, getD, take, drop, List·getD-eq-default}
 use lib.Seq.{getD-take, length-take-le}
-use Rattle.lists.specs.Outcome.{Outcome, accepted, refused, _>>_}
+use Rattle.lists.specs.Outcome.{Outcome, accepted, _>>_}
 use Rattle.lists.specs.Rows.{tabulate, keepIf}
-use Rattle.lists.specs.Sort.{All, none, each}
 use Rattle.lists.proofs.Compare.{lt-or-ge}
 use Rattle.lists.proofs.Filter.{keep-same}
+use Rattle.lists.proofs.Mapping.{numbers-all}
 use Rattle.lists.proofs.Outcomes.{not-both, same-accepted}
 use Rattle.lists.proofs.Rows.{getD-map}
 use Rattle.obj.specs.Answers.{meaning}
@@ -89,12 +89,6 @@ sections-of {name-bytes} {name-places} {name-lengths} b places names f e = recor
         omega (arith, at, there, within name-lengths (getD (stageSections b) k noSection .name) named, names .same)
 
 -- ---- the sections named `.bss`
-
--- what holds of each number, of all
-numbers-all : (P : ℕ → Type 0) (i m : ℕ) → ((k : ℕ) → i ≤ k → k < i + m → P k) → All P (tabulate (λ k. k) i m)
-unfolding tabulate
-numbers-all P i zero h = none
-numbers-all P i (suc m) h = each (h i (omega arith) (omega arith)) (numbers-all P (suc i) m (λ k a b. h k (omega arith) (omega arith)))
 
 -- a name of the columns is that of the table, and empty where the table has none
 name-as : {ends bytes places lengths heads chain : List ℕ} {n : ℕ} → Stored ends bytes places lengths heads chain n → (j : ℕ)

@@ -26,3 +26,4 @@ pub mod FilterRows
 pub mod SomeRows
 pub mod Both
 pub mod Each
+pub mod Mapping

@@ -92,7 +92,7 @@ pub const SPLIT_ALIGNMENT: StageEntry = stage_entry!(linked split_alignment
 pub const VALIDATE_SPLITS: StageEntry = stage_entry!(absent validate_splits
     (name_ends, name_bytes, sections, symbols, splits) () ());
 
-pub const UPDATE_COMMON_SPLITS: StageEntry = stage_entry!(absent update_common_splits
+pub const UPDATE_COMMON_SPLITS: StageEntry = stage_entry!(linked update_common_splits
     (name_ends, name_bytes, sections, splits) (has_start: u8, start: u32) (out_splits, counts));
 
 pub const TRIM_SPLITS: StageEntry = stage_entry!(absent trim_splits
@@ -114,5 +114,5 @@ pub const SPLIT_OBJ: StageEntry = stage_entry!(absent split_obj
     (pieces, piece_symbols, piece_relocations, counts));
 
 /// Takes and gives split records here, and structs over the C convention.
-pub const MARK_COMMON_SPLITS: StageEntry = stage_entry!(call_of_mark!(absent), mark_common_splits
+pub const MARK_COMMON_SPLITS: StageEntry = stage_entry!(call_of_mark!(linked), mark_common_splits
     (splits) (section: u16, from: u32) (out_splits));

@@ -1,5 +1,4 @@
 -- `common::by_name` meets its contract: the first of the name, and whether there is a second. Assumes nothing.
-use native.Mathlib.Omega.{arith}
 use lib.ListN.{length}
 use Rattle.common.specs.Sections.{bssAt}
 use Rattle.common.proofs.Laws.{bss-none, bss-many, bss-one}

@@ -10,9 +10,6 @@ use Rattle.splits.specs.Columns.{columns, rowOf, rowAt}
 use Rattle.common.specs.Common.{commonIn}
 use Rattle.common.proofs.first_common.Statement.{statement}
 use Rattle.common.proofs.first_common.Tie as tie
-use Rattle.common.proofs.first_common.Reads as reads
-use Rattle.common.proofs.first_common.Lts as lts
-use Rattle.common.proofs.is_common_in.Reads as is-common-in-reads
 
 abbrev Inv-loop : tie.InvT-loop
 Inv-loop starts ends units rest n section i₀ i =
@@ -23,23 +20,18 @@ Inv-loop starts ends units rest n section i₀ i =
 abbrev μ-loop : tie.MeasureT-loop
 μ-loop starts ends units rest n section i₀ i = n - i
 
--- src/lib.rt:138:5
 loop-holds : tie.Need-loop-holds Inv-loop μ-loop
 loop-holds c = (omega arith, refl)
 
--- src/lib.rt:139:34
 mul-is-common-in : tie.Need-mul-is-common-in Inv-loop μ-loop
 mul-is-common-in c = omega arith
 
--- src/lib.rt:139:34
 shared-slice-read-is-common-in : tie.Need-shared-slice-read-is-common-in Inv-loop μ-loop
 shared-slice-read-is-common-in c = omega arith
 
--- src/lib.rt:139:12
 is-common-in-requires : tie.Need-is-common-in-requires Inv-loop μ-loop
 is-common-in-requires c κs = tt
 
--- src/lib.rt:140:13
 returns : tie.Need-returns Inv-loop μ-loop
 unfolding rowOf
 returns c =
@@ -53,15 +45,12 @@ returns c =
       small = l .inv .0;
     }
 
--- src/lib.rt:142:9
 add-i : tie.Need-add-i Inv-loop μ-loop
 add-i c = omega arith
 
--- src/lib.rt:138:5
 loop-less : tie.Need-loop-less Inv-loop μ-loop
 loop-less c = omega arith
 
--- src/lib.rt:138:5
 loop-again : tie.Need-loop-again Inv-loop μ-loop
 unfolding rowOf
 loop-again c =
@@ -72,7 +61,6 @@ loop-again c =
     let miss = filter-miss (commonIn (a .section)) f (a .n) (l .i) h (sym (c .before .is-common-in .ensures) ∙ c .if1 .left) in
     (omega arith, l .inv .1 ∙ miss)
 
--- src/lib.rt:126:1
 returns-2 : tie.Need-returns-2 Inv-loop μ-loop
 returns-2 c =
     let l = c .before .loop in

@@ -10,22 +10,13 @@ use Rattle.common.specs.Sections.{bssAt}
 use borrow.Author.Needs.{needs}
 use Rattle.common.proofs.is_bss_at.Statement.{statement}
 use Rattle.common.proofs.is_bss_at.Tie as tie
-use Rattle.common.proofs.is_bss_at.Reads as reads
-use Rattle.common.proofs.is_bss_at.Lts as lts
-use Rattle.common.proofs.index.Reads as index-reads
-use Rattle.names.proofs.is_bss.Reads as is-bss-reads
-use Rattle.names.proofs.name_at.Reads as name-at-reads
-use Rattle.obj.proofs.section_at.Reads as section-at-reads
 
--- src/lib.rt:59:9
 section-at-requires : tie.Need-section-at-requires
 section-at-requires c κs = let s = c .before .before .before .before .before in s .pre .0 .held (s .args .k) (s .pre .1)
 
--- src/lib.rt:60:9
 index-requires : tie.Need-index-requires
 index-requires c κs = search needs
 
--- src/lib.rt:61:12
 name-at-requires : tie.Need-name-at-requires
 name-at-requires c κs =
     let s = c .before .before .before .before .before .before .before in
@@ -33,11 +24,9 @@ name-at-requires c κs =
     let h : c .index .result < length (s .args .name-places .now) = omega (arith, c .index .ensures, ap (λ (t : Section). t .name) (c .before .section-at .ensures), s .pre .0 .named (s .args .k) (s .pre .1)) in
     (h, omega (arith, n .measured), n .inside (c .index .result) h)
 
--- src/lib.rt:61:5
 is-bss-requires : tie.Need-is-bss-requires
 is-bss-requires c κs = search needs
 
--- src/lib.rt:48:1
 returns : tie.Need-returns
 unfolding bssAt
 returns c =

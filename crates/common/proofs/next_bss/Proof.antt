@@ -10,9 +10,6 @@ use Rattle.lists.proofs.FilterRows.{filter-hit, filter-miss, filter-none}
 use Rattle.common.specs.Sections.{bssAt}
 use Rattle.common.proofs.next_bss.Statement.{statement}
 use Rattle.common.proofs.next_bss.Tie as tie
-use Rattle.common.proofs.next_bss.Reads as reads
-use Rattle.common.proofs.next_bss.Lts as lts
-use Rattle.common.proofs.is_bss_at.Reads as is-bss-at-reads
 
 abbrev Inv-loop : tie.InvT-loop
 Inv-loop name-bytes name-places name-lengths heads places from k₀ k =
@@ -23,15 +20,12 @@ Inv-loop name-bytes name-places name-lengths heads places from k₀ k =
 abbrev μ-loop : tie.MeasureT-loop
 μ-loop name-bytes name-places name-lengths heads places from k₀ k = length places - k
 
--- src/lib.rt:77:5
 loop-holds : tie.Need-loop-holds Inv-loop μ-loop
 loop-holds c = (omega arith, refl)
 
--- src/lib.rt:78:12
 is-bss-at-requires : tie.Need-is-bss-at-requires Inv-loop μ-loop
 is-bss-at-requires c κs = (c .before .before .before .before .before .before .before .pre .0, c .loop-test .taken)
 
--- src/lib.rt:79:13
 returns : tie.Need-returns Inv-loop μ-loop
 returns c =
     let l = c .before .before .before .loop in
@@ -40,15 +34,12 @@ returns c =
     let p = bssAt (a .name-bytes .now) (a .name-places .now) (a .name-lengths .now) (a .heads .now) (a .places .now) in
     record { is = l .inv .1 ∙ filter-hit p (λ j. j) (length (a .places .now)) (l .k) h (sym (c .before .is-bss-at .ensures) ∙ c .if1 .taken) ∙ rw (lt-ltb (l .k) (length (a .places .now)) h); small = l .inv .0 }
 
--- src/lib.rt:81:9
 add-k : tie.Need-add-k Inv-loop μ-loop
 add-k c = omega arith
 
--- src/lib.rt:77:5
 loop-less : tie.Need-loop-less Inv-loop μ-loop
 loop-less c = omega arith
 
--- src/lib.rt:77:5
 loop-again : tie.Need-loop-again Inv-loop μ-loop
 loop-again c =
     let l = c .before .before .before .loop in
@@ -57,7 +48,6 @@ loop-again c =
     let p = bssAt (a .name-bytes .now) (a .name-places .now) (a .name-lengths .now) (a .heads .now) (a .places .now) in
     (omega arith, l .inv .1 ∙ filter-miss p (λ j. j) (length (a .places .now)) (l .k) h (sym (c .before .is-bss-at .ensures) ∙ c .if1 .left))
 
--- src/lib.rt:65:1
 returns-2 : tie.Need-returns-2 Inv-loop μ-loop
 returns-2 c =
     let l = c .before .loop in

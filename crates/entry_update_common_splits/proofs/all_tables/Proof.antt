@@ -1,10 +1,10 @@
 -- `entry_update_common_splits::all_tables` meets its contract. Names that are refused are the answer; else the fronts of the columns have their places and
 -- lengths, and the other tables are asked with them. Assumes nothing.
-use mathlib.Core.Path.{_≡_, sym, ap, _∙_}
+use mathlib.Core.Path.{sym, ap, _∙_}
 use mathlib.Core.Bool.{not}
 use Prim.Native.Nat.{_/_}
 use lib.Dec.{eqb}
-use lib.ListN.{length, take}
+use lib.ListN.{length}
 use lib.Seq.{length-take-le}
 use Rattle.obj.specs.Answers.{meaning}
 use Rattle.name_table.specs.Stored.{Stored}

@@ -2,12 +2,10 @@
 -- the output. Assumes nothing.
 use native.Mathlib.Omega.{arith}
 use mathlib.Core.Path.{_≡_, sym, ap, _∙_}
-use mathlib.Core.List.{List}
 use Prim.Native.Nat.{ℕ, _/_, _≤_}
 use lib.ListN.{length}
 use Rattle.lists.specs.Outcome.{accepted}
 use Rattle.obj.specs.Answers.{meaning}
-use Rattle.obj.specs.declared.Split.{Split}
 use Rattle.tables.specs.Records.{sectionsIn}
 use Rattle.stage_tables.specs.StageTables.{splitsCheck}
 use Rattle.stage_tables.proofs.Laws.{table-passed}
