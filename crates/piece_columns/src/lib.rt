@@ -1,0 +1,67 @@
+// Columns beside the output of the walk, so that what is asked of it is answered without looking through it: how many pieces each unit has, and for each
+// symbol the chain of its entries among the piece symbols. All start with zeros.
+ghost use mathlib.Core.Path.{_≡_};
+ghost use mathlib.Core.List.{[], _∷_, _++_};
+ghost use Prim.Native.Nat.{_+_, _*_, _≤_, _<_};
+ghost use lib.ListN.{length};
+ghost use Rattle.pieces.specs.Pieces.{piecesIn, symbolsIn};
+ghost use Rattle.pieces.specs.Questions.{countOf, has};
+ghost use Rattle.piece_columns.specs.Columns.{Counted, Chained, PushedPiece, PushedSymbol};
+use pieces::Piece;
+use pieces::PieceSymbol;
+use pieces::add_piece;
+use pieces::add_piece_symbol;
+use pieces::piece_symbol_at;
+use symbol_order::number;
+
+// How many of the first k pieces are the unit's: the number in its unit of the next one.
+pub fn count_of(counts: &[u16], out: &[u8], k: usize, unit: usize) -> u16
+    requires { ⌜ (unit < length (now counts)) × Counted (now counts) (now out) k ⌝ }
+    ensures { λ r. ⌜ r ≡ countOf unit (piecesIn (now (out .entry)) k) ⌝ }
+{
+    counts[unit]
+}
+
+// One piece more, behind the k that are there.
+pub fn push_piece(counts: &mut [u16], out: &mut [u8], k: usize, p: Piece)
+    requires { ⌜ (p .unit < length (now counts)) × Counted (now counts) (now out) k × (28 * k + 28 ≤ length (now out)) × (k < 65535) ⌝ }
+    ensures { λ _. ⌜ PushedPiece (now (counts .exit)) (now (out .entry)) (now (out .exit)) k p ⌝ }
+{
+    let unit = p.unit as usize;
+    counts[unit] = counts[unit] + 1;
+    add_piece(out, k, p);
+}
+
+// Whether one of the first k piece symbols is this symbol of the unit, along the chain of its entries, from the last to the first.
+pub fn has_symbol(
+    heads: &[u16],
+    prevs: &[u16],
+    out: &[u8],
+    k: usize,
+    unit: u16,
+    symbol: usize,
+) -> bool
+    requires { ⌜ (symbol < length (now heads)) × Chained (now heads) (now prevs) (now out) k ⌝ }
+    ensures { λ r. ⌜ r ≡ has unit symbol (symbolsIn (now (out .entry)) k) ⌝ }
+{
+    let mut j = number(heads, symbol);
+    while j != 0 {
+        let y = piece_symbol_at(out, j - 1);
+        if y.unit == unit {
+            return true;
+        }
+        j = number(prevs, j - 1);
+    }
+    false
+}
+
+// One piece symbol more, behind the k that are there, and at the front of its chain.
+pub fn push_symbol(heads: &mut [u16], prevs: &mut [u16], out: &mut [u8], k: usize, y: PieceSymbol)
+    requires { ⌜ (y .symbol < length (now heads)) × Chained (now heads) (now prevs) (now out) k × (k < length (now prevs)) × (12 * k + 12 ≤ length (now out)) × (k < 65535) ⌝ }
+    ensures { λ _. ⌜ PushedSymbol (now (heads .exit)) (now (prevs .exit)) (now (out .entry)) (now (out .exit)) k y ⌝ }
+{
+    let i = y.symbol as usize;
+    prevs[k] = heads[i];
+    heads[i] = k as u16 + 1;
+    add_piece_symbol(out, k, y);
+}
