@@ -23,7 +23,7 @@ use Rattle.pieces.specs.declared.PieceReloc.{PieceReloc}
 use Rattle.pieces.specs.Questions.{countOf, has}
 use Rattle.relocs.specs.Relocs.{relocsOf, hasRelocs}
 use Rattle.units.specs.Units.{lastNamed, unitOf}
-use Rattle.walk.specs.Walk.{Input, Output, halved, passedOver, entryOf, addSymbols, addRelocs, given, onAligned, onKept, onSplit, nextStart, walkSplits, walkSection, walkSections, walk}
+use Rattle.walk.specs.Walk.{Input, Output, halved, passedOver, entryOf, addSymbol, addSymbols, addRelocs, pieceOf, given, onAligned, onKept, onSplit, nextStart, walkSplits, walkSection, walkSections, walk}
 
 -- one section, `.data`, and no symbols but these
 pub record Case : Type 0 where
@@ -137,5 +137,5 @@ cases =
 
 -- THEOREM: each case has its expected outcome
 pub cases-hold : map (λ (c : Case). walk (inputOf c)) cases ≡ map (λ (c : Case). c .outcome) cases
-unfolding refuse _>>=_ _>>_ codes spells spellsOne isLinkerObject isLinkerLabel isVectorTableEnd isPointerList isFourAligned tabulate keepIf some sortBy insertKey symbolsOf hasSymbols highestOf highestIn allZero lowered splittingEnd defaultAlignment larger alignmentOf countOf has relocsOf hasRelocs lastNamed unitOf halved passedOver entryOf addSymbols addRelocs given onAligned onKept onSplit nextStart walkSplits walkSection walkSections walk
+unfolding refuse _>>=_ _>>_ codes spells spellsOne isLinkerObject isLinkerLabel isVectorTableEnd isPointerList isFourAligned tabulate keepIf some sortBy insertKey symbolsOf hasSymbols highestOf highestIn allZero lowered splittingEnd defaultAlignment larger alignmentOf countOf has relocsOf hasRelocs lastNamed unitOf halved passedOver entryOf addSymbol addSymbols addRelocs pieceOf given onAligned onKept onSplit nextStart walkSplits walkSection walkSections walk
 cases-hold = refl

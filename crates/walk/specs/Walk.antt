@@ -51,28 +51,26 @@ pub record Output : Type 0 where
 
 -- ---- a section
 
-abbrev pub headIn : Input → (n : ℕ) → Section
-headIn t n = t .sections .head n
+abbrev pub startIn : Sections → (n : ℕ) → ℕ
+startIn sections n = sections .head n .address
 
-abbrev pub startIn : Input → (n : ℕ) → ℕ
-startIn t n = headIn t n .address
-
-abbrev pub endIn : Input → (n : ℕ) → ℕ
-endIn t n = headIn t n .address + headIn t n .size
+abbrev pub endIn : Sections → (n : ℕ) → ℕ
+endIn sections n = sections .head n .address + sections .head n .size
 
 -- "Splitting end (`end_for_section`)"
-abbrev pub splittingEndIn : Input → (n : ℕ) → Outcome ℕ
-splittingEndIn t n = splittingEnd (t .image) n (headIn t n) (t .sections .bytes n)
+abbrev pub splittingEndIn : Image → Sections → (n : ℕ) → Outcome ℕ
+splittingEndIn image sections n = splittingEnd image n (sections .head n) (sections .bytes n)
 
 -- ---- the bytes between two splits, or from the last to the splitting end
 
 -- "72 between-range outside section": as `contains_range` of obj/sections.rs
-abbrev pub outside : Input → (n from to : ℕ) → Bool
-outside t n from to = not ((leb (startIn t n) from && ltb from (endIn t n)) && (ltb (startIn t n) to && leb to (endIn t n)))
+abbrev pub outside : Sections → (n from to : ℕ) → Bool
+outside sections n from to =
+    not ((leb (startIn sections n) from && ltb from (endIn sections n)) && (ltb (startIn sections n) to && leb to (endIn sections n)))
 
 -- "73 nonzero byte there"; a section of kind 3 has none
-abbrev pub nonzero : Input → (n from to : ℕ) → Bool
-nonzero t n from to = not (zeroBetween (t .sections .bytes n) (from - startIn t n) (to - startIn t n))
+abbrev pub nonzero : Sections → (n from to : ℕ) → Bool
+nonzero sections n from to = not (zeroBetween (sections .bytes n) (from - startIn sections n) (to - startIn sections n))
 
 -- ---- a split
 
@@ -84,9 +82,9 @@ abbrev pub isSkipped : Split → Bool
 isSkipped s = eqb (s .flags / 4 % 2) 1
 
 -- "Alignment of a split. The given one, else .."
-abbrev pub alignmentIn : Input → (n start : ℕ) → Split → Outcome Chosen
-alignmentIn t n start s =
-    alignmentOf (t .image .symbol) (t .image .count) n (defaultAlignment (headIn t n) (t .image .name (headIn t n .name))) (s .alignment) start (s .end)
+abbrev pub alignmentIn : Image → (head : Section) → (n start : ℕ) → Split → Outcome Chosen
+alignmentIn image head n start s =
+    alignmentOf (image .symbol) (image .count) n (defaultAlignment head (image .name (head .name))) (s .alignment) start (s .end)
 
 abbrev pub fits : (alignment address : ℕ) → Bool
 fits alignment address = eqb (address % alignment) 0
@@ -99,10 +97,8 @@ halved (suc times) alignment address = cond (fits alignment address) alignment (
 -- ---- the symbols of a split
 
 -- "without linker labels; one at the end is passed over, `gTRKInterruptVectorTableEnd` at the start instead"
-unfoldable pub passedOver : Input → Split → Symbol → Bool
-passedOver t s y =
-    isLinkerLabel (t .image .name (y .name))
-    || eqb (y .address) (cond (isVectorTableEnd (t .image .name (y .name))) (s .start) (s .end))
+unfoldable pub passedOver : (name : List ℕ) → Split → Symbol → Bool
+passedOver name s y = isLinkerLabel name || eqb (y .address) (cond (isVectorTableEnd name) (s .start) (s .end))
 
 -- the symbol's number i is recorded; "A common split gives no piece: its symbols take their alignment (else 4) as address, and only the flags of
 -- `keep_flags` plus Common"
@@ -118,54 +114,58 @@ entryOf unit place s i y =
     })
     (record { unit = unit; piece = place; symbol = i; flags = y .flags; address = y .address - s .start })
 
--- these symbols, "each once per unit", behind those that are there
-unfoldable pub addSymbols : Input → (unit place : ℕ) → Split → List PieceSymbol → List ℕ → List PieceSymbol
-addSymbols t unit place s out [] = out
-addSymbols t unit place s out (i ∷ later) =
-    addSymbols t unit place s
-    (cond (passedOver t s (t .image .symbol i) || has unit i out) out (out ++ (entryOf unit place s i (t .image .symbol i) ∷ [])))
-    later
+-- symbol i, "each once per unit", behind those that are there; then all of these symbols
+unfoldable pub addSymbol : Image → (unit place : ℕ) → Split → List PieceSymbol → (i : ℕ) → List PieceSymbol
+addSymbol image unit place s out i =
+    cond (passedOver (image .name (image .symbol i .name)) s (image .symbol i) || has unit i out) out
+    (out ++ (entryOf unit place s i (image .symbol i) ∷ []))
+
+unfoldable pub addSymbols : Image → (unit place : ℕ) → Split → List PieceSymbol → List ℕ → List PieceSymbol
+addSymbols image unit place s out [] = out
+addSymbols image unit place s out (i ∷ later) = addSymbols image unit place s (addSymbol image unit place s out i) later
 
 -- "Symbols lie in start..=end"
-abbrev pub splitSymbols : Input → (n : ℕ) → Split → List ℕ
-splitSymbols t n s = symbolsThrough (t .image .symbol) (t .image .count) n (s .start) (s .end)
+abbrev pub splitSymbols : Image → (n : ℕ) → Split → List ℕ
+splitSymbols image n s = symbolsThrough (image .symbol) (image .count) n (s .start) (s .end)
 
 -- ---- the relocations of a split
 
 -- "Relocation offsets in a piece are rounded down to fours."
-abbrev pub relocEntry : Input → (place : ℕ) → Split → (i : ℕ) → PieceReloc
-relocEntry t place s i = record { piece = place; relocation = i; offset = (t .reloc i .address - s .start) / 4 * 4 }
+abbrev pub relocEntry : (place start : ℕ) → (i : ℕ) → Reloc → PieceReloc
+relocEntry place start i r = record { piece = place; relocation = i; offset = (r .address - start) / 4 * 4 }
 
-unfoldable pub addRelocs : Input → (place : ℕ) → Split → List PieceReloc → List ℕ → List PieceReloc
-addRelocs t place s out [] = out
-addRelocs t place s out (i ∷ later) = addRelocs t place s (out ++ (relocEntry t place s i ∷ [])) later
+-- these relocations, behind those that are there
+unfoldable pub addRelocs : (reloc : ℕ → Reloc) → (place start : ℕ) → List PieceReloc → List ℕ → List PieceReloc
+addRelocs reloc place start out [] = out
+addRelocs reloc place start out (i ∷ later) = addRelocs reloc place start (out ++ (relocEntry place start i (reloc i) ∷ [])) later
 
-abbrev pub splitRelocs : Input → (n : ℕ) → Split → List ℕ
-splitRelocs t n s = relocsBetween (t .reloc) (t .relocs) n (s .start) (s .end)
+abbrev pub splitRelocs : (reloc : ℕ → Reloc) → (count n : ℕ) → Split → List ℕ
+splitRelocs reloc count n s = relocsBetween reloc count n (s .start) (s .end)
 
 -- ---- the piece of a split
 
 -- "A piece also records its section number"; a renamed split's piece has that name, "rename 2 (0xFFFF none)"; the offset has 64 bits
-abbrev pub pieceOf : Input → (n unit number alignment : ℕ) → Split → Piece
-pieceOf t n unit number alignment s =
-    record {
-      unit = unit;
-      number = number;
-      section = n;
-      name = cond (eqb (s .rename) 65535) (headIn t n .name) (s .rename);
-      address = s .start;
-      size = s .end - s .start;
-      alignment = alignment;
-      offset = headIn t n .offset + (s .start - startIn t n);
-    }
+unfoldable pub pieceOf : (head : Section) → (n unit number alignment : ℕ) → Split → Piece
+pieceOf head n unit number alignment s = record {
+  unit = unit;
+  number = number;
+  section = n;
+  name = cond (eqb (s .rename) 65535) (head .name) (s .rename);
+  address = s .start;
+  size = s .end - s .start;
+  alignment = alignment;
+  offset = head .offset + (s .start - head .address);
+}
 
 -- what a split adds to the output, in the unit that takes its pieces: "A common split gives no piece", and so no relocations
 unfoldable pub given : Input → (n unit alignment : ℕ) → Split → Output → Output
 given t n unit alignment s out =
     record {
-      pieces = out .pieces ++ cond (isCommon s) [] (pieceOf t n unit (countOf unit (out .pieces)) alignment s ∷ []);
-      symbols = addSymbols t unit (length (out .pieces)) s (out .symbols) (splitSymbols t n s);
-      relocs = cond (isCommon s) (out .relocs) (addRelocs t (length (out .pieces)) s (out .relocs) (splitRelocs t n s));
+      pieces = out .pieces ++ cond (isCommon s) [] (pieceOf (t .sections .head n) n unit (countOf unit (out .pieces)) alignment s ∷ []);
+      symbols = addSymbols (t .image) unit (length (out .pieces)) s (out .symbols) (splitSymbols (t .image) n s);
+      relocs =
+          cond (isCommon s) (out .relocs)
+          (addRelocs (t .reloc) (length (out .pieces)) (s .start) (out .relocs) (splitRelocs (t .reloc) (t .relocs) n s));
     }
 
 -- more than the output tables hold
@@ -195,7 +195,7 @@ onKept t n current s out = do
   -- "74 unit not listed"
   refuse 74 n current (eqb (unitOf (t .units) (s .unit)) (length (t .units)))
   -- "11 may come after 74 or 75": the alignment may ask a range backwards
-  chosen ← alignmentIn t n current s
+  chosen ← alignmentIn (t .image) (t .sections .head n) n current s
   onAligned t n current (unitOf (t .units) (s .unit)) (halved 16 (chosen .value) current) s out
 
 -- a split at `current`; the next one, or the splitting end, is at `next`
@@ -204,8 +204,8 @@ onSplit t n current next s out = do
   -- "71 start isn't current"
   refuse 71 n current (not (eqb (s .start) current))
   -- "bytes between two, or from the last to the splitting end, must be zero"
-  refuse 72 n current (ltb (s .end) next && outside t n (s .end) next)
-  refuse 73 n current (ltb (s .end) next && nonzero t n (s .end) next)
+  refuse 72 n current (ltb (s .end) next && outside (t .sections) n (s .end) next)
+  refuse 73 n current (ltb (s .end) next && nonzero (t .sections) n (s .end) next)
   -- 72 and 73 come before skip and 74 (DECISIONS.md, 66)
   cond (isSkipped s) (accepted out) (onKept t n current s out)
 
@@ -231,8 +231,8 @@ walkSplits t n end current out (s ∷ later) =
 unfoldable pub walkSection : Input → (n : ℕ) → Output → Outcome Output
 walkSection t n out = do
   -- "10 `.ctors` or `.dtors` with 1 to 3 bytes"
-  end ← splittingEndIn t n
-  walkSplits t n end (startIn t n) out (keepIf (within n (startIn t n) end) (t .splits))
+  end ← splittingEndIn (t .image) (t .sections) n
+  walkSplits t n end (startIn (t .sections) n) out (keepIf (within n (startIn (t .sections) n) end) (t .splits))
 
 -- so many sections, from section n on
 unfoldable pub walkSections : Input → (n more : ℕ) → Output → Outcome Output
