@@ -54,3 +54,17 @@ module _ (units column : List ℕ) (k u : ℕ) (a : After units column k) (h : k
 pub after-all : (units column : List ℕ) (k : ℕ) → length units ≤ k → After units column k → Numbered column units
 unfolding unitOf
 after-all units column k h a = record { each = λ name q. a .each name q ∙ ap (lastNamed name (length units) 0) (take-all k units h) }
+
+-- the number of a unit is at most how many there are
+named-le : (name found number m : ℕ) (l : List ℕ) → found ≤ m → number + length l ≤ m → lastNamed name found number l ≤ m
+unfolding lastNamed
+named-le name found number m [] h q = h
+named-le name found number m (u ∷ l) h q = named-le name (cond (eqb u name) number found) (suc number) m l (go (eqb u name)) (omega arith)
+  where
+    go : (t : Bool) → cond t number found ≤ m
+    go true = omega arith
+    go false = h
+
+pub unit-le : (units : List ℕ) (name : ℕ) → unitOf units name ≤ length units
+unfolding unitOf
+unit-le units name = named-le name (length units) 0 (length units) units (omega arith) (omega arith)
