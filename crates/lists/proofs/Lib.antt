@@ -27,3 +27,5 @@ pub mod SomeRows
 pub mod Both
 pub mod Each
 pub mod Mapping
+pub mod Binds
+pub mod DropRows

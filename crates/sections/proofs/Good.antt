@@ -16,11 +16,13 @@ use Rattle.align.proofs.Laws.{not-bad}
 use Rattle.align.proofs.Theorems.{good-is}
 use Rattle.obj.specs.declared.Section.{Section}
 use Rattle.obj.specs.declared.Symbol.{Symbol}
+use Rattle.obj.specs.declared.Split.{Split}
 use Rattle.names.specs.Fixed.{isFourAligned}
 use Rattle.symbols.specs.Ranges.{highestIn}
 use Rattle.symbols.specs.Sound.{Sound}
 use Rattle.symbols.proofs.Finds.{in-highest}
-use Rattle.sections.specs.Alignment.{Chosen, given, defaultAlignment, larger, alignmentOf}
+use Rattle.sections.specs.Image.{Image}
+use Rattle.sections.specs.Alignment.{Chosen, given, defaultAlignment, larger, alignmentOf, alignmentFrom}
 
 -- 4 and 8
 pub default-good : (head : Section) (name : List ℕ) → goodAlign (defaultAlignment head name) ≡ true
@@ -55,3 +57,10 @@ chosen-good symbol count n least own start end sound good h c is = go (eqb own 0
         let p = bind-inv (highestIn symbol count n start end) (λ highest. accepted (larger least highest)) c q in
         ap (λ (x : Chosen). goodAlign (x .value)) (sym (same-accepted (p .2))) ∙ larger-good least (p .0) good (in-highest symbol count n start end sound (p .0) (p .1))
     go false e q = ap (λ (x : Chosen). goodAlign (x .value)) (sym (same-accepted q)) ∙ not-bad own h (eqb-false own 0 e)
+
+-- the alignment of a split of a table
+pub from-good : (g : Image) (head : ℕ → Section) (start : ℕ) (s : Split) → Sound (g .symbol) (g .count) → badAlign (s .alignment) ≡ false
+    → (c : Chosen) → alignmentFrom g head start s ≡ accepted c → goodAlign (c .value) ≡ true
+unfolding alignmentFrom
+from-good g head start s sound h c is =
+    chosen-good (g .symbol) (g .count) (s .section) _ (s .alignment) start (s .end) sound (default-good (head (s .section)) (g .name (head (s .section) .name))) h c is

@@ -18,7 +18,7 @@ use Rattle.symbol_order.specs.Order.{symbolsOf}
 use Rattle.sections.specs.Image.{Image, Whole, Lies}
 use Rattle.sections.specs.Bytes.{allZero, bytesOf}
 use Rattle.sections.specs.Ends.{objectBelow, isLinkers, lowered, lessFour, splittingEnd}
-use Rattle.sections.specs.Sections.{headOf, Kept}
+use Rattle.sections.specs.Sections.{headOf, Kept, Heads}
 use Rattle.sections.proofs.Laws.{object-below}
 
 -- ---- one section of kept tables
@@ -45,6 +45,10 @@ module _ (heads head-places image image-places name-places : List ℕ) (kept : K
   -- head and bytes belong together
   pub kept-whole : Whole head (bytesOf image image-places n head) name-places
   kept-whole = record { named = kept .named n there; below = kept .below n there; sized = bytes-sized }
+
+-- the heads of kept tables
+pub kept-heads : (heads head-places image image-places name-places : List ℕ) → Kept heads head-places image image-places name-places → Heads heads head-places name-places
+kept-heads heads head-places image image-places name-places kept = record { held = kept .held; named = kept .named }
 
 -- ---- the splitting end
 

@@ -8,8 +8,10 @@ use lib.Dec.{eqb, ltb}
 use Rattle.lists.specs.Outcome.{Outcome, accepted, refused, _>>=_}
 use Rattle.obj.specs.declared.Section.{Section}
 use Rattle.obj.specs.declared.Symbol.{Symbol}
+use Rattle.obj.specs.declared.Split.{Split}
 use Rattle.names.specs.Fixed.{isFourAligned}
 use Rattle.symbols.specs.Ranges.{highestIn}
+use Rattle.sections.specs.Image.{Image}
 use Rattle.sections.specs.declared.Alignment.{Alignment}
 use Rattle.sections.specs.declared.Alignment.the-variants.{Given, FromSymbol, Default, Backwards}
 
@@ -38,6 +40,13 @@ alignmentOf y count n least own start end =
     cond (not (eqb own 0)) (accepted (record { value = own; reason = given }))
     -- "else the larger of the default .. and the highest alignment of sized symbols in start..end, stripped ones included"
     (highestIn y count n start end >>= λ highest. accepted (larger least highest))
+
+-- the alignment of split s, asked from `start` on; `head` gives the sections' heads
+unfoldable pub alignmentFrom : Image → (head : ℕ → Section) → (start : ℕ) → Split → Outcome Chosen
+alignmentFrom g head start s =
+    alignmentOf (g .symbol) (g .count) (s .section)
+    (defaultAlignment (head (s .section)) (g .name (head (s .section) .name)))
+    (s .alignment) start (s .end)
 
 -- what an answer means, to a range asked of section n from `start` on
 abbrev pub alignmentMeaning : (n start : ℕ) → Alignment → Outcome Chosen

@@ -32,3 +32,8 @@ pub record Kept (heads head-places image image-places name-places : List ℕ) : 
   pub named : (n : ℕ) → n < length head-places → headOf heads head-places n .name < length name-places
   pub below : (n : ℕ) → n < length head-places → headOf heads head-places n .address + headOf heads head-places n .size ≤ 4026531840
   pub lies : (n : ℕ) → n < length head-places → Lies image image-places n (headOf heads head-places n)
+
+-- the heads alone, where no bytes are asked: each section's record can be read, and its name is there
+pub record Heads (heads head-places name-places : List ℕ) : Type 0 where
+  pub held : (n : ℕ) → n < length head-places → Held 15 heads head-places n
+  pub named : (n : ℕ) → n < length head-places → headOf heads head-places n .name < length name-places

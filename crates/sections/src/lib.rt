@@ -3,18 +3,22 @@ ghost use mathlib.Core.Path.{_≡_};
 ghost use mathlib.Core.List.{reverse};
 ghost use Prim.Native.Nat.{_-_, _<_, _≤_, min};
 ghost use lib.ListN.{length, drop};
+ghost use Rattle.names.specs.Names.{nameAt, Named};
 ghost use Rattle.symbol_order.specs.Order.{symbolOf, Order};
 ghost use Rattle.sections.specs.Image.{imageOf, Tables, Part, Whole, Lies};
 ghost use Rattle.sections.specs.Bytes.{bytesOf, allZero, zeroBetween};
 ghost use Rattle.sections.specs.Ends.{objectBelow, lowered, lessFour, splittingEnd, endMeaning, Within, Four};
-ghost use Rattle.sections.specs.Alignment.{defaultAlignment, larger, alignmentOf, alignmentMeaning};
+ghost use Rattle.sections.specs.Sections.{headOf, Heads};
+ghost use Rattle.sections.specs.Alignment.{defaultAlignment, larger, alignmentOf, alignmentFrom, alignmentMeaning};
 ghost use Rattle.lists.specs.Outcome.{accepted};
 use names::is_four_aligned;
 use names::is_linker_generated_object;
 use names::is_pointer_list;
 use names::name_at;
 use obj::Section;
+use obj::Split;
 use obj::Symbol;
+use obj::section_at;
 use obj::symbol_at;
 use symbol_order::number;
 use symbols::Highest;
@@ -212,4 +216,57 @@ pub fn alignment_of(
         Highest::Is(found) => larger_of(least, found, section, start),
         Highest::Backwards => Alignment::Backwards,
     }
+}
+
+// The default alignment of section k.
+fn default_of(
+    name_bytes: &[u8],
+    name_places: &[u32],
+    name_lengths: &[u8],
+    heads: &[u8],
+    head_places: &[u32],
+    k: usize,
+) -> u32
+    requires { ⌜ Named (now «name_bytes») (now «name_places») (now «name_lengths») (length (now «name_places»)) × Heads (now heads) (now «head_places») (now «name_places») × (k < length (now «head_places»)) ⌝ }
+    ensures { λ r. ⌜ r ≡ defaultAlignment (headOf (now (heads .entry)) (now («head_places» .entry)) k) (nameAt (now («name_bytes» .entry)) (now («name_places» .entry)) (now («name_lengths» .entry)) (headOf (now (heads .entry)) (now («head_places» .entry)) k .name)) ⌝ }
+{
+    let head = section_at(heads, head_places, k);
+    let name = index(head.name);
+    default_alignment(head, name_at(name_bytes, name_places, name_lengths, name))
+}
+
+// "Alignment of a split", of a split of a stage's table; the range is asked from `start` on.
+pub fn split_alignment(
+    b: &[u8],
+    places: &[u32],
+    order: &[u16],
+    name_bytes: &[u8],
+    name_places: &[u32],
+    name_lengths: &[u8],
+    heads: &[u8],
+    head_places: &[u32],
+    s: Split,
+    start: u32,
+) -> Alignment
+    requires { ⌜ Tables (now b) (now places) (now order) (now «name_bytes») (now «name_places») (now «name_lengths») × Heads (now heads) (now «head_places») (now «name_places») × (s .section < length (now «head_places»)) ⌝ }
+    ensures { λ r. ⌜ alignmentMeaning (s .section) start r ≡ alignmentFrom (imageOf (now (b .entry)) (now (places .entry)) (now («name_bytes» .entry)) (now («name_places» .entry)) (now («name_lengths» .entry))) (headOf (now (heads .entry)) (now («head_places» .entry))) start s ⌝ }
+{
+    let least = default_of(
+        name_bytes,
+        name_places,
+        name_lengths,
+        heads,
+        head_places,
+        s.section as usize,
+    );
+    alignment_of(
+        b,
+        places,
+        order,
+        s.section,
+        least,
+        s.alignment,
+        start,
+        s.end,
+    )
 }
