@@ -18,11 +18,11 @@ pub record Case : Type 0 where
   pub outcome : Outcome (Unit {0})
 
 -- a function of section 3, of known size
-abbrev sym : (address size : ℕ) → Symbol
+abbrev pub sym : (address size : ℕ) → Symbol
 sym address size = record { name = 0; section = 3; address = address; size = size; «size_known» = 1; kind = 1; flags = 0; alignment = 0 }
 
 -- a split of section 3
-abbrev piece : (start end : ℕ) → Split
+abbrev pub piece : (start end : ℕ) → Split
 piece start end = record { section = 3; start = start; end = end; unit = 0; alignment = 0; flags = 0; rename = 65535 }
 
 abbrev pub cases : List Case
@@ -44,7 +44,7 @@ cases =
     ∷ record { symbols = sym 4100 4 ∷ sym 4108 4 ∷ []; splits = piece 4104 4112 ∷ []; outcome = accepted tt }
     ∷ []
 
-abbrev outcomeOf : Case → Outcome (Unit {0})
+abbrev pub outcomeOf : Case → Outcome (Unit {0})
 outcomeOf c = validate (λ i. getD (c .symbols) i (sym 0 0)) (length (c .symbols)) (c .splits)
 
 -- THEOREM: each case has its expected outcome

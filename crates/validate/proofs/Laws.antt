@@ -29,7 +29,7 @@ module _ (symbol : ℕ → Symbol) (count : ℕ) where
     pub starts : endBelow symbol count (s .section) (s .start) ≤ s .start
     pub ends : endBelow symbol count (s .section) (s .end) ≤ s .end
 
-  one-passed : (before last : ℕ) (s : Split) → validateOne symbol count before last s ≡ accepted tt → Passed before last s
+  pub one-passed : (before last : ℕ) (s : Split) → validateOne symbol count before last s ≡ accepted tt → Passed before last s
   unfolding validateOne
   one-passed before last s e =
       let a = then-inv 50 (s .section) (s .start) (eqb (s .section) before && ltb (s .start) last) _ _ e in
@@ -46,7 +46,7 @@ module _ (symbol : ℕ → Symbol) (count : ℕ) where
       }
 
   -- the rows after the first
-  tail-passed : (before last : ℕ) (s : Split) (l : List Split) → validateFrom symbol count before last (s ∷ l) ≡ accepted tt
+  pub tail-passed : (before last : ℕ) (s : Split) (l : List Split) → validateFrom symbol count before last (s ∷ l) ≡ accepted tt
       → (validateOne symbol count before last s ≡ accepted tt) × (validateFrom symbol count (s .section) (s .end) l ≡ accepted tt)
   unfolding validateFrom
   tail-passed before last s l e = then-both _ _ _ e

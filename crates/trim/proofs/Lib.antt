@@ -1,0 +1,10 @@
+pub mod Cases
+pub mod Answers
+pub mod Falls
+pub mod Carry
+pub mod Cut
+pub mod Ends
+pub mod Bounds
+pub mod Checked
+pub mod Refusals
+pub mod Alike
