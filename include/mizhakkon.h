@@ -268,6 +268,27 @@ typedef struct {
  */
 void mark_common_splits(mizhakkon_split *splits, size_t splits_count, uint16_t section, uint32_t address);
 
+/*
+ * Checks a split table against itself and the symbols.
+ *
+ *   name_ends .. splits  the tables as check_tables takes them; the sections' bytes aren't asked
+ *
+ * Refused, the first that holds:
+ *   1 to 5, 7   as check_tables refuses these tables
+ *   then at (section, start) of the first split that breaks a rule:
+ *   50          it starts below the end of the split before it in its section
+ *   51          it ends at 0, or below its start
+ *   52          it starts inside a symbol
+ *   53          it ends inside a symbol
+ * For 52 and 53 only the last symbol of its section below the address is looked at that has a known size above 0 and isn't
+ * stripped.
+ */
+uint64_t validate_splits(const uint8_t *name_ends, size_t name_ends_len,
+                         const uint8_t *name_bytes, size_t name_bytes_len,
+                         const uint8_t *sections, size_t sections_len,
+                         const uint8_t *symbols, size_t symbols_len,
+                         const uint8_t *splits, size_t splits_len);
+
 #ifdef __cplusplus
 }
 #endif

@@ -13,6 +13,7 @@ ghost use Rattle.entry_questions.specs.Entry.{endAnswer, alignmentAnswer, Leave
 ghost use Rattle.stage_splits.specs.StageSplits.{Leaves as LeavesSplits};
 ghost use Rattle.common.specs.Common.{marked};
 ghost use Rattle.entry_update_common_splits.specs.Entry.{updateOf};
+ghost use Rattle.entry_validate_splits.specs.Entry.{validateOf};
 use obj::Split;
 
 #[no_mangle]
@@ -141,4 +142,17 @@ pub extern "C" fn mark_common_splits(splits: &mut [Split], section: u16, address
     ensures { λ _. ⌜ now (splits .exit) ≡ map (marked section address) (now (splits .entry)) ⌝ }
 {
     common::mark_common_splits(splits, section, address)
+}
+
+#[no_mangle]
+pub extern "C" fn validate_splits(
+    name_ends: &[u8],
+    name_bytes: &[u8],
+    sections: &[u8],
+    symbols: &[u8],
+    splits: &[u8],
+) -> u64
+    ensures { λ r. ⌜ r ≡ outcomeWord (validateOf (now («name_ends» .entry)) (now («name_bytes» .entry)) (now (sections .entry)) (now (symbols .entry)) (now (splits .entry))) ⌝ }
+{
+    entry_validate_splits::validate_splits(name_ends, name_bytes, sections, symbols, splits)
 }

@@ -89,7 +89,7 @@ pub const END_FOR_SECTION: StageEntry = stage_entry!(linked end_for_section
 pub const SPLIT_ALIGNMENT: StageEntry = stage_entry!(linked split_alignment
     (name_ends, name_bytes, sections, section_places, image, symbols, splits) (which: u16) (alignment));
 
-pub const VALIDATE_SPLITS: StageEntry = stage_entry!(absent validate_splits
+pub const VALIDATE_SPLITS: StageEntry = stage_entry!(linked validate_splits
     (name_ends, name_bytes, sections, symbols, splits) () ());
 
 pub const UPDATE_COMMON_SPLITS: StageEntry = stage_entry!(linked update_common_splits
