@@ -14,6 +14,8 @@ ghost use Rattle.stage_splits.specs.StageSplits.{Leaves as LeavesSplits};
 ghost use Rattle.common.specs.Common.{marked};
 ghost use Rattle.entry_update_common_splits.specs.Entry.{updateOf};
 ghost use Rattle.entry_validate_splits.specs.Entry.{validateOf};
+ghost use Rattle.entry_add_splits.specs.Entry.{addSplitsOf};
+ghost use Rattle.entry_trim_splits.specs.Entry.{trimOf};
 use obj::Split;
 
 #[no_mangle]
@@ -155,4 +157,59 @@ pub extern "C" fn validate_splits(
     ensures { λ r. ⌜ r ≡ outcomeWord (validateOf (now («name_ends» .entry)) (now («name_bytes» .entry)) (now (sections .entry)) (now (symbols .entry)) (now (splits .entry))) ⌝ }
 {
     entry_validate_splits::validate_splits(name_ends, name_bytes, sections, symbols, splits)
+}
+
+#[no_mangle]
+pub extern "C" fn trim_splits(
+    name_ends: &[u8],
+    name_bytes: &[u8],
+    sections: &[u8],
+    section_places: &[u8],
+    image: &[u8],
+    symbols: &[u8],
+    splits: &[u8],
+    out: &mut [u8],
+    counts: &mut [u8],
+) -> u64
+    ensures { λ r. ⌜
+        LeavesSplits
+        (trimOf (now («name_ends» .entry)) (now («name_bytes» .entry)) (now (sections .entry)) (now («section_places» .entry)) (now (image .entry)) (now (symbols .entry)) (now (splits .entry)) (length (now (out .entry))))
+        (length (now (out .entry))) (length (now (counts .entry))) r (now (out .exit)) (now (counts .exit)) ⌝ }
+{
+    entry_trim_splits::trim_splits(
+        name_ends,
+        name_bytes,
+        sections,
+        section_places,
+        image,
+        symbols,
+        splits,
+        out,
+        counts,
+    )
+}
+
+#[no_mangle]
+pub extern "C" fn add_splits(
+    name_ends: &[u8],
+    name_bytes: &[u8],
+    sections: &[u8],
+    splits: &[u8],
+    partials: &[u8],
+    out_splits: &mut [u8],
+    counts: &mut [u8],
+) -> u64
+    ensures { λ r. ⌜
+        LeavesSplits (addSplitsOf (now («name_ends» .entry)) (now («name_bytes» .entry)) (now (sections .entry)) (now (splits .entry)) (now (partials .entry)) (length (now («out_splits» .entry))))
+        (length (now («out_splits» .entry))) (length (now (counts .entry))) r (now («out_splits» .exit)) (now (counts .exit)) ⌝ }
+{
+    entry_add_splits::add_splits(
+        name_ends,
+        name_bytes,
+        sections,
+        splits,
+        partials,
+        out_splits,
+        counts,
+    )
 }
