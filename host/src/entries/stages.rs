@@ -95,11 +95,11 @@ pub const VALIDATE_SPLITS: StageEntry = stage_entry!(linked validate_splits
 pub const UPDATE_COMMON_SPLITS: StageEntry = stage_entry!(linked update_common_splits
     (name_ends, name_bytes, sections, splits) (has_start: u8, start: u32) (out_splits, counts));
 
-pub const TRIM_SPLITS: StageEntry = stage_entry!(absent trim_splits
+pub const TRIM_SPLITS: StageEntry = stage_entry!(linked trim_splits
     (name_ends, name_bytes, sections, section_places, image, symbols, splits) ()
     (out_splits, counts));
 
-pub const ADD_SPLITS: StageEntry = stage_entry!(absent add_splits
+pub const ADD_SPLITS: StageEntry = stage_entry!(linked add_splits
     (name_ends, name_bytes, sections, splits, partials) () (out_splits, counts));
 
 pub const CREATE_GAP_SPLITS: StageEntry = stage_entry!(absent create_gap_splits
