@@ -60,20 +60,23 @@ static inline uint32_t mizhakkon_address(uint64_t answer)
 #define MIZHAKKON_RELOCATION 6 /* a relocation's kind, section, target or address; address: the record */
 #define MIZHAKKON_SPLIT 7      /* a split's names, alignment, flags, start or end; address: the record */
 #define MIZHAKKON_UNIT 8       /* a unit's name or yes-or-no byte; address: the record */
-#define MIZHAKKON_SHORT_LIST 10 /* `.ctors` or `.dtors` has 1 to 3 bytes; at the section and its start */
-#define MIZHAKKON_BACKWARDS 11 /* a range starts above its end; at its section and its start */
-#define MIZHAKKON_NO_SECTION 20 /* a section or split that was asked for isn't there; each entry says its place */
-#define MIZHAKKON_SEVERAL_BSS 30 /* a start is given, and several sections are named .bss */
-#define MIZHAKKON_NO_BSS 31    /* a start is given, and no section is named .bss */
-#define MIZHAKKON_BACKWARDS 11       /* a range starts above its end; address: the range's start */
-#define MIZHAKKON_NO_SECTION 20      /* merge: the split's section isn't there; address, of this and the next: the split's start */
-#define MIZHAKKON_END_OUTSIDE 21     /* merge: it ends above its section's end */
-#define MIZHAKKON_SEVERAL_SPLITS 22  /* merge: its unit has several splits in the section */
-#define MIZHAKKON_TWO_ALIGNMENTS 23  /* merge: it and its unit's split have different alignments */
-#define MIZHAKKON_COMMON_DIFFERS 24  /* merge: one of the two is common, the other isn't */
-#define MIZHAKKON_HAND_SPLIT 25      /* merge: the joint range holds a hand split of another unit */
-#define MIZHAKKON_EMPTY_RANGE 26     /* merge: the joint range holds no split */
-#define MIZHAKKON_SPLITS_FULL 27     /* merge: the split table is full */
+#define MIZHAKKON_SHORT_LIST 10     /* `.ctors` or `.dtors` has 1 to 3 bytes; at the section and its start */
+#define MIZHAKKON_BACKWARDS 11      /* a range starts above its end; at its section and its start */
+#define MIZHAKKON_NO_SECTION 20     /* a section, or a split that was asked for, isn't there; each entry says its place */
+#define MIZHAKKON_END_OUTSIDE 21    /* merge, at the split's section and start, as to 27: it ends above its section's end */
+#define MIZHAKKON_SEVERAL_SPLITS 22 /* its unit has several splits in the section */
+#define MIZHAKKON_TWO_ALIGNMENTS 23 /* it and its unit's split have different alignments */
+#define MIZHAKKON_COMMON_DIFFERS 24 /* one of the two is common, the other isn't */
+#define MIZHAKKON_HAND_SPLIT 25     /* the joint range holds a hand split of another unit */
+#define MIZHAKKON_EMPTY_RANGE 26    /* the joint range holds no split */
+#define MIZHAKKON_SPLITS_FULL 27    /* the split table is full */
+#define MIZHAKKON_SEVERAL_BSS 30    /* a start is given, and several sections are named .bss */
+#define MIZHAKKON_NO_BSS 31         /* a start is given, and no section is named .bss */
+#define MIZHAKKON_OVERLAP 50        /* check, at the split's section and start, as to 54: it starts below the end of the one before */
+#define MIZHAKKON_BAD_END 51        /* it ends at 0, or below its start */
+#define MIZHAKKON_START_INSIDE 52   /* it starts inside a symbol */
+#define MIZHAKKON_END_INSIDE 53     /* it ends inside a symbol */
+#define MIZHAKKON_NO_FALL 54        /* trim: its end falls, but the last split at that start ends at or below it and isn't open */
 #define MIZHAKKON_CYCLE 61     /* the edges hold a cycle */
 #define MIZHAKKON_NO_NODE 62   /* an edge from or to no node; address: the edge's number */
 #define MIZHAKKON_NO_ROOM 76   /* an output table has fewer places than are needed */
