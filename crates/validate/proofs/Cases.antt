@@ -9,7 +9,7 @@ use Rattle.lists.specs.Sort.{insertKey, sortBy}
 use Rattle.obj.specs.declared.Symbol.{Symbol}
 use Rattle.obj.specs.declared.Split.{Split}
 use Rattle.symbol_order.specs.Order.{symbolsOf}
-use Rattle.symbols.specs.Ranges.{lastOr}
+use Rattle.symbols.specs.Ranges.{lastOr, highestOf}
 use Rattle.validate.specs.Check.{endOf, validateOne, validateFrom, validate}
 
 pub record Case : Type 0 where
@@ -37,6 +37,7 @@ cases =
     ∷ record { symbols = []; splits = piece 256 255 ∷ piece 254 264 ∷ []; outcome = refused 51 3 256 }
     -- 54: only the last symbol below is looked at
     ∷ record { symbols = sym 4100 8 ∷ sym 4101 1 ∷ []; splits = piece 4104 4112 ∷ []; outcome = accepted tt }
+    ∷ record { symbols = sym 4100 16 ∷ sym 4101 1 ∷ []; splits = piece 4104 4112 ∷ []; outcome = accepted tt }
     -- a start, or an end, inside it
     ∷ record { symbols = sym 4101 1 ∷ sym 4102 4 ∷ []; splits = piece 4104 4112 ∷ []; outcome = refused 52 3 4104 }
     ∷ record { symbols = sym 4108 8 ∷ []; splits = piece 4104 4112 ∷ []; outcome = refused 53 3 4104 }
@@ -49,5 +50,5 @@ outcomeOf c = validate (λ i. getD (c .symbols) i (sym 0 0)) (length (c .symbols
 
 -- THEOREM: each case has its expected outcome
 pub cases-hold : map outcomeOf cases ≡ map (λ (c : Case). c .outcome) cases
-unfolding validate validateFrom validateOne endOf refuse _>>_ lastOr symbolsOf insertKey sortBy keepIf tabulate
+unfolding validate validateFrom validateOne endOf refuse _>>_ lastOr highestOf symbolsOf insertKey sortBy keepIf tabulate
 cases-hold = refl
