@@ -16,6 +16,8 @@ ghost use Rattle.entry_update_common_splits.specs.Entry.{updateOf};
 ghost use Rattle.entry_validate_splits.specs.Entry.{validateOf};
 ghost use Rattle.entry_add_splits.specs.Entry.{addSplitsOf};
 ghost use Rattle.entry_trim_splits.specs.Entry.{trimOf};
+ghost use Rattle.stage_tables.specs.StageTables.{stageSplits, stageUnits};
+ghost use Rattle.entry_resolve_link_order.specs.Entry.{resolveOf, Leaves as LeavesUnits};
 use obj::Split;
 
 #[no_mangle]
@@ -210,6 +212,32 @@ pub extern "C" fn add_splits(
         splits,
         partials,
         out_splits,
+        counts,
+    )
+}
+
+#[no_mangle]
+pub extern "C" fn resolve_link_order(
+    name_ends: &[u8],
+    name_bytes: &[u8],
+    sections: &[u8],
+    splits: &[u8],
+    units: &[u8],
+    out_units: &mut [u8],
+    counts: &mut [u8],
+) -> u64
+    ensures { λ r. ⌜
+        LeavesUnits (stageSplits (now (splits .entry))) (stageUnits (now (units .entry)))
+        (resolveOf (now («name_ends» .entry)) (now («name_bytes» .entry)) (now (sections .entry)) (now (splits .entry)) (now (units .entry)) (length (now («out_units» .entry))))
+        (length (now («out_units» .entry))) (length (now (counts .entry))) r (now («out_units» .exit)) (now (counts .exit)) ⌝ }
+{
+    entry_resolve_link_order::resolve_link_order(
+        name_ends,
+        name_bytes,
+        sections,
+        splits,
+        units,
+        out_units,
         counts,
     )
 }

@@ -1,1 +1,5 @@
 pub mod Cases
+pub mod Bytes
+pub mod Marks
+pub mod Stage
+pub mod Theorems

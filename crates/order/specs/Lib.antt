@@ -1,1 +1,3 @@
 pub mod LinkOrder
+pub mod Bytes
+pub mod Columns

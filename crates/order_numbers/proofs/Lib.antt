@@ -1,4 +1,3 @@
-pub mod Laws
 pub mod Parts
 pub mod Ranks
 pub mod Twice

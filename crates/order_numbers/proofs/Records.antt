@@ -1,22 +1,44 @@
 -- The units that have an order, by the numbers of their records and as records: the records of `orderedNumbers` are `ordered`, and an order number stands
 -- twice exactly where two neighbours of `orderedNumbers` have the same. Assumes nothing.
-use Prim.Native.Nat.{ℕ}
+use Prim.Native.Nat.{ℕ, suc, _≤_}
 use mathlib.Core.Path.{_≡_, refl, sym, ap, _∙_}
-use mathlib.Core.List.{List, map, map-map}
-use mathlib.Core.Bool.{Bool}
-use lib.ListN.{length, getD}
+use mathlib.Core.List.{List, [], _∷_, map, map-map}
+use mathlib.Core.Bool.{Bool, true, false, cond}
+use native.Mathlib.Omega.{arith}
+use lib.ListN.{length}
 use Rattle.lists.specs.Rows.{tabulate, keepIf}
 use Rattle.lists.specs.Sort.{sortBy}
 use Rattle.lists.proofs.Parts.{tabulate-map, tabulate-list}
 use Rattle.lists.proofs.Filter.{map-keep}
-use Rattle.lists.proofs.Sort.{map-sort}
+use Rattle.lists.proofs.Rows.{length-tabulate}
+use Rattle.lists.proofs.Sort.{map-sort, length-sort}
 use Rattle.obj.specs.Records.{unitAt}
-use Rattle.obj.specs.declared.Unit as units
 use Rattle.tables.specs.Records.{unitsIn}
 use Rattle.order_numbers.specs.Numbers.{rankOf, hasOrder, ordered, twice, orderTwice, unitOf, rankAt, unsorted, orderedNumbers, nextSame}
 use Rattle.order_numbers.proofs.Twice.{sorted-twice}
 
+-- no more than all are kept
+length-keep : {A : Type 0} (p : A → Bool) (l : List A) → length (keepIf p l) ≤ length l
+unfolding keepIf
+length-keep p [] = omega arith
+length-keep {A} p (x ∷ l) = go (p x) (length-keep p l)
+  where
+    go : (t : Bool) → length (keepIf p l) ≤ length l → length (cond t (x ∷ keepIf p l) (keepIf p l)) ≤ suc (length l)
+    go true h = omega arith
+    go false h = omega arith
+
 module _ (b places : List ℕ) where
+  -- no more units have an order than there are
+  pub length-ordered : length (orderedNumbers b places) ≤ length places
+  unfolding orderedNumbers
+  length-ordered =
+      omega (
+        arith,
+        length-sort (rankAt b places) (unsorted b places),
+        length-keep (λ i. hasOrder (unitOf b places i)) (tabulate (λ i. i) 0 (length places)),
+        length-tabulate (λ i. i) 0 (length places),
+      )
+
   -- the records of all numbers
   all-records : map (unitOf b places) (tabulate (λ i. i) 0 (length places)) ≡ unitsIn b places
   all-records =

@@ -2,18 +2,16 @@
 -- that pass.
 use native.Mathlib.Omega.{arith}
 use native.Mathlib.Nat.{sub-zero}
-use borrow.Author.Tests.{eq-eqb, ne-eqb}
 use mathlib.Core.Path.{_≡_, refl, sym, ap, _∙_}
 use mathlib.Core.List.{List, _++_}
-use mathlib.Core.Bool.{Bool, true, false, not}
+use mathlib.Core.Bool.{Bool, true, false}
 use Prim.Native.Nat.{ℕ, _≤_, _-_}
-use lib.Dec.{eqb}
 use lib.ListN.{length, take, length-set}
 use Rattle.lists.specs.Rows.{keepIf, tabulate}
 use Rattle.lists.proofs.Keep.{keep-more}
 use Rattle.order_numbers.specs.Numbers.{unitOf}
 use Rattle.order_numbers.specs.Numbers.{hasOrder, unsorted}
-use Rattle.order_numbers.proofs.Laws.{number-kept, number-passed, number-end}
+use Rattle.symbol_order.proofs.Laws.{number-kept, number-passed, number-end}
 use Rattle.order_numbers.proofs.Parts.{held}
 use Rattle.order_numbers.proofs.numbered.Statement.{statement}
 use Rattle.order_numbers.proofs.numbered.Tie as tie

@@ -4,13 +4,12 @@ use native.Mathlib.Omega.{arith}
 use Prim.Native.Nat.{ℕ, _+_, _-_, _≤_, _<_}
 use mathlib.Core.Path.{_≡_, refl, sym, ap, ap₂, _∙_}
 use mathlib.Core.List.{List, map}
-use mathlib.Core.Bool.{Bool, true, false, _||_}
+use mathlib.Core.Bool.{Bool, _||_}
 use borrow.Author.Tests.{eq-eqb, ne-eqb}
 use lib.Dec.{eqb}
 use lib.ListN.{length, getD, drop, length-map}
 use Rattle.lists.proofs.Rows.{getD-map}
-use Rattle.obj.specs.Records.{unitAt}
-use Rattle.order_numbers.specs.Numbers.{rank, rankAt, nextSame, Readable}
+use Rattle.order_numbers.specs.Numbers.{rankAt, nextSame}
 use Rattle.order_numbers.proofs.Parts.{ordered-readable}
 use Rattle.order_numbers.proofs.Ranks.{unit-fits, word-same, word-other}
 use Rattle.order_numbers.proofs.Twice.{next-turn, next-none}
