@@ -18,6 +18,9 @@ ghost use Rattle.entry_add_splits.specs.Entry.{addSplitsOf};
 ghost use Rattle.entry_trim_splits.specs.Entry.{trimOf};
 ghost use Rattle.stage_tables.specs.StageTables.{stageSplits, stageUnits};
 ghost use Rattle.entry_resolve_link_order.specs.Entry.{resolveOf, Leaves as LeavesUnits};
+ghost use Rattle.entry_split_obj.specs.Entry.{roomIn, splitObjOf, Leaves as LeavesPieces};
+ghost use Rattle.entry_split_obj.specs.Lines.{sizesOf};
+ghost use Rattle.entry_piece_bytes.specs.Entry.{placeOf, Leaves as LeavesPlace};
 use obj::Split;
 
 #[no_mangle]
@@ -192,6 +195,44 @@ pub extern "C" fn trim_splits(
 }
 
 #[no_mangle]
+pub extern "C" fn split_obj(
+    name_ends: &[u8],
+    name_bytes: &[u8],
+    sections: &[u8],
+    section_places: &[u8],
+    image: &[u8],
+    symbols: &[u8],
+    relocations: &[u8],
+    splits: &[u8],
+    units: &[u8],
+    pieces: &mut [u8],
+    piece_symbols: &mut [u8],
+    piece_relocations: &mut [u8],
+    counts: &mut [u8],
+) -> u64
+    ensures { λ r. ⌜
+        LeavesPieces
+        (splitObjOf (now («name_ends» .entry)) (now («name_bytes» .entry)) (now (sections .entry)) (now («section_places» .entry)) (now (image .entry)) (now (symbols .entry)) (now (relocations .entry)) (now (splits .entry)) (now (units .entry)) (roomIn (length (now (pieces .entry))) (length (now («piece_symbols» .entry))) (length (now («piece_relocations» .entry)))))
+        (sizesOf (now (pieces .entry)) (now («piece_symbols» .entry)) (now («piece_relocations» .entry)) (now (counts .entry))) r (now (pieces .exit)) (now («piece_symbols» .exit)) (now («piece_relocations» .exit)) (now (counts .exit)) ⌝ }
+{
+    entry_split_obj::split_obj(
+        name_ends,
+        name_bytes,
+        sections,
+        section_places,
+        image,
+        symbols,
+        relocations,
+        splits,
+        units,
+        pieces,
+        piece_symbols,
+        piece_relocations,
+        counts,
+    )
+}
+
+#[no_mangle]
 pub extern "C" fn add_splits(
     name_ends: &[u8],
     name_bytes: &[u8],
@@ -240,4 +281,18 @@ pub extern "C" fn resolve_link_order(
         out_units,
         counts,
     )
+}
+
+#[no_mangle]
+pub extern "C" fn piece_bytes(
+    sections: &[u8],
+    section_places: &[u8],
+    image: &[u8],
+    pieces: &[u8],
+    which: u32,
+    place: &mut [u8],
+) -> u64
+    ensures { λ r. ⌜ LeavesPlace (placeOf (now (sections .entry)) (now («section_places» .entry)) (now (image .entry)) (now (pieces .entry)) which) (length (now (place .entry))) r (now (place .exit)) ⌝ }
+{
+    entry_piece_bytes::piece_bytes(sections, section_places, image, pieces, which, place)
 }

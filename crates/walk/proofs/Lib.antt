@@ -1,3 +1,4 @@
 pub mod Cases
 pub mod Deciding
 pub mod Adding
+pub mod Giving

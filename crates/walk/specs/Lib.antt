@@ -1,3 +1,4 @@
 pub mod Walk
 pub mod Steps
 pub mod Adding
+pub mod Giving

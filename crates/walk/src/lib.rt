@@ -2,8 +2,10 @@
 // the crate `split_obj`.
 mod choice;
 mod entries;
+mod output;
 
 pub use choice::choose;
+pub use output::give;
 ghost use mathlib.Core.Path.{_≡_};
 
 // So many pieces, piece symbols and piece relocations.
@@ -27,6 +29,12 @@ pub enum Step {
 pub enum Added {
     Now(usize),
     Full,
+}
+
+// How many there are of each after a split gave, or 11 or 76.
+pub enum Gave {
+    Made(Counts),
+    Fault(u16),
 }
 
 fn index(k: u16) -> usize

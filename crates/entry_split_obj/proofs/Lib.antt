@@ -1,0 +1,4 @@
+pub mod Passed
+pub mod Alike
+pub mod Lines
+pub mod Finish

@@ -1,0 +1,149 @@
+-- `entry_split_obj::from_splits` meets its contract. Splits that are refused are the answer; else the columns hold them, and the units are asked with them.
+-- Assumes nothing.
+use borrow.Author.Needs.{needs}
+use mathlib.Core.Path.{_≡_, refl, sym, ap, subst, _∙_}
+use mathlib.Core.List.{List}
+use Prim.Native.Nat.{ℕ, _+_, _*_, _/_, _≤_, _<_}
+use native.Mathlib.Omega.{arith}
+use lib.ListN.{length, take, length-map}
+use lib.Seq.{length-take-le}
+use Rattle.lists.specs.Outcome.{Outcome, accepted}
+use Rattle.obj.specs.Answers.{meaning}
+use Rattle.obj.specs.Records.{sectionAt, stagePlaces}
+use Rattle.stage_tables.proofs.Laws.{table-passed, taken-few, taken-places, taken-count, taken-held}
+use Rattle.sections.specs.Image.{imageOf}
+use Rattle.sections.specs.Sections.{sectionsOf}
+use Rattle.relocs.specs.Relocs.{relocOf}
+use Rattle.splits.specs.Columns.{columns, rows as rowsOf}
+use Rattle.units.specs.Units.{unitNames}
+use Rattle.obj.specs.declared.Split.{Split}
+use Rattle.tables.specs.Records.{sectionsIn}
+use Rattle.walk.specs.declared.Counts.{Counts}
+use Rattle.walk.specs.Walk.{Output}
+use Rattle.walk.specs.Giving.{outputIn}
+use Rattle.entry_split_obj.specs.Entry.{roomFor, roomIn, splitObjOf}
+use Rattle.entry_split_obj.specs.Lines.{walkOf, fromUnits, fromSplits, fromRelocs, fromSymbols, fromSections, none, Fits, sizesOf}
+use Rattle.entry_split_obj.proofs.Passed.{rows-named, relocs-taken, units-few, units-listed, names-taken, names-few, lengths-count}
+use Rattle.entry_split_obj.proofs.Lines.{gives-as, gives-stops, gives-goes, relocs-as, sections-as, names-as}
+use Rattle.entry_split_obj.proofs.from_splits.Statement.{statement}
+use Rattle.entry_split_obj.proofs.from_splits.Tie as tie
+
+take-split-columns-requires : tie.Need-take-split-columns-requires
+take-split-columns-requires c κs =
+    let s = c .before .before .before .before .before .before .before .before .before .before .before .before .before .before .before .before .before .before .before .before .before .before .before .before .before .before .before in
+    let long = s .pre .5 in (
+      s .pre .1 .all,
+      record { few = omega arith; long = omega (arith, long .places-long) },
+      record { starts = omega (arith, long .starts-long); ends = omega (arith, long .ends-long); units = omega (arith, long .units-long); rest = omega (arith, long .rest-long) },
+    )
+
+enum-told : tie.Need-enum-told
+enum-told c = search needs
+
+stopped-requires : tie.Need-stopped-requires
+stopped-requires c κs = search needs
+
+same-length : tie.Need-same-length
+same-length c = search needs
+
+same-length-2 : tie.Need-same-length-2
+same-length-2 c = search needs
+
+same-length-3 : tie.Need-same-length-3
+same-length-3 c = search needs
+
+same-length-4 : tie.Need-same-length-4
+same-length-4 c = search needs
+
+same-length-5 : tie.Need-same-length-5
+same-length-5 c = search needs
+
+returns : tie.Need-returns
+unfolding fromSplits
+returns c = gives-stops _ (c .before .before .before .before .before .before .before .before .before .before .before .before .before .take-split-columns .result) (c .before .before .before .before .before .before .before .before .before .before .before .before .before .take-split-columns .ensures .said) (c .before .enum-told .given .1) (c .stopped .ensures)
+
+enum-told-2 : tie.Need-enum-told-2
+enum-told-2 c = search needs
+
+with-units-requires : tie.Need-with-units-requires
+with-units-requires c κs =
+    let t = c .before .before .before .before .before .before .before .before .before .before .before .before .before .before .before .before .before .before .before in
+    let s = c .before .before .before .before .before .before .before .before .before .before .before .before .before .before .before .before .before .before .before .before .before .before .before .before .before .before .before .before .before .before .before .before .before .before .before .before .before .before .before .before .before .before .before .before .before .before .before in
+    let a = s .args in
+    let passed = sym (t .take-split-columns .ensures .said) ∙ (ap meaning (c .before .before .before .before .before .before .before .enum-told2 .given .1)) in
+    let few = table-passed 19 1024 (a .splits .now) _ passed .1 in
+    let long = s .pre .5 in
+    let kept = t .take-split-columns .kept .1 .1 .1 .1 .1 .1 in
+    let last = t .take-split-columns .last .1 .1 .1 .1 .1 .1 in (
+      s .pre .0,
+      s .pre .1,
+      s .pre .2,
+      rows-named 1024 (a .name-lengths .now) (sectionsIn (a .heads .now) (a .head-places .now)) (a .splits .now) (columns (last .0) (last .1 .0) (last .1 .1 .0) (last .1 .1 .1 .0)) passed (t .take-split-columns .ensures .taken passed)
+          (record {
+            starts = omega (arith, few, long .starts-long, kept .0);
+            ends = omega (arith, few, long .ends-long, kept .1 .0);
+            units = omega (arith, few, long .units-long, kept .1 .1 .0);
+            rest = omega (arith, few, long .rest-long, kept .1 .1 .1 .0);
+          }),
+      s .pre .3,
+      s .pre .4,
+    )
+
+same-length-6 : tie.Need-same-length-6
+same-length-6 c = search needs
+
+same-length-7 : tie.Need-same-length-7
+same-length-7 c = search needs
+
+same-length-8 : tie.Need-same-length-8
+same-length-8 c = search needs
+
+same-length-9 : tie.Need-same-length-9
+same-length-9 c = search needs
+
+same-length-10 : tie.Need-same-length-10
+same-length-10 c = search needs
+
+same-length-11 : tie.Need-same-length-11
+same-length-11 c = search needs
+
+same-length-12 : tie.Need-same-length-12
+same-length-12 c = search needs
+
+same-length-13 : tie.Need-same-length-13
+same-length-13 c = search needs
+
+returns-2 : tie.Need-returns-2
+unfolding fromSplits
+returns-2 c =
+    let t = c .before .before .before .before .before .before .before .before .before .before .before .before .before .before .before .before .before .before .before .before .before .before .before .before .before .before in
+    let a = c .before .before .before .before .before .before .before .before .before .before .before .before .before .before .before .before .before .before .before .before .before .before .before .before .before .before .before .before .before .before .before .before .before .before .before .before .before .before .before .before .before .before .before .before .before .before .before .before .before .before .before .before .before .before .args in
+    let passed = sym (t .take-split-columns .ensures .said) ∙ (ap meaning (c .before .before .before .before .before .before .before .before .before .before .before .before .before .before .enum-told2 .given .1)) in
+    gives-goes passed
+    (gives-as (ap (λ (l : List Split). fromUnits (a .name-lengths .now) (imageOf (a .symbols .now) (a .symbol-places .now) (a .name-bytes .now) (a .name-places .now) (a .name-lengths .now)) (sectionsOf (a .heads .now) (a .head-places .now) (a .image .now) (a .image-places .now)) (relocOf (a .relocs .now) (a .reloc-places .now)) (length (a .reloc-places .now)) l (a .unit-table .now) (roomIn (length (a .pieces .now)) (length (a .entries .now)) (length (a .offsets .now)))) (t .take-split-columns .ensures .taken passed))
+    (c .before .before .before .before .before .before .with-units .ensures))
+
+pub from-splits-spec : {M : Type 1} → statement M
+from-splits-spec =
+    tie.close
+    (tie.spec
+    take-split-columns-requires
+    enum-told
+    stopped-requires
+    same-length
+    same-length-2
+    same-length-3
+    same-length-4
+    same-length-5
+    returns
+    enum-told-2
+    with-units-requires
+    same-length-6
+    same-length-7
+    same-length-8
+    same-length-9
+    same-length-10
+    same-length-11
+    same-length-12
+    same-length-13
+    returns-2)

@@ -1,0 +1,124 @@
+-- `entry_split_obj::lay` meets its contract. The records are the first bytes of each table, and zeros come after them.
+-- Assumes nothing.
+use borrow.Author.Needs.{needs}
+use mathlib.Core.Path.{_≡_, refl, sym, ap, subst, _∙_}
+use mathlib.Core.List.{List}
+use Prim.Native.Nat.{ℕ, _+_, _*_, _/_, _≤_, _<_}
+use native.Mathlib.Omega.{arith}
+use lib.ListN.{length, take, length-map}
+use lib.Seq.{length-take-le}
+use Rattle.lists.specs.Outcome.{Outcome, accepted}
+use Rattle.obj.specs.Answers.{meaning}
+use Rattle.obj.specs.Records.{sectionAt, stagePlaces}
+use Rattle.stage_tables.proofs.Laws.{table-passed, taken-few, taken-places, taken-count, taken-held}
+use Rattle.sections.specs.Image.{imageOf}
+use Rattle.sections.specs.Sections.{sectionsOf}
+use Rattle.relocs.specs.Relocs.{relocOf}
+use Rattle.splits.specs.Columns.{columns, rows as rowsOf}
+use Rattle.units.specs.Units.{unitNames}
+use Rattle.obj.specs.declared.Split.{Split}
+use Rattle.tables.specs.Records.{sectionsIn}
+use Rattle.walk.specs.declared.Counts.{Counts}
+use Rattle.walk.specs.Walk.{Output}
+use Rattle.walk.specs.Giving.{outputIn}
+use Rattle.entry_split_obj.specs.Entry.{roomFor, roomIn, splitObjOf}
+use Rattle.entry_split_obj.specs.Lines.{walkOf, fromUnits, fromSplits, fromRelocs, fromSymbols, fromSections, none, Fits, sizesOf}
+use Rattle.entry_split_obj.proofs.Passed.{rows-named, relocs-taken, units-few, units-listed, names-taken, names-few, lengths-count}
+use Rattle.entry_split_obj.proofs.Lines.{gives-as, gives-stops, gives-goes, relocs-as, sections-as, names-as}
+use Rattle.entry_split_obj.proofs.Finish.{tabled-none, walked-all, cleared, three-counts, made-fits, leaves-at, fits-as}
+use Rattle.entry_split_obj.specs.Lines.{madeBy}
+use Rattle.pieces.specs.Pieces.{pieceBytes, symbolBytes, relocBytes, piecesIn, symbolsIn, relocsIn, packed}
+use Rattle.pieces.proofs.Laws.{pieces-packed, symbols-packed, relocs-packed, length-piecesIn, length-symbolsIn, length-relocsIn}
+use Rattle.outputs.specs.Outputs.{countsOf, storeCount}
+use mathlib.Core.List.{[], _∷_}
+use Rattle.entry_split_obj.proofs.lay.Statement.{statement}
+use Rattle.entry_split_obj.proofs.lay.Tie as tie
+
+mul-clear-from : tie.Need-mul-clear-from
+mul-clear-from c = omega (arith, c .before .before .before .before .before .before .pre .few-pieces)
+
+clear-from-requires : tie.Need-clear-from-requires
+clear-from-requires c κs = tt
+
+mul-clear-from-2 : tie.Need-mul-clear-from-2
+mul-clear-from-2 c = omega (arith, c .before .before .before .before .before .before .before .before .before .before .before .pre .few-symbols)
+
+clear-from-requires-2 : tie.Need-clear-from-requires-2
+clear-from-requires-2 c κs = tt
+
+mul-clear-from-3 : tie.Need-mul-clear-from-3
+mul-clear-from-3 c = omega (arith, c .before .before .before .before .before .before .before .before .before .before .before .before .before .before .before .before .pre .few-relocs)
+
+clear-from-requires-3 : tie.Need-clear-from-requires-3
+clear-from-requires-3 c κs = tt
+
+clear-from-requires-4 : tie.Need-clear-from-requires-4
+clear-from-requires-4 c κs = tt
+
+cast-put-count : tie.Need-cast-put-count
+cast-put-count c = omega (arith, c .before .before .before .before .before .before .before .before .before .before .before .before .before .before .before .before .before .before .before .before .before .before .before .before .before .pre .few-pieces)
+
+put-count-requires : tie.Need-put-count-requires
+put-count-requires c κs = omega arith
+
+cast-put-count-2 : tie.Need-cast-put-count-2
+cast-put-count-2 c = omega (arith, c .before .before .before .before .before .before .before .before .before .before .before .before .before .before .before .before .before .before .before .before .before .before .before .before .before .before .before .before .before .before .pre .few-symbols)
+
+put-count-requires-2 : tie.Need-put-count-requires-2
+put-count-requires-2 c κs = omega arith
+
+cast-put-count-3 : tie.Need-cast-put-count-3
+cast-put-count-3 c = omega (arith, c .before .before .before .before .before .before .before .before .before .before .before .before .before .before .before .before .before .before .before .before .before .before .before .before .before .before .before .before .before .before .before .before .before .before .before .pre .few-relocs)
+
+put-count-requires-3 : tie.Need-put-count-requires-3
+put-count-requires-3 c κs = omega arith
+
+same-length : tie.Need-same-length
+same-length c = c .before .before .before .before .before .before .before .before .before .before .before .before .before .before .before .before .before .before .before .before .before .before .before .before .before .before .before .before .before .before .before .clear-from .kept .0
+
+same-length-2 : tie.Need-same-length-2
+same-length-2 c = c .before .before .before .before .before .before .before .before .before .before .before .before .before .before .before .before .before .before .before .before .before .before .before .before .before .before .clear-from2 .kept .0
+
+same-length-3 : tie.Need-same-length-3
+same-length-3 c = c .before .before .before .before .before .before .before .before .before .before .before .before .before .before .before .before .before .before .before .before .before .clear-from3 .kept .0
+
+same-length-4 : tie.Need-same-length-4
+same-length-4 c = c .before .before .put-count3 .kept .0 ∙ c .before .before .before .before .before .before .before .put-count2 .kept .0 ∙ c .before .before .before .before .before .before .before .before .before .before .before .before .put-count .kept .0 ∙ c .before .before .before .before .before .before .before .before .before .before .before .before .before .before .before .before .before .clear-from4 .kept .0
+
+returns : tie.Need-returns
+returns c =
+    let s = c .before .before .before .before .before .before .before .before .before .before .before .before .before .before .before .before .before .before .before .before .before .before .before .before .before .before .before .before .before .before .before .before .before .before .before .before .before .before in
+    let a = s .args in
+    let m = a .made in
+    record {
+      pieces-are = c .before .before .before .before .before .before .before .before .before .before .before .before .before .before .before .before .before .before .before .before .before .before .before .before .before .before .before .before .before .before .before .clear-from .ensures ∙ cleared (a .pieces .now) _ (28 * m .pieces) (pieces-packed (a .pieces .now) (λ i. c .before .before .before .before .before .before .before .before .before .before .before .before .before .before .before .before .before .before .before .before .before .before .before .before .before .before .before .before .before .before .before .before .before .before .before .before .before .slice-known .given i .fits) (m .pieces) (s .pre .pieces-fit)) (s .pre .pieces-fit);
+      symbols-are = c .before .before .before .before .before .before .before .before .before .before .before .before .before .before .before .before .before .before .before .before .before .before .before .before .before .before .clear-from2 .ensures ∙ cleared (a .entries .now) _ (12 * m .symbols) (symbols-packed (a .entries .now) (λ i. c .before .before .before .before .before .before .before .before .before .before .before .before .before .before .before .before .before .before .before .before .before .before .before .before .before .before .before .before .before .before .before .before .before .before .before .before .slice-known2 .given i .fits) (m .symbols) (s .pre .entries-fit)) (s .pre .entries-fit);
+      relocs-are = c .before .before .before .before .before .before .before .before .before .before .before .before .before .before .before .before .before .before .before .before .before .clear-from3 .ensures ∙ cleared (a .offsets .now) _ (8 * m .relocs) (relocs-packed (a .offsets .now) (λ i. c .before .before .before .before .before .before .before .before .before .before .before .before .before .before .before .before .before .before .before .before .before .before .before .before .before .before .before .before .before .before .before .before .before .before .before .slice-known3 .given i .fits) (m .relocs) (s .pre .offsets-fit)) (s .pre .offsets-fit);
+      counted = c .before .before .put-count3 .ensures
+          ∙ (λ d. storeCount 2 (m .relocs) ((c .before .before .before .before .before .before .before .put-count2 .ensures ∙ (λ k. storeCount 1 (m .symbols) ((c .before .before .before .before .before .before .before .before .before .before .before .before .put-count .ensures ∙ (λ j. storeCount 0 (m .pieces) (c .before .before .before .before .before .before .before .before .before .before .before .before .before .before .before .before .before .clear-from4 .ensures j))) k))) d))
+          ∙ three-counts (length (a .counts .now)) (m .pieces) (m .symbols) (m .relocs) (a .counts .now) refl
+          ∙ (λ d. countsOf (length (a .counts .now)) (sym (length-piecesIn (a .pieces .now) (m .pieces)) d ∷ sym (length-symbolsIn (a .entries .now) (m .symbols)) d ∷ sym (length-relocsIn (a .offsets .now) (m .relocs)) d ∷ []));
+    }
+
+pub lay-spec : {M : Type 1} → statement M
+lay-spec =
+    tie.close
+    (tie.spec
+    mul-clear-from
+    clear-from-requires
+    mul-clear-from-2
+    clear-from-requires-2
+    mul-clear-from-3
+    clear-from-requires-3
+    clear-from-requires-4
+    cast-put-count
+    put-count-requires
+    cast-put-count-2
+    put-count-requires-2
+    cast-put-count-3
+    put-count-requires-3
+    same-length
+    same-length-2
+    same-length-3
+    same-length-4
+    returns)

@@ -1,0 +1,123 @@
+-- T5 over the walk: an accepted piece's alignment is the largest that fits, and 75 comes exactly if none fits. The alignment that is halved is good, by the table
+-- checks. Assumes nothing.
+use Prim.Native.Nat.{ℕ, _<_}
+use mathlib.Core.Path.{_≡_, refl, sym, ap, _∙_, subst}
+use mathlib.Core.List.{List·Memᴰ}
+use mathlib.Core.Logic.{_↔_, _≢_}
+use mathlib.Core.Bool.{Bool, true, false, not}
+use native.Mathlib.Omega.{arith}
+use lib.ListN.{length}
+use borrow.Author.Tests.{ne-eqb}
+use Rattle.lists.specs.Outcome.{accepted, refused}
+use Rattle.lists.specs.Sort.{All}
+use Rattle.lists.proofs.All.{all-map}
+use Rattle.lists.proofs.Binds.{bind-goes}
+use Rattle.lists.proofs.Compare.{never}
+use Rattle.lists.proofs.Outcomes.{fails, passes}
+use Rattle.align.specs.Align.{goodAlign}
+use Rattle.obj.specs.declared.Split.{Split}
+use Rattle.sections.specs.Alignment.{Chosen, defaultAlignment}
+use Rattle.sections.proofs.Good.{default-good, chosen-good}
+use Rattle.pieces.specs.declared.Piece.{Piece}
+use Rattle.units.specs.Units.{unitOf}
+use Rattle.walk.specs.Walk.{Input, Output, alignmentIn, fits, halved, onAligned, onKept, walk}
+use Rattle.restore.specs.Restoring.{Checked}
+use Rattle.restore.specs.Alignments.{Largest, None}
+use Rattle.restore.proofs.Parts.{all-find}
+use Rattle.restore.proofs.Steps.{Reached, From}
+use Rattle.restore.proofs.Walked.{pieces-from}
+use Rattle.restore.proofs.Refusals.{Says, says-of, says-then, Line, walk-says, end-says, split-says}
+use Rattle.restore.proofs.Halving.{halved-largest, halved-none}
+
+-- the alignment of a split of the table is good, wherever its range is asked
+pub alignment-good : (t : Input) → Checked t → (s : Split) → List·Memᴰ s (t .splits) → (n start : ℕ) (c : Chosen)
+    → alignmentIn (t .image) (t .sections .head n) n start s ≡ accepted c → goodAlign (c .value) ≡ true
+alignment-good t checked s listed n start c is =
+    chosen-good (t .image .symbol) (t .image .count) n (defaultAlignment (t .sections .head n) (t .image .name (t .sections .head n .name))) (s .alignment) start (s .end)
+    (checked .sound) (default-good (t .sections .head n) (t .image .name (t .sections .head n .name))) (all-find s (checked .aligned) listed) c is
+
+-- THEOREM T5: each piece's alignment is the largest that fits its address, of those reached by halving from the alignment of its split
+pub pieces-aligned : (t : Input) (out : Output) → Checked t → walk t ≡ accepted out
+    → All (λ p. (f : From t p) × Largest (f .chosen .value) (p .address) (p .alignment)) (out .pieces)
+pieces-aligned t out checked e = all-map (λ p q. (q .1, one p (q .1))) (pieces-from t out e)
+  where
+    one : (p : Piece) (f : From t p) → Largest (f .chosen .value) (p .address) (p .alignment)
+    one p f =
+        subst (Largest (f .chosen .value) (p .address)) (sym (f .alignment))
+        (halved-largest (f .chosen .value) (p .address)
+        (alignment-good t checked (f .split) (f .reached .listed) (p .section) (p .address) (f .chosen) (f .asked))
+        (ap (λ (q : ℕ). fits q (p .address)) (sym (f .alignment)) ∙ f .fitted))
+
+-- ---- 75
+
+-- a split at this place, for whose alignment none fits
+pub record Misfit (t : Input) (n address : ℕ) : Type 0 where
+  pub split : Split
+  pub reached : Reached t n split
+  pub start : split .start ≡ address
+  pub chosen : Chosen
+  pub asked : alignmentIn (t .image) (t .sections .head n) n address split ≡ accepted chosen
+  pub none : None (chosen .value) address
+
+-- THEOREM T5: where a walk is refused with 75, there is such a split; an accepted walk has none among its pieces (`pieces-aligned`)
+pub misfit-found : (t : Input) → Checked t → (n address : ℕ) → walk t ≡ refused 75 n address → Misfit t n address
+misfit-found t checked n address e = says-of P (walk t) 75 n address (walk-says P t (λ m b. line m)) e refl
+  where
+    P : (number section address : ℕ) → Type 0
+    P number m a = number ≡ 75 → Misfit t m a
+
+    others : (m number a : ℕ) → 0 < number → number ≢ 10 → number ≢ 73 → number ≢ 75 → P number m a
+    others m number a h x y z q = absurd (z q)
+
+    line : (m : ℕ) → Line P t m
+    line m =
+        record {
+          end = end-says P t m (others m) (λ d q. absurd (omega arith));
+          missing = λ current q. absurd (omega arith);
+          split = λ s r current next out. split-says P t m (others m) s current next out (λ f q. absurd (omega arith))
+              (λ here c is f q. record {
+                split = s;
+                reached = r;
+                start = here;
+                chosen = c;
+                asked = is;
+                none = halved-none (c .value) current (alignment-good t checked s (r .listed) m current c is) f;
+              });
+        }
+
+-- THEOREM T5: at a split that is not skipped, whose unit is listed and whose alignment is asked without a refusal, 75 comes exactly if none fits
+pub misfits : (t : Input) → Checked t → (s : Split) → List·Memᴰ s (t .splits) → (n current : ℕ) (out : Output) (c : Chosen)
+    → unitOf (t .units) (s .unit) ≢ length (t .units) → alignmentIn (t .image) (t .sections .head n) n current s ≡ accepted c
+    → (onKept t n current s out ≡ refused 75 n current) ↔ None (c .value) current
+unfolding onKept onAligned
+misfits t checked s listed n current out c unit is = (λ e. none e (fits q current) refl, λ f. found f (fits q current) refl)
+  where
+    q : ℕ
+    q = halved 16 (c .value) current
+
+    good : goodAlign (c .value) ≡ true
+    good = alignment-good t checked s listed n current c is
+
+    whole : onKept t n current s out ≡ onAligned t n current (unitOf (t .units) (s .unit)) q s out
+    whole =
+        passes 74 n current _ _ (ne-eqb _ _ unit)
+        ∙ bind-goes (alignmentIn (t .image) (t .sections .head n) n current s) _ c is
+
+    Other : (number section address : ℕ) → Type 0
+    Other number m a = number ≢ 75
+
+    fitted : fits q current ≡ true → Says Other (onAligned t n current (unitOf (t .units) (s .unit)) q s out)
+    fitted f =
+        says-then Other 75 n current _ _ (λ e. absurd (never (sym (ap not f) ∙ e))) (λ e.
+        says-then Other 11 n current _ _ (λ e z. omega arith) (λ e.
+        says-then Other 11 n current _ _ (λ e z. omega arith) (λ e.
+        says-then Other 11 n current _ _ (λ e z. omega arith) (λ e.
+        says-then Other 76 n current _ _ (λ e z. omega arith) (λ e. tt)))))
+
+    none : onKept t n current s out ≡ refused 75 n current → (b : Bool) → fits q current ≡ b → None (c .value) current
+    none e true f = absurd (says-of Other _ 75 n current (fitted f) (sym whole ∙ e) refl)
+    none e false f = halved-none (c .value) current good f
+
+    found : None (c .value) current → (b : Bool) → fits q current ≡ b → onKept t n current s out ≡ refused 75 n current
+    found h true f = absurd (h q (halved-largest (c .value) current good f .fitting))
+    found h false f = whole ∙ fails 75 n current _ _ (ap not f)

@@ -1,0 +1,10 @@
+pub mod Parts
+pub mod Steps
+pub mod Walked
+pub mod Refusals
+pub mod Laying
+pub mod Theorems
+pub mod Halving
+pub mod Alignments
+pub mod Nobits
+pub mod Cases

@@ -1,0 +1,5 @@
+pub mod Tables
+pub mod Decoded
+pub mod Answers
+pub mod Bytes
+pub mod Entry

@@ -1,0 +1,72 @@
+-- A call of the entry `split_obj`: what it is lent, and how its definition reads that. The theorems of proofs/Entry.antt speak of nothing but these bytes, the
+-- answer, and the bytes of the outputs.
+use Prim.Native.Nat.{ℕ, _/_}
+use mathlib.Core.List.{List}
+use lib.ListN.{length}
+use Rattle.lists.specs.Outcome.{Outcome}
+use Rattle.obj.specs.Records.{stagePlaces}
+use Rattle.name_table.specs.Stored.{stageLengths, nameStarts}
+use Rattle.relocs.specs.Relocs.{relocOf}
+use Rattle.units.specs.Units.{unitNames}
+use Rattle.pieces.specs.declared.Piece.{Piece}
+use Rattle.pieces.specs.Pieces.{piecesIn}
+use Rattle.walk.specs.Walk.{Input, Output}
+use Rattle.entry_split_obj.specs.Entry.{Sizes, roomIn, splitObjOf, outputOf, Leaves}
+use Rattle.restore_entry.specs.Tables.{Lent, inputIn}
+
+pub record Call : Type 0 where
+  pub ends : List ℕ
+  pub bytes : List ℕ
+  pub sections : List ℕ
+  pub places : List ℕ
+  pub image : List ℕ
+  pub symbols : List ℕ
+  pub relocs : List ℕ
+  pub splits : List ℕ
+  pub units : List ℕ
+  -- how many bytes are lent for each output
+  pub sizes : Sizes
+
+-- what the entry's definition gives for it
+abbrev pub outcome : Call → Outcome Output
+outcome c =
+    splitObjOf (c .ends) (c .bytes) (c .sections) (c .places) (c .image) (c .symbols) (c .relocs) (c .splits) (c .units)
+    (roomIn (c .sizes .pieces) (c .sizes .symbols) (c .sizes .relocs))
+
+abbrev pub lent : Call → Lent
+lent c = record {
+  names = length (c .ends) / 2;
+  name-bytes = c .bytes;
+  name-places = nameStarts (c .ends) (length (c .ends) / 2);
+  name-lengths = stageLengths (c .ends) (c .bytes);
+  sections = c .sections;
+  places = c .places;
+  image = c .image;
+  symbols = c .symbols;
+  reloc = relocOf (c .relocs) (stagePlaces 23 (length (c .relocs) / 23));
+  relocs = length (c .relocs) / 23;
+  splits = c .splits;
+  units = unitNames (c .units) (stagePlaces 8 (length (c .units) / 8));
+  room = roomIn (c .sizes .pieces) (c .sizes .symbols) (c .sizes .relocs);
+}
+
+-- a call whose answer is 0, and what it leaves in its outputs: as the entry's contract says
+pub record Run : Type 0 where
+  pub call : Call
+  pub pieces : List ℕ
+  pub entries : List ℕ
+  pub offsets : List ℕ
+  pub counts : List ℕ
+  pub leaves : Leaves (outcome call) (call .sizes) 0 pieces entries offsets counts
+
+-- the tables as its walk sees them
+abbrev pub input : Run → Input
+input r = inputIn (lent (r .call))
+
+-- how many pieces there are: the counts say it where two bytes are lent for it (`counted` of proofs/Entry.antt)
+abbrev pub count : Run → ℕ
+count r = length (outputOf (outcome (r .call)) .pieces)
+
+-- the pieces, read from the bytes of the output table
+abbrev pub piecesOf : Run → List Piece
+piecesOf r = piecesIn (r .pieces) (count r)

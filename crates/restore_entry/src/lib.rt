@@ -1,0 +1,1 @@
+// The theorems on restoring over the bytes that an entry takes and gives. No code.
