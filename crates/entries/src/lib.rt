@@ -16,6 +16,7 @@ ghost use Rattle.entry_update_common_splits.specs.Entry.{updateOf};
 ghost use Rattle.entry_validate_splits.specs.Entry.{validateOf};
 ghost use Rattle.entry_add_splits.specs.Entry.{addSplitsOf};
 ghost use Rattle.entry_trim_splits.specs.Entry.{trimOf};
+ghost use Rattle.entry_create_gap_splits.specs.Entry.{gapSplitsOf, Leaves as LeavesGaps};
 ghost use Rattle.stage_tables.specs.StageTables.{stageSplits, stageUnits};
 ghost use Rattle.entry_resolve_link_order.specs.Entry.{resolveOf, Leaves as LeavesUnits};
 ghost use Rattle.entry_split_obj.specs.Entry.{roomIn, splitObjOf, Leaves as LeavesPieces};
@@ -295,4 +296,38 @@ pub extern "C" fn piece_bytes(
     ensures { λ r. ⌜ LeavesPlace (placeOf (now (sections .entry)) (now («section_places» .entry)) (now (image .entry)) (now (pieces .entry)) which) (length (now (place .entry))) r (now (place .exit)) ⌝ }
 {
     entry_piece_bytes::piece_bytes(sections, section_places, image, pieces, which, place)
+}
+
+#[no_mangle]
+pub extern "C" fn create_gap_splits(
+    name_ends: &[u8],
+    name_bytes: &[u8],
+    sections: &[u8],
+    section_places: &[u8],
+    image: &[u8],
+    symbols: &[u8],
+    splits: &[u8],
+    out_name_ends: &mut [u8],
+    out_name_bytes: &mut [u8],
+    out_splits: &mut [u8],
+    counts: &mut [u8],
+) -> u64
+    ensures { λ r. ⌜
+        LeavesGaps
+        (gapSplitsOf (now («name_ends» .entry)) (now («name_bytes» .entry)) (now (sections .entry)) (now («section_places» .entry)) (now (image .entry)) (now (symbols .entry)) (now (splits .entry)) (length (now («out_name_ends» .entry))) (length (now («out_name_bytes» .entry))) (length (now («out_splits» .entry))))
+        (length (now («out_name_ends» .entry))) (length (now («out_name_bytes» .entry))) (length (now («out_splits» .entry))) (length (now (counts .entry))) r (now («out_name_ends» .exit)) (now («out_name_bytes» .exit)) (now («out_splits» .exit)) (now (counts .exit)) ⌝ }
+{
+    entry_create_gap_splits::create_gap_splits(
+        name_ends,
+        name_bytes,
+        sections,
+        section_places,
+        image,
+        symbols,
+        splits,
+        out_name_ends,
+        out_name_bytes,
+        out_splits,
+        counts,
+    )
 }

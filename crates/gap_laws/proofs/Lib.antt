@@ -1,0 +1,5 @@
+pub mod Named
+pub mod Tables
+pub mod Covers
+pub mod AllGaps
+pub mod Cases

@@ -1,0 +1,1 @@
+// The laws of the filling of gaps, over its definition. No code.

@@ -1,0 +1,10 @@
+pub mod Cases
+pub mod Few
+pub mod Gathered
+pub mod Rounds
+pub mod Starts
+pub mod Marks
+pub mod Inside
+pub mod Turns
+pub mod Passes
+pub mod Sections
