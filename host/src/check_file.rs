@@ -1,7 +1,7 @@
 //! The entry `check_file`, held to document 01's second reading. The Rust reads no
 //! record files.
 mod edges;
-mod files;
+pub mod files;
 mod line;
 
 use crate::{
@@ -10,6 +10,7 @@ use crate::{
     document::{self, check_file::*, records::*},
     entries,
     lent::Lent,
+    parts,
     random::Random,
     tally::Tally,
     vast,
@@ -80,10 +81,7 @@ fn alone(seed: u64, tally: &mut Tally) {
     vast_files(tally);
 
     tally.begin(&format!("check_file, {} random files, most damaged, seed {seed}", files::COUNT));
-    let mut random = Random::new(seed);
-    for _ in 0..files::COUNT {
-        compare(&files::random(&mut random), true, tally);
-    }
+    parts::random(seed, files::COUNT, tally, |r, tally| compare(&files::random(r), true, tally));
     for (number, why) in groups() {
         tally.want(number, &note(why));
     }

@@ -10,6 +10,7 @@ use crate::{
     document::{self, check_tables::*, records::*},
     entries,
     lent::Lent,
+    parts,
     random::Random,
     tally::Tally,
     vast,
@@ -120,10 +121,7 @@ fn alone(seed: u64, tally: &mut Tally) {
 
     let title = format!("check_tables, {} random table sets, most damaged", sets::COUNT);
     tally.begin(&format!("{title}, seed {seed}"));
-    let mut random = Random::new(seed);
-    for _ in 0..sets::COUNT {
-        compare(&sets::random(&mut random), true, tally);
-    }
+    parts::random(seed, sets::COUNT, tally, |r, tally| compare(&sets::random(r), true, tally));
     for (number, why) in groups() {
         tally.want(number, &note(&why));
     }

@@ -1,13 +1,18 @@
 //! The test host: calls the entries of libentries.a over the C convention beside
 //! the Rust that they port, and compares. README.md has the commands.
+mod bench;
 mod bytes;
 mod c_programs;
 mod check_file;
 mod check_tables;
 mod document;
 mod entries;
+mod examples;
+mod heap;
 mod lent;
+mod parts;
 mod random;
+mod record_text;
 mod records;
 mod stage;
 mod stored;
@@ -41,7 +46,7 @@ struct Entry {
     store: fn(u64) -> String,
 }
 
-const ENTRIES: [Entry; 13] = [
+const ENTRIES: [Entry; 14] = [
     toposort::ENTRY,
     check_file::ENTRY,
     check_tables::ENTRY,
@@ -55,6 +60,7 @@ const ENTRIES: [Entry; 13] = [
     stage::entry::<stage::gaps::CreateGapSplits>(),
     stage::entry::<stage::order::ResolveLinkOrder>(),
     stage::entry::<stage::walk::SplitObj>(),
+    stage::entry::<stage::run::SplitFile>(),
 ];
 
 const SEED: u64 = 1;
@@ -66,6 +72,11 @@ host [check [SEED]]   compares beside the Rust and document 01, with stored answ
 host replay [FILE]    compares with the stored answers, or with the cases of a file
 host some ENTRY COUNT [SEED]   compares so many random cases of one stage entry
 host store [SEED]     stores the right answers in stored/
+host restore          restores the images of the stored cases from their pieces
+host bench [ROUNDS]   times whole runs and stages, the Rust's and the linked entries'
+host records pack     turns readable text (standard input) into a record file (standard output)
+host records show     turns a record file into text
+host records list     prints a record file's listing, as document 01 read a second time gives it
 Exit: 0 nothing differs, 1 something does, 2 not done.";
 
 fn main() -> ExitCode {
@@ -80,6 +91,10 @@ fn main() -> ExitCode {
         (["some", name, count, _], Ok(seed)) => some(name, count, seed),
         (["endless"], _) => stage::merge::endless(),
         (["store"] | ["store", _], Ok(seed)) => store(seed),
+        (["restore"], _) => compare(stage::restore::run),
+        (["bench"], _) => bench::run(bench::ROUNDS),
+        (["bench", _], Ok(rounds)) => bench::run(rounds),
+        (["records", name @ ("pack" | "show" | "list")], _) => record_text::command(name),
         _ => not_done(USAGE),
     }
 }
@@ -108,6 +123,9 @@ fn check(seed: u64, tally: &mut Tally) {
         println!("{NO_SOURCES}: its stored answers are all of it that is compared with");
     }
     replay(tally);
+    stage::restore::run(tally);
+    record_text::check::run(tally);
+    examples::run(tally);
     c_programs::run(tally);
 }
 
@@ -123,6 +141,7 @@ fn replay(tally: &mut Tally) {
     for entry in &ENTRIES {
         stored::replay(entry, tally);
     }
+    stage::run::store::replay(tally);
 }
 
 fn store(seed: u64) -> ExitCode {
@@ -133,6 +152,9 @@ fn store(seed: u64) -> ExitCode {
         if let Err(e) = stored::store(entry, seed) {
             return not_done(&format!("stored/{}.txt: {e}", entry.name));
         }
+    }
+    if let Err(e) = stage::run::store::store(seed) {
+        return not_done(&format!("stored/files: {e}"));
     }
     ExitCode::SUCCESS
 }

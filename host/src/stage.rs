@@ -1,5 +1,6 @@
 //! What the stage entries share: their cases, the call between guard bytes, the
-//! comparison with the second reading and the Rust, random cases on all processors.
+//! comparison with the second reading and the Rust.
+pub mod bench_inputs;
 pub mod common;
 pub mod ends;
 pub mod gaps;
@@ -7,15 +8,14 @@ mod line;
 mod make;
 pub mod merge;
 pub mod order;
+mod points;
+pub mod restore;
+pub mod run;
 mod rust;
+pub mod timed;
 pub mod trim;
 pub mod validate;
 pub mod walk;
-
-use std::{
-    sync::atomic::{AtomicUsize, Ordering},
-    thread,
-};
 
 use crate::{
     Entry,
@@ -24,6 +24,7 @@ use crate::{
     document::{self, check_tables::Tables, outputs::Answer},
     entries::stages::{Call, StageEntry},
     lent::Lent,
+    parts,
     random::Random,
     tally::Tally,
 };
@@ -34,6 +35,8 @@ pub struct Case {
     /// Tables that the entry doesn't take are empty.
     set: Set,
     partials: Vec<u8>,
+    /// The record file of a whole run.
+    file: Vec<u8>,
     numbers: Vec<u32>,
     /// The lengths of the outputs.
     lent: Vec<usize>,
@@ -47,6 +50,7 @@ impl Case {
     fn table(&self, name: &str) -> &[u8] {
         match TABLES.iter().position(|(table, _)| *table == name) {
             Some(at) => &self.set[at],
+            None if name == "file" => &self.file,
             None => &self.partials,
         }
     }
@@ -54,6 +58,7 @@ impl Case {
     fn table_mut(&mut self, name: &str) -> &mut Vec<u8> {
         match TABLES.iter().position(|(table, _)| *table == name) {
             Some(at) => &mut self.set[at],
+            None if name == "file" => &mut self.file,
             None => &mut self.partials,
         }
     }
@@ -81,6 +86,22 @@ pub trait Stage {
     fn right(case: &Case) -> Answer;
     /// The Rust beside the reading without the ceilings of the lent outputs.
     fn beside(case: &Case) -> Beside;
+    /// How many cases of a number are stored, and how many bytes one may lend. 2 needs 65
+    /// sections, which makes long lines.
+    fn stored_of(number: u16) -> (usize, usize) {
+        match number {
+            0 => (24, 400),
+            2 => (2, 4096),
+            _ => (8, 400),
+        }
+    }
+    /// Cases whose answers are written by hand.
+    fn by_hand(tally: &mut Tally)
+    where
+        Self: Sized,
+    {
+        points::run::<Self>(tally);
+    }
     /// What a check does besides.
     fn more(_seed: u64, _tally: &mut Tally) {}
     /// Whether its tables are checked.
@@ -92,25 +113,27 @@ pub const fn entry<S: Stage>() -> Entry {
         name: S::ENTRY.name,
         outcomes: S::OUTCOMES,
         alone: |seed, tally| {
-            random::<S>(seed, S::COUNT, tally);
+            some::<S>(seed, S::COUNT, tally);
             S::more(seed, tally);
         },
         beside: None,
-        some: Some(random::<S>),
-        answers: "the Rust where it has one, else of document 01, read a second time in src/document,",
+        some: Some(some::<S>),
+        answers: "the Rust, or of document 01's second reading where it has none,",
         replay: replay::<S>,
         store: line::store::<S>,
     }
 }
 
-fn compare<S: Stage>(case: &Case, tally: &mut Tally) {
+/// `also`: what else the reading is held to, in words.
+fn compare<S: Stage>(case: &Case, also: Option<&str>, tally: &mut Tally) {
     let right = S::right(case);
     let number = document::number(right.word);
     let beside = S::beside(case);
     match beside {
-        Beside::NotAsked if S::ENTRY.call.is_none() => {
-            tally.reach(number, ", compared with nothing");
-        }
+        Beside::NotAsked if S::ENTRY.call.is_none() => match also {
+            Some(note) => tally.count(number, note),
+            None => tally.reach(number, ", compared with nothing"),
+        },
         Beside::Same(unlimited, note) if unlimited == number => tally.count(number, note),
         Beside::Same(..) => tally.count(number, ", the Rust has no such ceiling"),
         _ => tally.count(number, ""),
@@ -153,61 +176,60 @@ fn called(entry: &StageEntry, call: Call, case: &Case, right: &Answer) -> Vec<St
     lines
 }
 
+/// What the entry gives, or the second reading where it isn't linked.
+fn given<S: Stage>(case: &Case) -> Answer {
+    let Some(call) = S::ENTRY.call else {
+        return S::right(case);
+    };
+    let inputs: Vec<&[u8]> = S::ENTRY.inputs.iter().map(|name| case.table(name)).collect();
+    let mut outputs: Vec<Vec<u8>> = case.lent.iter().map(|len| vec![0; *len]).collect();
+    let mut lent: Vec<&mut [u8]> = outputs.iter_mut().map(|output| &mut output[..]).collect();
+    let word = call(&inputs, &case.numbers, &mut lent);
+    Answer { word, outputs }
+}
+
 /// Where the slices start; fixed by the case, so that a replay repeats it.
 fn shifts(case: &Case) -> Random {
-    let bytes = case.set.iter().flatten().chain(&case.partials);
+    let bytes = case.set.iter().flatten().chain(&case.partials).chain(&case.file);
     let sum: u64 = bytes.map(|b| *b as u64).sum();
     Random::new(sum ^ (case.lent.iter().sum::<usize>() as u64) << 32)
 }
 
+const AS_STORED: &str = ", as stored";
+const AS_WRITTEN: &str = ", as written by hand";
+
 /// How often the random cases must come to each number.
 const LEAST: u64 = 100;
 
-/// The random cases are made in so many parts, each from a seed of its own, so that they
-/// don't depend on the number of processors.
-const PARTS: usize = 64;
-
-/// For the merge's rounds, which the Rust does by recursion.
-const STACK: usize = 64 << 20;
+fn some<S: Stage>(seed: u64, count: usize, tally: &mut Tally) {
+    S::by_hand(tally);
+    random::<S>(seed, count, tally);
+}
 
 fn random<S: Stage>(seed: u64, count: usize, tally: &mut Tally) {
     tally.begin(&format!("{}, {count} random cases, seed {seed}", S::ENTRY.name));
-    let mut seeds = Random::new(seed);
-    let seeds: Vec<u64> = (0..PARTS).map(|_| seeds.next()).collect();
-    let next = AtomicUsize::new(0);
-    let work = || {
-        let mut part_tally = Tally::default();
-        while let Some(part) = Some(next.fetch_add(1, Ordering::SeqCst)).filter(|p| *p < PARTS) {
-            let mut r = Random::new(seeds[part]);
-            for _ in part * count / PARTS..(part + 1) * count / PARTS {
-                compare::<S>(&made::<S>(&mut r), &mut part_tally);
-            }
-        }
-        part_tally
-    };
-    thread::scope(|scope| {
-        let worker =
-            |_| thread::Builder::new().stack_size(STACK).spawn_scoped(scope, work).unwrap();
-        let processors = thread::available_parallelism().map_or(1, |n| n.get());
-        let workers: Vec<_> = (0..processors).map(worker).collect();
-        for worker in workers {
-            tally.absorb(worker.join().unwrap());
-        }
-    });
+    parts::random(seed, count, tally, |r, tally| compare::<S>(&made::<S>(r), None, tally));
     let least = S::OUTCOMES.iter().map(|number| (*number, LEAST));
     for (number, least) in least.chain(S::OFTEN.iter().copied()) {
-        // A part of the cases owes a part of the minimum.
-        tally.want_often(number, least * count as u64 / S::COUNT as u64);
+        // Fewer cases owe no number.
+        tally.want_often(number, if count < S::COUNT { 0 } else { least });
     }
     tally.end(&[]);
 }
 
-/// A random case with only the tables that the entry takes.
-fn made<S: Stage>(r: &mut Random) -> Case {
-    let mut case = S::random(r);
+/// The case with only the tables that the entry takes.
+fn taken<S: Stage>(mut case: Case) -> Case {
     for (name, _) in TABLES.iter().filter(|(name, _)| !S::ENTRY.inputs.contains(name)) {
         case.table_mut(name).clear();
     }
+    if !S::ENTRY.inputs.contains(&"partials") {
+        case.partials.clear();
+    }
+    case
+}
+
+fn made<S: Stage>(r: &mut Random) -> Case {
+    let mut case = taken::<S>(S::random(r));
     if S::CHECKED && r.one_in(8) {
         make::damage(&mut case, S::ENTRY.inputs, r);
     }
@@ -219,10 +241,11 @@ fn made<S: Stage>(r: &mut Random) -> Case {
 fn replay<S: Stage>(line: &str, tally: &mut Tally) -> Result<(), String> {
     let (case, stored) = line::read(&S::ENTRY, line)?;
     let now = S::right(&case);
+    let also = stored.is_some().then_some(AS_STORED);
     if stored.is_some_and(|stored| stored != now) {
         let now = line::put(&S::ENTRY, &case, &now);
         tally.difference(line, &[format!("the reading gives {now}")]);
     }
-    compare::<S>(&case, tally);
+    compare::<S>(&case, also, tally);
     Ok(())
 }

@@ -7,9 +7,9 @@ use std::{
 
 use crate::{ENTRIES, Entry, tally::Tally};
 
-fn path(entry: &Entry) -> PathBuf {
+pub fn path(entry: &str) -> PathBuf {
     let folder = Path::new(env!("CARGO_MANIFEST_DIR")).join("stored");
-    folder.join(format!("{}.txt", entry.name))
+    folder.join(format!("{entry}.txt"))
 }
 
 pub fn store(entry: &Entry, seed: u64) -> io::Result<()> {
@@ -19,12 +19,12 @@ pub fn store(entry: &Entry, seed: u64) -> io::Result<()> {
         answers = entry.answers,
         name = entry.name
     );
-    fs::write(path(entry), head + &(entry.store)(seed))
+    fs::write(path(entry.name), head + &(entry.store)(seed))
 }
 
 /// An entry's stored cases, which must have all its outcomes.
 pub fn replay(entry: &Entry, tally: &mut Tally) {
-    replay_file(&path(entry), entry.outcomes, tally);
+    replay_file(&path(entry.name), entry.outcomes, tally);
 }
 
 pub fn replay_file(file: &Path, wanted: &[u16], tally: &mut Tally) {

@@ -10,6 +10,7 @@ use crate::{
     document::{self, toposort::Found},
     entries,
     lent::Lent,
+    parts,
     random::Random,
     tally::Tally,
     vast,
@@ -134,11 +135,10 @@ fn beside(seed: u64, tally: &mut Tally) {
     tally.end(&[0, 61, 62, 76]);
 
     tally.begin(&format!("toposort, {} random graphs, seed {seed}", graphs::COUNT));
-    let mut random = Random::new(seed);
-    for _ in 0..graphs::COUNT {
-        let case = graphs::random(&mut random);
+    parts::random(seed, graphs::COUNT, tally, |r, tally| {
+        let case = graphs::random(r);
         compare(&case, &ask(&case), tally);
-    }
+    });
     tally.end(ENTRY.outcomes);
 }
 

@@ -4,6 +4,7 @@ use std::{
     cell::{Cell, RefCell},
     panic::{AssertUnwindSafe, catch_unwind, set_hook, take_hook},
     sync::Once,
+    time::Duration,
 };
 
 /// Whether the sources were there at the build.
@@ -143,6 +144,29 @@ pub fn ask(file: &[u8], question: Question) -> Option<Result<Reply, Stop>> {
 
 #[cfg(not(sources))]
 pub fn ask(_file: &[u8], _question: Question) -> Option<Result<Reply, Stop>> {
+    None
+}
+
+/// The listing of document 01's whole run on a record file that passed its checks, or the
+/// stage in which it stopped and why.
+#[cfg(sources)]
+pub fn run(file: &[u8]) -> Option<Result<String, (Question, Stop)>> {
+    Some(crate::asked::run(file))
+}
+
+#[cfg(not(sources))]
+pub fn run(_file: &[u8]) -> Option<Result<String, (Question, Stop)>> {
+    None
+}
+
+/// How long the steps of a whole run take that is accepted: loading, the stages, the listing.
+#[cfg(sources)]
+pub fn timed(file: &[u8]) -> Option<Vec<(&'static str, Duration)>> {
+    Some(crate::asked::timed(file))
+}
+
+#[cfg(not(sources))]
+pub fn timed(_file: &[u8]) -> Option<Vec<(&'static str, Duration)>> {
     None
 }
 

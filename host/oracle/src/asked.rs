@@ -1,4 +1,6 @@
 //! The questions of `answers` put to the Rust.
+use std::time::{Duration, Instant};
+
 use anyhow::Result;
 
 use crate::{
@@ -8,6 +10,7 @@ use crate::{
     },
     obj::{ObjInfo, ObjReloc, ObjSection, ObjSplit, ObjSymbol, ObjUnit, SectionIndex, SymbolIndex},
     records::{PartialSplit, Tables, flags_out, reloc_kind_out},
+    stages,
     util::split::{end_for_section, probe},
 };
 
@@ -18,12 +21,58 @@ pub fn ask(file: &[u8], question: Question) -> Result<Reply, Stop> {
         _ => vec![],
     };
     let mut obj = tables.object_with_table().expect("the tables were checked");
-    match quietly(|| reply(&mut obj, question, partials)) {
-        Ok(Ok(reply)) => Ok(reply),
+    answer(|| reply(&mut obj, question, partials))
+}
+
+fn answer<T>(ask: impl FnOnce() -> Result<T>) -> Result<T, Stop> {
+    match quietly(ask) {
+        Ok(Ok(answer)) => Ok(answer),
         Ok(Err(e)) => Err(Stop::Error(e.to_string())),
         Err(panic) if panic.message == log::ENDLESS => Err(Stop::Endless),
         Err(panic) => Err(Stop::Panic(panic)),
     }
+}
+
+/// The stages one after another on one object.
+pub fn run(file: &[u8]) -> Result<String, (Question, Stop)> {
+    use Question::*;
+    let tables = Tables::parse(file).expect("the tables were checked");
+    let mut obj = tables.object();
+    for question in [Merge(0), Common(None), Gaps, Validate, Trim] {
+        let partials = if let Merge(_) = question { tables.splits.clone() } else { vec![] };
+        let done = answer(|| reply(&mut obj, question, partials));
+        done.map_err(|stop| (question, stop))?;
+    }
+    let units = answer(|| probe::link_order(&obj)).map_err(|stop| (Order, stop))?;
+    obj.link_order = units;
+    let walk = answer(|| probe::split_obj_sections(&obj, None, false));
+    let (objects, symbols) = walk.map_err(|stop| (Walk, stop))?;
+    Ok(stages::listing(&stages::Walk { objects, symbols }))
+}
+
+/// The run as the program `oracle` does it, with nothing between the stages.
+pub fn timed(file: &[u8]) -> Vec<(&'static str, Duration)> {
+    log::allow_rounds(usize::MAX);
+    let mut begin = Instant::now();
+    let mut times = vec![];
+    let mut lap = |step| {
+        times.push((step, begin.elapsed()));
+        begin = Instant::now();
+    };
+    let tables = Tables::parse(file).expect("the file is accepted");
+    let mut obj = tables.object();
+    lap("load");
+    let mut walk = None;
+    for (i, step) in stages::STAGES.into_iter().enumerate() {
+        let Ok(done) = stages::stage(i, &tables, &mut obj, None) else {
+            panic!("the file is accepted");
+        };
+        walk = done;
+        lap(step);
+    }
+    stages::listing(&walk.expect("the last stage is the walk"));
+    lap("listing");
+    times
 }
 
 fn reply(obj: &mut ObjInfo, question: Question, partials: Vec<PartialSplit>) -> Result<Reply> {
@@ -51,14 +100,7 @@ fn reply(obj: &mut ObjInfo, question: Question, partials: Vec<PartialSplit>) -> 
             }
             Ok(Reply::Splits(splits(obj)))
         }
-        Question::Gaps => {
-            // A gap for each section, symbol and split at most, and a merge for each gap.
-            let splits_count = obj.sections.all_splits().count();
-            let gaps = obj.sections.len() as usize + obj.symbols.count() as usize + splits_count;
-            allow_rounds(2 * gaps + splits_count);
-            probe::create_gaps(obj)?;
-            Ok(Reply::Splits(splits(obj)))
-        }
+        Question::Gaps => gaps(obj),
         Question::Order => order(obj),
         Question::Walk => {
             let (objects, kept) = probe::split_obj_sections(obj, None, false)?;
@@ -66,6 +108,15 @@ fn reply(obj: &mut ObjInfo, question: Question, partials: Vec<PartialSplit>) -> 
             Ok(Reply::Walked(units.map(|(unit, kept)| walked(unit, kept)).collect()))
         }
     }
+}
+
+fn gaps(obj: &mut ObjInfo) -> Result<Reply> {
+    // A gap for each section, symbol and split at most, and a merge for each gap.
+    let count = obj.sections.all_splits().count();
+    let most = (obj.sections.len() + obj.symbols.count()) as usize + count;
+    allow_rounds(2 * most + count);
+    probe::create_gaps(obj)?;
+    Ok(Reply::Splits(splits(obj)))
 }
 
 /// What stands before the units of a cycle.

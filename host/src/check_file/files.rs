@@ -26,6 +26,15 @@ type Plan = [usize; 6];
 
 const SMALL: Plan = [6, 4, 5, 12, 6, 4];
 
+pub fn random_file(r: &mut Random) -> Vec<u8> {
+    random(r).file
+}
+
+/// One damage to the records of another file.
+pub fn damage_records(records: &mut Vec<Vec<u8>>, r: &mut Random) {
+    damage(records, &Maker::default(), r);
+}
+
 pub fn random(r: &mut Random) -> Case {
     let plan = match r.below(6000) {
         0..3 => return many_names(r),

@@ -24,23 +24,29 @@ pub fn answer(file: &[u8], counts_len: usize) -> Answer {
             let counts = counts_then_zeros(&counts_of(&known), counts_len);
             Answer { word: 0, counts, why: String::new() }
         }
-        Err(Fault { number, record, why }) => {
-            let refusal = Refusal { number, section: 0, address: record as u32 };
-            Answer { word: word(Some(refusal)), counts: vec![0; counts_len], why }
+        Err(fault) => {
+            let word = word(Some(fault.refusal()));
+            Answer { word, counts: vec![0; counts_len], why: fault.why }
         }
     }
 }
 
-struct Fault {
+pub struct Fault {
     number: u16,
     record: usize,
     why: String,
 }
 
+impl Fault {
+    pub fn refusal(&self) -> Refusal {
+        Refusal { number: self.number, section: 0, address: self.record as u32 }
+    }
+}
+
 pub const TOO_LONG: &str = "file over 65,536 bytes";
 pub const HEADER_CUT: &str = "length or kind cut";
 
-fn load(file: &[u8]) -> Result<Known<'_>, Fault> {
+pub fn load(file: &[u8]) -> Result<Known<'_>, Fault> {
     let fault = |number, record, why: String| Err(Fault { number, record, why });
     // "a file over 65,536 bytes is refused first, at record 0".
     if file.len() > LONGEST {
@@ -50,13 +56,11 @@ fn load(file: &[u8]) -> Result<Known<'_>, Fault> {
     let mut rest = file;
     let mut record = 0;
     while !rest.is_empty() {
-        let cut = cut_or_wrong(rest);
-        if !cut.is_empty() {
-            return fault(1, record, records::alone(&cut).to_string());
-        }
-        let len = word_at(rest, 0) as usize;
-        let (payload, next) = rest[HEADER..].split_at(len);
-        if let Err((number, why)) = take(half_at(rest, 4), payload, &mut known) {
+        let ((kind, payload), next) = match first(rest) {
+            Ok(first) => first,
+            Err(cut) => return fault(1, record, records::alone(&cut).to_string()),
+        };
+        if let Err((number, why)) = take(kind, payload, &mut known) {
             return fault(number, record, why);
         }
         rest = next;
@@ -65,9 +69,21 @@ fn load(file: &[u8]) -> Result<Known<'_>, Fault> {
     Ok(known)
 }
 
+/// A record's kind and payload.
+pub type Record<'a> = (u16, &'a [u8]);
+
+/// The record at the start of `rest` and what follows it, or what 1 is for it.
+pub fn first(rest: &[u8]) -> Result<(Record<'_>, &[u8]), Conditions> {
+    let faults = cut_or_wrong(rest);
+    if !faults.is_empty() {
+        return Err(faults);
+    }
+    let (payload, next) = rest[HEADER..].split_at(word_at(rest, 0) as usize);
+    Ok(((half_at(rest, 4), payload), next))
+}
+
 pub const WHOLE_FAULTS: [&str; 3] = ["payload cut", "unknown kind", "payload length wrong"];
 
-/// What 1 is for the record at the start of `rest`.
 fn cut_or_wrong(rest: &[u8]) -> Conditions {
     if rest.len() < HEADER {
         return vec![HEADER_CUT];

@@ -57,14 +57,16 @@ pub fn alignment(image: &Image, split: &Split, start: u32) -> Result<u32, Refusa
 }
 
 pub fn end_for_section(t: &Tables, section: u16, lent: &[usize]) -> Answer {
-    let ask = || {
-        checked(t, &LIMITS)?;
-        if section as usize >= t.sections.len() / 15 {
-            return Err(Refusal { number: 20, section, address: 0 });
-        }
-        splitting_end(&Image::of(t), section)
-    };
-    answer(ask(), lent)
+    let end = checked(t, &LIMITS).and_then(|_| end_if_there(&Image::of(t), section));
+    answer(end, lent)
+}
+
+/// 20 at (section, 0) if there is no such section.
+pub fn end_if_there(image: &Image, section: u16) -> Result<u32, Refusal> {
+    if section as usize >= image.sections.len() {
+        return Err(Refusal { number: 20, section, address: 0 });
+    }
+    splitting_end(image, section)
 }
 
 pub fn split_alignment(t: &Tables, which: u16, lent: &[usize]) -> Answer {

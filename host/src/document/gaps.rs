@@ -50,7 +50,7 @@ pub fn answer(t: &Tables, lent: &[usize]) -> Answer {
     }
 }
 
-fn name_table(names: &[Vec<u8>]) -> (Vec<u8>, Vec<u8>) {
+pub fn name_table(names: &[Vec<u8>]) -> (Vec<u8>, Vec<u8>) {
     let (mut ends, mut bytes) = (vec![], vec![]);
     for name in names {
         bytes.extend(name);

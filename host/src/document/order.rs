@@ -40,6 +40,10 @@ pub fn units_in(table: &[u8]) -> Vec<Unit> {
     table.chunks_exact(8).map(Unit::read).collect()
 }
 
+pub fn unit_table(units: &[Unit]) -> (Vec<u8>, usize) {
+    (units.iter().flat_map(Unit::bytes).collect(), units.len())
+}
+
 /// The units in order, or those of a cycle.
 #[derive(Clone, Debug, Eq, PartialEq)]
 pub enum Found {
@@ -54,10 +58,7 @@ pub fn answer(t: &Tables, lent: &[usize]) -> Answer {
         checked(t, &Limits { image: false, ..LIMITS })?;
         link_order(&Image::of(t), &splits_in(t.splits), &units_in(t.units), places)
     };
-    let table = |units: &[Unit]| {
-        let records = units.iter().flat_map(Unit::bytes).collect();
-        accepted(vec![(records, units.len())], lent)
-    };
+    let table = |units: &[Unit]| accepted(vec![unit_table(units)], lent);
     match found() {
         Ok(Found::Order(units)) => table(&units),
         // "61 cycle, left in the unit table, zeros after"; the count is the cycle's length.

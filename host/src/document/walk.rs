@@ -47,15 +47,19 @@ pub struct Walked {
 /// How many pieces, piece symbols and piece relocations there is room for.
 pub type Room = [usize; 3];
 
-const CEILINGS: Room = [1024, 4096, 4096];
+pub const CEILINGS: Room = [1024, 4096, 4096];
 const WIDTHS: [usize; 3] = [28, 12, 8];
+
+/// The room of lent pieces, symbols and relocations.
+pub fn room(lent: &[usize]) -> Room {
+    std::array::from_fn(|i| CEILINGS[i].min(lent[i] / WIDTHS[i]))
+}
 
 /// `lent`: the pieces, their symbols, their relocations, the counts.
 pub fn answer(t: &Tables, lent: &[usize]) -> Answer {
-    let room = std::array::from_fn(|i| CEILINGS[i].min(lent[i] / WIDTHS[i]));
     let walked = || {
         checked(t, &LIMITS)?;
-        walk(&Image::of(t), &splits_in(t.splits), &units_in(t.units), room)
+        walk(&Image::of(t), &splits_in(t.splits), &units_in(t.units), room(lent))
     };
     match walked() {
         Ok(walked) => accepted(walked.tables(), lent),
@@ -64,7 +68,7 @@ pub fn answer(t: &Tables, lent: &[usize]) -> Answer {
 }
 
 impl Walked {
-    fn tables(&self) -> Vec<(Vec<u8>, usize)> {
+    pub fn tables(&self) -> Vec<(Vec<u8>, usize)> {
         vec![
             (self.pieces.iter().flat_map(Piece::bytes).collect(), self.pieces.len()),
             (self.symbols.iter().flat_map(PieceSymbol::bytes).collect(), self.symbols.len()),

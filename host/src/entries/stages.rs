@@ -102,16 +102,27 @@ pub const TRIM_SPLITS: StageEntry = stage_entry!(linked trim_splits
 pub const ADD_SPLITS: StageEntry = stage_entry!(linked add_splits
     (name_ends, name_bytes, sections, splits, partials) () (out_splits, counts));
 
-pub const CREATE_GAP_SPLITS: StageEntry = stage_entry!(absent create_gap_splits
+pub const CREATE_GAP_SPLITS: StageEntry = stage_entry!(linked create_gap_splits
     (name_ends, name_bytes, sections, section_places, image, symbols, splits) ()
     (out_name_ends, out_name_bytes, out_splits, counts));
 
-pub const RESOLVE_LINK_ORDER: StageEntry = stage_entry!(absent resolve_link_order
+pub const RESOLVE_LINK_ORDER: StageEntry = stage_entry!(linked resolve_link_order
     (name_ends, name_bytes, sections, splits, units) () (out_units, counts));
 
-pub const SPLIT_OBJ: StageEntry = stage_entry!(absent split_obj
+pub const SPLIT_OBJ: StageEntry = stage_entry!(linked split_obj
     (name_ends, name_bytes, sections, section_places, image, symbols, relocations, splits, units) ()
     (pieces, piece_symbols, piece_relocations, counts));
+
+/// Where a piece's bytes lie in the image; it has no second reading, and is asked of the
+/// pieces that are restored.
+pub const PIECE_BYTES: StageEntry = stage_entry!(linked piece_bytes
+    (sections, section_places, image, pieces) (which: u32) (place));
+
+/// The whole run; the names are those that are added to the file's.
+pub const SPLIT_FILE: StageEntry = stage_entry!(absent split_file
+    (file) ()
+    (added_name_ends, added_name_bytes, out_splits, out_units, pieces, piece_symbols,
+    piece_relocations, counts));
 
 /// Takes and gives split records here, and structs over the C convention.
 pub const MARK_COMMON_SPLITS: StageEntry = stage_entry!(call_of_mark!(linked), mark_common_splits

@@ -44,10 +44,10 @@ impl Stage for EndForSection {
     fn beside(case: &Case) -> Beside {
         let t = case.tables();
         let section = case.numbers[0];
-        if checked(&t, &LIMITS).is_err() || section as usize >= t.sections.len() / 15 {
+        if checked(&t, &LIMITS).is_err() {
             return Beside::NotAsked;
         }
-        let reading = ends::splitting_end(&Image::of(&t), section as u16);
+        let reading = ends::end_if_there(&Image::of(&t), section as u16);
         rust::beside(case, Question::End(section), reading.map(Reply::Number))
     }
 }

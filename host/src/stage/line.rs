@@ -68,16 +68,6 @@ pub fn read(entry: &StageEntry, line: &str) -> Result<(Case, Option<Answer>), St
     Ok((case, Some(Answer { word, outputs })))
 }
 
-/// How many cases of a number are stored, and how many bytes one may lend. 2 needs 65
-/// sections, which makes long lines.
-fn stored_of(number: usize) -> (usize, usize) {
-    match number {
-        0 => (24, 400),
-        2 => (2, 4096),
-        _ => (8, 400),
-    }
-}
-
 /// The file `stored/NAME.txt`: small cases of every number that the random ones come to.
 pub fn store<S: Stage>(seed: u64) -> String {
     let mut r = Random::new(seed);
@@ -86,12 +76,13 @@ pub fn store<S: Stage>(seed: u64) -> String {
     for _ in 0..S::COUNT {
         let case = made::<S>(&mut r);
         let right = S::right(&case);
-        let number = document::number(right.word) as usize;
+        let number = document::number(right.word);
         let inputs: usize = S::ENTRY.inputs.iter().map(|name| case.table(name).len()).sum();
-        let (most, longest) = stored_of(number);
-        if stored[number] < most && inputs + case.lent.iter().sum::<usize>() <= longest {
+        let (most, longest) = S::stored_of(number);
+        let stored = &mut stored[number as usize];
+        if *stored < most && inputs + case.lent.iter().sum::<usize>() <= longest {
             assert!(!matches!(S::beside(&case), Beside::Differs(_)), "the Rust says otherwise");
-            stored[number] += 1;
+            *stored += 1;
             text += &put(&S::ENTRY, &case, &right);
             text += "\n";
         }

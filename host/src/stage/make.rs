@@ -4,7 +4,8 @@ use super::Case;
 use crate::{
     bytes::{put_half, word_at},
     check_tables::{
-        HEADS, IMAGE, NAME_BYTES, NAME_ENDS, PLACES, SPLIT_TABLE, SYMBOL_TABLE, Set, TABLES,
+        HEADS, IMAGE, NAME_BYTES, NAME_ENDS, PLACES, RELOCATION_TABLE, SPLIT_TABLE, SYMBOL_TABLE,
+        Set, TABLES, UNIT_TABLE,
     },
     document::{image::Split, records::KINDS},
     random::Random,
@@ -113,6 +114,10 @@ impl Maker {
         const STARTS: [u32; 9] =
             [0, 0x20, 0x1000, 0x1000, 0x1000, 0x1002, 0x1004, 0x8000_1000, TOP];
         let start = r.pick(&STARTS).min(TOP - size);
+        self.section_at(start, name, kind, size, r);
+    }
+
+    pub fn section_at(&mut self, start: u32, name: &[u8], kind: u8, size: u32, r: &mut Random) {
         let (name, offset) = (self.name(name), r.pick(&[0, 0x40, 0xFFFF_FFFF]));
         self.sections.push(Place { start, end: start + size, name });
         let fields = [(start as u64, 4), (size as u64, 4), (offset, 4)];
@@ -128,6 +133,10 @@ impl Maker {
         let place = self.set[IMAGE].len() as u32;
         self.set[PLACES].extend(place.to_le_bytes());
         self.set[IMAGE].extend(section_bytes(size as usize, r));
+    }
+
+    pub fn zero_image(&mut self) {
+        self.set[IMAGE].fill(0);
     }
 
     /// An address in the section, seldom outside it; none above the top.
@@ -187,6 +196,27 @@ impl Maker {
             (flags, 2),
             (alignment(r) as u64, 4),
         ]));
+    }
+
+    /// An object of four bytes, without flags and alignment.
+    pub fn plain_symbol(&mut self, name: &[u8], section: u64, address: u32) {
+        let name = self.name(name) as u64;
+        let head = [(name, 2), (section, 2), (address as u64, 4), (4, 4)];
+        let record = packed(&[&head[..], &[(1, 1), (2, 1), (0, 2), (0, 4)]].concat());
+        self.set[SYMBOL_TABLE].extend(record);
+    }
+
+    /// To symbol 0.
+    pub fn relocation(&mut self, section: u64, address: u32, kind: u64, addend: u64) {
+        let head = [(section, 2), (address as u64, 4), (kind, 1), (0, 4)];
+        let record = packed(&[&head[..], &[(addend, 8), (0xFFFF_FFFF, 4)]].concat());
+        self.set[RELOCATION_TABLE].extend(record);
+    }
+
+    /// A record of the unit with an order number.
+    pub fn unit(&mut self, name: u16, order: i32) {
+        let fields = [(name as u64, 2), (0, 1), (1, 1), (order as u32 as u64, 4)];
+        self.set[UNIT_TABLE].extend(packed(&fields));
     }
 
     /// Adds a split whose end isn't above that of its section.
@@ -260,7 +290,7 @@ impl Maker {
             put_half(&mut self.set[NAME_ENDS], end);
         }
         self.set[SPLIT_TABLE] = self.splits.iter().flat_map(Split::bytes).collect();
-        Case { set: self.set, partials: vec![], numbers, lent }
+        Case { set: self.set, numbers, lent, ..Case::default() }
     }
 }
 

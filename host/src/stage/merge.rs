@@ -77,7 +77,7 @@ impl Stage for AddSplits {
 }
 
 /// A partial split near those that are there, seldom of a section that isn't.
-fn partial(maker: &mut Maker, r: &mut Random) -> Split {
+pub(super) fn partial(maker: &mut Maker, r: &mut Random) -> Split {
     let sections = maker.sections.len();
     let section = if r.one_in(60) { sections } else { r.below(sections.max(1)) };
     let (mut start, mut end) = (0x1000, 0x1008);

@@ -105,7 +105,7 @@ fn row(maker: &mut Maker, section: usize, r: &mut Random) {
 
 /// Records of most units, some with order numbers, which mostly agree with the units'
 /// order; some twice, some of units without splits.
-fn unit_table(maker: &mut Maker, r: &mut Random) {
+pub(super) fn unit_table(maker: &mut Maker, r: &mut Random) {
     let mut records = vec![];
     let without_split = maker.name(b"none.c");
     for (i, unit) in maker.units.iter().copied().enumerate() {

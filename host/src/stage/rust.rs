@@ -24,6 +24,7 @@ const NUMBERS: &[(&str, u16)] = &[
     ("Multiple sections", 30),
     ("Failed to find .bss", 31),
     ("Duplicate order", 60),
+    ("Cyclic dependency", 61),
     ("No split found", 70),
     ("outside of section", 72),
     ("Unsplit data", 73),
@@ -75,17 +76,37 @@ pub fn beside(case: &Case, question: Question, reading: Result<Reply, Refusal>) 
         }
         (Ok(reading), Ok(reply)) if reading == reply => Beside::Same(0, ", as the Rust"),
         (Err(refusal), Err(stop)) if number(question, stop) == Some(refusal.number) => {
-            let how = match stop {
-                Stop::Error(_) => ", as the Rust's error",
-                Stop::Panic(_) => ", as the Rust's panic",
-                Stop::Endless => ", the Rust goes round without end",
-            };
-            Beside::Same(refusal.number, how)
+            Beside::Same(refusal.number, how(stop))
         }
         _ => Beside::Differs(vec![
             format!("the reading gives {reading:?}"),
             format!("the Rust gives    {asked:?}"),
         ]),
+    }
+}
+
+/// The whole run on a file that passed its checks, and the reading's listing.
+pub fn run_beside(file: &[u8], reading: Result<String, Refusal>) -> Beside {
+    let Some(asked) = answers::run(file) else {
+        return Beside::NotAsked;
+    };
+    match (&reading, &asked) {
+        (Ok(reading), Ok(listing)) if reading == listing => Beside::Same(0, ", as the Rust"),
+        (Err(refusal), Err((stage, stop))) if number(*stage, stop) == Some(refusal.number) => {
+            Beside::Same(refusal.number, how(stop))
+        }
+        _ => Beside::Differs(vec![
+            format!("the reading gives {reading:?}"),
+            format!("the Rust gives    {asked:?}"),
+        ]),
+    }
+}
+
+fn how(stop: &Stop) -> &'static str {
+    match stop {
+        Stop::Error(_) => ", as the Rust's error",
+        Stop::Panic(_) => ", as the Rust's panic",
+        Stop::Endless => ", the Rust goes round without end",
     }
 }
 

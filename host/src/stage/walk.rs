@@ -131,7 +131,7 @@ fn whole_symbol(image: &Image, symbol: &PieceSymbol, piece: Option<u32>) -> answ
 }
 
 /// At rising multiples of 4 in each section.
-fn relocations(maker: &mut Maker, r: &mut Random) {
+pub(super) fn relocations(maker: &mut Maker, r: &mut Random) {
     let symbols = maker.set[SYMBOL_TABLE].len() / 20;
     if symbols == 0 || r.one_in(4) {
         return;

@@ -1,0 +1,47 @@
+//! Random cases on all processors.
+use std::{
+    sync::atomic::{AtomicUsize, Ordering},
+    thread,
+};
+
+use crate::{random::Random, tally::Tally};
+
+/// The cases are made in so many parts, each from a seed of its own, so that they don't
+/// depend on the number of processors.
+const PARTS: usize = 64;
+
+/// For the rounds of a merge, which the Rust does by recursion.
+const STACK: usize = 64 << 20;
+
+/// Makes and compares `count` cases, one by each call of `each`.
+pub fn random(
+    seed: u64,
+    count: usize,
+    tally: &mut Tally,
+    each: impl Fn(&mut Random, &mut Tally) + Sync,
+) {
+    let mut seeds = Random::new(seed);
+    let seeds: Vec<u64> = (0..PARTS).map(|_| seeds.next()).collect();
+    let next = AtomicUsize::new(0);
+    let work = || {
+        let mut tally = Tally::default();
+        loop {
+            let part = next.fetch_add(1, Ordering::SeqCst);
+            let Some(seed) = seeds.get(part) else {
+                return tally;
+            };
+            let mut r = Random::new(*seed);
+            for _ in part * count / PARTS..(part + 1) * count / PARTS {
+                each(&mut r, &mut tally);
+            }
+        }
+    };
+    thread::scope(|scope| {
+        let processors = thread::available_parallelism().map_or(1, |n| n.get());
+        let worker = || thread::Builder::new().stack_size(STACK).spawn_scoped(scope, work);
+        let workers: Vec<_> = (0..processors).map(|_| worker().unwrap()).collect();
+        for worker in workers {
+            tally.absorb(worker.join().unwrap());
+        }
+    });
+}
