@@ -22,6 +22,8 @@ ghost use Rattle.entry_resolve_link_order.specs.Entry.{resolveOf, Leaves as Lea
 ghost use Rattle.entry_split_obj.specs.Entry.{roomIn, splitObjOf, Leaves as LeavesPieces};
 ghost use Rattle.entry_split_obj.specs.Lines.{sizesOf};
 ghost use Rattle.entry_piece_bytes.specs.Entry.{placeOf, Leaves as LeavesPlace};
+ghost use Rattle.entry_split_file.specs.Entry.{splitFileOf, Leaves as LeavesRun};
+ghost use Rattle.entry_split_file.specs.Lines.{sizesOf as sizesOfRun};
 use obj::Split;
 
 #[no_mangle]
@@ -328,6 +330,37 @@ pub extern "C" fn create_gap_splits(
         out_name_ends,
         out_name_bytes,
         out_splits,
+        counts,
+    )
+}
+
+#[no_mangle]
+pub extern "C" fn split_file(
+    file: &[u8],
+    added_name_ends: &mut [u8],
+    added_name_bytes: &mut [u8],
+    out_splits: &mut [u8],
+    out_units: &mut [u8],
+    pieces: &mut [u8],
+    piece_symbols: &mut [u8],
+    piece_relocations: &mut [u8],
+    counts: &mut [u8],
+) -> u64
+    ensures { λ r. ⌜
+        LeavesRun
+        (splitFileOf (now (file .entry)) (sizesOfRun (now («added_name_ends» .entry)) (now («added_name_bytes» .entry)) (now («out_splits» .entry)) (now («out_units» .entry)) (now (pieces .entry)) (now («piece_symbols» .entry)) (now («piece_relocations» .entry)) (now (counts .entry))))
+        (sizesOfRun (now («added_name_ends» .entry)) (now («added_name_bytes» .entry)) (now («out_splits» .entry)) (now («out_units» .entry)) (now (pieces .entry)) (now («piece_symbols» .entry)) (now («piece_relocations» .entry)) (now (counts .entry)))
+        r (now («added_name_ends» .exit)) (now («added_name_bytes» .exit)) (now («out_splits» .exit)) (now («out_units» .exit)) (now (pieces .exit)) (now («piece_symbols» .exit)) (now («piece_relocations» .exit)) (now (counts .exit)) ⌝ }
+{
+    entry_split_file::split_file(
+        file,
+        added_name_ends,
+        added_name_bytes,
+        out_splits,
+        out_units,
+        pieces,
+        piece_symbols,
+        piece_relocations,
         counts,
     )
 }

@@ -30,7 +30,7 @@ fn refused(a: Answer) -> Resolved
 }
 
 // The stage, with columns of its own: the units that have an order, a number of each name, the nodes and the edges.
-fn ordered(
+pub fn ordered(
     starts: &[u32],
     ends: &[u32],
     units: &[u16],

@@ -77,7 +77,7 @@ fn clear(column: &mut [u16])
 }
 
 // The walk of all sections, over columns of zeros beside the outputs.
-fn walk_columns(
+pub fn walk_columns(
     symbols: &[u8],
     symbol_places: &[u32],
     order: &[u16],

@@ -119,7 +119,7 @@ pub const PIECE_BYTES: StageEntry = stage_entry!(linked piece_bytes
     (sections, section_places, image, pieces) (which: u32) (place));
 
 /// The whole run; the names are those that are added to the file's.
-pub const SPLIT_FILE: StageEntry = stage_entry!(absent split_file
+pub const SPLIT_FILE: StageEntry = stage_entry!(linked split_file
     (file) ()
     (added_name_ends, added_name_bytes, out_splits, out_units, pieces, piece_symbols,
     piece_relocations, counts));

@@ -1,0 +1,5 @@
+pub mod Linking
+pub mod Ends
+pub mod Records
+pub mod Walking
+pub mod Answering

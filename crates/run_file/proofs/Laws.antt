@@ -1,0 +1,86 @@
+-- What the run of a file rests on: a usable file's tables are usable without some of them, and blank marks are clean.
+-- Assumes nothing.
+use Prim.Native.Nat.{ℕ, zero, suc, _+_, _≤_, _<_}
+use mathlib.Core.Path.{_≡_, refl, sym, ap, _∙_}
+use mathlib.Core.List.{List, [], _∷_}
+use native.Mathlib.Omega.{arith}
+use lib.ListN.{length, getD, drop, replicate}
+use native.Mathlib.Nat.{not-suc-le-zero}
+use Rattle.tables.specs.Records.{relocsIn}
+use Rattle.load.specs.Good.{Rising}
+use Rattle.load.proofs.Growth.{all-none}
+use Rattle.gaps.specs.Found.{Clean}
+use Rattle.loaded.specs.Tables.{tablesWith, Usable}
+use Rattle.run_file.specs.RunFile.{sum}
+
+pub clean-zeros : (n : ℕ) → Clean (replicate n 0)
+clean-zeros zero k = refl
+clean-zeros (suc n) zero = refl
+clean-zeros (suc n) (suc k) = clean-zeros n k
+
+-- one length more is summed
+pub sum-turn : (l : List ℕ) (i : ℕ) → i < length l → sum (drop i l) ≡ getD l i 0 + sum (drop (i + 1) l)
+unfolding sum
+sum-turn [] i h = absurd (omega arith)
+sum-turn (x ∷ l) zero h = refl
+sum-turn (x ∷ l) (suc i) h = sum-turn l i (omega arith) ∙ ap (λ (k : ℕ). getD l i 0 + sum (drop k (x ∷ l))) (let z : suc (i + 1) ≡ suc i + 1 = omega arith in z)
+
+pub sum-none : (l : List ℕ) (i : ℕ) → length l ≤ i → sum (drop i l) ≡ 0
+unfolding sum
+sum-none [] zero h = refl
+sum-none [] (suc i) h = refl
+sum-none (x ∷ l) zero h = absurd (omega arith)
+sum-none (x ∷ l) (suc i) h = sum-none l i (omega arith)
+
+-- ---- a usable file, without some of its tables
+module _ {file names lengths sections symbols relocs partials units : List ℕ} (q : Usable file (tablesWith names lengths sections symbols relocs partials units)) where
+  no-relocs : Rising (relocsIn file [])
+  no-relocs = record { rise = λ i j h k e. absurd (not-suc-le-zero k); below = λ i h. absurd (not-suc-le-zero h) }
+
+  -- as the split table is made of it
+  pub usable-parts : Usable file (tablesWith names lengths sections symbols [] partials [])
+  usable-parts = record {
+    small = q .small;
+    good = record {
+      within = record {
+        names = q .good .within .names;
+        sections = q .good .within .sections;
+        symbols = q .good .within .symbols;
+        relocations = omega arith;
+        splits = q .good .within .splits;
+        units = omega arith;
+      };
+      names = q .good .names;
+      sections = q .good .sections;
+      symbols = q .good .symbols;
+      relocations = all-none;
+      rising = no-relocs;
+      splits = q .good .splits;
+      units = all-none;
+    };
+    bytes = q .bytes;
+  }
+
+  -- as the link order and the walk take it
+  pub usable-rest : Usable file (tablesWith names lengths sections symbols relocs [] units)
+  usable-rest = record {
+    small = q .small;
+    good = record {
+      within = record {
+        names = q .good .within .names;
+        sections = q .good .within .sections;
+        symbols = q .good .within .symbols;
+        relocations = q .good .within .relocations;
+        splits = omega arith;
+        units = q .good .within .units;
+      };
+      names = q .good .names;
+      sections = q .good .sections;
+      symbols = q .good .symbols;
+      relocations = q .good .relocations;
+      rising = q .good .rising;
+      splits = all-none;
+      units = q .good .units;
+    };
+    bytes = q .bytes;
+  }

@@ -1,0 +1,4 @@
+pub mod Keeping
+pub mod Steps
+pub mod Needs
+pub mod Tables
