@@ -1,0 +1,3 @@
+pub mod Listing
+pub mod Cursor
+pub mod Tables

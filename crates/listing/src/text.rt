@@ -1,0 +1,230 @@
+// The line of a unit, of a piece, of a symbol, of a relocation, and the cursor behind it.
+ghost use mathlib.Core.Path.{_≡_};
+ghost use Prim.Native.Nat.{_+_, _*_, _≤_, _<_};
+ghost use lib.ListN.{length, getD};
+ghost use Rattle.obj.specs.Records.{Held, unitAt};
+ghost use Rattle.symbol_order.specs.Order.{symbolOf};
+ghost use Rattle.relocs.specs.Relocs.{relocOf};
+ghost use Rattle.pieces.specs.Pieces.{pieceAt, symbolAt, relocAt, piecesIn};
+ghost use Rattle.lines.specs.Lines.{unitLine};
+ghost use Rattle.listing.specs.declared.Cursor.the-variants.{Pieces, Symbols, Relocs};
+ghost use Rattle.listing.specs.Listing.{sizes, piecesOf};
+ghost use Rattle.listing.specs.Cursor.{most, pieceText, symbolText, relocText, Wrote};
+ghost use Rattle.listing.specs.Tables.{nameIn, Known};
+use crate::Cursor;
+use crate::Line;
+use crate::tables::figure_of;
+use crate::tables::name_of;
+use crate::tables::owner_of;
+use crate::tables::piece_of;
+use lines::write_piece;
+use lines::write_reloc;
+use lines::write_symbol;
+use lines::write_unit;
+use obj::reloc_at;
+use obj::symbol_at;
+use obj::unit_at;
+use pieces::piece_at;
+use pieces::piece_reloc_at;
+use pieces::piece_symbol_at;
+
+// "Unit: number, name, sum of its piece sizes."
+pub fn unit_line<'a>(
+    base_bytes: &'a [u8],
+    base_places: &[u32],
+    base_lengths: &[u8],
+    added_bytes: &'a [u8],
+    added_places: &[u32],
+    added_lengths: &[u8],
+    units: &[u8],
+    unit_places: &[u32],
+    pieces: &[u8],
+    piece_count: usize,
+    unit: u16,
+    bytes: u64,
+    out: &mut [u8],
+) -> Line
+    requires { ⌜
+        (192 ≤ length (now out))
+        × (28 * «piece_count» ≤ length (now pieces))
+        × («piece_count» ≤ 65535)
+        × (unit < 65535)
+        × (bytes ≤ unit * most)
+        × Held 8 (now units) (now «unit_places») unit
+        × Known (record { bytes = now («base_bytes»); places = now («base_places»); lengths = now («base_lengths») }) (record { bytes = now («added_bytes»); places = now («added_places»); lengths = now («added_lengths») }) (unitAt (now units) (getD (now «unit_places») unit 0) .name)
+        ⌝ }
+    ensures { λ r. ⌜
+        Wrote (now (out .entry)) (now (out .exit))
+        (unitLine unit (nameIn (record { bytes = now («base_bytes» .entry); places = now («base_places» .entry); lengths = now («base_lengths» .entry) }) (record { bytes = now («added_bytes» .entry); places = now («added_places» .entry); lengths = now («added_lengths» .entry) }) (unitAt (now (units .entry)) (getD (now («unit_places» .entry)) unit 0) .name))
+        (sizes (piecesOf unit (piecesIn (now (pieces .entry)) «piece_count»))))
+        (Pieces unit 0 (bytes + sizes (piecesOf unit (piecesIn (now (pieces .entry)) «piece_count»)))) r
+        × (sizes (piecesOf unit (piecesIn (now (pieces .entry)) «piece_count»)) ≤ most)
+        ⌝ }
+{
+    let size = figure_of(pieces, piece_count, unit);
+    let u = unit_at(units, unit_places, unit as usize);
+    let number = u.name as usize;
+    let name = name_of(
+        base_bytes,
+        base_places,
+        base_lengths,
+        added_bytes,
+        added_places,
+        added_lengths,
+        number,
+    );
+    let length = write_unit(out, unit, name, size);
+    Line {
+        length,
+        next: Cursor::Pieces {
+            unit,
+            at: 0,
+            bytes: bytes + size,
+        },
+    }
+}
+
+// "Piece: number in its unit, name, address, size, alignment."
+pub fn piece_line<'a>(
+    base_bytes: &'a [u8],
+    base_places: &[u32],
+    base_lengths: &[u8],
+    added_bytes: &'a [u8],
+    added_places: &[u32],
+    added_lengths: &[u8],
+    pieces: &[u8],
+    unit: u16,
+    at: usize,
+    bytes: u64,
+    out: &mut [u8],
+) -> Line
+    requires { ⌜
+        (192 ≤ length (now out))
+        × (28 * at + 28 ≤ length (now pieces))
+        × (at < 18446744073709551615)
+        × Known (record { bytes = now («base_bytes»); places = now («base_places»); lengths = now («base_lengths») }) (record { bytes = now («added_bytes»); places = now («added_places»); lengths = now («added_lengths») }) (pieceAt (now pieces) (28 * at) .name)
+        ⌝ }
+    ensures { λ r. ⌜
+        Wrote (now (out .entry)) (now (out .exit))
+        (pieceText (nameIn (record { bytes = now («base_bytes» .entry); places = now («base_places» .entry); lengths = now («base_lengths» .entry) }) (record { bytes = now («added_bytes» .entry); places = now («added_places» .entry); lengths = now («added_lengths» .entry) })) (pieceAt (now (pieces .entry)) (28 * at)))
+        (Pieces unit (at + 1) bytes) r
+        ⌝ }
+{
+    let p = piece_at(pieces, at);
+    let number = p.name as usize;
+    let name = name_of(
+        base_bytes,
+        base_places,
+        base_lengths,
+        added_bytes,
+        added_places,
+        added_lengths,
+        number,
+    );
+    let length = write_piece(out, p.number, name, p.address, p.size, p.alignment);
+    Line {
+        length,
+        next: Cursor::Pieces {
+            unit,
+            at: at + 1,
+            bytes,
+        },
+    }
+}
+
+// "`sym` name (`-` if empty), piece or `common`, address, size"
+pub fn symbol_line<'a>(
+    base_bytes: &'a [u8],
+    base_places: &[u32],
+    base_lengths: &[u8],
+    added_bytes: &'a [u8],
+    added_places: &[u32],
+    added_lengths: &[u8],
+    symbols: &[u8],
+    symbol_places: &[u32],
+    pieces: &[u8],
+    piece_count: usize,
+    piece_symbols: &[u8],
+    unit: u16,
+    at: usize,
+    bytes: u64,
+    out: &mut [u8],
+) -> Line
+    requires { ⌜
+        (192 ≤ length (now out))
+        × (28 * «piece_count» ≤ length (now pieces))
+        × (12 * at + 12 ≤ length (now «piece_symbols»))
+        × (at < 18446744073709551615)
+        × Held 20 (now symbols) (now «symbol_places») (symbolAt (now «piece_symbols») (12 * at) .symbol)
+        × Known (record { bytes = now («base_bytes»); places = now («base_places»); lengths = now («base_lengths») }) (record { bytes = now («added_bytes»); places = now («added_places»); lengths = now («added_lengths») }) (symbolOf (now symbols) (now «symbol_places») (symbolAt (now «piece_symbols») (12 * at) .symbol) .name)
+        ⌝ }
+    ensures { λ r. ⌜
+        Wrote (now (out .entry)) (now (out .exit))
+        (symbolText (nameIn (record { bytes = now («base_bytes» .entry); places = now («base_places» .entry); lengths = now («base_lengths» .entry) }) (record { bytes = now («added_bytes» .entry); places = now («added_places» .entry); lengths = now («added_lengths» .entry) })) (symbolOf (now (symbols .entry)) (now («symbol_places» .entry)))
+        (piecesIn (now (pieces .entry)) «piece_count») (symbolAt (now («piece_symbols» .entry)) (12 * at)))
+        (Symbols unit (at + 1) bytes) r
+        ⌝ }
+{
+    let y = piece_symbol_at(piece_symbols, at);
+    let s = symbol_at(symbols, symbol_places, y.symbol as usize);
+    let owner = owner_of(pieces, piece_count, y.piece);
+    let number = s.name as usize;
+    let name = name_of(
+        base_bytes,
+        base_places,
+        base_lengths,
+        added_bytes,
+        added_places,
+        added_lengths,
+        number,
+    );
+    let length = write_symbol(out, name, owner, y.address, s.size);
+    Line {
+        length,
+        next: Cursor::Symbols {
+            unit,
+            at: at + 1,
+            bytes,
+        },
+    }
+}
+
+// "`reloc` piece, offset, kind, target, addend"
+pub fn reloc_line(
+    relocs: &[u8],
+    reloc_places: &[u32],
+    pieces: &[u8],
+    piece_count: usize,
+    piece_relocs: &[u8],
+    unit: u16,
+    at: usize,
+    bytes: u64,
+    out: &mut [u8],
+) -> Line
+    requires { ⌜
+        (192 ≤ length (now out))
+        × (28 * «piece_count» ≤ length (now pieces))
+        × (8 * at + 8 ≤ length (now «piece_relocs»))
+        × (at < 18446744073709551615)
+        × Held 23 (now relocs) (now «reloc_places») (relocAt (now «piece_relocs») (8 * at) .relocation)
+        ⌝ }
+    ensures { λ r. ⌜
+        Wrote (now (out .entry)) (now (out .exit))
+        (relocText (relocOf (now (relocs .entry)) (now («reloc_places» .entry))) (piecesIn (now (pieces .entry)) «piece_count»)
+        (relocAt (now («piece_relocs» .entry)) (8 * at)))
+        (Relocs unit (at + 1) bytes) r
+        ⌝ }
+{
+    let r = piece_reloc_at(piece_relocs, at);
+    let p = piece_of(pieces, piece_count, r.piece as usize);
+    let i = reloc_at(relocs, reloc_places, r.relocation as usize);
+    let length = write_reloc(out, p.number, r.offset, i.kind, i.target, i.addend);
+    Line {
+        length,
+        next: Cursor::Relocs {
+            unit,
+            at: at + 1,
+            bytes,
+        },
+    }
+}

@@ -1,0 +1,5 @@
+pub mod Ended
+pub mod Added
+pub mod Units
+pub mod Walked
+pub mod Readable

@@ -1,0 +1,1 @@
+// No code: what a run leaves can be listed (proofs/Readable.antt).
