@@ -70,8 +70,12 @@ static inline uint32_t mizhakkon_address(uint64_t answer)
 #define MIZHAKKON_HAND_SPLIT 25     /* the joint range holds a hand split of another unit */
 #define MIZHAKKON_EMPTY_RANGE 26    /* the joint range holds no split */
 #define MIZHAKKON_SPLITS_FULL 27    /* the split table is full */
+#define MIZHAKKON_NAMES_FULL 28     /* the name table is full */
 #define MIZHAKKON_SEVERAL_BSS 30    /* a start is given, and several sections are named .bss */
 #define MIZHAKKON_NO_BSS 31         /* a start is given, and no section is named .bss */
+#define MIZHAKKON_BELOW_CURRENT 40  /* gaps, at the section and the current address, as to 42: the next split starts below it */
+#define MIZHAKKON_NAME_MISFITS 41   /* a name occurs again in the gap, at no multiple of 4 */
+#define MIZHAKKON_EMPTY_GAP 42      /* the gap would end where it starts */
 #define MIZHAKKON_OVERLAP 50        /* check, at the split's section and start, as to 54: it starts below the end of the one before */
 #define MIZHAKKON_BAD_END 51        /* it ends at 0, or below its start */
 #define MIZHAKKON_START_INSIDE 52   /* it starts inside a symbol */
@@ -80,6 +84,12 @@ static inline uint32_t mizhakkon_address(uint64_t answer)
 #define MIZHAKKON_ORDER_TWICE 60    /* two units have one order number */
 #define MIZHAKKON_CYCLE 61     /* the edges hold a cycle */
 #define MIZHAKKON_NO_NODE 62   /* an edge from or to no node; address: the edge's number */
+#define MIZHAKKON_NO_SPLIT 70  /* walk, at the section and the current address, as to 75: no split there */
+#define MIZHAKKON_NOT_CURRENT 71 /* the first split doesn't start at the section's start */
+#define MIZHAKKON_OUTSIDE 72   /* the range behind a split lies outside its section */
+#define MIZHAKKON_NONZERO 73   /* a byte behind a split isn't zero */
+#define MIZHAKKON_NOT_LISTED 74 /* the split's unit isn't in the unit table */
+#define MIZHAKKON_MISFIT 75    /* the split's alignment doesn't fit its start */
 #define MIZHAKKON_NO_ROOM 76   /* an output table has fewer places than are needed */
 
 /* Ceilings. */
@@ -501,6 +511,40 @@ uint64_t create_gap_splits(const uint8_t *name_ends, size_t name_ends_len,
                            uint8_t *out_name_bytes, size_t out_name_bytes_len,
                            uint8_t *out_splits, size_t out_splits_len,
                            uint8_t *counts, size_t counts_len);
+
+/*
+ * The whole run over a record file: checks it, merges its partial splits, marks common (without a start), fills gaps, checks, trims, orders the units and walks.
+ *
+ *   file               as check_file takes it
+ *   added_name_ends    out: records of 2 bytes: where each name ends in added_name_bytes that was added to the file's, those of gap units. The first
+ *                      added name has the number after the file's last name
+ *   added_name_bytes   out: their bytes
+ *   out_splits         out: the split table as it was walked
+ *   out_units          out: the units in link order, records as in check_tables's units
+ *   pieces, piece_symbols, piece_relocations   out: as split_obj gives them; units are numbers in out_units, symbols and relocations the file's
+ *   counts             out: the numbers of added names, of their bytes, of splits, units, pieces, piece symbols and piece relocations
+ *
+ * A shorter output has its own length as ceiling: 27 for out_splits, 28 for the names, 76 for the others. At document 01's ceilings the outputs have 8,192, 65,535,
+ * 19,456, 8,192, 28,672, 49,152, 32,768 and 14 bytes.
+ *
+ * Refused, the first that holds, in the order of the stages:
+ *   1 to 8                       as check_file
+ *   11, 20 to 27                 as add_splits
+ *   10, 11, 22 to 24, 26 to 28, 40 to 42   as create_gap_splits
+ *   50 to 53                     as validate_splits
+ *   10, 11                       as trim_splits
+ *   60, 76, 61                   as resolve_link_order; after 61 out_units holds the cycle and its length is the fourth count, all else is zeros
+ *   10, 11, 70, 71, 73, 75, 76   as split_obj
+ */
+uint64_t split_file(const uint8_t *file, size_t file_len,
+                    uint8_t *added_name_ends, size_t added_name_ends_len,
+                    uint8_t *added_name_bytes, size_t added_name_bytes_len,
+                    uint8_t *out_splits, size_t out_splits_len,
+                    uint8_t *out_units, size_t out_units_len,
+                    uint8_t *pieces, size_t pieces_len,
+                    uint8_t *piece_symbols, size_t piece_symbols_len,
+                    uint8_t *piece_relocations, size_t piece_relocations_len,
+                    uint8_t *counts, size_t counts_len);
 
 #ifdef __cplusplus
 }
