@@ -154,7 +154,7 @@ fn store(seed: u64) -> ExitCode {
         }
     }
     if let Err(e) = stage::run::store::store(seed) {
-        return not_done(&format!("stored/files: {e}"));
+        return not_done(&format!("crates/run_cases: {e}"));
     }
     ExitCode::SUCCESS
 }

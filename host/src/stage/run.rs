@@ -52,7 +52,7 @@ impl Stage for SplitFile {
         along::run(seed, tally);
     }
 
-    /// Few: stored/files has more.
+    /// Few: crates/run_cases has more.
     fn stored_of(number: u16) -> (usize, usize) {
         match number {
             0 => (16, 1000),

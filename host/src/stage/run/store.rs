@@ -1,5 +1,5 @@
-//! Record files with the right listings, stored/files/: replayed here, and later by a proved
-//! program. `cases.txt` has the files, `listings.txt` what must be printed for each.
+//! Record files with the right listings, crates/run_cases: replayed here, and by that proved
+//! program. Its `stdin` has the files, its `stdout` what must be printed for each.
 use std::{fs, io, path::PathBuf};
 
 use super::{
@@ -32,33 +32,27 @@ fn short(number: u16) -> usize {
 }
 
 fn folder() -> PathBuf {
-    PathBuf::from(env!("CARGO_MANIFEST_DIR")).join("stored/files")
+    PathBuf::from(env!("CARGO_MANIFEST_DIR")).join("../crates/run_cases")
 }
 
 pub fn store(seed: u64) -> io::Result<()> {
-    let head = |what: &str| {
-        format!(
-            "# {what} Seed {seed}, made in host/ by\n#   cargo run --release -- store {seed}\n\
-             # from src/stage/run/files.rs: of its random files the first of each outcome that are\n\
-             # short, then for each way to a ceiling one of each outcome that it comes to.\n"
-        )
-    };
-    let mut cases = head(
-        "Record files as hexadecimal bytes, HH*N for N equal ones. After `=` the case's\n\
-         # number and outcome.",
+    let mut cases = format!(
+        "# Record files as hexadecimal bytes, HH*N for N equal ones. After `=` the case's number and\n\
+         # outcome, and what the Rust does. Seed {seed}, made in host/ by\n\
+         #   cargo run --release -- store {seed}\n\
+         # from src/stage/run/files.rs: of its random files the first of each outcome that are\n\
+         # short, then for each way to a ceiling one of each outcome that it comes to. `stdout` has\n\
+         # what is printed for each: the Rust's listing where it gives one and no ceiling stands\n\
+         # against it, else document 01's refusal.\n"
     );
-    let mut listings = head(
-        "What is printed for each file of cases.txt: the Rust's listing where it gives one and\n\
-         # no ceiling stands against it, else document 01's refusal; a title says what the Rust does.",
-    );
+    let mut listings = String::new();
     for (i, file) in chosen(seed).iter().enumerate() {
         let title = title(i, file);
         cases += &format!("= {title}\n{}\n", byte_words(file).trim_start());
         listings += &format!("= {title}\n{}", printed(file, &CEILINGS));
     }
-    fs::create_dir_all(folder())?;
-    fs::write(folder().join("cases.txt"), cases)?;
-    fs::write(folder().join("listings.txt"), listings)
+    fs::write(folder().join("stdin"), cases)?;
+    fs::write(folder().join("stdout"), listings)
 }
 
 pub fn whole(file: &[u8]) -> Case {
@@ -126,7 +120,7 @@ pub fn read() -> Result<Vec<(String, Vec<u8>, String)>, String> {
         let path = folder().join(name);
         fs::read_to_string(&path).map_err(|e| format!("{}: {e}", path.display()))
     };
-    let (cases, listings) = (text("cases.txt")?, text("listings.txt")?);
+    let (cases, listings) = (text("stdin")?, text("stdout")?);
     let (cases, listings) = (titled(&cases), titled(&listings));
     if cases.len() != listings.len() {
         return Err(format!("{} cases and {} listings", cases.len(), listings.len()));
@@ -163,7 +157,7 @@ const REACHED: [u16; 33] = [
 ];
 
 pub fn replay(tally: &mut Tally) {
-    tally.begin("stored/files, replayed");
+    tally.begin("the files of run_cases, replayed");
     match read() {
         Ok(cases) => cases.iter().for_each(|case| replay_one(case, tally)),
         Err(why) => tally.difference("-", &[why]),
