@@ -5,11 +5,11 @@ use mathlib.Core.Path.{_≡_, refl, sym, ap, subst, _∙_}
 use mathlib.Core.List.{List, [], _∷_, _++_}
 use native.Mathlib.Omega.{arith}
 use lib.ListN.{length, take, replicate, length-append, length-map}
-use lib.Seq.{sets, length-take-le}
+use lib.Seq.{sets}
 use Rattle.lists.specs.Outcome.{Outcome, accepted, refused}
 use Rattle.lists.specs.Rows.{clearFrom, tabulate}
 use Rattle.lists.specs.Tables.{laid}
-use Rattle.lists.proofs.Clear.{clear-all, clear-is}
+use Rattle.lists.proofs.Clear.{clear-all}
 use Rattle.outputs.specs.Outputs.{halves, countsOf, storeCount, storeCounts}
 use Rattle.outputs.proofs.Laws.{length-halves, laid-after, counts-stored}
 use Rattle.gap_splits.specs.Entering.{bytesOf}
@@ -60,12 +60,6 @@ unfolding storeCounts
 stored size k before e =
     ap (λ (l : List ℕ). storeCount 6 (k .made .relocs) (storeCount 5 (k .made .symbols) (storeCount 4 (k .made .pieces) (storeCount 3 (k .units) (storeCount 2 (k .splits) (storeCount 1 (k .used) (storeCount 0 (k .names) l)))))))
     (clear-all 0 before ∙ ap (λ (n : ℕ). replicate n 0) e) ∙ counts-stored size (listed k)
-
--- ---- records, and zeros after them
-pub cleared : (b records : List ℕ) (k : ℕ) → records ≡ take k b → k ≤ length b → clearFrom 0 k b ≡ laid (length b) records
-cleared b records k e h =
-    clear-is 0 k b ∙ (λ d. sym e d ++ replicate (length b - k) 0)
-    ∙ ap (λ (n : ℕ). records ++ replicate (length b - n) 0) (sym (ap length e ∙ length-take-le k b h))
 
 -- ---- what is kept
 

@@ -1,6 +1,6 @@
 // The listing of a run, a line at a time: each line goes into a small lent buffer, and a cursor says where the next begins. No buffer holds the whole listing.
+mod reading;
 mod seek;
-mod tables;
 mod text;
 
 ghost use mathlib.Core.Path.{_≡_};

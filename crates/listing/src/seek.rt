@@ -6,7 +6,7 @@ ghost use Rattle.pieces.specs.Pieces.{pieceAt, symbolAt, relocAt, piecesIn, sym
 ghost use Rattle.listing.specs.declared.Cursor.the-variants.{Units, Pieces, Symbols, Relocs};
 ghost use Rattle.listing.specs.Cursor.{pieceIs, symbolIs, relocIs, First, Before, Within, Valid, Sought, SoughtRelocs, SoughtUnits};
 use crate::Cursor;
-use crate::tables::piece_of;
+use crate::reading::piece_of;
 use pieces::piece_at;
 use pieces::piece_reloc_at;
 use pieces::piece_symbol_at;

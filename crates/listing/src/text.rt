@@ -13,10 +13,10 @@ ghost use Rattle.listing.specs.Cursor.{most, pieceText, symbolText, relo
 ghost use Rattle.listing.specs.Tables.{nameIn, Known};
 use crate::Cursor;
 use crate::Line;
-use crate::tables::figure_of;
-use crate::tables::name_of;
-use crate::tables::owner_of;
-use crate::tables::piece_of;
+use crate::reading::figure_of;
+use crate::reading::name_of;
+use crate::reading::owner_of;
+use crate::reading::piece_of;
 use lines::write_piece;
 use lines::write_reloc;
 use lines::write_symbol;

@@ -1,8 +1,8 @@
--- `listing::tables::owner_of` meets its contract: the code asks what the definition asks.
+-- `listing::reading::owner_of` meets its contract: the code asks what the definition asks.
 -- Assumes nothing.
 use borrow.Author.Tests.{eq-eqb, ne-eqb}
-use Rattle.listing.proofs.tables.owner_of.Statement.{statement}
-use Rattle.listing.proofs.tables.owner_of.Tie as tie
+use Rattle.listing.proofs.reading.owner_of.Statement.{statement}
+use Rattle.listing.proofs.reading.owner_of.Tie as tie
 
 returns : tie.Need-returns
 returns c = rw (eq-eqb _ _ (c .if1 .taken))

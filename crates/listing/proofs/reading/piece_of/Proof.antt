@@ -1,4 +1,4 @@
--- `listing::tables::piece_of` meets its contract: below the count it is read, else the default stands there.
+-- `listing::reading::piece_of` meets its contract: below the count it is read, else the default stands there.
 -- Assumes nothing.
 use mathlib.Core.Path.{sym, ap, _∙_}
 use Prim.Native.Nat.{ℕ, _*_}
@@ -9,8 +9,8 @@ use Rattle.lists.specs.Rows.{tabulate}
 use Rattle.lists.proofs.Rows.{length-tabulate, getD-tabulate}
 use Rattle.pieces.specs.Pieces.{pieceAt, piecesIn}
 use Rattle.listing.specs.Cursor.{noPiece}
-use Rattle.listing.proofs.tables.piece_of.Statement.{statement}
-use Rattle.listing.proofs.tables.piece_of.Tie as tie
+use Rattle.listing.proofs.reading.piece_of.Statement.{statement}
+use Rattle.listing.proofs.reading.piece_of.Tie as tie
 
 piece-at-requires : tie.Need-piece-at-requires
 piece-at-requires c κs = let h = c .before .before .pre in let q = c .if1 .taken in omega arith

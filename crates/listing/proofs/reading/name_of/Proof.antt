@@ -1,9 +1,9 @@
--- `listing::tables::name_of` meets its contract: the code asks what the definition asks.
+-- `listing::reading::name_of` meets its contract: the code asks what the definition asks.
 -- Assumes nothing.
 use native.Mathlib.Omega.{arith}
 use Rattle.listing.proofs.Names.{base-name, added-name}
-use Rattle.listing.proofs.tables.name_of.Statement.{statement}
-use Rattle.listing.proofs.tables.name_of.Tie as tie
+use Rattle.listing.proofs.reading.name_of.Statement.{statement}
+use Rattle.listing.proofs.reading.name_of.Tie as tie
 
 name-at-requires : tie.Need-name-at-requires
 name-at-requires c κs = let s = c .before .before .before .before .before .before .before .pre .base (c .if1 .taken) in (s .placed, s .measured, s .inside)

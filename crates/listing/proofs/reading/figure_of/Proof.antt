@@ -1,11 +1,11 @@
--- `listing::tables::figure_of` meets its contract. Invariant: what is summed so far and what is left are the figure, and no piece adds 2^32 or more.
+-- `listing::reading::figure_of` meets its contract. Invariant: what is summed so far and what is left are the figure, and no piece adds 2^32 or more.
 -- Assumes nothing.
 use Prim.Native.Nat.{ℕ, _*_, _-_, _≤_}
 use native.Mathlib.Omega.{arith}
 use Rattle.pieces.specs.Pieces.{pieceAt, piecesIn}
 use Rattle.listing.proofs.Sums.{Sum, sum-first, sum-turn, sum-end}
-use Rattle.listing.proofs.tables.figure_of.Statement.{statement}
-use Rattle.listing.proofs.tables.figure_of.Tie as tie
+use Rattle.listing.proofs.reading.figure_of.Statement.{statement}
+use Rattle.listing.proofs.reading.figure_of.Tie as tie
 
 abbrev Inv-loop : tie.InvT-loop
 Inv-loop pieces count unit sum₀ k₀ sum k = Sum (piecesIn pieces count) unit k sum × (k ≤ count)

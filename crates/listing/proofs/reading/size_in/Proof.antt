@@ -1,4 +1,4 @@
--- `listing::tables::size_in` meets its contract: the code asks what the definition asks.
+-- `listing::reading::size_in` meets its contract: the code asks what the definition asks.
 -- Assumes nothing.
 use mir.Syntax.{w32}
 use mir.Val.{Fits}
@@ -6,8 +6,8 @@ use native.Mathlib.Omega.{arith}
 use mathlib.Core.Path.{sym}
 use borrow.Author.Tests.{eq-eqb, ne-eqb}
 use borrow.Author.Needs.{needs}
-use Rattle.listing.proofs.tables.size_in.Statement.{statement}
-use Rattle.listing.proofs.tables.size_in.Tie as tie
+use Rattle.listing.proofs.reading.size_in.Statement.{statement}
+use Rattle.listing.proofs.reading.size_in.Tie as tie
 
 piece-at-requires : tie.Need-piece-at-requires
 piece-at-requires c κs = c .before .pre
