@@ -23,7 +23,7 @@ ghost use Rattle.entry_split_obj.specs.Entry.{roomIn, splitObjOf, Leaves as Lea
 ghost use Rattle.entry_split_obj.specs.Lines.{sizesOf};
 ghost use Rattle.entry_piece_bytes.specs.Entry.{placeOf, Leaves as LeavesPlace};
 ghost use Rattle.entry_split_file.specs.Entry.{splitFileOf, Leaves as LeavesRun};
-ghost use Rattle.entry_split_file.specs.Lines.{sizesOf as sizesOfRun};
+ghost use Rattle.run_outputs.specs.Kept.{sizesOf as sizesOfRun};
 use obj::Split;
 
 #[no_mangle]

@@ -20,13 +20,14 @@ use Rattle.walk.specs.declared.Counts.{Counts}
 use Rattle.entry_split_obj.specs.Entry.{roomIn}
 use Rattle.entry_split_obj.proofs.Finish.{room-low, room-28, room-12, room-8}
 use Rattle.run.specs.Run.{Result, Ended}
-use Rattle.run.specs.Answers.{unitsAt, ranIn, Units, Within}
+use Rattle.run.specs.Answers.{unitsAt, ranIn, Names, Units, Within}
 use Rattle.run.specs.declared.Ran.{Ran}
 use Rattle.run.specs.declared.Ran.the-variants.{Done, Cycle, Refused}
-use Rattle.run_file.specs.RunFile.{Names, Holds}
-use Rattle.entry_split_file.specs.declared.Kept.{Kept}
-use Rattle.entry_split_file.specs.Entry.{Sizes, leftBy, wordBy, Laid, Leaves}
-use Rattle.entry_split_file.specs.Lines.{none, keptBy, wordOf, leftIn, Fits, OutputFits}
+use Rattle.run_file.specs.RunFile.{Holds}
+use Rattle.run_outputs.specs.declared.Kept.{Kept}
+use Rattle.run_outputs.specs.Laid.{Sizes, Laid}
+use Rattle.run_outputs.specs.Kept.{none, keptBy, wordOf, leftIn, Fits, OutputFits}
+use Rattle.entry_split_file.specs.Entry.{leftBy, wordBy, Leaves}
 
 -- ---- nothing
 

@@ -12,11 +12,11 @@ use Rattle.obj.specs.declared.Unit as unit-records
 use Rattle.tables.specs.Records.{unitsIn}
 use Rattle.load.specs.Load.{Loaded}
 use Rattle.loaded.specs.Tables.{bytePlaces, tablesWith, Usable}
-use Rattle.names.specs.Append.{Columns as Beside}
+use Rattle.names.specs.Append.{Packed, Columns as Beside}
 use Rattle.symbol_order.specs.Order.{symbolOf, orderOf}
 use Rattle.splits.specs.Columns.{Columns, rows, Long}
 use Rattle.order.specs.Bytes.{unitsBytes}
-use Rattle.gap_splits.specs.Entering.{Filled}
+use Rattle.gap_splits.specs.Entering.{Filled, bytesOf}
 use Rattle.gap_splits.specs.Answers.{added}
 use Rattle.split_obj.specs.declared.Walked.{Walked}
 use Rattle.split_obj.specs.declared.Walked.the-variants as walks
@@ -49,6 +49,15 @@ pub record Tabled (sections : ℕ) (table : Columns) (n : ℕ) : Type 0 where
   pub long : Long table n
   pub few : n ≤ 1024
   pub homed : All (Homed sections 4096) (rows table n)
+
+-- the names that were added lie in their columns, and are no more than were lent
+pub record Names (c : Beside) (names used most most-bytes : ℕ) : Type 0 where
+  pub packed : Packed (c .bytes) (c .places) (c .lengths) names used
+  pub sum : used ≡ bytesOf (added c names)
+  pub few : names ≤ most
+  pub small : names ≤ 4096
+  pub short : used ≤ most-bytes
+  pub low : used ≤ 65535
 
 -- n unit records stand at the front of the unit table, whole
 pub record Units (units : List ℕ) (n : ℕ) : Type 0 where

@@ -27,10 +27,10 @@ use Rattle.walk.specs.declared.Counts.{Counts}
 use Rattle.run_splits.specs.Table.{splitTable}
 use Rattle.order.specs.LinkOrder.{linkOrder}
 use Rattle.run.specs.Run.{Rooms, Ended, linked, walked, onOrder, orderedAndWalked, stages}
-use Rattle.run.specs.Answers.{walkedAfter, Keeps, Units, Within}
+use Rattle.run.specs.Answers.{walkedAfter, Keeps, Units, Within, Names}
 use Rattle.run.specs.declared.Ran.{Ran}
 use Rattle.run.specs.declared.Ran.the-variants.{Done, Cycle, Refused}
-use Rattle.run_file.specs.RunFile.{lower, sum, roomsIn, Lent, Names, Holds}
+use Rattle.run_file.specs.RunFile.{lower, sum, roomsIn, Lent, Holds}
 use Rattle.run_file.proofs.Laws.{sum-turn, sum-none}
 
 -- ---- the lower of two

@@ -8,7 +8,7 @@ use lib.Dec.{ltb}
 use Rattle.lists.specs.Outcome.{Outcome, accepted}
 use Rattle.names.specs.Names.{namesOf}
 use Rattle.names.specs.Index.{Indexed}
-use Rattle.names.specs.Append.{Packed, Columns as Beside}
+use Rattle.names.specs.Append.{Columns as Beside}
 use Rattle.tables.specs.Tables.{mainCeilings}
 use Rattle.load.specs.Load.{Loaded, loadOf, namesIn}
 use Rattle.load.specs.Columns as columns
@@ -19,10 +19,10 @@ use Rattle.loaded.specs.Tables.{bytePlaces, tablesWith, Usable}
 use Rattle.symbol_order.specs.Order.{symbolOf, orderOf}
 use Rattle.splits.specs.Columns.{Columns}
 use Rattle.gap_splits.specs.Entering.{bytesOf}
-use Rattle.gap_splits.specs.Answers.{added, ceilings}
+use Rattle.gap_splits.specs.Answers.{ceilings}
 use Rattle.walk.specs.declared.Counts.{Counts}
 use Rattle.run.specs.Run.{Rooms, Ended, runOf}
-use Rattle.run.specs.Answers.{ranIn, Units, Within}
+use Rattle.run.specs.Answers.{ranIn, Names, Units, Within}
 use Rattle.run.specs.declared.Ran.{Ran}
 use Rattle.run.specs.declared.Ran.the-variants.{Done, Cycle, Refused}
 use Rattle.run_file.specs.declared.RanFile.{RanFile}
@@ -83,15 +83,6 @@ pub record Stored (file : List ℕ) (n : load.Counts) (ordered : ℕ) (places le
   pub images-long : 64 ≤ length images
 
 -- ---- what they leave
-
--- the names that were added lie in their columns, and are no more than were lent
-pub record Names (c : Beside) (names used most most-bytes : ℕ) : Type 0 where
-  pub packed : Packed (c .bytes) (c .places) (c .lengths) names used
-  pub sum : used ≡ bytesOf (added c names)
-  pub few : names ≤ most
-  pub small : names ≤ 4096
-  pub short : used ≤ most-bytes
-  pub low : used ≤ 65535
 
 -- what is known of an answer beside its meaning
 abbrev pub Holds : (most most-bytes cap : ℕ) → (room : Counts) → Beside → (units : List ℕ) → Ran → Type 0

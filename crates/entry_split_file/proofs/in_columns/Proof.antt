@@ -9,17 +9,17 @@ use Rattle.walk.specs.declared.Counts.{Counts}
 use Rattle.entry_split_obj.specs.Entry.{roomIn}
 use Rattle.run.specs.Run.{runOf}
 use Rattle.run_file.specs.RunFile.{roomsIn}
-use Rattle.entry_split_file.specs.Entry.{Sizes}
-use Rattle.entry_split_file.specs.Lines.{sizesOf}
+use Rattle.run_outputs.specs.Laid.{Sizes}
+use Rattle.run_outputs.specs.Kept.{sizesOf}
 use Rattle.entry_split_file.proofs.Finish.{kept-fits, leaves, same-sizes, fits-as}
 use borrow.Author.Needs.{needs}
 use Rattle.entry_split_file.proofs.in_columns.Statement.{statement}
 use Rattle.entry_split_file.proofs.in_columns.Tie as tie
 use Rattle.entry_split_file.proofs.in_columns.Reads as reads
 use Rattle.entry_split_file.proofs.in_columns.Lts as lts
-use Rattle.entry_split_file.proofs.kept_of.Reads as kept-of-reads
-use Rattle.entry_split_file.proofs.lay.Reads as lay-reads
-use Rattle.entry_split_file.proofs.word_for.Reads as word-for-reads
+use Rattle.run_outputs.proofs.kept_of.Reads as kept-of-reads
+use Rattle.run_outputs.proofs.lay.Reads as lay-reads
+use Rattle.run_outputs.proofs.word_for.Reads as word-for-reads
 use Rattle.run_file.proofs.run_file.Reads as run-file-reads
 use Rattle.stage_splits.proofs.room_of.Reads as room-of-reads
 

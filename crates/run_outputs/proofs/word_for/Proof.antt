@@ -1,12 +1,12 @@
--- `entry_split_file::word_for` meets its contract: a refusal's word is that of the answer.
+-- `run_outputs::word_for` meets its contract: a refusal's word is that of the answer.
 -- Assumes nothing.
 use mathlib.Core.Path.{sym, ap, _∙_}
-use Rattle.entry_split_file.specs.Lines.{wordOf}
+use Rattle.run_outputs.specs.Kept.{wordOf}
 use borrow.Author.Needs.{needs}
-use Rattle.entry_split_file.proofs.word_for.Statement.{statement}
-use Rattle.entry_split_file.proofs.word_for.Tie as tie
-use Rattle.entry_split_file.proofs.word_for.Reads as reads
-use Rattle.entry_split_file.proofs.word_for.Lts as lts
+use Rattle.run_outputs.proofs.word_for.Statement.{statement}
+use Rattle.run_outputs.proofs.word_for.Tie as tie
+use Rattle.run_outputs.proofs.word_for.Reads as reads
+use Rattle.run_outputs.proofs.word_for.Lts as lts
 use Rattle.obj.proofs.word_of.Reads as word-of-reads
 
 enum-told : tie.Need-enum-told

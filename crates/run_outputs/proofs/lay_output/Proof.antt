@@ -1,14 +1,14 @@
--- `entry_split_file::lay_output` meets its contract: the records are the first bytes of each table, and zeros come after them.
+-- `run_outputs::lay_output` meets its contract: the records are the first bytes of each table, and zeros come after them.
 -- Assumes nothing.
 use mathlib.Core.Path.{_∙_}
 use Prim.Native.Nat.{_*_}
 use Rattle.pieces.proofs.Laws.{pieces-packed, symbols-packed, relocs-packed}
 use Rattle.entry_split_obj.proofs.Finish.{cleared}
 use borrow.Author.Needs.{needs}
-use Rattle.entry_split_file.proofs.lay_output.Statement.{statement}
-use Rattle.entry_split_file.proofs.lay_output.Tie as tie
-use Rattle.entry_split_file.proofs.lay_output.Reads as reads
-use Rattle.entry_split_file.proofs.lay_output.Lts as lts
+use Rattle.run_outputs.proofs.lay_output.Statement.{statement}
+use Rattle.run_outputs.proofs.lay_output.Tie as tie
+use Rattle.run_outputs.proofs.lay_output.Reads as reads
+use Rattle.run_outputs.proofs.lay_output.Lts as lts
 use Rattle.outputs.proofs.clear_from.Reads as clear-from-reads
 
 mul-clear-from : tie.Need-mul-clear-from

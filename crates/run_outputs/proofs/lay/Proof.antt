@@ -1,4 +1,4 @@
--- `entry_split_file::lay` meets its contract: each table is laid by itself, and the counts are those of what is kept.
+-- `run_outputs::lay` meets its contract: each table is laid by itself, and the counts are those of what is kept.
 -- Assumes nothing.
 use mathlib.Core.Path.{sym, ap, _∙_}
 use native.Mathlib.Omega.{arith}
@@ -8,15 +8,15 @@ use Rattle.outputs.specs.Outputs.{countsOf}
 use Rattle.splits.specs.Columns.{columns}
 use Rattle.gap_splits.specs.Answers.{beside}
 use Rattle.entry_split_obj.proofs.Finish.{cleared}
-use Rattle.entry_split_file.proofs.Laws.{kept-listed}
+use Rattle.run_outputs.proofs.Laws.{kept-listed}
 use borrow.Author.Needs.{needs}
-use Rattle.entry_split_file.proofs.lay.Statement.{statement}
-use Rattle.entry_split_file.proofs.lay.Tie as tie
-use Rattle.entry_split_file.proofs.lay.Reads as reads
-use Rattle.entry_split_file.proofs.lay.Lts as lts
-use Rattle.entry_split_file.proofs.lay_names.Reads as lay-names-reads
-use Rattle.entry_split_file.proofs.lay_output.Reads as lay-output-reads
-use Rattle.entry_split_file.proofs.put_counts.Reads as put-counts-reads
+use Rattle.run_outputs.proofs.lay.Statement.{statement}
+use Rattle.run_outputs.proofs.lay.Tie as tie
+use Rattle.run_outputs.proofs.lay.Reads as reads
+use Rattle.run_outputs.proofs.lay.Lts as lts
+use Rattle.run_outputs.proofs.lay_names.Reads as lay-names-reads
+use Rattle.run_outputs.proofs.lay_output.Reads as lay-output-reads
+use Rattle.run_outputs.proofs.put_counts.Reads as put-counts-reads
 use Rattle.outputs.proofs.clear_from.Reads as clear-from-reads
 use Rattle.stage_splits.proofs.put_splits.Reads as put-splits-reads
 

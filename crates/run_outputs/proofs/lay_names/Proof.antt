@@ -1,15 +1,15 @@
--- `entry_split_file::lay_names` meets its contract: the names are put at the front, and zeros after them.
+-- `run_outputs::lay_names` meets its contract: the names are put at the front, and zeros after them.
 -- Assumes nothing.
 use mathlib.Core.Path.{sym}
 use native.Mathlib.Omega.{arith}
 use Rattle.gap_splits.specs.Answers.{added, beside}
 use Rattle.names.proofs.Laws.{length-names}
-use Rattle.entry_split_file.proofs.Laws.{flat-bytes, ends-laid, bytes-laid}
+use Rattle.run_outputs.proofs.Laws.{flat-bytes, ends-laid, bytes-laid}
 use borrow.Author.Needs.{needs}
-use Rattle.entry_split_file.proofs.lay_names.Statement.{statement}
-use Rattle.entry_split_file.proofs.lay_names.Tie as tie
-use Rattle.entry_split_file.proofs.lay_names.Reads as reads
-use Rattle.entry_split_file.proofs.lay_names.Lts as lts
+use Rattle.run_outputs.proofs.lay_names.Statement.{statement}
+use Rattle.run_outputs.proofs.lay_names.Tie as tie
+use Rattle.run_outputs.proofs.lay_names.Reads as reads
+use Rattle.run_outputs.proofs.lay_names.Lts as lts
 use Rattle.outputs.proofs.clear_from.Reads as clear-from-reads
 use Rattle.stage_names.proofs.put_names.Reads as put-names-reads
 

@@ -24,8 +24,8 @@ use Rattle.gap_splits.specs.Answers.{added}
 use Rattle.pieces.specs.Pieces.{piecesIn, symbolsIn, relocsIn}
 use Rattle.pieces.proofs.Laws.{length-piecesIn, length-symbolsIn, length-relocsIn}
 use Rattle.run.specs.Answers.{unitsAt}
-use Rattle.entry_split_file.specs.declared.Kept.{Kept}
-use Rattle.entry_split_file.specs.Lines.{listed}
+use Rattle.run_outputs.specs.declared.Kept.{Kept}
+use Rattle.run_outputs.specs.Kept.{listed}
 
 -- ---- names
 

@@ -1,12 +1,12 @@
--- `entry_split_file::kept_of` meets its contract: each answer has its counts.
+-- `run_outputs::kept_of` meets its contract: each answer has its counts.
 -- Assumes nothing.
 use mathlib.Core.Path.{sym, ap}
-use Rattle.entry_split_file.specs.Lines.{keptBy}
+use Rattle.run_outputs.specs.Kept.{keptBy}
 use borrow.Author.Needs.{needs}
-use Rattle.entry_split_file.proofs.kept_of.Statement.{statement}
-use Rattle.entry_split_file.proofs.kept_of.Tie as tie
-use Rattle.entry_split_file.proofs.kept_of.Reads as reads
-use Rattle.entry_split_file.proofs.kept_of.Lts as lts
+use Rattle.run_outputs.proofs.kept_of.Statement.{statement}
+use Rattle.run_outputs.proofs.kept_of.Tie as tie
+use Rattle.run_outputs.proofs.kept_of.Reads as reads
+use Rattle.run_outputs.proofs.kept_of.Lts as lts
 
 enum-known-r : tie.Need-enum-known-r
 enum-known-r c = search needs

@@ -1,4 +1,4 @@
--- Inside the entry `split_file`: what an answer of the run keeps in each table, and the tables before they are cleared behind it.
+-- What an answer of the run keeps in each table, and the tables before they are cleared behind it.
 use Prim.Native.Nat.{ℕ, _*_, _≤_}
 use mathlib.Core.Path.{_≡_}
 use mathlib.Core.List.{List, [], _∷_}
@@ -13,12 +13,11 @@ use Rattle.pieces.specs.Pieces.{pieceBytes, symbolBytes, relocBytes, packed}
 use Rattle.walk.specs.Walk.{Output}
 use Rattle.walk.specs.Giving.{outputIn}
 use Rattle.run.specs.Run.{Result}
-use Rattle.run.specs.Answers.{unitsAt, Units}
+use Rattle.run.specs.Answers.{unitsAt, Names, Units}
 use Rattle.run.specs.declared.Ran.{Ran}
 use Rattle.run.specs.declared.Ran.the-variants.{Done, Cycle, Refused}
-use Rattle.run_file.specs.RunFile.{Names}
-use Rattle.entry_split_file.specs.declared.Kept.{Kept}
-use Rattle.entry_split_file.specs.Entry.{Sizes}
+use Rattle.run_outputs.specs.declared.Kept.{Kept}
+use Rattle.run_outputs.specs.Laid.{Sizes}
 
 abbrev pub none : Counts
 none = record { pieces = 0; symbols = 0; relocs = 0 }

@@ -1,15 +1,15 @@
--- `entry_split_file::put_counts` meets its contract: seven counts, one after another, into cleared bytes.
+-- `run_outputs::put_counts` meets its contract: seven counts, one after another, into cleared bytes.
 -- Assumes nothing.
 use mathlib.Core.Path.{refl, ap, _∙_}
 use native.Mathlib.Omega.{arith}
 use lib.ListN.{length}
 use Rattle.outputs.specs.Outputs.{storeCount}
-use Rattle.entry_split_file.proofs.Laws.{stored}
+use Rattle.run_outputs.proofs.Laws.{stored}
 use borrow.Author.Needs.{needs}
-use Rattle.entry_split_file.proofs.put_counts.Statement.{statement}
-use Rattle.entry_split_file.proofs.put_counts.Tie as tie
-use Rattle.entry_split_file.proofs.put_counts.Reads as reads
-use Rattle.entry_split_file.proofs.put_counts.Lts as lts
+use Rattle.run_outputs.proofs.put_counts.Statement.{statement}
+use Rattle.run_outputs.proofs.put_counts.Tie as tie
+use Rattle.run_outputs.proofs.put_counts.Reads as reads
+use Rattle.run_outputs.proofs.put_counts.Lts as lts
 use Rattle.outputs.proofs.clear_from.Reads as clear-from-reads
 use Rattle.outputs.proofs.put_count.Reads as put-count-reads
 
