@@ -15,7 +15,7 @@ use Rattle.stage_splits.specs.StageSplits.{roomOf}
 use Rattle.order.specs.Bytes.{unitsBytes}
 use Rattle.pieces.specs.Pieces.{pieceBytes, symbolBytes, relocBytes, packed}
 use Rattle.walk.specs.Walk.{nothing}
-use Rattle.entry_split_obj.specs.Entry.{roomIn}
+use Rattle.stage_walk.specs.Room.{roomIn}
 use Rattle.run.specs.Run.{Result, Ended, done, cycle, runOf}
 use Rattle.run_file.specs.RunFile.{roomsIn}
 
