@@ -40,13 +40,12 @@ use Rattle.toposort.specs.Search.{End}
 use Rattle.link_graph.specs.Columns.{pointersIn}
 use Rattle.link_graph.proofs.Rows.{row-at}
 use Rattle.order.specs.declared.Resolved.{Resolved}
-use Rattle.link_graph.specs.Graph.{nodes}
-use Rattle.order.specs.LinkOrder.{linkOrder, nodesLeft, recordOf, recordsOf}
+use Rattle.order.specs.LinkOrder.{linkOrder, nodesLeft, recordsOf}
 use Rattle.order.specs.Bytes.{unitsBytes}
-use Rattle.order.specs.Columns.{Resolves, Lent}
+use Rattle.order.specs.Columns.{Resolves, SplitsTaken, UnitsTaken}
 use Rattle.order.proofs.Bytes.{length-unitsBytes}
-use Rattle.order.proofs.Stage.{same-pointers, resolves-as}
-use Rattle.entry_resolve_link_order.specs.Entry.{givenIn, resolveOf, fromUnits, fromSplits, fromSections, NamesTaken, SectionsTaken, SplitsTaken, UnitsTaken, Leaves}
+use Rattle.order.proofs.Stage.{same-pointers, resolves-as, length-records}
+use Rattle.entry_resolve_link_order.specs.Entry.{givenIn, resolveOf, fromUnits, fromSplits, fromSections, NamesTaken, SectionsTaken, Leaves}
 
 -- ---- one table after another
 
@@ -230,20 +229,6 @@ pub names-few : (ends bytes : List ℕ) → namesCheck 4096 ends bytes ≡ accep
 unfolding namesCheck
 names-few ends bytes e = size-passed 2 4096 (length ends) (then-both _ _ _ e .0) .1
 
--- what the stage is lent, in columns of these lengths
-pub lent : {c : Columns} {n : ℕ} {heads head-places name-bytes name-places lengths ub up numbers scratch column nodes′ from to : List ℕ}
-    → SplitsTaken c n heads head-places name-bytes name-places lengths → UnitsTaken ub up → length numbers ≡ 1024 → length scratch ≡ 1024 → length column ≡ 4096
-    → length nodes′ ≡ 1024 → length from ≡ 2048 → length to ≡ 2048 → Lent c n ub up numbers scratch column nodes′ from to
-lent s u e₁ e₂ e₃ e₄ e₅ e₆ = record {
-  units = record { whole = u .whole; few = u .few; named = λ k h. omega (arith, u .named k h) };
-  named = λ i h. omega (arith, s .named i h);
-  numbers-long = omega arith;
-  scratch-long = omega arith;
-  nodes-long = omega arith;
-  from-long = omega arith;
-  to-long = omega arith;
-}
-
 -- ---- which sections are named `.ctors` or `.dtors`
 pub pointers-splits : (lengths : List ℕ) (heads : List Section) (p q : ℕ → Bool) (splits us : List ℕ) (size : ℕ) → ((k : ℕ) → k < length heads → p k ≡ q k)
     → fromSplits lengths heads p splits us size ≡ fromSplits lengths heads q splits us size
@@ -311,10 +296,6 @@ from-names-as {S} {us} {r} {before} {after} ends bytes places lengths heads chai
     w
 
 -- ---- the outputs after the clearing
-
-pub length-records : (splits : List Split) (us : List units.Unit) (l : List ℕ) → length (recordsOf splits us l) ≡ length l
-unfolding recordsOf
-length-records splits us l = length-map l (λ v. recordOf splits us (getD (nodes splits) v 0))
 
 -- the word of an answer is that of its meaning
 word-means : (a : Answer) → word a ≡ outcomeWord (meaning a)

@@ -48,9 +48,10 @@ use Rattle.order.specs.LinkOrder.{linkOrder, nodesLeft, firstRecord, handOf, ma
 use Rattle.order.specs.Bytes.{unitsBytes, Fits}
 use Rattle.order.specs.Columns.{saidOf}
 use Rattle.order.proofs.Bytes.{length-unitsBytes, units-back}
+use Rattle.order.proofs.Stage.{length-records}
 use Rattle.order.proofs.Theorems.{unitsAt, Ways, number-twice, no-room, ordered, on-cycle, ways}
 use Rattle.entry_resolve_link_order.specs.Entry.{givenIn, resolveOf, Leaves, unitsRead, namesRead, Records, Accepted, Shown, Good}
-use Rattle.entry_resolve_link_order.proofs.Laws.{known, length-records}
+use Rattle.entry_resolve_link_order.proofs.Laws.{known}
 use Rattle.entry_resolve_link_order.proofs.Refusals.{Low, low-names, low-sections, low-splits, low-units}
 
 -- ---- every input goes one of two ways

@@ -24,10 +24,8 @@ use Rattle.name_table.specs.NameTable.{nameIn, namesCheck}
 use Rattle.name_table.specs.Stored.{stageLengths}
 use Rattle.stage_tables.specs.StageTables.{stageSections, stageSplits, stageUnits, sectionsCheck, splitsCheck, unitsCheck}
 use Rattle.toposort.specs.Search.{End}
-use Rattle.splits.specs.Columns.{Columns, rowAt}
-use Rattle.order_numbers.specs.Numbers.{Whole, unitOf}
 use Rattle.link_graph.specs.Graph.{Given, nodes}
-use Rattle.link_graph.specs.Columns.{SectionNames, Splits}
+use Rattle.link_graph.specs.Columns.{SectionNames}
 use Rattle.link_graph.specs.Joined.{InOrder, IsCycle}
 use Rattle.order.specs.LinkOrder.{linkOrder, nodesLeft, recordOf, recordsOf}
 use Rattle.order.specs.Bytes.{unitsBytes}
@@ -137,15 +135,3 @@ pub record SplitRoom (places starts ends us rest : List ℕ) : Type 0 where
   pub ends-long : length ends ≡ 1024
   pub units-long : length us ≡ 1024
   pub rest-long : length rest ≡ 1024
-
--- the splits stand in columns, and their units are names
-pub record SplitsTaken (c : Columns) (n : ℕ) (heads head-places name-bytes name-places lengths : List ℕ) : Type 0 where
-  pub given : Splits c n heads head-places name-bytes name-places lengths
-  pub named : (i : ℕ) → i < n → rowAt c i .unit < 4096
-  pub few : length lengths ≤ 4096
-
--- the units' records are there, and their names are names
-pub record UnitsTaken (unit-bytes unit-places : List ℕ) : Type 0 where
-  pub whole : Whole unit-bytes unit-places
-  pub few : length unit-places ≤ 1024
-  pub named : (k : ℕ) → k < length unit-places → unitOf unit-bytes unit-places k .name < 4096

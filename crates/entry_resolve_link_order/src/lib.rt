@@ -4,18 +4,18 @@ ghost use mathlib.Core.Path.{_≡_};
 ghost use Prim.Native.Nat.{_/_};
 ghost use lib.ListN.{length};
 ghost use Rattle.obj.specs.Records.{stagePlaces};
-ghost use Rattle.tables.specs.Records.{sectionsIn, unitsIn};
+ghost use Rattle.tables.specs.Records.{sectionsIn};
 ghost use Rattle.name_table.specs.Stored.{Room};
 ghost use Rattle.stage_tables.specs.StageTables.{stageSplits, stageUnits};
 ghost use Rattle.splits.specs.Columns.{columns, rows};
-ghost use Rattle.link_graph.specs.Columns.{pointersIn, givenOf};
-ghost use Rattle.order.specs.LinkOrder.{linkOrder};
-ghost use Rattle.order.specs.Columns.{Resolves};
-ghost use Rattle.entry_resolve_link_order.specs.Entry.{resolveOf, fromUnits, fromSplits, fromSections, NamesTaken, SectionsTaken, SplitRoom, SplitsTaken, UnitsTaken, Leaves};
+ghost use Rattle.link_graph.specs.Columns.{pointersIn};
+ghost use Rattle.order.specs.Columns.{Resolves, SplitsTaken};
+ghost use Rattle.entry_resolve_link_order.specs.Entry.{resolveOf, fromUnits, fromSplits, fromSections, NamesTaken, SectionsTaken, SplitRoom, Leaves};
 use name_table::check_names;
 use obj::Answer;
 use obj::word_of;
 use order::Resolved;
+use order::ordered;
 use outputs::clear_from;
 use outputs::put_count;
 use stage_splits::take_split_columns;
@@ -27,60 +27,6 @@ fn refused(a: Answer) -> Resolved
     ensures { λ r. ⌜ r ≡ record { answer = a; kept = 0 } ⌝ }
 {
     Resolved { answer: a, kept: 0 }
-}
-
-// The stage, with columns of its own: the units that have an order, a number of each name, the nodes and the edges.
-pub fn ordered(
-    starts: &[u32],
-    ends: &[u32],
-    units: &[u16],
-    rest: &[u64],
-    n: usize,
-    heads: &[u8],
-    head_places: &[u32],
-    name_bytes: &[u8],
-    name_places: &[u32],
-    lengths: &[u8],
-    unit_bytes: &[u8],
-    unit_places: &[u32],
-    out: &mut [u8],
-) -> Resolved
-    requires { ⌜
-        SplitsTaken (columns (now starts) (now ends) (now units) (now rest)) n (now heads) (now «head_places») (now «name_bytes») (now «name_places») (now lengths)
-        × UnitsTaken (now «unit_bytes») (now «unit_places»)
-        ⌝ }
-    ensures { λ r. ⌜
-        Resolves (rows (columns (now (starts .entry)) (now (ends .entry)) (now (units .entry)) (now (rest .entry))) n) (unitsIn (now («unit_bytes» .entry)) (now («unit_places» .entry)))
-        (linkOrder (givenOf (columns (now (starts .entry)) (now (ends .entry)) (now (units .entry)) (now (rest .entry))) n (now (heads .entry)) (now («head_places» .entry)) (now («name_bytes» .entry)) (now («name_places» .entry)) (now (lengths .entry)) (now («unit_bytes» .entry)) (now («unit_places» .entry))) (length (now (out .entry)) / 8))
-        r (now (out .entry)) (now (out .exit)) ⌝ }
-{
-    let mut numbers = [0u16; 1024];
-    let mut scratch = [0u16; 1024];
-    let mut column = [0u16; 4096];
-    let mut nodes = [0u16; 1024];
-    let mut from = [0u16; 2048];
-    let mut to = [0u16; 2048];
-    order::resolve_link_order(
-        starts,
-        ends,
-        units,
-        rest,
-        n,
-        heads,
-        head_places,
-        name_bytes,
-        name_places,
-        lengths,
-        unit_bytes,
-        unit_places,
-        &mut numbers,
-        &mut scratch,
-        &mut column,
-        &mut nodes,
-        &mut from,
-        &mut to,
-        out,
-    )
 }
 
 // The units, and then the stage.

@@ -17,8 +17,8 @@ use Rattle.order.specs.Bytes.{unitsBytes}
 use Rattle.gap_splits.specs.Entering.{bytesOf}
 use Rattle.pieces.specs.Pieces.{piecesIn, symbolsIn, relocsIn}
 use Rattle.walk.specs.declared.Counts.{Counts}
-use Rattle.entry_split_obj.specs.Entry.{roomIn}
-use Rattle.entry_split_obj.proofs.Finish.{room-low, room-28, room-12, room-8}
+use Rattle.stage_walk.specs.Room.{roomIn}
+use Rattle.stage_walk.proofs.Room.{room-low, room-28, room-12, room-8}
 use Rattle.run.specs.Run.{Result, Ended}
 use Rattle.run.specs.Answers.{unitsAt, ranIn, Names, Units, Within}
 use Rattle.run.specs.declared.Ran.{Ran}

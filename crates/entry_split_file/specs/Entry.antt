@@ -8,7 +8,7 @@ use Rattle.lists.specs.Outcome.{Outcome, accepted, refused}
 use Rattle.obj.specs.Answers.{refusalWord}
 use Rattle.stage_splits.specs.StageSplits.{roomOf}
 use Rattle.walk.specs.Walk.{nothing}
-use Rattle.entry_split_obj.specs.Entry.{roomIn}
+use Rattle.stage_walk.specs.Room.{roomIn}
 use Rattle.run.specs.Run.{Result, Ended, done, cycle, runOf}
 use Rattle.run_outputs.specs.Laid.{Sizes, Laid}
 use Rattle.run_file.specs.RunFile.{roomsIn}

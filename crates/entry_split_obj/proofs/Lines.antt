@@ -1,22 +1,15 @@
--- The way of an outcome through the entry: a refused line of its definition is the answer, one that passed is passed over; and lines over the columns are those over
--- the lent tables. Assumes nothing.
-use Prim.Native.Nat.{ℕ, _/_, _≤_, _<_}
-use mathlib.Core.Path.{_≡_, refl, sym, ap, ap₂, subst, _∙_}
+-- Lines of the definition over the columns are those over the lent tables. Assumes nothing.
+use Prim.Native.Nat.{ℕ, _/_, _<_}
+use mathlib.Core.Path.{_≡_, ap, ap₂, _∙_}
 use mathlib.Core.List.{List}
 use lib.ListN.{length, getD, take}
-use Rattle.lists.specs.Outcome.{Outcome, accepted, refused, _>>_}
-use Rattle.obj.specs.Answers.{meaning}
+use Rattle.lists.specs.Outcome.{Outcome, _>>_}
 use Rattle.obj.specs.Records.{stagePlaces}
-use Rattle.obj.specs.declared.Answer.{Answer}
-use Rattle.obj.specs.declared.Answer.the-variants as answers
 use Rattle.obj.specs.declared.Section.{Section}
-use Rattle.obj.specs.declared.Split.{Split}
-use Rattle.obj.specs.declared.Reloc.{Reloc}
 use Rattle.obj.proofs.Laws.{length-stagePlaces}
 use Rattle.tables.specs.Records.{sectionsIn, imagePlaces}
-use Rattle.name_table.specs.Stored.{stageLengths, nameStarts, Stored}
+use Rattle.name_table.specs.Stored.{stageLengths, Stored}
 use Rattle.stage_tables.specs.StageTables.{stageSections, stageSplits, imageCheck, symbolsCheck, relocsCheck, splitsCheck, unitsCheck}
-use Rattle.symbol_order.specs.Order.{symbolOf}
 use Rattle.sections.specs.Image.{Image, imageOf}
 use Rattle.sections.specs.Sections.{Sections, sectionsOf}
 use Rattle.relocs.specs.Relocs.{relocOf}
@@ -24,35 +17,11 @@ use Rattle.units.specs.Units.{unitNames}
 use Rattle.walk.specs.declared.Counts.{Counts}
 use Rattle.walk.specs.Walk.{Output, walk}
 use Rattle.walk.specs.Giving.{inputOf}
-use Rattle.split_obj.specs.declared.Walked.{Walked}
-use Rattle.split_obj.specs.declared.Walked.the-variants.{Refused}
-use Rattle.split_obj.specs.Loop.{seen}
+use Rattle.stage_walk.specs.Lines.{fromUnits, fromSplits}
 use Rattle.entry_split_obj.specs.Entry.{inputIn}
-use Rattle.entry_split_obj.specs.Lines.{walkOf, fromUnits, fromSplits, fromRelocs, fromSymbols, fromSections, stoppedBy, Within, Gives}
+use Rattle.entry_split_obj.specs.Lines.{fromRelocs, fromSymbols, fromSections}
 use Rattle.entry_split_obj.proofs.Alike.{walk-alike}
 use Rattle.entry_split_obj.proofs.Passed.{lengths-count}
-
--- ---- an outcome on its way
-module _ {room : Counts} {r : Walked} {pieces entries offsets : List ℕ} where
-  -- the same outcome, said otherwise
-  pub gives-as : {o p : Outcome Output} → o ≡ p → Gives o room r pieces entries offsets → Gives p room r pieces entries offsets
-  gives-as e w = subst (λ (x : Outcome Output). Gives x room r pieces entries offsets) e w
-
-  -- a refused line is the answer
-  pub gives-stops : {m : Outcome (Unit {0})} (n : Outcome Output) (a : Answer) {number section address : ℕ} → meaning a ≡ m → a ≡ answers.Refused number section address → r ≡ stoppedBy a
-      → Gives (m >> n) room r pieces entries offsets
-  unfolding _>>_
-  gives-stops n a {number} {section} {address} e z f =
-      let is : r ≡ Refused number section address = f ∙ ap stoppedBy z in
-      record {
-        is = ap (seen pieces entries offsets) is ∙ ap (λ (x : Outcome (Unit {0})). x >> n) (sym (ap meaning z) ∙ e);
-        within = subst (Within room) (sym is) tt;
-      }
-
-  -- a line that passed is passed over
-  pub gives-goes : {m : Outcome (Unit {0})} {n : Outcome Output} → m ≡ accepted tt → Gives n room r pieces entries offsets → Gives (m >> n) room r pieces entries offsets
-  unfolding _>>_
-  gives-goes e w = rw e w
 
 -- ---- relocations that passed: the splits are asked with their places
 pub relocs-as : (lengths : List ℕ) (heads : List Section) (g : Image) (sections : Sections) (b places splits units : List ℕ) (room : Counts) → places ≡ stagePlaces 23 (length b / 23)

@@ -1,12 +1,10 @@
 -- The entry `split_obj` on its lent bytes: what it answers for every input, and every byte of its outputs. "stage tables by kind .., each for 1, 2, then its
 -- kind's number", then the walk (walk/specs/Walk.antt). The contract is `Leaves` at this outcome: the word, the pieces, the piece symbols and the piece
 -- relocations, each as records and then zeros, and their counts; all zeros after a refusal (DECISIONS.md, 75).
-use Prim.Native.Nat.{ℕ, _*_, _/_, _≤_, _<_}
+use Prim.Native.Nat.{ℕ, _/_}
 use mathlib.Core.Path.{_≡_}
 use mathlib.Core.List.{List, [], _∷_}
-use mathlib.Core.Bool.{cond}
 use lib.ListN.{length}
-use lib.Dec.{ltb}
 use Rattle.lists.specs.Outcome.{Outcome, accepted, refused, _>>_}
 use Rattle.lists.specs.Tables.{laid}
 use Rattle.obj.specs.Answers.{outcomeWord}
@@ -25,16 +23,6 @@ use Rattle.pieces.specs.Pieces.{pieceBytes, symbolBytes, relocBytes, packed}
 use Rattle.walk.specs.declared.Counts.{Counts}
 use Rattle.walk.specs.Walk.{Input, Output, nothing, walk}
 use Rattle.walk.specs.Giving.{inputOf}
-
--- ---- the room
-
--- a table of `size` bytes for records of `width` bytes: "A shorter lent output table has its own length as ceiling"
-unfoldable pub roomFor : (ceiling width size : ℕ) → ℕ
-roomFor ceiling width size = cond (ltb (size / width) ceiling) (size / width) ceiling
-
--- "Outputs: 1,024 pieces, 4,096 piece symbols, 4,096 piece relocations"
-abbrev pub roomIn : (pieces symbols relocs : ℕ) → Counts
-roomIn pieces symbols relocs = record { pieces = roomFor 1024 28 pieces; symbols = roomFor 4096 12 symbols; relocs = roomFor 4096 8 relocs }
 
 -- ---- the tables as the walk sees them
 

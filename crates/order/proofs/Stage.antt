@@ -5,7 +5,7 @@ use mathlib.Core.List.{List, [], _∷_, _++_, map}
 use mathlib.Core.Bool.{Bool, true, false}
 use mathlib.Core.Logic.{_⊎_, inl, inr}
 use native.Mathlib.Omega.{arith}
-use lib.ListN.{length, take, length-append, length-map}
+use lib.ListN.{length, getD, take, length-append, length-map}
 use lib.Seq.{sets, length-take-le, take-append-le}
 use Rattle.lists.specs.Sort.{All, none, each}
 use Rattle.lists.specs.Members.{In}
@@ -34,9 +34,9 @@ use Rattle.link_graph.proofs.Rows.{row-at}
 use Rattle.link_graph.proofs.Joined.{place-of}
 use Rattle.link_graph.proofs.Graph.{same-edges}
 use Rattle.order.specs.declared.Resolved.{Resolved}
-use Rattle.order.specs.LinkOrder.{linkOrder, nodesLeft, recordsOf}
+use Rattle.order.specs.LinkOrder.{linkOrder, nodesLeft, recordOf, recordsOf}
 use Rattle.order.specs.Bytes.{unitsBytes}
-use Rattle.order.specs.Columns.{answerOf, saidOf, Room, Resolves, Rows}
+use Rattle.order.specs.Columns.{answerOf, saidOf, Room, Resolves, Rows, Lent, SplitsTaken, UnitsTaken}
 
 -- ---- what an answer leaves is what its outcome says
 said : (r : Sorted) (t : List ℕ) (o : Outcome End) → sorting.meaning r t ≡ o → meaning (answerOf r) ≡ saidOf o
@@ -169,3 +169,22 @@ same-pointers splits us p q room agree =
       to = map (λ (e : UnitEdge). nodeOf (nodes splits) (e .to)) (l ++ links (map (λ (u : units.Unit). u .name) (keepIf (λ (u : units.Unit). hasNode (nodes splits) (u .name)) (ordered us))));
     }) room)
     (same-edges p q splits agree)
+
+-- what the stage is lent, in columns of these lengths
+pub lent : {c : Columns} {n : ℕ} {heads head-places name-bytes name-places lengths ub up numbers scratch column nodes′ from to : List ℕ}
+    → SplitsTaken c n heads head-places name-bytes name-places lengths → UnitsTaken ub up → length numbers ≡ 1024 → length scratch ≡ 1024 → length column ≡ 4096
+    → length nodes′ ≡ 1024 → length from ≡ 2048 → length to ≡ 2048 → Lent c n ub up numbers scratch column nodes′ from to
+lent s u e₁ e₂ e₃ e₄ e₅ e₆ = record {
+  units = record { whole = u .whole; few = u .few; named = λ k h. omega (arith, u .named k h) };
+  named = λ i h. omega (arith, s .named i h);
+  numbers-long = omega arith;
+  scratch-long = omega arith;
+  nodes-long = omega arith;
+  from-long = omega arith;
+  to-long = omega arith;
+}
+
+-- each node that is left has a record
+pub length-records : (splits : List Split) (us : List units.Unit) (l : List ℕ) → length (recordsOf splits us l) ≡ length l
+unfolding recordsOf
+length-records splits us l = length-map l (λ v. recordOf splits us (getD (nodes splits) v 0))

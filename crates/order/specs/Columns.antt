@@ -15,14 +15,14 @@ use Rattle.obj.specs.declared.Unit as units
 use Rattle.obj.specs.declared.Answer.{Answer}
 use Rattle.obj.specs.declared.Answer.the-variants.{Accepted, Refused}
 use Rattle.tables.specs.Records.{noUnit}
-use Rattle.order_numbers.specs.Numbers.{Whole}
+use Rattle.order_numbers.specs.Numbers.{Whole, unitOf}
 use Rattle.splits.specs.Columns.{Columns, rows, rowAt, Long}
 use Rattle.toposort.specs.Search.{End, all, cyclic, lost}
 use Rattle.toposort.specs.Sorting.{Within}
 use Rattle.toposort.specs.declared.Sorted.{Sorted}
 use Rattle.toposort.specs.declared.Sorted.the-variants.{Ordered, Cycle, NoNode, Short}
 use Rattle.link_graph.specs.Graph.{nodes}
-use Rattle.link_graph.specs.Columns.{Units}
+use Rattle.link_graph.specs.Columns.{Splits, Units}
 use Rattle.order.specs.declared.Resolved.{Resolved}
 use Rattle.order.specs.Bytes.{unitsBytes}
 use Rattle.order.specs.LinkOrder.{firstRecord, handOf, madeUnit, nodesLeft, recordsOf}
@@ -117,3 +117,17 @@ pub record Lent (c : Columns) (n : ℕ) (unit-bytes unit-places numbers scratch 
   pub nodes-long : 1024 ≤ length nodes
   pub from-long : 2048 ≤ length from
   pub to-long : 2048 ≤ length to
+
+-- ---- the stage with columns of its own: what the tables before leave
+
+-- the splits stand in columns, and their units are names
+pub record SplitsTaken (c : Columns) (n : ℕ) (heads head-places name-bytes name-places lengths : List ℕ) : Type 0 where
+  pub given : Splits c n heads head-places name-bytes name-places lengths
+  pub named : (i : ℕ) → i < n → rowAt c i .unit < 4096
+  pub few : length lengths ≤ 4096
+
+-- the units' records are there, and their names are names
+pub record UnitsTaken (unit-bytes unit-places : List ℕ) : Type 0 where
+  pub whole : Whole unit-bytes unit-places
+  pub few : length unit-places ≤ 1024
+  pub named : (k : ℕ) → k < length unit-places → unitOf unit-bytes unit-places k .name < 4096

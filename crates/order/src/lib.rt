@@ -10,7 +10,7 @@ ghost use Rattle.splits.specs.Columns.{columns, rows};
 ghost use Rattle.toposort.specs.Sorting.{sortOf, carried, kept as keptBy};
 ghost use Rattle.link_graph.specs.Columns.{givenOf, Splits};
 ghost use Rattle.order.specs.LinkOrder.{linkOrder};
-ghost use Rattle.order.specs.Columns.{answerOf, Room, Resolves, Sortable, Lent};
+ghost use Rattle.order.specs.Columns.{answerOf, Room, Resolves, Sortable, Lent, SplitsTaken, UnitsTaken};
 use link_graph::make_graph;
 use obj::Answer;
 use obj::refusal;
@@ -177,6 +177,60 @@ pub fn resolve_link_order(
         &to[..e],
         scratch,
         column,
+        out,
+    )
+}
+
+// The stage, with columns of its own: the units that have an order, a number of each name, the nodes and the edges.
+pub fn ordered(
+    starts: &[u32],
+    ends: &[u32],
+    units: &[u16],
+    rest: &[u64],
+    n: usize,
+    heads: &[u8],
+    head_places: &[u32],
+    name_bytes: &[u8],
+    name_places: &[u32],
+    lengths: &[u8],
+    unit_bytes: &[u8],
+    unit_places: &[u32],
+    out: &mut [u8],
+) -> Resolved
+    requires { ⌜
+        SplitsTaken (columns (now starts) (now ends) (now units) (now rest)) n (now heads) (now «head_places») (now «name_bytes») (now «name_places») (now lengths)
+        × UnitsTaken (now «unit_bytes») (now «unit_places»)
+        ⌝ }
+    ensures { λ r. ⌜
+        Resolves (rows (columns (now (starts .entry)) (now (ends .entry)) (now (units .entry)) (now (rest .entry))) n) (unitsIn (now («unit_bytes» .entry)) (now («unit_places» .entry)))
+        (linkOrder (givenOf (columns (now (starts .entry)) (now (ends .entry)) (now (units .entry)) (now (rest .entry))) n (now (heads .entry)) (now («head_places» .entry)) (now («name_bytes» .entry)) (now («name_places» .entry)) (now (lengths .entry)) (now («unit_bytes» .entry)) (now («unit_places» .entry))) (length (now (out .entry)) / 8))
+        r (now (out .entry)) (now (out .exit)) ⌝ }
+{
+    let mut numbers = [0u16; 1024];
+    let mut scratch = [0u16; 1024];
+    let mut column = [0u16; 4096];
+    let mut nodes = [0u16; 1024];
+    let mut from = [0u16; 2048];
+    let mut to = [0u16; 2048];
+    resolve_link_order(
+        starts,
+        ends,
+        units,
+        rest,
+        n,
+        heads,
+        head_places,
+        name_bytes,
+        name_places,
+        lengths,
+        unit_bytes,
+        unit_places,
+        &mut numbers,
+        &mut scratch,
+        &mut column,
+        &mut nodes,
+        &mut from,
+        &mut to,
         out,
     )
 }

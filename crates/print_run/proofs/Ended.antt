@@ -14,8 +14,8 @@ use Rattle.load.specs.Columns.{part, tablesIn}
 use Rattle.loaded.proofs.Bytes.{loaded-usable}
 use Rattle.splits.specs.Columns.{Columns}
 use Rattle.walk.specs.declared.Counts.{Counts}
-use Rattle.entry_split_obj.specs.Entry.{roomIn}
-use Rattle.entry_split_obj.proofs.Finish.{room-low, room-28, room-12, room-8}
+use Rattle.stage_walk.specs.Room.{roomIn}
+use Rattle.stage_walk.proofs.Room.{room-low, room-28, room-12, room-8}
 use Rattle.run.specs.declared.Ran.{Ran}
 use Rattle.run.specs.declared.Ran.the-variants.{Done, Cycle, Refused}
 use Rattle.run.specs.Run.{Rooms, Ended, stages, runOf}

@@ -33,7 +33,8 @@ use Rattle.restore.proofs.Refusals.{Says, says-of, walk-numbers}
 use Rattle.restore.proofs.Alignments as alignments
 use Rattle.restore.proofs.Alignments.{Misfit}
 use Rattle.restore.proofs.Nobits as nobits
-use Rattle.entry_split_obj.specs.Entry.{roomFor, splitObjOf, outputOf}
+use Rattle.stage_walk.specs.Room.{roomFor}
+use Rattle.entry_split_obj.specs.Entry.{splitObjOf, outputOf}
 use Rattle.restore_entry.specs.Tables.{inputIn, Passed, Accepted, SameTables}
 use Rattle.restore_entry.specs.Entry.{Call, outcome, lent, Run, input, count, piecesOf}
 use Rattle.restore_entry.proofs.Tables.{input-checked}

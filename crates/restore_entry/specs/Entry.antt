@@ -11,7 +11,8 @@ use Rattle.units.specs.Units.{unitNames}
 use Rattle.pieces.specs.declared.Piece.{Piece}
 use Rattle.pieces.specs.Pieces.{piecesIn}
 use Rattle.walk.specs.Walk.{Input, Output}
-use Rattle.entry_split_obj.specs.Entry.{Sizes, roomIn, splitObjOf, outputOf, Leaves}
+use Rattle.stage_walk.specs.Room.{roomIn}
+use Rattle.entry_split_obj.specs.Entry.{Sizes, splitObjOf, outputOf, Leaves}
 use Rattle.restore_entry.specs.Tables.{Lent, inputIn}
 
 pub record Call : Type 0 where

@@ -36,7 +36,7 @@ use Rattle.walk.specs.declared.Counts.{Counts}
 use Rattle.walk.specs.Giving.{outputIn}
 use Rattle.split_obj.specs.declared.Walked.{Walked}
 use Rattle.split_obj.specs.declared.Walked.the-variants as walks
-use Rattle.entry_split_obj.specs.Lines.{Gives}
+use Rattle.stage_walk.specs.Lines.{Gives}
 use Rattle.run.specs.declared.Ran.{Ran}
 use Rattle.run.specs.declared.Ran.the-variants.{Refused}
 use Rattle.run.specs.Run.{done, cycle, linked, unitsOf, walked, onOrder, orderedAndWalked}

@@ -16,7 +16,7 @@ use Rattle.loaded.specs.Tables.{Usable}
 use Rattle.loaded.proofs.Laws.{few-names, few-units, measured, all-named, section-named, sections-heads}
 use Rattle.splits.specs.Columns.{Columns, rowAt, rows}
 use Rattle.link_graph.specs.Columns.{SectionNames}
-use Rattle.entry_resolve_link_order.specs.Entry.{SplitsTaken, UnitsTaken}
+use Rattle.order.specs.Columns.{SplitsTaken, UnitsTaken}
 use Rattle.run_splits.specs.Table.{Homed}
 use Rattle.run.specs.Answers.{Tabled}
 

@@ -41,7 +41,7 @@ use Rattle.order.specs.Bytes.{unitsBytes, Fits}
 use Rattle.order.specs.Columns.{Resolves}
 use Rattle.order.specs.declared.Resolved.{Resolved}
 use Rattle.order.proofs.Bytes.{length-unitsBytes, units-back}
-use Rattle.entry_resolve_link_order.proofs.Laws.{length-records}
+use Rattle.order.proofs.Stage.{length-records}
 use Rattle.run_splits.specs.Table.{Homed}
 use Rattle.run.specs.Answers.{unitsAt, Units}
 

@@ -23,8 +23,8 @@ use Rattle.units.specs.Units.{unitNames, Listed, Numbered}
 use Rattle.walk.specs.declared.Counts.{Counts}
 use Rattle.split_obj.specs.declared.Walked.{Walked}
 use Rattle.split_obj.specs.Loop.{Ready}
-use Rattle.entry_split_obj.specs.Lines.{walkOf, Gives}
-use Rattle.entry_split_obj.proofs.Lines.{gives-as}
+use Rattle.stage_walk.specs.Lines.{walkOf, Gives}
+use Rattle.stage_walk.proofs.Lines.{gives-as}
 use Rattle.run.specs.Run.{walked}
 use Rattle.run.specs.Answers.{unitsAt, Prepared, Tabled, Units}
 use Rattle.run.proofs.Linking.{row-homed}

@@ -12,7 +12,7 @@ ghost use Rattle.splits.specs.Columns.{columns, Long};
 ghost use Rattle.gap_splits.specs.Answers as entering;
 ghost use Rattle.run_load.specs.Prepared.{Prepares};
 ghost use Rattle.run_splits.specs.Table.{splitTable};
-ghost use Rattle.entry_split_obj.specs.Entry.{roomIn};
+ghost use Rattle.stage_walk.specs.Room.{roomIn};
 ghost use Rattle.run.specs.Run.{stages, runOf};
 ghost use Rattle.run.specs.Answers.{ranIn};
 ghost use Rattle.run_file.specs.RunFile.{lower as lowerOf, sum, roomsIn, Ready, Lent, Loader, Stored, Holds, Runs};

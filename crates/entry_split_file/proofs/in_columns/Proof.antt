@@ -6,7 +6,7 @@ use native.Mathlib.Omega.{arith}
 use lib.ListN.{length}
 use Rattle.stage_splits.proofs.Laws.{room-low, room-fits}
 use Rattle.walk.specs.declared.Counts.{Counts}
-use Rattle.entry_split_obj.specs.Entry.{roomIn}
+use Rattle.stage_walk.specs.Room.{roomIn}
 use Rattle.run.specs.Run.{runOf}
 use Rattle.run_file.specs.RunFile.{roomsIn}
 use Rattle.run_outputs.specs.Laid.{Sizes}

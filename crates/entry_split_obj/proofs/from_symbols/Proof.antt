@@ -2,34 +2,24 @@
 -- asked with them.
 -- Assumes nothing.
 use borrow.Author.Needs.{needs}
-use mathlib.Core.Path.{_≡_, refl, sym, ap, subst, _∙_}
+use mathlib.Core.Path.{_≡_, sym, ap, _∙_}
 use mathlib.Core.List.{List}
-use Prim.Native.Nat.{ℕ, _+_, _*_, _/_, _≤_, _<_}
+use Prim.Native.Nat.{ℕ, _/_, _≤_}
 use native.Mathlib.Omega.{arith}
-use lib.ListN.{length, take, length-map}
+use lib.ListN.{length, take}
 use lib.Seq.{length-take-le}
-use Rattle.lists.specs.Outcome.{Outcome, accepted}
+use Rattle.lists.specs.Outcome.{accepted}
 use Rattle.obj.specs.Answers.{meaning}
-use Rattle.obj.specs.Records.{sectionAt, stagePlaces}
-use Rattle.stage_tables.proofs.Laws.{table-passed, taken-few, taken-places, taken-count, taken-held}
+use Rattle.obj.specs.Records.{stagePlaces}
+use Rattle.stage_tables.proofs.Laws.{table-passed}
 use Rattle.sections.specs.Image.{imageOf}
 use Rattle.sections.specs.Sections.{sectionsOf}
-use Rattle.relocs.specs.Relocs.{relocOf}
-use Rattle.splits.specs.Columns.{columns, rows as rowsOf}
-use Rattle.units.specs.Units.{unitNames}
-use Rattle.obj.specs.declared.Split.{Split}
 use Rattle.tables.specs.Records.{sectionsIn}
-use Rattle.walk.specs.declared.Counts.{Counts}
-use Rattle.walk.specs.Walk.{Output}
-use Rattle.walk.specs.Giving.{outputIn}
-use Rattle.entry_split_obj.specs.Entry.{roomFor, roomIn, splitObjOf}
-use Rattle.entry_split_obj.specs.Lines.{walkOf, fromUnits, fromSplits, fromRelocs, fromSymbols, fromSections, none, Fits, sizesOf}
-use Rattle.entry_split_obj.proofs.Passed.{rows-named, relocs-taken, units-few, units-listed, names-taken, names-few, lengths-count}
-use Rattle.entry_split_obj.proofs.Lines.{gives-as, gives-stops, gives-goes, relocs-as, sections-as, names-as}
+use Rattle.stage_walk.specs.Room.{roomIn}
+use Rattle.entry_split_obj.specs.Lines.{fromRelocs, fromSymbols}
+use Rattle.stage_walk.proofs.Lines.{gives-as, gives-stops, gives-goes}
 use Rattle.stage_symbols.proofs.Laws.{tables-taken, symbols-sound}
 use Rattle.obj.proofs.Laws.{length-stagePlaces}
-use Rattle.symbol_order.specs.Order.{symbolOf}
-use Rattle.symbols.specs.Sound.{Sound}
 use Rattle.stage_tables.specs.StageTables.{symbolsCheck}
 use Rattle.entry_split_obj.proofs.from_symbols.Statement.{statement}
 use Rattle.entry_split_obj.proofs.from_symbols.Tie as tie

@@ -1,33 +1,12 @@
 -- `entry_split_obj::split_obj` meets its contract. What was made is whole in the outputs, and the rest of them is zeros.
 -- Assumes nothing.
 use borrow.Author.Needs.{needs}
-use mathlib.Core.Path.{_≡_, refl, sym, ap, subst, _∙_}
-use mathlib.Core.List.{List}
-use Prim.Native.Nat.{ℕ, _+_, _*_, _/_, _≤_, _<_}
-use native.Mathlib.Omega.{arith}
-use lib.ListN.{length, take, length-map}
-use lib.Seq.{length-take-le}
-use Rattle.lists.specs.Outcome.{Outcome, accepted}
-use Rattle.obj.specs.Answers.{meaning}
-use Rattle.obj.specs.Records.{sectionAt, stagePlaces}
-use Rattle.stage_tables.proofs.Laws.{table-passed, taken-few, taken-places, taken-count, taken-held}
-use Rattle.sections.specs.Image.{imageOf}
-use Rattle.sections.specs.Sections.{sectionsOf}
-use Rattle.relocs.specs.Relocs.{relocOf}
-use Rattle.splits.specs.Columns.{columns, rows as rowsOf}
-use Rattle.units.specs.Units.{unitNames}
-use Rattle.obj.specs.declared.Split.{Split}
-use Rattle.tables.specs.Records.{sectionsIn}
+use mathlib.Core.Path.{sym, subst, _∙_}
+use lib.ListN.{length}
 use Rattle.walk.specs.declared.Counts.{Counts}
-use Rattle.walk.specs.Walk.{Output}
-use Rattle.walk.specs.Giving.{outputIn}
-use Rattle.entry_split_obj.specs.Entry.{roomFor, roomIn, splitObjOf}
-use Rattle.entry_split_obj.specs.Lines.{walkOf, fromUnits, fromSplits, fromRelocs, fromSymbols, fromSections, none, Fits, sizesOf}
-use Rattle.entry_split_obj.proofs.Passed.{rows-named, relocs-taken, units-few, units-listed, names-taken, names-few, lengths-count}
-use Rattle.entry_split_obj.proofs.Lines.{gives-as, gives-stops, gives-goes, relocs-as, sections-as, names-as}
-use Rattle.entry_split_obj.proofs.Finish.{tabled-none, walked-all, cleared, three-counts, made-fits, leaves-at, fits-as}
+use Rattle.entry_split_obj.specs.Lines.{Fits}
+use Rattle.entry_split_obj.proofs.Finish.{made-fits, leaves-at, fits-as}
 use Rattle.entry_split_obj.specs.Lines.{madeBy}
-use Rattle.entry_split_obj.specs.Entry.{Sizes}
 use Rattle.entry_split_obj.proofs.split_obj.Statement.{statement}
 use Rattle.entry_split_obj.proofs.split_obj.Tie as tie
 

@@ -9,7 +9,7 @@ use Rattle.loaded.specs.Tables.{tablesWith}
 use Rattle.splits.specs.Columns.{Columns, columns}
 use Rattle.gap_splits.specs.Answers.{splits}
 use Rattle.walk.specs.declared.Counts.{Counts}
-use Rattle.entry_split_obj.specs.Entry.{roomIn}
+use Rattle.stage_walk.specs.Room.{roomIn}
 use Rattle.run.specs.Answers.{Tabled}
 use Rattle.run.proofs.Answering.{refused-before, entered-before}
 use borrow.Author.Needs.{needs}

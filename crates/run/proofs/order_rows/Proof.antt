@@ -6,7 +6,7 @@ use Rattle.load.specs.Load.{Loaded}
 use Rattle.loaded.specs.Tables.{tablesWith}
 use Rattle.splits.specs.Columns.{Columns, columns}
 use Rattle.walk.specs.declared.Counts.{Counts}
-use Rattle.entry_split_obj.specs.Entry.{roomIn}
+use Rattle.stage_walk.specs.Room.{roomIn}
 use Rattle.run.proofs.Linking.{splits-taken, units-taken}
 use Rattle.run.proofs.Answering.{stands, unlinked-right, walked-right}
 use borrow.Author.Needs.{needs}

@@ -7,7 +7,7 @@ use lib.ListN.{length, take}
 use lib.Seq.{length-take-le}
 use Rattle.loaded.proofs.Laws.{few-symbols}
 use Rattle.splits.specs.Columns.{columns, rows}
-use Rattle.entry_split_obj.specs.Entry.{roomIn}
+use Rattle.stage_walk.specs.Room.{roomIn}
 use Rattle.run.proofs.Walking.{units-listed, ready, walked-as}
 use borrow.Author.Needs.{needs}
 use Rattle.run.proofs.walk_units.Statement.{statement}

@@ -5,7 +5,7 @@ use native.Mathlib.Omega.{arith}
 use lib.ListN.{length}
 use Rattle.lists.proofs.Outcomes.{not-both}
 use Rattle.load.specs.Load.{Loaded}
-use Rattle.entry_split_obj.specs.Entry.{roomIn}
+use Rattle.stage_walk.specs.Room.{roomIn}
 use Rattle.run.specs.Run.{Rooms}
 use Rattle.run_file.specs.RunFile.{roomsIn}
 use Rattle.run_file.proofs.Parts.{loads, stored, run-refused, run-goes}

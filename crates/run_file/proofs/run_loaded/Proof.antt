@@ -6,7 +6,7 @@ use native.Mathlib.Omega.{arith}
 use lib.ListN.{length}
 use Rattle.lists.specs.Outcome.{Outcome}
 use Rattle.load.specs.Load.{Loaded}
-use Rattle.entry_split_obj.specs.Entry.{roomIn}
+use Rattle.stage_walk.specs.Room.{roomIn}
 use Rattle.run.specs.Run.{Ended, stages}
 use Rattle.run_file.specs.RunFile.{roomsIn}
 use Rattle.run_file.proofs.Parts.{few-names, few-symbols, few-relocs, few-splits, few-units, long-places, names-long, sections-long, images-long, order-long, parts-are, parts-ready}

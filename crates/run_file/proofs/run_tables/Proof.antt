@@ -12,7 +12,7 @@ use Rattle.loaded.specs.Tables.{tablesWith}
 use Rattle.loaded.proofs.Laws.{few-names, measured}
 use Rattle.splits.proofs.Rows.{long-same}
 use Rattle.walk.specs.declared.Counts.{Counts}
-use Rattle.entry_split_obj.specs.Entry.{roomIn}
+use Rattle.stage_walk.specs.Room.{roomIn}
 use Rattle.run_splits.specs.Table.{splitTable}
 use Rattle.run_splits.proofs.Tables.{rows-homed}
 use Rattle.run.specs.Run.{Rooms}

@@ -7,7 +7,7 @@ use lib.ListN.{length}
 use Rattle.outputs.specs.Outputs.{countsOf}
 use Rattle.splits.specs.Columns.{columns}
 use Rattle.gap_splits.specs.Answers.{beside}
-use Rattle.entry_split_obj.proofs.Finish.{cleared}
+use Rattle.stage_walk.proofs.Room.{cleared}
 use Rattle.run_outputs.proofs.Laws.{kept-listed}
 use borrow.Author.Needs.{needs}
 use Rattle.run_outputs.proofs.lay.Statement.{statement}

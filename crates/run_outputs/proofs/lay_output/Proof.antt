@@ -3,7 +3,7 @@
 use mathlib.Core.Path.{_∙_}
 use Prim.Native.Nat.{_*_}
 use Rattle.pieces.proofs.Laws.{pieces-packed, symbols-packed, relocs-packed}
-use Rattle.entry_split_obj.proofs.Finish.{cleared}
+use Rattle.stage_walk.proofs.Room.{cleared}
 use borrow.Author.Needs.{needs}
 use Rattle.run_outputs.proofs.lay_output.Statement.{statement}
 use Rattle.run_outputs.proofs.lay_output.Tie as tie

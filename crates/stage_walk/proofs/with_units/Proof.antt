@@ -1,8 +1,8 @@
--- `entry_split_obj::with_units` meets its contract. The columns have a place for each unit, name, symbol and relocation that is allowed.
+-- `stage_walk::with_units` meets its contract. The columns have a place for each unit, name, symbol and relocation that is allowed.
 -- Assumes nothing.
 use borrow.Author.Needs.{needs}
-use Rattle.entry_split_obj.proofs.with_units.Statement.{statement}
-use Rattle.entry_split_obj.proofs.with_units.Tie as tie
+use Rattle.stage_walk.proofs.with_units.Statement.{statement}
+use Rattle.stage_walk.proofs.with_units.Tie as tie
 
 slice-aggregate-from-units : tie.Need-slice-aggregate-from-units
 slice-aggregate-from-units c = search needs

@@ -1,13 +1,13 @@
--- `entry_split_obj::room_for` meets its contract: the lower of two numbers.
+-- `stage_walk::room_for` meets its contract: the lower of two numbers.
 -- Assumes nothing.
 use Prim.Native.Nat.{_/_}
 use mathlib.Core.Path.{sym, ap}
 use mathlib.Core.Bool.{Bool, cond}
 use native.Mathlib.Omega.{arith}
 use borrow.Author.Tests.{lt-ltb, le-ltb}
-use Rattle.entry_split_obj.specs.Entry.{roomFor}
-use Rattle.entry_split_obj.proofs.room_for.Statement.{statement}
-use Rattle.entry_split_obj.proofs.room_for.Tie as tie
+use Rattle.stage_walk.specs.Room.{roomFor}
+use Rattle.stage_walk.proofs.room_for.Statement.{statement}
+use Rattle.stage_walk.proofs.room_for.Tie as tie
 
 div-whole : tie.Need-div-whole
 div-whole c = omega (arith, c .pre)

@@ -1,8 +1,8 @@
--- `entry_split_obj::with_splits` meets its contract. The columns have a place for each split that is allowed.
+-- `stage_walk::with_splits` meets its contract. The columns have a place for each split that is allowed.
 -- Assumes nothing.
 use borrow.Author.Needs.{needs}
-use Rattle.entry_split_obj.proofs.with_splits.Statement.{statement}
-use Rattle.entry_split_obj.proofs.with_splits.Tie as tie
+use Rattle.stage_walk.proofs.with_splits.Statement.{statement}
+use Rattle.stage_walk.proofs.with_splits.Tie as tie
 
 slice-aggregate-from-splits : tie.Need-slice-aggregate-from-splits
 slice-aggregate-from-splits c = search needs

@@ -1,9 +1,9 @@
--- `entry_split_obj::stopped` meets its contract: each answer has its refusal.
+-- `stage_walk::stopped` meets its contract: each answer has its refusal.
 use mathlib.Core.Path.{sym, ap}
 use borrow.Author.Needs.{needs}
-use Rattle.entry_split_obj.specs.Lines.{stoppedBy}
-use Rattle.entry_split_obj.proofs.stopped.Statement.{statement}
-use Rattle.entry_split_obj.proofs.stopped.Tie as tie
+use Rattle.stage_walk.specs.Lines.{stoppedBy}
+use Rattle.stage_walk.proofs.stopped.Statement.{statement}
+use Rattle.stage_walk.proofs.stopped.Tie as tie
 
 enum-told : tie.Need-enum-told
 enum-told c = search needs

@@ -1,8 +1,8 @@
--- `entry_resolve_link_order::ordered` meets its contract: its columns are as long as the ceilings.
-use Rattle.entry_resolve_link_order.proofs.Laws.{lent}
+-- `order::ordered` meets its contract: its columns are as long as the ceilings.
+use Rattle.order.proofs.Stage.{lent}
 use borrow.Author.Needs.{needs}
-use Rattle.entry_resolve_link_order.proofs.ordered.Statement.{statement}
-use Rattle.entry_resolve_link_order.proofs.ordered.Tie as tie
+use Rattle.order.proofs.ordered.Statement.{statement}
+use Rattle.order.proofs.ordered.Tie as tie
 
 slice-aggregate-resolve-link-order : tie.Need-slice-aggregate-resolve-link-order
 slice-aggregate-resolve-link-order c = search needs

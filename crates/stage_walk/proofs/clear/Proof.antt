@@ -1,4 +1,4 @@
--- `entry_split_obj::clear` meets its contract. Invariant: clearing what is left from here on clears the whole column.
+-- `stage_walk::clear` meets its contract. Invariant: clearing what is left from here on clears the whole column.
 use Prim.Native.Nat.{_-_}
 use mathlib.Core.Path.{_≡_, refl, sym, _∙_}
 use native.Mathlib.Nat.{sub-zero}
@@ -6,8 +6,8 @@ use native.Mathlib.Omega.{arith}
 use lib.ListN.{length, length-set}
 use Rattle.lists.specs.Rows.{clearFrom}
 use Rattle.lists.proofs.Clear.{clear-turn, clear-done, clear-is}
-use Rattle.entry_split_obj.proofs.clear.Statement.{statement}
-use Rattle.entry_split_obj.proofs.clear.Tie as tie
+use Rattle.stage_walk.proofs.clear.Statement.{statement}
+use Rattle.stage_walk.proofs.clear.Tie as tie
 
 abbrev Inv-loop : tie.InvT-loop
 Inv-loop column₀ i₀ column i = (length column ≡ length column₀) × (clearFrom 0 i column ≡ clearFrom 0 0 column₀)

@@ -1,0 +1,4 @@
+pub mod Room
+pub mod Walked
+pub mod Passed
+pub mod Lines
