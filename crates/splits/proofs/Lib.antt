@@ -1,4 +1,5 @@
 pub mod Alignment
 pub mod Rows
+pub mod Blocks
 pub mod Bytes
 pub mod Rising

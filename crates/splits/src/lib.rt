@@ -1,12 +1,13 @@
 // The split table as four columns and a count: its rows, read from packed records and written to them, and what is asked of them.
 // `rest` packs section, rename, flags and alignment (specs/Columns.antt).
 ghost use mathlib.Core.Path.{_≡_};
-ghost use mathlib.Core.Bool.{not, _&&_};
+ghost use mathlib.Core.Bool.{true, false, not, _&&_};
 ghost use mathlib.Core.List.{map};
 ghost use lib.Dec.{eqb, leb, ltb};
 ghost use Prim.Native.Nat.{ℕ, _+_, _*_, _/_, _%_, _<_, _≤_};
-ghost use lib.ListN.{length, set};
+ghost use lib.ListN.{length, getD, set};
 ghost use lib.Seq.{sets};
+ghost use Rattle.lists.specs.Rows.{tabulate, some};
 ghost use Rattle.obj.specs.Records.{splitAt};
 ghost use Rattle.splits.specs.Columns.{alignmentOf, Good, columns, rowOf, rowAt, rows, Long};
 ghost use Rattle.splits.specs.Updates.{withEnd};
@@ -181,8 +182,22 @@ fn is_hand(yrest: u64) -> bool
     !(yrest / 4294967296 % 256 / 2 % 2 == 1)
 }
 
-// The first row from `at` on that is the unit's in the section, or n.
-pub fn next_of_unit(
+// Whether one of the 32 units from `at` on is `unit`. No early exit and a fixed count, so that the compiler compares eight at a time.
+fn holds_unit(units: &[u16], at: usize, unit: u16) -> bool
+    requires { ⌜ at + 32 ≤ length (now units) ⌝ }
+    ensures { λ r. ⌜ r ≡ some (λ (u : ℕ). eqb u unit) (tabulate (λ (k : ℕ). getD (now (units .entry)) k 0) at 32) ⌝ }
+{
+    let mut any = false;
+    let mut k: usize = 0;
+    while k < 32 {
+        any = any | (units[at + k] == unit);
+        k += 1;
+    }
+    any
+}
+
+// The first row from `at` on that is the unit's in the section, or n: row by row.
+fn next_in_rows(
     starts: &[u32],
     ends: &[u32],
     units: &[u16],
@@ -205,6 +220,148 @@ pub fn next_of_unit(
     i
 }
 
+// The same of the 32 rows from `at` on: row by row only where one is the unit's in some section.
+fn next_in_block(
+    starts: &[u32],
+    ends: &[u32],
+    units: &[u16],
+    rest: &[u64],
+    section: u16,
+    unit: u16,
+    at: usize,
+) -> usize
+    requires { ⌜ Long (columns (now starts) (now ends) (now units) (now rest)) (at + 32) ⌝ }
+    ensures { λ r. ⌜ Hit (ofUnit section unit) (columns (now (starts .entry)) (now (ends .entry)) (now (units .entry)) (now (rest .entry))) (at + 32) at r ⌝ }
+{
+    if holds_unit(units, at, unit) {
+        return next_in_rows(starts, ends, units, rest, at + 32, section, unit, at);
+    }
+    at + 32
+}
+
+// The first row from `at` on that is the unit's in the section, or n: by blocks of 32 rows, then the rows that are left.
+pub fn next_of_unit(
+    starts: &[u32],
+    ends: &[u32],
+    units: &[u16],
+    rest: &[u64],
+    n: usize,
+    section: u16,
+    unit: u16,
+    at: usize,
+) -> usize
+    requires { ⌜ Long (columns (now starts) (now ends) (now units) (now rest)) n × (at ≤ n) ⌝ }
+    ensures { λ r. ⌜ Hit (ofUnit section unit) (columns (now (starts .entry)) (now (ends .entry)) (now (units .entry)) (now (rest .entry))) n at r ⌝ }
+{
+    let mut i = at;
+    while 32 <= n - i {
+        let k = next_in_block(starts, ends, units, rest, section, unit, i);
+        if k < i + 32 {
+            return k;
+        }
+        i += 32;
+    }
+    next_in_rows(starts, ends, units, rest, n, section, unit, i)
+}
+
+// Whether one of the 32 starts from `at` on lies in a range; as `holds_unit`.
+fn holds_start(starts: &[u32], at: usize, from: u32, to: u32) -> bool
+    requires { ⌜ at + 32 ≤ length (now starts) ⌝ }
+    ensures { λ r. ⌜ r ≡ some (λ (s : ℕ). leb from s && ltb s to) (tabulate (λ (k : ℕ). getD (now (starts .entry)) k 0) at 32) ⌝ }
+{
+    let mut any = false;
+    let mut k: usize = 0;
+    while k < 32 {
+        let start = starts[at + k];
+        any = any | ((from <= start) & (start < to));
+        k += 1;
+    }
+    any
+}
+
+// The first row from `at` on in the range, or n: row by row.
+fn within_in_rows(
+    starts: &[u32],
+    ends: &[u32],
+    units: &[u16],
+    rest: &[u64],
+    n: usize,
+    section: u16,
+    from: u32,
+    to: u32,
+    at: usize,
+) -> usize
+    requires { ⌜ Long (columns (now starts) (now ends) (now units) (now rest)) n × (at ≤ n) ⌝ }
+    ensures { λ r. ⌜
+        (at ≤ r)
+        × (r ≤ n)
+        × ((k : ℕ) → at ≤ k → k < r → within section from to (rowAt (columns (now (starts .entry)) (now (ends .entry)) (now (units .entry)) (now (rest .entry))) k) ≡ false)
+        × (r < n → within section from to (rowAt (columns (now (starts .entry)) (now (ends .entry)) (now (units .entry)) (now (rest .entry))) r) ≡ true) ⌝ }
+{
+    let mut i = at;
+    while i < n {
+        if is_within(section, from, to, starts[i], rest[i]) {
+            return i;
+        }
+        i += 1;
+    }
+    i
+}
+
+// The same of the 32 rows from `at` on: row by row only where one starts in the range in some section.
+fn within_in_block(
+    starts: &[u32],
+    ends: &[u32],
+    units: &[u16],
+    rest: &[u64],
+    section: u16,
+    from: u32,
+    to: u32,
+    at: usize,
+) -> usize
+    requires { ⌜ Long (columns (now starts) (now ends) (now units) (now rest)) (at + 32) ⌝ }
+    ensures { λ r. ⌜
+        (at ≤ r)
+        × (r ≤ at + 32)
+        × ((k : ℕ) → at ≤ k → k < r → within section from to (rowAt (columns (now (starts .entry)) (now (ends .entry)) (now (units .entry)) (now (rest .entry))) k) ≡ false)
+        × (r < at + 32 → within section from to (rowAt (columns (now (starts .entry)) (now (ends .entry)) (now (units .entry)) (now (rest .entry))) r) ≡ true) ⌝ }
+{
+    if holds_start(starts, at, from, to) {
+        return within_in_rows(starts, ends, units, rest, at + 32, section, from, to, at);
+    }
+    at + 32
+}
+
+// The first row from `at` on in the range, or n: by blocks of 32 rows, then the rows that are left.
+pub fn next_within(
+    starts: &[u32],
+    ends: &[u32],
+    units: &[u16],
+    rest: &[u64],
+    n: usize,
+    section: u16,
+    from: u32,
+    to: u32,
+    at: usize,
+) -> usize
+    requires { ⌜ Long (columns (now starts) (now ends) (now units) (now rest)) n × (at ≤ n) ⌝ }
+    ensures { λ r. ⌜
+        (at ≤ r)
+        × (r ≤ n)
+        × ((k : ℕ) → at ≤ k → k < r → within section from to (rowAt (columns (now (starts .entry)) (now (ends .entry)) (now (units .entry)) (now (rest .entry))) k) ≡ false)
+        × (r < n → within section from to (rowAt (columns (now (starts .entry)) (now (ends .entry)) (now (units .entry)) (now (rest .entry))) r) ≡ true) ⌝ }
+{
+    let mut i = at;
+    while 32 <= n - i {
+        let k = within_in_block(starts, ends, units, rest, section, from, to, i);
+        if k < i + 32 {
+            return k;
+        }
+        i += 32;
+    }
+    within_in_rows(starts, ends, units, rest, n, section, from, to, i)
+}
+
 // What the range holds, for a split of `unit`: "an autogenerated one that meets a hand split changes nothing", "25 meets a hand split of another unit",
 // "26 a round goes on but its range holds no split".
 pub fn meets(
@@ -224,16 +381,14 @@ pub fn meets(
     let mut any = false;
     let mut hand = false;
     let mut other = false;
-    let mut i: usize = 0;
+    let mut i = next_within(starts, ends, units, rest, n, section, from, to, 0);
     while i < n {
-        let r = rest[i];
-        let inside = is_within(section, from, to, starts[i], r);
-        let by_hand = is_hand(r);
+        let by_hand = is_hand(rest[i]);
         let of_other = units[i] != unit;
-        any = any | inside;
-        hand = hand | (inside & by_hand);
-        other = other | (inside & (by_hand & of_other));
-        i += 1;
+        any = true;
+        hand = hand | by_hand;
+        other = other | (by_hand & of_other);
+        i = next_within(starts, ends, units, rest, n, section, from, to, i + 1);
     }
     Met { any, hand, other }
 }

@@ -1,13 +1,12 @@
 -- `splits::next_of_unit` meets its contract. Invariant: of the rows from `at` on that pass, none stands before place i.
 -- Assumes nothing.
-use mathlib.Core.Path.{_≡_, refl, sym, _∙_}
-use Prim.Native.Nat.{_-_, _≤_}
+use mathlib.Core.Path.{_≡_, refl, _∙_}
+use Prim.Native.Nat.{_+_, _-_, _≤_}
 use native.Mathlib.Omega.{arith}
-use borrow.Author.Tests.{lt-ltb, le-ltb}
 use Rattle.lists.specs.Rows.{tabulate, keepIf}
-use Rattle.lists.proofs.FilterRows.{filter-hit, filter-miss, filter-none}
-use Rattle.splits.specs.Columns.{columns, rowOf, rowAt}
+use Rattle.splits.specs.Columns.{columns, rowAt}
 use Rattle.splits.specs.Questions.{ofUnit}
+use Rattle.splits.proofs.Blocks.{block-hit, block-miss}
 use Rattle.splits.proofs.next_of_unit.Statement.{statement}
 use Rattle.splits.proofs.next_of_unit.Tie as tie
 
@@ -24,32 +23,26 @@ abbrev μ-loop : tie.MeasureT-loop
 loop-holds : tie.Need-loop-holds Inv-loop μ-loop
 loop-holds c = (omega arith, omega arith, refl)
 
-mul-is-of-unit : tie.Need-mul-is-of-unit Inv-loop μ-loop
-mul-is-of-unit c = omega arith
+sub-loop : tie.Need-sub-loop Inv-loop μ-loop
+sub-loop c = omega arith
 
-shared-slice-read-is-of-unit : tie.Need-shared-slice-read-is-of-unit Inv-loop μ-loop
-shared-slice-read-is-of-unit c = omega arith
+next-in-block-requires : tie.Need-next-in-block-requires Inv-loop μ-loop
+next-in-block-requires c κs = record { starts = omega arith; ends = omega arith; units = omega arith; rest = omega arith }
 
-mul-is-of-unit-2 : tie.Need-mul-is-of-unit-2 Inv-loop μ-loop
-mul-is-of-unit-2 c = omega arith
-
-shared-slice-read-is-of-unit-2 : tie.Need-shared-slice-read-is-of-unit-2 Inv-loop μ-loop
-shared-slice-read-is-of-unit-2 c = omega arith
-
-is-of-unit-requires : tie.Need-is-of-unit-requires Inv-loop μ-loop
-is-of-unit-requires c κs = tt
+add-if1 : tie.Need-add-if1 Inv-loop μ-loop
+add-if1 c = omega arith
 
 returns : tie.Need-returns Inv-loop μ-loop
-unfolding rowOf
 returns c =
-    let l = c .before .before .before .before .before .loop in
-    let a = c .before .before .before .before .before .before .before .before .before .before .args in
-    let h = c .before .before .before .before .loop-test .taken in
-    let f = rowAt (columns (a .starts .now) (a .ends .now) (a .units .now) (a .rest .now)) in
+    let l = c .before .before .before .loop in
+    let a = c .before .before .before .before .before .before .before .before .args in
+    let b = c .before .next-in-block in
+    let h = b .ensures in
+    let c₀ = columns (a .starts .now) (a .ends .now) (a .units .now) (a .rest .now) in
     record {
-      is = l .inv .2 ∙ filter-hit (ofUnit (a .section) (a .unit)) f (a .n) (l .i) h (sym (c .before .is-of-unit .ensures) ∙ c .if1 .taken) ∙ rw (lt-ltb (l .i) (a .n) h);
-      past = omega arith;
-      small = omega arith;
+      is = l .inv .2 ∙ block-hit (ofUnit (a .section) (a .unit)) c₀ (a .n) (l .i + 32) (l .i) (b .result) (omega arith) (omega arith) h (c .if1 .taken);
+      past = omega (arith, h .past);
+      small = omega (arith, h .small);
     }
 
 add-i : tie.Need-add-i Inv-loop μ-loop
@@ -59,25 +52,22 @@ loop-less : tie.Need-loop-less Inv-loop μ-loop
 loop-less c = omega arith
 
 loop-again : tie.Need-loop-again Inv-loop μ-loop
-unfolding rowOf
 loop-again c =
-    let l = c .before .before .before .before .before .loop in
-    let a = c .before .before .before .before .before .before .before .before .before .before .args in
-    let f = rowAt (columns (a .starts .now) (a .ends .now) (a .units .now) (a .rest .now)) in
-    let miss = filter-miss (ofUnit (a .section) (a .unit)) f (a .n) (l .i) (c .before .before .before .before .loop-test .taken) (sym (c .before .is-of-unit .ensures) ∙ c .if1 .left) in
+    let l = c .before .before .before .loop in
+    let a = c .before .before .before .before .before .before .before .before .args in
+    let b = c .before .next-in-block in
+    let c₀ = columns (a .starts .now) (a .ends .now) (a .units .now) (a .rest .now) in
+    let miss = block-miss (ofUnit (a .section) (a .unit)) c₀ (a .n) (l .i + 32) (l .i) (b .result) (omega arith) (omega arith) (b .ensures) (c .if1 .left) in
     (omega arith, omega arith, l .inv .2 ∙ miss)
+
+next-in-rows-requires : tie.Need-next-in-rows-requires Inv-loop μ-loop
+next-in-rows-requires c κs = (c .before .before .before .before .before .before .pre .0, omega arith)
 
 returns-2 : tie.Need-returns-2 Inv-loop μ-loop
 returns-2 c =
-    let l = c .before .loop in
-    let a = c .before .before .before .before .before .before .args in
-    let h = c .loop-test .left in
-    let f = rowAt (columns (a .starts .now) (a .ends .now) (a .units .now) (a .rest .now)) in
-    record {
-      is = l .inv .2 ∙ filter-none (ofUnit (a .section) (a .unit)) f (a .n) (l .i) h ∙ rw (le-ltb (l .i) (a .n) h);
-      past = omega arith;
-      small = omega arith;
-    }
+    let l = c .before .before .loop in
+    let h = c .next-in-rows .ensures in
+    record { is = l .inv .2 ∙ h .is; past = omega (arith, h .past); small = h .small }
 
 pub next-of-unit-spec : {M : Type 1} → statement M
 next-of-unit-spec =
@@ -86,13 +76,12 @@ next-of-unit-spec =
     Inv-loop
     μ-loop
     loop-holds
-    mul-is-of-unit
-    shared-slice-read-is-of-unit
-    mul-is-of-unit-2
-    shared-slice-read-is-of-unit-2
-    is-of-unit-requires
+    sub-loop
+    next-in-block-requires
+    add-if1
     returns
     add-i
     loop-less
     loop-again
+    next-in-rows-requires
     returns-2)
