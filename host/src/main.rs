@@ -10,6 +10,7 @@ mod entries;
 mod examples;
 mod heap;
 mod lent;
+mod markdown;
 mod parts;
 mod random;
 mod record_text;
@@ -74,6 +75,7 @@ host some ENTRY COUNT [SEED]   compares so many random cases of one stage entry
 host store [SEED]     stores the right answers in stored/
 host restore          restores the images of the stored cases from their pieces
 host bench [ROUNDS]   times whole runs and stages, the Rust's and the linked entries'
+host once NAME [rust] runs one of these inputs once, by the entry or by the Rust
 host records pack     turns readable text (standard input) into a record file (standard output)
 host records show     turns a record file into text
 host records list     prints a record file's listing, as document 01 read a second time gives it
@@ -94,6 +96,8 @@ fn main() -> ExitCode {
         (["restore"], _) => compare(stage::restore::run),
         (["bench"], _) => bench::run(bench::ROUNDS),
         (["bench", _], Ok(rounds)) => bench::run(rounds),
+        (["once", name], _) => bench::once(name, false),
+        (["once", name, "rust"], _) => bench::once(name, true),
         (["records", name @ ("pack" | "show" | "list")], _) => record_text::command(name),
         _ => not_done(USAGE),
     }

@@ -176,16 +176,26 @@ fn called(entry: &StageEntry, call: Call, case: &Case, right: &Answer) -> Vec<St
     lines
 }
 
-/// What the entry gives, or the second reading where it isn't linked.
-fn given<S: Stage>(case: &Case) -> Answer {
-    let Some(call) = S::ENTRY.call else {
-        return S::right(case);
-    };
+/// Lets `with` call the entry on the case, as often as it likes; gives what it gives, and
+/// the outputs then. `None` if the entry isn't linked.
+fn plainly<S: Stage, T>(
+    case: &Case,
+    with: impl FnOnce(&mut dyn FnMut() -> u64) -> T,
+) -> Option<(T, Vec<Vec<u8>>)> {
+    let call = S::ENTRY.call?;
     let inputs: Vec<&[u8]> = S::ENTRY.inputs.iter().map(|name| case.table(name)).collect();
     let mut outputs: Vec<Vec<u8>> = case.lent.iter().map(|len| vec![0; *len]).collect();
     let mut lent: Vec<&mut [u8]> = outputs.iter_mut().map(|output| &mut output[..]).collect();
-    let word = call(&inputs, &case.numbers, &mut lent);
-    Answer { word, outputs }
+    let given = with(&mut || call(&inputs, &case.numbers, &mut lent));
+    Some((given, outputs))
+}
+
+/// What the entry gives, or the second reading where it isn't linked.
+fn given<S: Stage>(case: &Case) -> Answer {
+    match plainly::<S, _>(case, |call| call()) {
+        Some((word, outputs)) => Answer { word, outputs },
+        None => S::right(case),
+    }
 }
 
 /// Where the slices start; fixed by the case, so that a replay repeats it.

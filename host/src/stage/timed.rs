@@ -2,7 +2,7 @@
 use std::time::Duration;
 
 use super::{
-    Case, Stage,
+    Case, Stage, plainly,
     run::{
         SplitFile,
         along::{Visit, along},
@@ -31,18 +31,17 @@ pub fn ours(file: &[u8], rounds: usize) -> Ours {
     ours
 }
 
+/// One call of the whole run, for a count of its instructions; whether it is accepted.
+pub fn once(file: &[u8]) -> bool {
+    plainly::<SplitFile, _>(&whole(file), |call| call()).is_some_and(|(word, _)| word == 0)
+}
+
 impl Visit for Ours {
     /// Nothing for an entry that isn't linked.
     fn stage<S: Stage>(&mut self, step: &'static str, case: &Case) {
-        let Some(call) = S::ENTRY.call else {
-            return;
-        };
-        let inputs: Vec<&[u8]> = S::ENTRY.inputs.iter().map(|name| case.table(name)).collect();
-        let mut outputs: Vec<Vec<u8>> = case.lent.iter().map(|len| vec![0; *len]).collect();
-        let mut lent: Vec<&mut [u8]> = outputs.iter_mut().map(|output| &mut output[..]).collect();
-        let times = times(self.rounds, || {
-            assert_eq!(call(&inputs, &case.numbers, &mut lent), 0, "the input is accepted");
+        let timed = plainly::<S, _>(case, |call| {
+            times(self.rounds, || assert_eq!(call(), 0, "the input is accepted"))
         });
-        self.times.push((step, times));
+        self.times.extend(timed.map(|(times, _)| (step, times)));
     }
 }
