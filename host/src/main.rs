@@ -11,10 +11,12 @@ mod examples;
 mod heap;
 mod lent;
 mod markdown;
+mod memory;
 mod parts;
 mod random;
 mod record_text;
 mod records;
+mod stack;
 mod stage;
 mod stored;
 mod tally;
@@ -76,6 +78,7 @@ host store [SEED]     stores the right answers in stored/
 host restore          restores the images of the stored cases from their pieces
 host bench [ROUNDS]   times whole runs and stages, the Rust's and the linked entries'
 host once NAME [rust] runs one of these inputs once, by the entry or by the Rust
+host memory           measures the Rust's heap, and what is lent to the entry and its stack
 host records pack     turns readable text (standard input) into a record file (standard output)
 host records show     turns a record file into text
 host records list     prints a record file's listing, as document 01 read a second time gives it
@@ -98,6 +101,7 @@ fn main() -> ExitCode {
         (["bench", _], Ok(rounds)) => bench::run(rounds),
         (["once", name], _) => bench::once(name, false),
         (["once", name, "rust"], _) => bench::once(name, true),
+        (["memory"], _) => memory::run(),
         (["records", name @ ("pack" | "show" | "list")], _) => record_text::command(name),
         _ => not_done(USAGE),
     }

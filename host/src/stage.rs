@@ -4,6 +4,7 @@ pub mod bench_inputs;
 pub mod common;
 pub mod ends;
 pub mod gaps;
+pub mod held;
 mod line;
 mod make;
 pub mod merge;

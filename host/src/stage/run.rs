@@ -104,6 +104,14 @@ fn needed(file: &[u8]) -> Option<[usize; 7]> {
     }
 }
 
+/// With outputs that hold just what the run gives; `None` where it is refused.
+pub fn just_enough(file: &[u8]) -> Option<Case> {
+    let needed = needed(file)?;
+    let mut lent: Vec<usize> = WIDTHS.iter().zip(needed).map(|(width, n)| width * n).collect();
+    lent.push(2 * needed.len());
+    Some(Case { file: file.to_vec(), lent, ..Case::default() })
+}
+
 /// Outputs that hold just what the run gives, more, or less: at most one is short, so that
 /// the others' ceilings are seen too.
 fn with_room(file: Vec<u8>, r: &mut Random) -> Case {
