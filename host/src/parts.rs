@@ -2,6 +2,7 @@
 use std::{
     sync::atomic::{AtomicUsize, Ordering},
     thread,
+    time::Instant,
 };
 
 use crate::{random::Random, tally::Tally};
@@ -20,6 +21,18 @@ pub fn random(
     tally: &mut Tally,
     each: impl Fn(&mut Random, &mut Tally) + Sync,
 ) {
+    random_until(seed, count, None, tally, each);
+}
+
+/// The same, but none is begun after the time that is given.
+pub fn random_until(
+    seed: u64,
+    count: usize,
+    until: Option<Instant>,
+    tally: &mut Tally,
+    each: impl Fn(&mut Random, &mut Tally) + Sync,
+) {
+    let late = || until.is_some_and(|until| Instant::now() >= until);
     let mut seeds = Random::new(seed);
     let seeds: Vec<u64> = (0..PARTS).map(|_| seeds.next()).collect();
     let next = AtomicUsize::new(0);
@@ -32,6 +45,9 @@ pub fn random(
             };
             let mut r = Random::new(*seed);
             for _ in part * count / PARTS..(part + 1) * count / PARTS {
+                if late() {
+                    return tally;
+                }
                 each(&mut r, &mut tally);
             }
         }

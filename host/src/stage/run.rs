@@ -1,11 +1,12 @@
 //! The entry `split_file`: the whole run, its listing beside the Rust's.
 pub mod along;
+pub mod big;
 pub mod files;
 mod points;
 pub mod store;
 
 use super::{
-    Beside, Case, Stage,
+    Beside, Case, Stage, large,
     make::{counts_room, room},
     rust,
 };
@@ -42,6 +43,12 @@ impl Stage for SplitFile {
 
     fn random(r: &mut Random) -> Case {
         with_room(files::random(r), r)
+    }
+
+    fn large(r: &mut Random) -> Option<Case> {
+        let mut case = store::whole(&big::random(r));
+        large::shorten_output(&mut case, 4, r);
+        Some(case)
     }
 
     fn by_hand(tally: &mut Tally) {
