@@ -55,7 +55,7 @@ sample() {
 {
     printf '%s, commit %s, %s processors: %s\n' "$(date -u +%Y-%m-%d)" "$(git rev-parse --short=12 HEAD)" "$(nproc)" \
         "$(sed -nE 's/^model name[^:]*: //p' /proc/cpuinfo | head -n 1)"
-    part 'Speed' "$measure" bench
+    part 'Speed' "$measure" bench 200
     part 'Instructions' growth/whole_run.sh
     part 'Memory' "$measure" memory
     printf '\n## Soak\n\n`host/%s soak %s`\n\n' "$compare" "$*"

@@ -18,14 +18,16 @@ use crate::{
 /// If none are given.
 pub const ROUNDS: u64 = 20;
 
-/// The steps that the Rust and the entries both have; the listing is no part of the run.
+/// The steps that the Rust and the entries both have, and the checks of all tables, which
+/// every stage entry makes and the Rust doesn't. The listing is no part of the run.
 const WHOLE: &str = "whole run";
-const STEPS: [&str; 8] = [WHOLE, "merge", "common", "gap", "check", "trim", "order", "walk"];
+const STEPS: [&str; 9] =
+    [WHOLE, "merge", "common", "gap", "check", "trim", "order", "walk", timed::TABLES];
 
 /// Least and median of an input's times in microseconds, for each of `STEPS`.
 struct Measured {
     name: &'static str,
-    rust: Vec<Spread>,
+    rust: Vec<Option<Spread>>,
     ours: Vec<Option<Spread>>,
 }
 
@@ -62,7 +64,10 @@ fn measured(name: &'static str, file: &[u8], rounds: usize) -> Measured {
     let of = |lap: &Vec<(&str, Duration)>, step: &str| -> Duration {
         lap.iter().filter(|(name, _)| belongs(name, step)).map(|(_, time)| *time).sum()
     };
-    let rust = |step: &&str| spread(laps.iter().map(|lap| of(lap, step)).collect());
+    let rust = |step: &&str| {
+        let there = laps[0].iter().any(|(name, _)| belongs(name, step));
+        there.then(|| spread(laps.iter().map(|lap| of(lap, step)).collect()))
+    };
     Measured {
         name,
         rust: STEPS.iter().map(rust).collect(),
@@ -98,19 +103,24 @@ fn times_table(all: &[Measured]) -> Table {
     ]);
     for Measured { name, rust, ours } in all {
         for (i, step) in STEPS.iter().enumerate() {
-            let number = |n: f64| format!("{n:.1}");
             let mut row = vec![name.to_string(), step.to_string()];
-            let pair = |s: Spread| [number(s.least), number(s.median)];
-            let none = || ["-".to_string(), "-".to_string()];
-            row.extend(ours[i].map_or_else(none, pair));
-            row.extend(pair(rust[i]));
-            let ratios =
-                |o: Spread| [number(rust[i].least / o.least), number(rust[i].median / o.median)];
-            row.extend(ours[i].map_or_else(none, ratios));
+            row.extend(shown(ours[i]));
+            row.extend(shown(rust[i]));
+            row.extend(shown(over(rust[i], ours[i])));
             table.row(row);
         }
     }
     table
+}
+
+fn shown(spread: Option<Spread>) -> [String; 2] {
+    let number = |n: f64| format!("{n:.1}");
+    spread.map_or(["-", "-"].map(String::from), |s| [number(s.least), number(s.median)])
+}
+
+fn over(a: Option<Spread>, b: Option<Spread>) -> Option<Spread> {
+    let (a, b) = (a?, b?);
+    Some(Spread { least: a.least / b.least, median: a.median / b.median })
 }
 
 /// By the least times.
@@ -123,12 +133,9 @@ fn growth_table(all: &[Measured]) -> Table {
         let (a, b) = (find(half), find(full));
         let mut row = vec![half.to_string(), full.to_string()];
         for i in 0..STEPS.len() {
-            let rust = b.rust[i].least / a.rust[i].least;
-            let ours = match (a.ours[i], b.ours[i]) {
-                (Some(a), Some(b)) => format!("{:.1}", b.least / a.least),
-                _ => "-".to_string(),
-            };
-            row.push(format!("{ours}, {rust:.1}"));
+            let [ours, _] = shown(over(b.ours[i], a.ours[i]));
+            let [rust, _] = shown(over(b.rust[i], a.rust[i]));
+            row.push(format!("{ours}, {rust}"));
         }
         table.row(row);
     }

@@ -1,4 +1,4 @@
-//! Tables as Markdown, the columns padded so that they can be read as they stand.
+//! Tables as Markdown, the columns but the last padded so that they can be read as they stand.
 
 pub struct Table {
     rows: Vec<Vec<String>>,
@@ -18,7 +18,8 @@ impl Table {
     pub fn print(&self) {
         let columns = 0..self.rows[0].len();
         let longest = |i: usize| self.rows.iter().map(|row| row[i].chars().count()).max();
-        let widths: Vec<usize> = columns.map(|i| longest(i).unwrap_or(0)).collect();
+        let mut widths: Vec<usize> = columns.map(|i| longest(i).unwrap_or(0)).collect();
+        *widths.last_mut().expect("a column") = 0;
         let line = |row: &Vec<String>| {
             let cells = row.iter().zip(&widths).map(|(cell, width)| format!(" {cell:width$} |"));
             format!("|{}", cells.collect::<String>())

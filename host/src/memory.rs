@@ -38,7 +38,7 @@ pub fn run() -> ExitCode {
         let numbers = [file.len(), held.outputs, held.stack, all, heap];
         let mut row = vec![name.to_string()];
         row.extend(numbers.map(|number| grouped(number as u64)));
-        row.push(format!("{:.1}", heap as f64 / all as f64));
+        row.push(format!("{:.2}", heap as f64 / all as f64));
         runs.row(row);
         let mut row = vec![name.to_string()];
         row.extend(held::by_stages(&file).iter().map(|stack| grouped(*stack as u64)));

@@ -27,7 +27,8 @@ impl Stage for EndForSection {
 
     fn enlarged(mut case: Case, r: &mut Random) -> Case {
         let sections = case.tables().sections.len() / 15;
-        (case.numbers, case.lent) = (vec![r.below(sections + 1) as u32], vec![number_room(r)]);
+        let section = if r.one_in(20) { sections } else { r.below(sections.max(1)) };
+        (case.numbers, case.lent) = (vec![section as u32], vec![number_room(r)]);
         case
     }
 
@@ -98,7 +99,8 @@ impl Stage for SplitAlignment {
 
     fn enlarged(mut case: Case, r: &mut Random) -> Case {
         let splits = case.tables().splits.len() / 19;
-        (case.numbers, case.lent) = (vec![r.below(splits + 1) as u32], vec![number_room(r)]);
+        let which = if r.one_in(20) { splits } else { r.below(splits.max(1)) };
+        (case.numbers, case.lent) = (vec![which as u32], vec![number_room(r)]);
         case
     }
 

@@ -18,7 +18,7 @@ use crate::{
         load::load,
         order::units_in,
         outputs::Answer,
-        run::{self, Ended, NO_CEILING, run},
+        run::{self, CEILINGS, Ended, NO_CEILING, run},
     },
     entries::{
         self,
@@ -90,6 +90,7 @@ fn as_check_file(file: &[u8], refusal: Refusal) -> Beside {
 }
 
 const WIDTHS: [usize; 7] = [2, 1, 19, 8, 28, 12, 8];
+const SPLITS: usize = 2;
 
 /// How many records each output needs; nothing known where the run is refused.
 fn needed(file: &[u8]) -> Option<[usize; 7]> {
@@ -111,12 +112,24 @@ fn needed(file: &[u8]) -> Option<[usize; 7]> {
     }
 }
 
-/// With outputs that hold just what the run gives; `None` where it is refused.
+/// With outputs that hold just what the run needs; `None` where it is refused.
 pub fn just_enough(file: &[u8]) -> Option<Case> {
     let needed = needed(file)?;
     let mut lent: Vec<usize> = WIDTHS.iter().zip(needed).map(|(width, n)| width * n).collect();
     lent.push(2 * needed.len());
-    Some(Case { file: file.to_vec(), lent, ..Case::default() })
+    let mut case = Case { file: file.to_vec(), lent, ..Case::default() };
+    // A merge may hold more splits at once than the run leaves.
+    let (mut few, mut enough) = (needed[SPLITS], CEILINGS.places.splits);
+    while few < enough {
+        let places = (few + enough) / 2;
+        case.lent[SPLITS] = WIDTHS[SPLITS] * places;
+        match SplitFile::right(&case).word {
+            0 => enough = places,
+            _ => few = places + 1,
+        }
+    }
+    case.lent[SPLITS] = WIDTHS[SPLITS] * enough;
+    Some(case)
 }
 
 /// Outputs that hold just what the run gives, more, or less: at most one is short, so that

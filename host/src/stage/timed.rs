@@ -8,8 +8,12 @@ use super::{
         along::{Visit, along},
         store::whole,
     },
+    walk::SplitObj,
 };
-use crate::bench::times;
+use crate::{bench::times, entries};
+
+/// The step of the entry `check_tables`, on the tables that the walk takes.
+pub const TABLES: &str = "table checks";
 
 /// Times by the names of the Rust's steps.
 pub struct Ours {
@@ -43,5 +47,10 @@ impl Visit for Ours {
             times(self.rounds, || assert_eq!(call(), 0, "the input is accepted"))
         });
         self.times.extend(timed.map(|(times, _)| (step, times)));
+        if step == SplitObj::STEP {
+            let tables = case.tables();
+            let checked = || assert_eq!(entries::check_tables(&tables), 0, "they are right");
+            self.times.push((TABLES, times(self.rounds, checked)));
+        }
     }
 }
