@@ -27,7 +27,7 @@ part() {
 
 # What stands in the soak's output after the groups, and the last line.
 counts() {
-    sed -n '/^| Entry/,$p'
+    sed -n '/^| Entry/,$p' | sed 's/^host: /\n&/'
 }
 
 soak() {
@@ -53,12 +53,11 @@ sample() {
 }
 
 {
-    printf '%s, commit %s, %s processors: %s\n' "$(date -u +%Y-%m-%d)" "$(git rev-parse --short=12 HEAD)" "$(nproc)" \
-        "$(sed -nE 's/^model name[^:]*: //p' /proc/cpuinfo | head -n 1)"
+    printf 'Measured on %s at commit %s, on a machine with %s processors (%s).\n' "$(date -u +%Y-%m-%d)" "$(git rev-parse --short=12 HEAD)" "$(nproc)" "$(uname -m)"
     part 'Speed' "$measure" bench 200
     part 'Instructions' growth/whole_run.sh
     part 'Memory' "$measure" memory
-    printf '\n## Soak\n\n`host/%s soak %s`\n\n' "$compare" "$*"
+    printf '\n## Soak\n\n`host/%s soak%s`\n\n' "$compare" "${*:+ $*}"
     soak "$@"
     printf '\n## Short tables under valgrind\n\n`valgrind --error-exitcode=9 host/%s sample`\n\n' "$compare"
     sample

@@ -1,5 +1,7 @@
 //! The benchmark: the same inputs through the Rust and through the entries that are linked,
 //! the whole run and each stage. Not part of a check.
+mod goals;
+
 use std::{
     process::ExitCode,
     time::{Duration, Instant},
@@ -9,14 +11,17 @@ use oracle::answers;
 
 use crate::{
     NO_SOURCES,
-    document::{listing::printed, run::CEILINGS},
+    document::{listing::printed, load::load, records::SPLITS, run::CEILINGS},
     markdown::Table,
-    not_done,
+    not_done, parts,
     stage::{bench_inputs, timed},
 };
 
 /// If none are given.
 pub const ROUNDS: u64 = 20;
+
+/// The Rust and the entries are timed in turns, so that a slow while of the machine is in both.
+const TURNS: usize = 10;
 
 /// The steps that the Rust and the entries both have, and the checks of all tables, which
 /// every stage entry makes and the Rust doesn't. The listing is no part of the run.
@@ -27,6 +32,8 @@ const STEPS: [&str; 9] =
 /// Least and median of an input's times in microseconds, for each of `STEPS`.
 struct Measured {
     name: &'static str,
+    /// How many split records the file has.
+    splits: usize,
     rust: Vec<Option<Spread>>,
     ours: Vec<Option<Spread>>,
 }
@@ -55,12 +62,18 @@ pub fn run(rounds: u64) -> ExitCode {
     times_table(&all).print();
     println!("\nHow many times longer the full size takes than the half, ours and the Rust.\n");
     growth_table(&all).print();
+    println!();
+    goals::print(&all);
     ExitCode::SUCCESS
 }
 
 fn measured(name: &'static str, file: &[u8], rounds: usize) -> Measured {
-    let laps: Vec<_> = (0..rounds).map(|_| answers::timed(file).unwrap()).collect();
-    let ours = timed::ours(file, rounds);
+    let (mut laps, mut ours) = (vec![], timed::Ours::default());
+    for turn in 0..TURNS {
+        let rounds = parts::share(rounds, turn, TURNS);
+        laps.extend((0..rounds).map(|_| answers::timed(file).unwrap()));
+        ours.measure(file, rounds);
+    }
     let of = |lap: &Vec<(&str, Duration)>, step: &str| -> Duration {
         lap.iter().filter(|(name, _)| belongs(name, step)).map(|(_, time)| *time).sum()
     };
@@ -70,6 +83,7 @@ fn measured(name: &'static str, file: &[u8], rounds: usize) -> Measured {
     };
     Measured {
         name,
+        splits: load(file).map_or(0, |loaded| loaded.partials.len() / SPLITS.width),
         rust: STEPS.iter().map(rust).collect(),
         ours: STEPS.iter().map(|step| ours.of(step).map(spread)).collect(),
     }
@@ -101,7 +115,7 @@ fn times_table(all: &[Measured]) -> Table {
         "ratio, least",
         "median",
     ]);
-    for Measured { name, rust, ours } in all {
+    for Measured { name, rust, ours, .. } in all {
         for (i, step) in STEPS.iter().enumerate() {
             let mut row = vec![name.to_string(), step.to_string()];
             row.extend(shown(ours[i]));

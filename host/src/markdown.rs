@@ -30,6 +30,11 @@ impl Table {
     }
 }
 
+/// The items in a row behind the word; nothing if there are none.
+pub fn listed(word: &str, items: &[String]) -> String {
+    if items.is_empty() { String::new() } else { format!("{word}: {}.", items.join("; ")) }
+}
+
 /// A whole number with commas: 1,024.
 pub fn grouped(number: u64) -> String {
     let digits = number.to_string();

@@ -14,6 +14,11 @@ const PARTS: usize = 64;
 /// For the rounds of a merge, which the Rust does by recursion.
 const STACK: usize = 64 << 20;
 
+/// How much of a number a part gets, so that all parts get about as much.
+pub fn share(all: usize, part: usize, parts: usize) -> usize {
+    (part + 1) * all / parts - part * all / parts
+}
+
 /// Makes and compares `count` cases, one by each call of `each`.
 pub fn random(
     seed: u64,
@@ -44,7 +49,7 @@ pub fn random_until(
                 return tally;
             };
             let mut r = Random::new(*seed);
-            for _ in part * count / PARTS..(part + 1) * count / PARTS {
+            for _ in 0..share(count, part, PARTS) {
                 if late() {
                     return tally;
                 }

@@ -5,7 +5,7 @@ use std::time::{Duration, Instant};
 use crate::{
     ENTRIES, Entry, lent,
     markdown::{Table, grouped},
-    parts,
+    parts::{self, share},
     random::Random,
     tally::Tally,
 };
@@ -79,11 +79,6 @@ fn name(size: Size) -> &'static str {
         Size::Large => "large",
         Size::Short => "short",
     }
-}
-
-/// A part's even share of a number.
-fn share(all: usize, part: usize, parts: usize) -> usize {
-    (part + 1) * all / parts - part * all / parts
 }
 
 fn groups(plan: &Plan) -> Vec<Group> {

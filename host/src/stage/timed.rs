@@ -15,7 +15,8 @@ use crate::{bench::times, entries};
 /// The step of the entry `check_tables`, on the tables that the walk takes.
 pub const TABLES: &str = "table checks";
 
-/// Times by the names of the Rust's steps.
+/// Times by the names of the Rust's steps, a name for each turn.
+#[derive(Default)]
 pub struct Ours {
     rounds: usize,
     times: Vec<(&'static str, Vec<Duration>)>,
@@ -23,16 +24,17 @@ pub struct Ours {
 
 impl Ours {
     pub fn of(&self, step: &str) -> Option<Vec<Duration>> {
-        let found = self.times.iter().find(|(name, _)| *name == step);
-        found.map(|(_, times)| times.clone())
+        let of_step = self.times.iter().filter(|(name, _)| *name == step);
+        let times: Vec<Duration> = of_step.flat_map(|(_, times)| times.clone()).collect();
+        (!times.is_empty()).then_some(times)
     }
-}
 
-pub fn ours(file: &[u8], rounds: usize) -> Ours {
-    let mut ours = Ours { rounds, times: vec![] };
-    ours.stage::<SplitFile>("whole run", &whole(file));
-    along(file, &mut ours);
-    ours
+    /// A turn of so many rounds.
+    pub fn measure(&mut self, file: &[u8], rounds: usize) {
+        self.rounds = rounds;
+        self.stage::<SplitFile>("whole run", &whole(file));
+        along(file, self);
+    }
 }
 
 /// One call of the whole run, for a count of its instructions; whether it is accepted.
