@@ -12,6 +12,7 @@ use crate::{
     lent::Lent,
     parts,
     random::Random,
+    soak::{Size, shorter},
     tally::Tally,
     vast,
 };
@@ -22,6 +23,7 @@ pub const ENTRY: Entry = Entry {
     alone,
     beside: None,
     some: None,
+    one,
     answers: "document 01, read a second time in src/document,",
     replay,
     store: files::store,
@@ -70,6 +72,15 @@ fn shifts(case: &Case) -> [usize; 2] {
     let sum: u64 = case.file.iter().map(|b| *b as u64).sum();
     let mut random = Random::new(sum ^ (case.counts_len as u64) << 32);
     [random.below(16), random.below(16)]
+}
+
+fn one(size: Size, r: &mut Random, tally: &mut Tally) {
+    let mut case = if let Size::Large = size { files::large(r) } else { files::random(r) };
+    if let Size::Short = size {
+        case.file.truncate(shorter(case.file.len(), r));
+        case.counts_len = shorter(case.counts_len, r);
+    }
+    compare(&case, false, tally);
 }
 
 fn alone(seed: u64, tally: &mut Tally) {

@@ -12,6 +12,7 @@ use crate::{
     lent::Lent,
     parts,
     random::Random,
+    soak::{Size, shorter},
     tally::Tally,
     vast,
 };
@@ -22,6 +23,7 @@ pub const ENTRY: Entry = Entry {
     alone,
     beside: None,
     some: None,
+    one,
     answers: "document 01, read a second time in src/document,",
     replay,
     store: sets::store,
@@ -109,6 +111,17 @@ fn shifts(set: &Set) -> [usize; 9] {
     let sum: u64 = set.iter().flatten().map(|b| *b as u64).sum();
     let mut random = Random::new(sum);
     std::array::from_fn(|_| random.below(16))
+}
+
+fn one(size: Size, r: &mut Random, tally: &mut Tally) {
+    let mut set = if let Size::Large = size { sets::large(r) } else { sets::random(r) };
+    if let Size::Short = size {
+        for _ in 0..1 + r.below(3) {
+            let table = r.below(set.len());
+            set[table].truncate(shorter(set[table].len(), r));
+        }
+    }
+    compare(&set, false, tally);
 }
 
 fn alone(seed: u64, tally: &mut Tally) {

@@ -1,4 +1,6 @@
-//! Memory lent to an entry, between guard bytes that must stay as they are.
+//! Memory lent to an entry, between guard bytes that must stay as they are; or, for a tool
+//! that watches every access, without them.
+use std::sync::atomic::{AtomicBool, AtomicUsize, Ordering};
 
 /// Wide enough for a whole table of nodes that is written past a short output.
 const GUARD: usize = 4096;
@@ -21,6 +23,25 @@ fn pattern(from: usize, len: usize) -> &'static [u8] {
     &PATTERN[from % PERIOD..][..len]
 }
 
+/// Whether each slice is a block of the heap of its own, and nothing around it.
+static EXACT: AtomicBool = AtomicBool::new(false);
+static LENT: AtomicUsize = AtomicUsize::new(0);
+static EMPTY: AtomicUsize = AtomicUsize::new(0);
+
+/// From now on.
+pub fn lend_exactly() {
+    EXACT.store(true, Ordering::SeqCst);
+}
+
+pub fn exactly() -> bool {
+    EXACT.load(Ordering::Relaxed)
+}
+
+/// How many slices were lent exactly, and how many of them had no length.
+pub fn exactly_lent() -> (usize, usize) {
+    (LENT.load(Ordering::SeqCst), EMPTY.load(Ordering::SeqCst))
+}
+
 pub struct Lent {
     bytes: Vec<u8>,
     start: usize,
@@ -31,6 +52,9 @@ impl Lent {
     /// An output of `len` bytes. `shift` moves its start, so that entries meet
     /// addresses of every alignment.
     pub fn output(len: usize, shift: usize) -> Self {
+        if exactly() {
+            return Self::exact(len, shift);
+        }
         let start = GUARD + shift % SHIFTS;
         let total = start + len + GUARD;
         let mut bytes = Vec::with_capacity(total);
@@ -39,6 +63,15 @@ impl Lent {
             bytes.extend_from_slice(next);
         }
         Self { bytes, start, len }
+    }
+
+    /// One of no length is the end of a block of one byte, or lies where no memory is.
+    fn exact(len: usize, shift: usize) -> Self {
+        LENT.fetch_add(1, Ordering::Relaxed);
+        EMPTY.fetch_add((len == 0) as usize, Ordering::Relaxed);
+        let start = (len == 0 && shift.is_multiple_of(2)) as usize;
+        let bytes: Box<[u8]> = (0..start + len).map(|i| PATTERN[i % PERIOD]).collect();
+        Self { bytes: bytes.into_vec(), start, len }
     }
 
     /// An input that holds `content`.
@@ -59,6 +92,6 @@ impl Lent {
     pub fn guards_whole(&self) -> bool {
         let end = self.start + self.len;
         self.bytes[..self.start] == *pattern(0, self.start)
-            && self.bytes[end..] == *pattern(end, GUARD)
+            && self.bytes[end..] == *pattern(end, self.bytes.len() - end)
     }
 }

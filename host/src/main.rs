@@ -10,10 +10,14 @@ mod entries;
 mod examples;
 mod heap;
 mod lent;
+mod markdown;
+mod memory;
 mod parts;
 mod random;
 mod record_text;
 mod records;
+mod soak;
+mod stack;
 mod stage;
 mod stored;
 mod tally;
@@ -24,6 +28,8 @@ mod vast;
 use std::{path::Path, process::ExitCode};
 
 use oracle::answers;
+use random::Random;
+use soak::Size;
 use tally::Tally;
 
 /// How one entry is checked.
@@ -38,6 +44,8 @@ struct Entry {
     beside: Option<fn(u64, &mut Tally)>,
     /// So many of the random cases, for one entry alone.
     some: Option<fn(u64, usize, &mut Tally)>,
+    /// One random case.
+    one: fn(Size, &mut Random, &mut Tally),
     /// Who gives the stored answers.
     answers: &'static str,
     /// One stored line.
@@ -74,6 +82,12 @@ host some ENTRY COUNT [SEED]   compares so many random cases of one stage entry
 host store [SEED]     stores the right answers in stored/
 host restore          restores the images of the stored cases from their pieces
 host bench [ROUNDS]   times whole runs and stages, the Rust's and the linked entries'
+host once NAME [rust] runs one of these inputs once, by the entry or by the Rust
+host memory           measures the Rust's heap, and what is lent to the entry and its stack
+host soak [SMALL] [LARGE] [SECONDS] [SEED]   compares so many small and large random cases of
+                      all entries, as far as the time allows
+host sample [COUNT] [SEED]   compares cases with short and empty tables, each a block of the heap
+                      of its own: for valgrind
 host records pack     turns readable text (standard input) into a record file (standard output)
 host records show     turns a record file into text
 host records list     prints a record file's listing, as document 01 read a second time gives it
@@ -94,6 +108,16 @@ fn main() -> ExitCode {
         (["restore"], _) => compare(stage::restore::run),
         (["bench"], _) => bench::run(bench::ROUNDS),
         (["bench", _], Ok(rounds)) => bench::run(rounds),
+        (["once", name], _) => bench::once(name, false),
+        (["once", name, "rust"], _) => bench::once(name, true),
+        (["memory"], _) => memory::run(),
+        (["soak", words @ ..], _) => match soak::Plan::of(words) {
+            Some(plan) => compare(|tally| soak::run(&plan, tally)),
+            None => not_done(USAGE),
+        },
+        (["sample"], _) => compare(|tally| soak::sample(soak::SAMPLE, SEED, tally)),
+        (["sample", count], _) => sample(count, SEED),
+        (["sample", count, _], Ok(seed)) => sample(count, seed),
         (["records", name @ ("pack" | "show" | "list")], _) => record_text::command(name),
         _ => not_done(USAGE),
     }
@@ -127,6 +151,13 @@ fn check(seed: u64, tally: &mut Tally) {
     record_text::check::run(tally);
     examples::run(tally);
     c_programs::run(tally);
+}
+
+fn sample(count: &str, seed: u64) -> ExitCode {
+    match count.parse() {
+        Ok(count) => compare(|tally| soak::sample(count, seed, tally)),
+        Err(_) => not_done(USAGE),
+    }
 }
 
 fn some(name: &str, count: &str, seed: u64) -> ExitCode {

@@ -4,6 +4,8 @@ pub mod bench_inputs;
 pub mod common;
 pub mod ends;
 pub mod gaps;
+pub mod held;
+pub mod large;
 mod line;
 mod make;
 pub mod merge;
@@ -26,6 +28,7 @@ use crate::{
     lent::Lent,
     parts,
     random::Random,
+    soak::{Size, shorter},
     tally::Tally,
 };
 
@@ -106,6 +109,23 @@ pub trait Stage {
     fn more(_seed: u64, _tally: &mut Tally) {}
     /// Whether its tables are checked.
     const CHECKED: bool = true;
+    /// The step of a run at whose tables its large cases are made.
+    const STEP: &'static str = "";
+    /// What a run lends there, with other numbers and outputs where the entry takes them.
+    fn enlarged(case: Case, _r: &mut Random) -> Case {
+        case
+    }
+    /// A case with large tables; `None` if none was found.
+    fn large(r: &mut Random) -> Option<Case>
+    where
+        Self: Sized,
+    {
+        large::case::<Self>(r)
+    }
+    /// Cuts some of the tables, in and out.
+    fn shorten(case: &mut Case, r: &mut Random) {
+        shorten(case, Self::ENTRY.inputs, r);
+    }
 }
 
 pub const fn entry<S: Stage>() -> Entry {
@@ -118,6 +138,7 @@ pub const fn entry<S: Stage>() -> Entry {
         },
         beside: None,
         some: Some(some::<S>),
+        one: one::<S>,
         answers: "the Rust, or of document 01's second reading where it has none,",
         replay: replay::<S>,
         store: line::store::<S>,
@@ -176,16 +197,26 @@ fn called(entry: &StageEntry, call: Call, case: &Case, right: &Answer) -> Vec<St
     lines
 }
 
-/// What the entry gives, or the second reading where it isn't linked.
-fn given<S: Stage>(case: &Case) -> Answer {
-    let Some(call) = S::ENTRY.call else {
-        return S::right(case);
-    };
+/// Lets `with` call the entry on the case, as often as it likes; gives what it gives, and
+/// the outputs then. `None` if the entry isn't linked.
+fn plainly<S: Stage, T>(
+    case: &Case,
+    with: impl FnOnce(&mut dyn FnMut() -> u64) -> T,
+) -> Option<(T, Vec<Vec<u8>>)> {
+    let call = S::ENTRY.call?;
     let inputs: Vec<&[u8]> = S::ENTRY.inputs.iter().map(|name| case.table(name)).collect();
     let mut outputs: Vec<Vec<u8>> = case.lent.iter().map(|len| vec![0; *len]).collect();
     let mut lent: Vec<&mut [u8]> = outputs.iter_mut().map(|output| &mut output[..]).collect();
-    let word = call(&inputs, &case.numbers, &mut lent);
-    Answer { word, outputs }
+    let given = with(&mut || call(&inputs, &case.numbers, &mut lent));
+    Some((given, outputs))
+}
+
+/// What the entry gives, or the second reading where it isn't linked.
+fn given<S: Stage>(case: &Case) -> Answer {
+    match plainly::<S, _>(case, |call| call()) {
+        Some((word, outputs)) => Answer { word, outputs },
+        None => S::right(case),
+    }
 }
 
 /// Where the slices start; fixed by the case, so that a replay repeats it.
@@ -215,6 +246,40 @@ fn random<S: Stage>(seed: u64, count: usize, tally: &mut Tally) {
         tally.want_often(number, if count < S::COUNT { 0 } else { least });
     }
     tally.end(&[]);
+}
+
+/// One random case.
+fn one<S: Stage>(size: Size, r: &mut Random, tally: &mut Tally) {
+    let case = match size {
+        Size::Small => Some(made::<S>(r)),
+        Size::Large => S::large(r),
+        Size::Short => {
+            let mut case = made::<S>(r);
+            S::shorten(&mut case, r);
+            Some(case)
+        }
+    };
+    if let Some(case) = case {
+        compare::<S>(&case, None, tally);
+    }
+}
+
+/// An input and an output shorter, each in every second case; seldom all of them empty.
+fn shorten(case: &mut Case, inputs: &[&str], r: &mut Random) {
+    if r.one_in(2) {
+        let table = case.table_mut(r.pick(inputs));
+        table.truncate(shorter(table.len(), r));
+    }
+    if r.one_in(2) && !case.lent.is_empty() {
+        let which = r.below(case.lent.len());
+        case.lent[which] = shorter(case.lent[which], r);
+    }
+    if r.one_in(20) {
+        inputs.iter().for_each(|name| case.table_mut(name).clear());
+    }
+    if r.one_in(20) {
+        case.lent.fill(0);
+    }
 }
 
 /// The case with only the tables that the entry takes.

@@ -56,6 +56,15 @@ impl Tally {
         }
     }
 
+    /// How many outcomes of the group have each number.
+    pub fn numbers(&self) -> BTreeMap<u16, u64> {
+        let mut numbers = BTreeMap::new();
+        for ((number, _), count) in &self.outcomes {
+            *numbers.entry(*number).or_default() += count;
+        }
+        numbers
+    }
+
     /// A group with this note that never came up is a difference, as in `end`.
     pub fn want(&mut self, number: u16, note: &str) {
         if !self.outcomes.contains_key(&(number, note.to_string())) {

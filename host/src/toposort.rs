@@ -12,6 +12,7 @@ use crate::{
     lent::Lent,
     parts,
     random::Random,
+    soak::{Size, shorter},
     tally::Tally,
     vast,
 };
@@ -22,6 +23,7 @@ pub const ENTRY: Entry = Entry {
     alone,
     beside: Some(beside),
     some: None,
+    one,
     answers: "the Rust",
     replay,
     store: graphs::store,
@@ -122,6 +124,20 @@ fn shifts(case: &Case) -> [usize; 3] {
     let sum: u64 = case.edges.iter().map(|b| *b as u64).sum();
     let mut random = Random::new(sum ^ (case.out_len as u64) << 32 ^ (case.nodes as u64) << 48);
     [random.below(16), random.below(16), random.below(16)]
+}
+
+/// Nothing without the Rust, which alone knows the order.
+fn one(size: Size, r: &mut Random, tally: &mut Tally) {
+    if !answers::PRESENT {
+        return;
+    }
+    let mut case = if let Size::Large = size { graphs::large(r) } else { graphs::random(r) };
+    if let Size::Short = size {
+        case.edges.truncate(shorter(case.edges.len(), r));
+        case.out_len = shorter(case.out_len, r);
+        case.counts_len = shorter(case.counts_len, r);
+    }
+    compare(&case, &ask(&case), tally);
 }
 
 fn beside(seed: u64, tally: &mut Tally) {

@@ -170,6 +170,17 @@ pub fn timed(_file: &[u8]) -> Option<Vec<(&'static str, Duration)>> {
     None
 }
 
+/// A whole run that is accepted, without its listing: how many units it gives.
+#[cfg(sources)]
+pub fn walked(file: &[u8]) -> Option<usize> {
+    Some(crate::asked::walked(file))
+}
+
+#[cfg(not(sources))]
+pub fn walked(_file: &[u8]) -> Option<usize> {
+    None
+}
+
 /// Asks with no end to the rounds of a merge: one that goes round without end overflows
 /// the stack.
 pub fn ask_without_end(file: &[u8], question: Question) -> Option<Result<Reply, Stop>> {

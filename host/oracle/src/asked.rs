@@ -52,27 +52,41 @@ pub fn run(file: &[u8]) -> Result<String, (Question, Stop)> {
 
 /// The run as the program `oracle` does it, with nothing between the stages.
 pub fn timed(file: &[u8]) -> Vec<(&'static str, Duration)> {
-    log::allow_rounds(usize::MAX);
     let mut begin = Instant::now();
     let mut times = vec![];
     let mut lap = |step| {
         times.push((step, begin.elapsed()));
         begin = Instant::now();
     };
-    let tables = Tables::parse(file).expect("the file is accepted");
-    let mut obj = tables.object();
-    lap("load");
-    let mut walk = None;
-    for (i, step) in stages::STAGES.into_iter().enumerate() {
-        let Ok(done) = stages::stage(i, &tables, &mut obj, None) else {
-            panic!("the file is accepted");
-        };
-        walk = done;
-        lap(step);
-    }
-    stages::listing(&walk.expect("the last stage is the walk"));
+    let (_tables, _obj, walk) = steps(file, &mut lap);
+    stages::listing(&walk);
     lap("listing");
     times
+}
+
+/// The same up to the walk, as one function that instructions can be counted in; gives how
+/// many units there are.
+#[inline(never)]
+pub fn walked(file: &[u8]) -> usize {
+    let (_, _, walk) = steps(file, &mut |_| ());
+    walk.objects.len()
+}
+
+/// Loading and the stages, and all that they hold at the end; `done` is told of each.
+fn steps(file: &[u8], done: &mut impl FnMut(&'static str)) -> (Tables, ObjInfo, stages::Walk) {
+    log::allow_rounds(usize::MAX);
+    let tables = Tables::parse(file).expect("the file is accepted");
+    let mut obj = tables.object();
+    done("load");
+    let mut walk = None;
+    for (i, step) in stages::STAGES.into_iter().enumerate() {
+        let Ok(ended) = stages::stage(i, &tables, &mut obj, None) else {
+            panic!("the file is accepted");
+        };
+        walk = ended;
+        done(step);
+    }
+    (tables, obj, walk.expect("the last stage is the walk"))
 }
 
 fn reply(obj: &mut ObjInfo, question: Question, partials: Vec<PartialSplit>) -> Result<Reply> {
@@ -105,7 +119,7 @@ fn reply(obj: &mut ObjInfo, question: Question, partials: Vec<PartialSplit>) -> 
         Question::Walk => {
             let (objects, kept) = probe::split_obj_sections(obj, None, false)?;
             let units = objects.iter().zip(&kept);
-            Ok(Reply::Walked(units.map(|(unit, kept)| walked(unit, kept)).collect()))
+            Ok(Reply::Walked(units.map(|(unit, kept)| walked_unit(unit, kept)).collect()))
         }
     }
 }
@@ -151,7 +165,7 @@ fn splits(obj: &ObjInfo) -> Vec<Split> {
 }
 
 /// `kept`: the unit's number for each symbol of the image.
-fn walked(unit: &ObjInfo, kept: &[Option<SymbolIndex>]) -> WalkedUnit {
+fn walked_unit(unit: &ObjInfo, kept: &[Option<SymbolIndex>]) -> WalkedUnit {
     let image_number = |i| kept.iter().position(|n| *n == Some(i)).unwrap();
     let symbols = unit.symbols.iter().map(|(i, symbol)| piece_symbol(image_number(i), symbol));
     WalkedUnit {

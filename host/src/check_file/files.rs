@@ -4,6 +4,7 @@ use crate::{
     document::{check_file::answer, number},
     random::Random,
     records::{self, Maker, Record},
+    stage::run::big,
 };
 
 /// How many random files a check makes.
@@ -46,6 +47,18 @@ pub fn random(r: &mut Random) -> Case {
     };
     let maker = planned(plan, r);
     damaged(&maker, r)
+}
+
+/// At the ceiling of a kind, or as the whole run has them.
+pub fn large(r: &mut Random) -> Case {
+    let plan = match r.below(8) {
+        0 => return many_names(r),
+        1 => return long(r),
+        2 => [4, 3, 2, 2, 1022 + r.below(6), 2],
+        3 => [400, 63 + r.below(3), 400, 400, 400, 400],
+        _ => return Case { file: big::random(r), counts_len: counts_length(r) },
+    };
+    damaged(&planned(plan, r), r)
 }
 
 /// Records of the planned kinds, in any order that is right.

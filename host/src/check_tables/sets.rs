@@ -8,6 +8,7 @@ use crate::{
     document,
     random::Random,
     records::{self, Maker, Record},
+    stage,
 };
 
 /// How many random sets a check makes.
@@ -60,6 +61,28 @@ pub fn random(r: &mut Random) -> Set {
     let mut set = of_records(&maker.records);
     if r.one_in(800) {
         // Few sections have room for so many.
+        repeat(&mut set[RELOCATION_TABLE], 23, 4094 + r.below(5));
+    }
+    damage_all(&mut set, &maker, r);
+    set
+}
+
+/// With a table at its ceiling, or all tables of a run over a large file.
+pub fn large(r: &mut Random) -> Set {
+    if r.one_in(2)
+        && let Some(set) = stage::large::set(r)
+    {
+        return set;
+    }
+    if r.one_in(4) {
+        return many_names(r);
+    }
+    let mut plan: Plan = [40, 20, 40, 40, 40, 40].map(|most| r.below(most + 1));
+    let (kind, ceiling) = r.pick(&[(1, 64), (2, 4096), (4, 1024), (5, 1024)]);
+    plan[kind] = ceiling - 2 + r.below(4);
+    let maker = planned(plan, r);
+    let mut set = of_records(&maker.records);
+    if r.one_in(4) {
         repeat(&mut set[RELOCATION_TABLE], 23, 4094 + r.below(5));
     }
     damage_all(&mut set, &maker, r);

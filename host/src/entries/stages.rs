@@ -1,6 +1,9 @@
 //! The stage entries. Each is one line below, with `linked` where libentries.a has it and
 //! `absent` where it doesn't yet: then the second reading is compared with the Rust alone.
-use crate::document::image::{Split, split_table, splits_in};
+use crate::{
+    document::image::{Split, split_table, splits_in},
+    lent,
+};
 
 /// An entry on byte tables: which ones it takes and gives, in the order of its
 /// parameters, the numbers between them, and the call if libentries.a has it.
@@ -71,16 +74,18 @@ macro_rules! call_of_mark {
     }};
 }
 
-/// The records as structs, lent between two that must stay as they are, and back. No
+/// The records as structs, lent between two that must stay as they are (but alone where
+/// slices are lent exactly), and back. No
 /// answer word: 0, or another where one of the two was written.
 #[allow(dead_code, reason = "while the entry is absent")]
 fn marked(records: &[u8], out: &mut [u8], mark: impl Fn(&mut [Split])) -> u64 {
-    let guard = Split::read(&[0x55; 19]);
-    let mut splits = [vec![guard], splits_in(records), vec![guard]].concat();
-    let end = splits.len() - 1;
-    mark(&mut splits[1..end]);
-    out.copy_from_slice(&split_table(&splits[1..end]).0);
-    if splits[0] == guard && splits[end] == guard { 0 } else { u64::MAX }
+    let guards = vec![Split::read(&[0x55; 19]); !lent::exactly() as usize];
+    let mut splits = [&guards[..], &splits_in(records), &guards].concat();
+    let lent = guards.len()..splits.len() - guards.len();
+    mark(&mut splits[lent.clone()]);
+    out.copy_from_slice(&split_table(&splits[lent.clone()]).0);
+    let whole = splits[..lent.start] == guards && splits[lent.end..] == guards;
+    if whole { 0 } else { u64::MAX }
 }
 
 pub const END_FOR_SECTION: StageEntry = stage_entry!(linked end_for_section

@@ -10,9 +10,11 @@ const EXAMPLE: &str = include_str!("../../../examples/document-01.txt");
 pub fn all() -> Vec<(&'static str, Vec<u8>)> {
     vec![
         ("document 01's example", pack(EXAMPLE).unwrap()),
+        ("64 splits, 300 symbols", mixed(64, 300, 0)),
         ("64 splits, 600 symbols", mixed(64, 600, 0)),
         // 2,000 symbols do not fit into a file beside 512 splits and 1,000 relocations.
         ("512 splits, 700 symbols, 1,000 relocations", mixed(512, 700, 1000)),
+        ("512 splits, 900 symbols", mixed(512, 900, 0)),
         ("512 splits, 1,800 symbols", mixed(512, 1800, 0)),
         ("256 splits", mixed(256, 0, 0)),
         ("512 splits", mixed(512, 0, 0)),
@@ -23,6 +25,21 @@ pub fn all() -> Vec<(&'static str, Vec<u8>)> {
         ("a chain of 500 merges", chain(250)),
         ("a chain of 1,000 merges", chain(500)),
     ]
+}
+
+/// Inputs of half and full size.
+pub const PAIRS: [(&str, &str); 6] = [
+    ("256 splits", "512 splits"),
+    ("512 splits", "1,024 splits"),
+    ("2,048 names", "4,096 names"),
+    ("a chain of 500 merges", "a chain of 1,000 merges"),
+    ("64 splits, 300 symbols", "64 splits, 600 symbols"),
+    ("512 splits, 900 symbols", "512 splits, 1,800 symbols"),
+];
+
+/// The input of this name.
+pub fn named(name: &str) -> Option<Vec<u8>> {
+    all().into_iter().find(|(own, _)| *own == name).map(|(_, file)| file)
 }
 
 /// So many splits of a unit each, of 16 bytes; the symbols and relocations are spread evenly.

@@ -16,6 +16,7 @@ use crate::{
     },
     entries::stages::{MARK_COMMON_SPLITS, StageEntry, UPDATE_COMMON_SPLITS},
     random::Random,
+    soak::shorter,
 };
 
 pub struct UpdateCommonSplits;
@@ -29,6 +30,12 @@ impl Stage for UpdateCommonSplits {
     const ENTRY: StageEntry = UPDATE_COMMON_SPLITS;
     const COUNT: usize = 100_000;
     const OUTCOMES: &'static [u16] = &[0, 1, 2, 3, 4, 7, 30, 31];
+    const STEP: &'static str = "common";
+
+    fn enlarged(mut case: Case, r: &mut Random) -> Case {
+        case.numbers = vec![r.below(2) as u32, some_start(&case, r)];
+        case
+    }
 
     fn random(r: &mut Random) -> Case {
         let mut maker = Maker::new(4, r);
@@ -68,6 +75,12 @@ impl Stage for UpdateCommonSplits {
     }
 }
 
+/// Where one of the splits starts.
+fn some_start(case: &Case, r: &mut Random) -> u32 {
+    let splits = splits_in(case.tables().splits);
+    if splits.is_empty() { 0 } else { r.pick(&splits).start }
+}
+
 pub struct MarkCommonSplits;
 
 impl Stage for MarkCommonSplits {
@@ -75,6 +88,20 @@ impl Stage for MarkCommonSplits {
     const COUNT: usize = 100_000;
     const OUTCOMES: &'static [u16] = &[0];
     const CHECKED: bool = false;
+    const STEP: &'static str = "common";
+
+    fn enlarged(mut case: Case, r: &mut Random) -> Case {
+        case.numbers = vec![r.below(4) as u32, some_start(&case, r)];
+        case.lent = vec![case.set[SPLIT_TABLE].len()];
+        case
+    }
+
+    /// Whole records: it takes structs.
+    fn shorten(case: &mut Case, r: &mut Random) {
+        let count = case.set[SPLIT_TABLE].len() / 19;
+        case.set[SPLIT_TABLE].truncate(19 * shorter(count, r));
+        case.lent = vec![case.set[SPLIT_TABLE].len()];
+    }
 
     /// Any splits, in no order.
     fn random(r: &mut Random) -> Case {

@@ -23,6 +23,14 @@ impl Stage for EndForSection {
     const ENTRY: StageEntry = END_FOR_SECTION;
     const COUNT: usize = 100_000;
     const OUTCOMES: &'static [u16] = &[0, 1, 2, 3, 4, 5, 10, 20];
+    const STEP: &'static str = "gap";
+
+    fn enlarged(mut case: Case, r: &mut Random) -> Case {
+        let sections = case.tables().sections.len() / 15;
+        let section = if r.one_in(20) { sections } else { r.below(sections.max(1)) };
+        (case.numbers, case.lent) = (vec![section as u32], vec![number_room(r)]);
+        case
+    }
 
     fn random(r: &mut Random) -> Case {
         let mut maker = Maker::new(3, r);
@@ -87,6 +95,14 @@ impl Stage for SplitAlignment {
     const ENTRY: StageEntry = SPLIT_ALIGNMENT;
     const COUNT: usize = 100_000;
     const OUTCOMES: &'static [u16] = &[0, 1, 2, 3, 4, 5, 7, 11, 20];
+    const STEP: &'static str = "trim";
+
+    fn enlarged(mut case: Case, r: &mut Random) -> Case {
+        let splits = case.tables().splits.len() / 19;
+        let which = if r.one_in(20) { splits } else { r.below(splits.max(1)) };
+        (case.numbers, case.lent) = (vec![which as u32], vec![number_room(r)]);
+        case
+    }
 
     fn random(r: &mut Random) -> Case {
         let mut maker = Maker::new(3, r);

@@ -33,6 +33,7 @@ impl Stage for AddSplits {
     const ENTRY: StageEntry = ADD_SPLITS;
     const COUNT: usize = 200_000;
     const OUTCOMES: &'static [u16] = &[0, 1, 2, 3, 4, 7, 11, 20, 21, 22, 23, 24, 25, 26, 27];
+    const STEP: &'static str = "merge";
 
     fn random(r: &mut Random) -> Case {
         let mut maker = Maker::new(6, r);

@@ -26,6 +26,7 @@ impl Stage for ResolveLinkOrder {
     const COUNT: usize = 200_000;
     const OUTCOMES: &'static [u16] = &[0, 1, 2, 3, 4, 7, 8, 60, 61, 76];
     const OFTEN: &'static [(u16, u64)] = &[(60, 1000), (61, 1000), (76, 1000)];
+    const STEP: &'static str = "order";
 
     fn random(r: &mut Random) -> Case {
         let mut maker = Maker::new(8, r);

@@ -1,11 +1,12 @@
 //! The entry `split_file`: the whole run, its listing beside the Rust's.
 pub mod along;
+pub mod big;
 pub mod files;
 mod points;
 pub mod store;
 
 use super::{
-    Beside, Case, Stage,
+    Beside, Case, Stage, large,
     make::{counts_room, room},
     rust,
 };
@@ -17,7 +18,7 @@ use crate::{
         load::load,
         order::units_in,
         outputs::Answer,
-        run::{self, Ended, NO_CEILING, run},
+        run::{self, CEILINGS, Ended, NO_CEILING, run},
     },
     entries::{
         self,
@@ -42,6 +43,12 @@ impl Stage for SplitFile {
 
     fn random(r: &mut Random) -> Case {
         with_room(files::random(r), r)
+    }
+
+    fn large(r: &mut Random) -> Option<Case> {
+        let mut case = store::whole(&big::random(r));
+        large::shorten_output(&mut case, 4, r);
+        Some(case)
     }
 
     fn by_hand(tally: &mut Tally) {
@@ -83,6 +90,7 @@ fn as_check_file(file: &[u8], refusal: Refusal) -> Beside {
 }
 
 const WIDTHS: [usize; 7] = [2, 1, 19, 8, 28, 12, 8];
+const SPLITS: usize = 2;
 
 /// How many records each output needs; nothing known where the run is refused.
 fn needed(file: &[u8]) -> Option<[usize; 7]> {
@@ -102,6 +110,26 @@ fn needed(file: &[u8]) -> Option<[usize; 7]> {
         }
         _ => None,
     }
+}
+
+/// With outputs that hold just what the run needs; `None` where it is refused.
+pub fn just_enough(file: &[u8]) -> Option<Case> {
+    let needed = needed(file)?;
+    let mut lent: Vec<usize> = WIDTHS.iter().zip(needed).map(|(width, n)| width * n).collect();
+    lent.push(2 * needed.len());
+    let mut case = Case { file: file.to_vec(), lent, ..Case::default() };
+    // A merge may hold more splits at once than the run leaves.
+    let (mut few, mut enough) = (needed[SPLITS], CEILINGS.places.splits);
+    while few < enough {
+        let places = (few + enough) / 2;
+        case.lent[SPLITS] = WIDTHS[SPLITS] * places;
+        match SplitFile::right(&case).word {
+            0 => enough = places,
+            _ => few = places + 1,
+        }
+    }
+    case.lent[SPLITS] = WIDTHS[SPLITS] * enough;
+    Some(case)
 }
 
 /// Outputs that hold just what the run gives, more, or less: at most one is short, so that

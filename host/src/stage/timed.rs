@@ -2,16 +2,21 @@
 use std::time::Duration;
 
 use super::{
-    Case, Stage,
+    Case, Stage, plainly,
     run::{
         SplitFile,
         along::{Visit, along},
         store::whole,
     },
+    walk::SplitObj,
 };
-use crate::bench::times;
+use crate::{bench::times, entries};
 
-/// Times by the names of the Rust's steps.
+/// The step of the entry `check_tables`, on the tables that the walk takes.
+pub const TABLES: &str = "table checks";
+
+/// Times by the names of the Rust's steps, a name for each turn.
+#[derive(Default)]
 pub struct Ours {
     rounds: usize,
     times: Vec<(&'static str, Vec<Duration>)>,
@@ -19,30 +24,35 @@ pub struct Ours {
 
 impl Ours {
     pub fn of(&self, step: &str) -> Option<Vec<Duration>> {
-        let found = self.times.iter().find(|(name, _)| *name == step);
-        found.map(|(_, times)| times.clone())
+        let of_step = self.times.iter().filter(|(name, _)| *name == step);
+        let times: Vec<Duration> = of_step.flat_map(|(_, times)| times.clone()).collect();
+        (!times.is_empty()).then_some(times)
+    }
+
+    /// A turn of so many rounds.
+    pub fn measure(&mut self, file: &[u8], rounds: usize) {
+        self.rounds = rounds;
+        self.stage::<SplitFile>("whole run", &whole(file));
+        along(file, self);
     }
 }
 
-pub fn ours(file: &[u8], rounds: usize) -> Ours {
-    let mut ours = Ours { rounds, times: vec![] };
-    ours.stage::<SplitFile>("whole run", &whole(file));
-    along(file, &mut ours);
-    ours
+/// One call of the whole run, for a count of its instructions; whether it is accepted.
+pub fn once(file: &[u8]) -> bool {
+    plainly::<SplitFile, _>(&whole(file), |call| call()).is_some_and(|(word, _)| word == 0)
 }
 
 impl Visit for Ours {
     /// Nothing for an entry that isn't linked.
     fn stage<S: Stage>(&mut self, step: &'static str, case: &Case) {
-        let Some(call) = S::ENTRY.call else {
-            return;
-        };
-        let inputs: Vec<&[u8]> = S::ENTRY.inputs.iter().map(|name| case.table(name)).collect();
-        let mut outputs: Vec<Vec<u8>> = case.lent.iter().map(|len| vec![0; *len]).collect();
-        let mut lent: Vec<&mut [u8]> = outputs.iter_mut().map(|output| &mut output[..]).collect();
-        let times = times(self.rounds, || {
-            assert_eq!(call(&inputs, &case.numbers, &mut lent), 0, "the input is accepted");
+        let timed = plainly::<S, _>(case, |call| {
+            times(self.rounds, || assert_eq!(call(), 0, "the input is accepted"))
         });
-        self.times.push((step, times));
+        self.times.extend(timed.map(|(times, _)| (step, times)));
+        if step == SplitObj::STEP {
+            let tables = case.tables();
+            let checked = || assert_eq!(entries::check_tables(&tables), 0, "they are right");
+            self.times.push((TABLES, times(self.rounds, checked)));
+        }
     }
 }

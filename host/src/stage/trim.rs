@@ -23,6 +23,7 @@ impl Stage for TrimSplits {
     const ENTRY: StageEntry = TRIM_SPLITS;
     const COUNT: usize = 100_000;
     const OUTCOMES: &'static [u16] = &[0, 1, 2, 3, 4, 5, 7, 10, 11, 54];
+    const STEP: &'static str = "trim";
 
     fn random(r: &mut Random) -> Case {
         let mut maker = Maker::new(4, r);

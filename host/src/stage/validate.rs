@@ -19,6 +19,7 @@ impl Stage for ValidateSplits {
     const ENTRY: StageEntry = VALIDATE_SPLITS;
     const COUNT: usize = 100_000;
     const OUTCOMES: &'static [u16] = &[0, 1, 2, 3, 4, 5, 7, 50, 51, 52, 53];
+    const STEP: &'static str = "check";
 
     fn random(r: &mut Random) -> Case {
         let mut maker = Maker::new(4, r);

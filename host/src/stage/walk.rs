@@ -30,6 +30,7 @@ impl Stage for SplitObj {
     const COUNT: usize = 200_000;
     const OUTCOMES: &'static [u16] =
         &[0, 1, 2, 3, 4, 5, 6, 7, 8, 10, 11, 70, 71, 72, 73, 74, 75, 76];
+    const STEP: &'static str = "walk";
 
     fn random(r: &mut Random) -> Case {
         let mut maker = Maker::new(5, r);

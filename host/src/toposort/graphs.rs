@@ -64,6 +64,11 @@ pub fn random(r: &mut Random) -> Case {
     random_of(size, r)
 }
 
+/// At the ceiling of nodes or just below.
+pub fn large(r: &mut Random) -> Case {
+    random_of(Size::Full, r)
+}
+
 fn random_of(size: Size, r: &mut Random) -> Case {
     let n = match size {
         Size::Small => r.below(11),

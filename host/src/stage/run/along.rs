@@ -10,7 +10,7 @@ use super::{
 use crate::{
     bytes::half_at,
     check_tables::{NAME_BYTES, NAME_ENDS, SPLIT_TABLE, Set, UNIT_TABLE},
-    document::{self, load::load},
+    document::{self, load::load, outputs::Answer},
     parts,
     tally::Tally,
 };
@@ -18,6 +18,11 @@ use crate::{
 /// Is given each stage, named as the Rust's steps are.
 pub trait Visit {
     fn stage<S: Stage>(&mut self, step: &'static str, case: &Case);
+
+    /// What the stage gives, with which the run goes on; `None` ends it.
+    fn answer<S: Stage>(&mut self, case: &Case) -> Option<Answer> {
+        Some(S::right(case))
+    }
 }
 
 /// Outputs at document 01's ceilings.
@@ -81,7 +86,9 @@ fn step<S: Stage>(
     case.numbers = vec![0; S::ENTRY.numbers.len()];
     let given = super::super::taken::<S>(case.clone());
     visit.stage::<S>(name, &given);
-    let answer = S::right(&given);
+    let Some(answer) = visit.answer::<S>(&given) else {
+        return false;
+    };
     for (table, output, width) in taken {
         let count = half_at(answer.outputs.last().expect("the counts"), 2 * output) as usize;
         case.set[*table] = answer.outputs[*output][..count * width].to_vec();

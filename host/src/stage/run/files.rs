@@ -120,7 +120,7 @@ fn take_gap_names(maker: &mut Maker, partials: &mut [Split], r: &mut Random) {
 
 /// The records in one of the orders in which each refers to earlier ones; a split may stand
 /// before its section.
-fn file(maker: Maker, partials: &[Split], r: &mut Random) -> Vec<u8> {
+pub fn file(maker: Maker, partials: &[Split], r: &mut Random) -> Vec<u8> {
     const ORDERS: [[u16; 6]; 4] =
         [[1, 2, 3, 4, 5, 6], [1, 5, 2, 3, 4, 6], [1, 6, 5, 2, 3, 4], [1, 2, 6, 3, 5, 4]];
     let mut records = records(&in_order(maker, partials));

@@ -1,0 +1,32 @@
+#!/usr/bin/env bash
+# Counts the instructions (valgrind --tool=callgrind) of one call of split_file, and of the Rust's loading and stages, on the benchmark's inputs of 256, 512 and 1,024
+# splits, and prints a Markdown table. Counted within that function alone. HOST names the host's program, if it isn't the one that `--profile measure` builds.
+set -eu
+cd "$(dirname "$0")/.."
+host=${HOST:-target/measure/host}
+out=$(mktemp)
+trap 'rm -f "$out"' EXIT
+
+# count FUNCTION ARGUMENT..: the instructions within the function, the host called with the arguments
+count() {
+    local within=$1
+    shift
+    valgrind --tool=callgrind --callgrind-out-file="$out" --toggle-collect="$within" "$host" once "$@" 2>&1 |
+        sed -nE 's/.*Collected : ([0-9]+).*/\1/p'
+}
+
+grouped() {
+    sed -E ':a; s/^([0-9]+)([0-9]{3})/\1,\2/; ta' <<<"$1"
+}
+
+printf '| Input | ours | over the half | the Rust | over the half | ratio |\n|---|---|---|---|---|---|\n'
+before=0
+rust_before=0
+for splits in 256 512 1,024; do
+    ours=$(count split_file "$splits splits")
+    rust=$(count 'oracle::asked::walked*' "$splits splits" rust)
+    awk -v n="$splits" -v o="$ours" -v r="$rust" -v oh="$before" -v rh="$rust_before" -v og="$(grouped "$ours")" -v rg="$(grouped "$rust")" 'BEGIN {
+        printf "| %s splits | %s | %s | %s | %s | %.1f |\n", n, og, oh ? sprintf("%.2f", o / oh) : "-", rg, rh ? sprintf("%.2f", r / rh) : "-", r / o }'
+    before=$ours
+    rust_before=$rust
+done
