@@ -47,6 +47,7 @@ use Rattle.gap_splits.specs.Answers.{ceilings}
 use Rattle.create_gap_splits.specs.Create as create
 use Rattle.create_gap_splits.specs.Create.{gapsFilled, Short}
 use Rattle.stage_gaps.specs.StageGaps.{fromSplits, Names, Space}
+use Rattle.stage_gaps.proofs.Laws.{flat-bytes}
 use Rattle.entry_create_gap_splits.specs.Entry.{fromSymbols, fromSections}
 
 -- ---- two columns of places that agree on the sections: their gaps agree, since a section's bytes are asked at its own place alone
@@ -106,11 +107,6 @@ sections-short ceiling lengths places image b passed head-places name-bytes name
     sections-passed = tables.image-sections lengths (imagePlaces places) (length image) (stageSections b) (length b / 15) (table-passed 15 ceiling b _ passed .2)
 
 -- ---- the bytes of names
-pub flat-bytes : (names : List (List ℕ)) → length (flat names) ≡ bytesOf names
-unfolding flat bytesOf
-flat-bytes [] = refl
-flat-bytes (x ∷ names) = length-append x (flat names) ∙ ap (λ (k : ℕ). length x + k) (flat-bytes names)
-
 flat-one : (x : List ℕ) → length (flat (x ∷ [])) ≡ length x
 unfolding flat
 flat-one x = length-append x [] ∙ omega arith

@@ -3,11 +3,11 @@
 use mathlib.Core.Path.{_≡_, refl, sym, ap, ap₂, subst, _∙_}
 use mathlib.Core.List.{List, [], _∷_, _++_}
 use mathlib.Core.Bool.{Bool, true, false, cond, not, _&&_, _||_}
-use Prim.Native.Nat.{ℕ, suc, _+_, _%_, _≤_, _<_}
+use Prim.Native.Nat.{ℕ, zero, suc, _+_, _%_, _≤_, _<_}
 use native.Mathlib.Numerals.{add-one}
 use native.Mathlib.Omega.{arith}
 use lib.Dec.{eqb, leb}
-use lib.ListN.{length, getD, take, drop, set, length-set, drop-of-length-le}
+use lib.ListN.{length, getD, take, drop, set, replicate, length-set, drop-of-length-le}
 use lib.Seq.{take-suc, drop-cons, getD-set-same, getD-set-other, take-all}
 use borrow.Author.Tests.{eqb-true, eqb-false, le-leb, lt-leb}
 use Rattle.lists.specs.Rows.{some}
@@ -20,6 +20,12 @@ use Rattle.symbol_order.specs.Order.{symbolOf, Readable}
 use Rattle.symbols.specs.Ranges.{stripped, symbolsBetween}
 use Rattle.gaps.specs.Gaps.{misses, endFrom, gapEnd}
 use Rattle.gaps.specs.Found.{Clean, Markable, Stopped, Unmarked, endIn}
+
+-- ---- zeros mark no name
+pub clean-zeros : (n : ℕ) → Clean (replicate n 0)
+clean-zeros zero k = refl
+clean-zeros (suc n) zero = refl
+clean-zeros (suc n) (suc k) = clean-zeros n k
 
 -- ---- one element more
 module _ {A : Type 0} (p : A → Bool) where

@@ -4,19 +4,13 @@ use Prim.Native.Nat.{ℕ, zero, suc, _+_, _≤_, _<_}
 use mathlib.Core.Path.{_≡_, refl, sym, ap, _∙_}
 use mathlib.Core.List.{List, [], _∷_}
 use native.Mathlib.Omega.{arith}
-use lib.ListN.{length, getD, drop, replicate}
+use lib.ListN.{length, getD, drop}
 use native.Mathlib.Nat.{not-suc-le-zero}
 use Rattle.tables.specs.Records.{relocsIn}
 use Rattle.load.specs.Good.{Rising}
 use Rattle.load.proofs.Growth.{all-none}
-use Rattle.gaps.specs.Found.{Clean}
 use Rattle.loaded.specs.Tables.{tablesWith, Usable}
 use Rattle.run_file.specs.RunFile.{sum}
-
-pub clean-zeros : (n : ℕ) → Clean (replicate n 0)
-clean-zeros zero k = refl
-clean-zeros (suc n) zero = refl
-clean-zeros (suc n) (suc k) = clean-zeros n k
 
 -- one length more is summed
 pub sum-turn : (l : List ℕ) (i : ℕ) → i < length l → sum (drop i l) ≡ getD l i 0 + sum (drop (i + 1) l)

@@ -2,9 +2,9 @@
 -- Assumes nothing.
 use Prim.Native.Nat.{ℕ, suc, _+_, _*_, _-_, _/_, _≤_, _<_}
 use mathlib.Core.Path.{_≡_, refl, sym, ap, subst, _∙_}
-use mathlib.Core.List.{List, [], _∷_, _++_}
+use mathlib.Core.List.{List, [], _∷_}
 use native.Mathlib.Omega.{arith}
-use lib.ListN.{length, take, replicate, length-append, length-map}
+use lib.ListN.{length, take, replicate, length-map}
 use lib.Seq.{sets}
 use Rattle.lists.specs.Outcome.{Outcome, accepted, refused}
 use Rattle.lists.specs.Rows.{clearFrom, tabulate}
@@ -21,6 +21,7 @@ use Rattle.names.specs.Append.{Columns as Beside}
 use Rattle.names.proofs.Laws.{length-names}
 use Rattle.splits.specs.Columns.{Columns, rowAt, rows}
 use Rattle.gap_splits.specs.Answers.{added}
+use Rattle.stage_gaps.proofs.Laws.{flat-bytes}
 use Rattle.pieces.specs.Pieces.{piecesIn, symbolsIn, relocsIn}
 use Rattle.pieces.proofs.Laws.{length-piecesIn, length-symbolsIn, length-relocsIn}
 use Rattle.run.specs.Answers.{unitsAt}
@@ -28,11 +29,6 @@ use Rattle.run_outputs.specs.declared.Kept.{Kept}
 use Rattle.run_outputs.specs.Kept.{listed}
 
 -- ---- names
-
-pub flat-bytes : (names : List (List ℕ)) → length (flat names) ≡ bytesOf names
-unfolding flat bytesOf
-flat-bytes [] = refl
-flat-bytes (x ∷ names) = length-append x (flat names) ∙ ap (λ (k : ℕ). length x + k) (flat-bytes names)
 
 length-ends : (at : ℕ) (names : List (List ℕ)) → length (endsFrom at names) ≡ length names
 unfolding endsFrom

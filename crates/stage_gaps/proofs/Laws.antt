@@ -1,9 +1,9 @@
 -- The counts that are stored, from a line of the definition to the next, what the filling left, and the room of the lent columns. Assumes nothing.
 use mathlib.Core.Path.{_≡_, refl, sym, ap, subst, _∙_}
 use mathlib.Core.List.{List, [], _∷_, _++_}
-use Prim.Native.Nat.{ℕ, zero, suc, _+_, _/_, _≤_, _<_}
+use Prim.Native.Nat.{ℕ, _+_, _/_, _≤_, _<_}
 use native.Mathlib.Omega.{arith}
-use lib.ListN.{length, replicate, length-append}
+use lib.ListN.{length, length-append}
 use Rattle.lists.specs.Rows.{clearFrom}
 use Rattle.lists.specs.Tables.{laid}
 use Rattle.lists.specs.Outcome.{Outcome, accepted, refused, _>>_}
@@ -27,7 +27,7 @@ use Rattle.splits.specs.Bytes.{tableBytes}
 use Rattle.splits.specs.Columns.{Columns as Table, columns, rows, rowAt, Long}
 use Rattle.stage_splits.specs.StageSplits.{roomOf, said, Taken}
 use Rattle.merge.specs.Merge.{given}
-use Rattle.gaps.specs.Found.{Clean, Roomy}
+use Rattle.gaps.specs.Found.{Roomy}
 use Rattle.gap_splits.specs.Entering.{Filled, Ceilings, bytesOf}
 use Rattle.gap_splits.specs.Answers.{beside, added, names, used, Room, Stand}
 use Rattle.gap_splits.specs.declared.Entered.{Entered}
@@ -152,9 +152,3 @@ module _ {added-bytes added-places added-lengths marks keys gap-ends : List ℕ}
   -- .. and all gaps
   pub gaps-room : {sections n cap symbols : ℕ} → sections ≤ 64 → n ≤ cap → cap ≤ 1024 → symbols ≤ 4096 → Roomy keys gap-ends sections n symbols
   gaps-room a b c d = record { long-keys = omega (arith, l .keys-long); long-ends = omega (arith, l .gap-ends-long) }
-
--- zeros mark no name
-pub clean-zeros : (n : ℕ) → Clean (replicate n 0)
-clean-zeros zero k = refl
-clean-zeros (suc n) zero = refl
-clean-zeros (suc n) (suc k) = clean-zeros n k

@@ -5,7 +5,8 @@ use native.Mathlib.Omega.{arith}
 use Rattle.loaded.specs.Tables.{tablesWith}
 use Rattle.loaded.proofs.Laws.{few-names}
 use Rattle.run_splits.proofs.Tables.{table-of-parts}
-use Rattle.run_file.proofs.Laws.{usable-parts, clean-zeros}
+use Rattle.gaps.proofs.Marks.{clean-zeros}
+use Rattle.run_file.proofs.Laws.{usable-parts}
 use borrow.Author.Needs.{needs}
 use Rattle.run_file.proofs.split_rows.Statement.{statement}
 use Rattle.run_file.proofs.split_rows.Tie as tie

@@ -4,7 +4,8 @@ use mathlib.Core.Path.{sym}
 use native.Mathlib.Omega.{arith}
 use Rattle.gap_splits.specs.Answers.{added, beside}
 use Rattle.names.proofs.Laws.{length-names}
-use Rattle.run_outputs.proofs.Laws.{flat-bytes, ends-laid, bytes-laid}
+use Rattle.stage_gaps.proofs.Laws.{flat-bytes}
+use Rattle.run_outputs.proofs.Laws.{ends-laid, bytes-laid}
 use borrow.Author.Needs.{needs}
 use Rattle.run_outputs.proofs.lay_names.Statement.{statement}
 use Rattle.run_outputs.proofs.lay_names.Tie as tie

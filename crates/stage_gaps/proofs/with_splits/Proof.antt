@@ -1,6 +1,6 @@
 -- `stage_gaps::with_splits` meets its contract: its columns hold every table that is allowed, and no name is marked.
 -- Assumes nothing.
-use Rattle.stage_gaps.proofs.Laws.{clean-zeros}
+use Rattle.gaps.proofs.Marks.{clean-zeros}
 use borrow.Author.Needs.{needs}
 use Rattle.stage_gaps.proofs.with_splits.Statement.{statement}
 use Rattle.stage_gaps.proofs.with_splits.Tie as tie
