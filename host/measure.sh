@@ -1,8 +1,9 @@
 #!/usr/bin/env bash
-# measure.sh OUT [SMALL LARGE SECONDS]: measures anew what docs/MEASURED.md shows, and writes it to OUT as Markdown. It takes libentries.a as it stands
-# (`rt staticlib entries`), builds the host for measuring and for comparing, and needs valgrind. SMALL, LARGE and SECONDS bound the soak (else 10,000,000,
-# 100,000 and 3,600). Status: 0, or 1 if something differs or valgrind reports an invalid access.
+# measure.sh OUT [SMALL LARGE SECONDS]: measures anew what docs/MEASURED.md shows, and writes it to OUT as Markdown; what OUT has up to the line of MARK below stays.
+# It takes libentries.a as it stands (`rt staticlib entries`), builds the host for measuring and for comparing, and needs valgrind. SMALL, LARGE and SECONDS
+# bound the soak (else 10,000,000, 100,000 and 3,600). Status: 0, or 1 if something differs or valgrind reports an invalid access.
 set -eu
+MARK='<!-- what follows is written by host/measure.sh -->'
 if [ $# -lt 1 ]; then
     sed -n '2,4s/^# //p' "$0" >&2
     exit 2
@@ -15,6 +16,8 @@ for profile in measure release; do
 done
 measure=target/measure/host
 compare=target/release/host
+work=$(mktemp -d)
+trap 'rm -rf "$work"' EXIT
 failed=0
 
 # part TITLE COMMAND..: the command's output under a title that names it
@@ -25,41 +28,41 @@ part() {
     "$@" || failed=1
 }
 
-# What stands in the soak's output after the groups, and the last line.
-counts() {
-    sed -n '/^| Entry/,$p' | sed 's/^host: /\n&/'
-}
-
+# The table of the soak, and what it says at the end; all that it says if something differs.
 soak() {
-    local log
-    log=$(mktemp)
-    "$compare" soak "$@" >"$log" || failed=1
-    # A difference is shown as it stands.
-    if grep -q '^difference in' "$log"; then cat "$log"; else counts <"$log"; fi
-    rm -f "$log"
+    printf '\n## Soak\n\n`host/%s soak%s`\n\n' "$compare" "${*:+ $*}"
+    if "$compare" soak "$@" >"$work/soak"; then
+        sed -n '/^| Entry/,$p' "$work/soak" | sed 's/^host: /\n&/'
+    else
+        cat "$work/soak"
+        failed=1
+    fi
 }
 
 sample() {
-    local log status=0
-    log=$(mktemp)
-    valgrind --error-exitcode=9 "$compare" sample >"$log" 2>&1 || status=$?
-    grep -E 'tables lent|^host: |ERROR SUMMARY|Invalid' "$log" | sed -E 's/^==[0-9]+== //; s/^/    /'
-    if [ "$status" != 0 ]; then
-        printf '\nStatus %s:\n\n' "$status"
-        sed 's/^/    /' "$log"
+    local status=0
+    printf '\n## Short tables under valgrind\n\n`valgrind --error-exitcode=9 host/%s sample`\n\n' "$compare"
+    valgrind --error-exitcode=9 "$compare" sample >"$work/sample" 2>&1 || status=$?
+    if [ "$status" = 0 ]; then
+        grep -E 'tables lent|^host: |ERROR SUMMARY' "$work/sample" | sed -E 's/^==[0-9]+== //; s/^/    /'
+    else
+        printf 'Status %s:\n\n' "$status"
+        sed 's/^/    /' "$work/sample"
         failed=1
     fi
-    rm -f "$log"
 }
 
 {
-    printf 'Measured on %s at commit %s, on a machine with %s processors (%s).\n' "$(date -u +%Y-%m-%d)" "$(git rev-parse --short=12 HEAD)" "$(nproc)" "$(uname -m)"
+    if [ -f "$out" ] && grep -qxF -e "$MARK" "$out"; then
+        sed "\\|^$MARK\$|q" "$out"
+    fi
+    printf '\nMeasured on %s at commit %s, on a machine with %s processors (%s).\n' "$(date -u +%Y-%m-%d)" \
+        "$(git describe --always --dirty --exclude '*' --abbrev=12)" "$(nproc)" "$(uname -m)"
     part 'Speed' "$measure" bench 200
     part 'Instructions' growth/whole_run.sh
     part 'Memory' "$measure" memory
-    printf '\n## Soak\n\n`host/%s soak%s`\n\n' "$compare" "${*:+ $*}"
     soak "$@"
-    printf '\n## Short tables under valgrind\n\n`valgrind --error-exitcode=9 host/%s sample`\n\n' "$compare"
     sample
-} >"$out"
+} >"$work/out"
+cp "$work/out" "$out"
 exit "$failed"

@@ -1,6 +1,6 @@
 #!/usr/bin/env bash
 # Counts the instructions (valgrind --tool=callgrind) of one call of split_file, and of the Rust's loading and stages, on the benchmark's inputs of 256, 512 and 1,024
-# splits, and prints a Markdown table. Counted within that function alone. HOST names the host's program, if it isn't the one that `--profile measure` builds.
+# splits, and prints a Markdown table, with the function of ours that takes the most by itself. Counted within that function alone. HOST names the host's program, if it isn't the one that `--profile measure` builds.
 set -eu
 cd "$(dirname "$0")/.."
 host=${HOST:-target/measure/host}
@@ -15,18 +15,24 @@ count() {
         sed -nE 's/.*Collected : ([0-9]+).*/\1/p'
 }
 
+# the function with the most instructions of its own in the last count, and its part of all
+greatest() {
+    callgrind_annotate "$out" | sed -nE 's/^ *[0-9,]+ \(([0-9.]+)%\)  [^:]*:([^ ]+).*/\2 \1 %/p' | head -n 1
+}
+
 grouped() {
     sed -E ':a; s/^([0-9]+)([0-9]{3})/\1,\2/; ta' <<<"$1"
 }
 
-printf '| Input | ours | over the half | the Rust | over the half | ratio |\n|---|---|---|---|---|---|\n'
+printf '| Input | ours | over the half | the Rust | over the half | ratio | most of ours |\n|---|---|---|---|---|---|---|\n'
 before=0
 rust_before=0
 for splits in 256 512 1,024; do
     ours=$(count split_file "$splits splits")
+    most=$(greatest)
     rust=$(count 'oracle::asked::walked*' "$splits splits" rust)
-    awk -v n="$splits" -v o="$ours" -v r="$rust" -v oh="$before" -v rh="$rust_before" -v og="$(grouped "$ours")" -v rg="$(grouped "$rust")" 'BEGIN {
-        printf "| %s splits | %s | %s | %s | %s | %.1f |\n", n, og, oh ? sprintf("%.2f", o / oh) : "-", rg, rh ? sprintf("%.2f", r / rh) : "-", r / o }'
+    awk -v n="$splits" -v o="$ours" -v r="$rust" -v oh="$before" -v rh="$rust_before" -v og="$(grouped "$ours")" -v rg="$(grouped "$rust")" -v most="$most" 'BEGIN {
+        printf "| %s splits | %s | %s | %s | %s | %.1f | %s |\n", n, og, oh ? sprintf("%.2f", o / oh) : "-", rg, rh ? sprintf("%.2f", r / rh) : "-", r / o, most }'
     before=$ours
     rust_before=$rust
 done

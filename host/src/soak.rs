@@ -49,7 +49,7 @@ impl Plan {
 }
 
 /// The cases come in so many rounds over all entries, so that the time limit leaves none out.
-const ROUNDS: usize = 20;
+const ROUNDS: usize = 100;
 
 /// The cases of one entry and size.
 struct Group {
@@ -98,6 +98,9 @@ pub fn run(plan: &Plan, total: &mut Tally) {
     for round in 0..ROUNDS {
         groups.iter_mut().for_each(|group| group.round(round, seeds.next(), until));
         progress(round, &groups, begin);
+        if Instant::now() >= until {
+            break;
+        }
     }
     for group in &mut groups {
         group.tally.end(&[]);
