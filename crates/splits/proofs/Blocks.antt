@@ -42,7 +42,7 @@ module _ (p : ℕ → Bool) (f : ℕ → ℕ) (at size : ℕ) where
       ∙ q
 
 -- none of the block's numbers passes
-none-of : (p : ℕ → Bool) (f : ℕ → ℕ) (i size : ℕ) → some p (tabulate f i size) ≡ false → (k : ℕ) → i ≤ k → k < i + size → p (f k) ≡ false
+pub none-of : (p : ℕ → Bool) (f : ℕ → ℕ) (i size : ℕ) → some p (tabulate f i size) ≡ false → (k : ℕ) → i ≤ k → k < i + size → p (f k) ≡ false
 none-of p f i size e k h l =
     let z : i + (k - i) ≡ k = omega arith in
     ap p (ap f (sym z) ∙ sym (getD-tabulate f i size (k - i) 0 (omega arith)))
