@@ -1,17 +1,26 @@
 -- The way of an outcome: a refused line of a definition is the answer, one that passed is passed over. Assumes nothing.
-use Prim.Native.Nat.{ℕ}
+use Prim.Native.Nat.{ℕ, _/_}
 use mathlib.Core.Path.{_≡_, sym, ap, subst, _∙_}
 use mathlib.Core.List.{List}
+use lib.ListN.{length}
 use Rattle.lists.specs.Outcome.{Outcome, accepted, _>>_}
 use Rattle.obj.specs.Answers.{meaning}
+use Rattle.obj.specs.Records.{stagePlaces}
 use Rattle.obj.specs.declared.Answer.{Answer}
+use Rattle.obj.specs.declared.Section.{Section}
+use Rattle.obj.specs.declared.Reloc.{Reloc}
+use Rattle.obj.specs.declared.Split.{Split}
 use Rattle.obj.specs.declared.Answer.the-variants as answers
+use Rattle.stage_tables.specs.StageTables.{stageSplits, splitsCheck, unitsCheck}
+use Rattle.sections.specs.Image.{Image}
+use Rattle.sections.specs.Sections.{Sections}
+use Rattle.units.specs.Units.{unitNames}
 use Rattle.walk.specs.declared.Counts.{Counts}
 use Rattle.walk.specs.Walk.{Output}
 use Rattle.split_obj.specs.declared.Walked.{Walked}
 use Rattle.split_obj.specs.declared.Walked.the-variants.{Refused}
 use Rattle.split_obj.specs.Loop.{seen}
-use Rattle.stage_walk.specs.Lines.{stoppedBy, Within, Gives}
+use Rattle.stage_walk.specs.Lines.{walkOf, fromUnits, fromSplits, stoppedBy, Within, Gives}
 
 module _ {room : Counts} {r : Walked} {pieces entries offsets : List ℕ} where
   -- the same outcome, said otherwise
@@ -33,3 +42,21 @@ module _ {room : Counts} {r : Walked} {pieces entries offsets : List ℕ} where
   pub gives-goes : {m : Outcome (Unit {0})} {n : Outcome Output} → m ≡ accepted tt → Gives n room r pieces entries offsets → Gives (m >> n) room r pieces entries offsets
   unfolding _>>_
   gives-goes e w = rw e w
+
+-- splits that passed: the units are asked with their rows
+pub splits-go : (lengths : List ℕ) (heads : List Section) (g : Image) (sections : Sections) (reloc : ℕ → Reloc) (relocs : ℕ) (b units : List ℕ) (rows : List Split) (room : Counts) (r : Walked)
+    (pieces entries offsets : List ℕ) → splitsCheck 1024 lengths heads b ≡ accepted tt → rows ≡ stageSplits b
+    → Gives (fromUnits lengths g sections reloc relocs rows units room) room r pieces entries offsets
+    → Gives (fromSplits lengths heads g sections reloc relocs b units room) room r pieces entries offsets
+unfolding fromSplits
+splits-go lengths heads g sections reloc relocs b units rows room r pieces entries offsets passed taken w =
+    gives-goes passed (gives-as (ap (λ (l : List Split). fromUnits lengths g sections reloc relocs l units room) taken) w)
+
+-- units that passed: the walk goes over their places
+pub units-go : (lengths : List ℕ) (g : Image) (sections : Sections) (reloc : ℕ → Reloc) (relocs : ℕ) (rows : List Split) (b places : List ℕ) (room : Counts) (r : Walked)
+    (pieces entries offsets : List ℕ) → unitsCheck 1024 lengths b ≡ accepted tt → places ≡ stagePlaces 8 (length b / 8)
+    → Gives (walkOf g sections reloc relocs rows (unitNames b places) room) room r pieces entries offsets
+    → Gives (fromUnits lengths g sections reloc relocs rows b room) room r pieces entries offsets
+unfolding fromUnits
+units-go lengths g sections reloc relocs rows b places room r pieces entries offsets passed taken w =
+    gives-goes passed (gives-as (ap (λ (l : List ℕ). walkOf g sections reloc relocs rows (unitNames b l) room) taken) w)

@@ -1,27 +1,34 @@
 -- `stage_walk::from_units` meets its contract. Units that are refused are the answer; else each name has the number of its unit, and the sections are walked.
 -- Assumes nothing.
 use borrow.Author.Needs.{needs}
-use mathlib.Core.Path.{sym, ap, _∙_}
-use mathlib.Core.List.{List}
-use Prim.Native.Nat.{ℕ, _/_, _≤_}
+use mathlib.Core.Path.{_≡_, sym, ap, _∙_}
+use Prim.Native.Nat.{_/_, _≤_}
 use native.Mathlib.Omega.{arith}
-use lib.ListN.{length}
+use lib.ListN.{length, take}
 use lib.Seq.{length-take-le}
+use Rattle.lists.specs.Outcome.{accepted}
 use Rattle.obj.specs.Answers.{meaning}
+use Rattle.obj.specs.Records.{stagePlaces}
+use Rattle.stage_tables.specs.StageTables.{unitsCheck}
 use Rattle.stage_tables.proofs.Laws.{taken-few, taken-places, taken-count}
 use Rattle.sections.specs.Image.{imageOf}
 use Rattle.sections.specs.Sections.{sectionsOf}
 use Rattle.relocs.specs.Relocs.{relocOf}
 use Rattle.splits.specs.Columns.{columns, rows as rowsOf}
-use Rattle.units.specs.Units.{unitNames}
 use Rattle.stage_walk.specs.Room.{roomIn}
-use Rattle.stage_walk.specs.Lines.{walkOf, fromUnits}
+use Rattle.stage_walk.specs.Lines.{fromUnits}
 use Rattle.stage_walk.proofs.Passed.{units-few, units-listed}
-use Rattle.stage_walk.proofs.Lines.{gives-as, gives-stops, gives-goes}
+use Rattle.stage_walk.proofs.Lines.{gives-stops, units-go}
 use Rattle.stage_walk.proofs.from_units.Statement.{statement}
 use Rattle.stage_walk.proofs.from_units.Tie as tie
 
 -- the units passed
+passed : (c : tie.After-enum-told2) → let a = c .before .before .before .before .before .before .before .before .before .before .before .before .before .before .before .before .before .before .before .before .before .before .before .before .before .before .before .before .before .before .before .before .args in unitsCheck 1024 (a .name-lengths .now) (a .unit-table .now) ≡ accepted tt
+passed c = sym (c .before .before .before .before .take-units .ensures .said) ∙ ap meaning (c .enum-told2 .given .1)
+
+places-are : (c : tie.After-enum-told2) → let u = c .before .before .before .before .before .before .before .before .before .before .before .before .before .before .before .before .before .before .before .before .before .before .before .before .before .before .before .before .before .before .before .before .args .unit-table .now in take (length u / 8) (c .before .before .before .before .take-units .last .1 .1 .1 .0) ≡ stagePlaces 8 (length u / 8)
+places-are c = taken-places 8 1024 (c .before .before .before .before .before .before .before .before .before .before .before .before .before .before .before .before .before .before .before .before .before .before .before .before .before .before .before .before .before .before .before .before .args .unit-table .now) _ _ (c .before .before .before .before .take-units .ensures) (ap meaning (c .enum-told2 .given .1))
+
 passed-few : (c : tie.After-enum-told2) → length (c .before .before .before .before .before .before .before .before .before .before .before .before .before .before .before .before .before .before .before .before .before .before .before .before .before .before .before .before .before .before .before .before .args .unit-table .now) / 8 ≤ length (c .before .before .before .before .take-units .last .1 .1 .1 .0)
 passed-few c =
     let t = c .before .before .before .before in
@@ -35,10 +42,10 @@ enum-told : tie.Need-enum-told
 enum-told c = search needs
 
 stopped-requires : tie.Need-stopped-requires
-stopped-requires c κs = search needs
+stopped-requires c κs = tt
 
 same-length : tie.Need-same-length
-same-length c = search needs
+same-length c = c .before .before .before .before .before .take-units .kept .1 .1 .1 .0
 
 returns : tie.Need-returns
 unfolding fromUnits
@@ -58,7 +65,7 @@ number-units-requires c κs =
     let t = c .before .before .before .before .before .before in
     let s = c .before .before .before .before .before .before .before .before .before .before .before .before .before .before .before .before .before .before .before .before .before .before .before .before .before .before .before .before .before .before .before .before .before .before in
     let a = s .args in
-    units-listed (a .name-lengths .now) (a .unit-table .now) (sym (t .take-units .ensures .said) ∙ (ap meaning (c .before .before .enum-told2 .given .1))) _ _ (taken-places 8 1024 (a .unit-table .now) _ _ (t .take-units .ensures) (ap meaning (c .before .before .enum-told2 .given .1)))
+    units-listed (a .name-lengths .now) (a .unit-table .now) (passed (c .before .before)) _ _ (places-are (c .before .before))
     (omega (arith, s .pre .4, s .pre .6 .numbers-long))
 
 slice-reshare-prefix-walk-columns : tie.Need-slice-reshare-prefix-walk-columns
@@ -74,7 +81,7 @@ walk-columns-requires c κs =
     let s = c .before .before .before .before .before .before .before .before .before .before .before .before .before .before .before .before .before .before .before .before .before .before .before .before .before .before .before .before .before .before .before .before .before .before .before .before .before .before .before .before .before .before .before .before .before .before in
     let a = s .args in
     let count = taken-count 8 1024 (a .unit-table .now) _ _ (t .take-units .ensures) (ap meaning (c .before .before .before .before .before .before .before .before .before .before .before .before .before .before .enum-told2 .given .1)) in
-    let few = units-few (a .name-lengths .now) (a .unit-table .now) (sym (t .take-units .ensures .said) ∙ (ap meaning (c .before .before .before .before .before .before .before .before .before .before .before .before .before .before .enum-told2 .given .1))) in (
+    let few = units-few (a .name-lengths .now) (a .unit-table .now) (passed (c .before .before .before .before .before .before .before .before .before .before .before .before .before .before)) in (
       record {
         asked = s .pre .0;
         kept = s .pre .1 .kept;
@@ -95,38 +102,37 @@ same-length-2 : tie.Need-same-length-2
 same-length-2 c = c .before .before .before .before .before .before .before .before .before .before .before .before .before .before .before .before .before .before .before .before .before .before .before .before .before .before .before .before .before .before .before .before .before .take-units .kept .1 .1 .1 .0
 
 same-length-3 : tie.Need-same-length-3
-same-length-3 c = search needs
+same-length-3 c = c .before .before .before .before .before .before .before .before .before .before .before .before .before .before .before .before .before .before .before .before .before .before .before .before .before .before .number-units .kept .1 .1 .0
 
 same-length-4 : tie.Need-same-length-4
-same-length-4 c = search needs
+same-length-4 c = c .before .before .before .before .before .before .before .before .before .before .before .before .before .before .walk-columns .kept .1 .1 .1 .1 .1 .1 .1 .1 .1 .1 .1 .1 .1 .1 .1 .1 .1 .1 .1 .1 .0
 
 same-length-5 : tie.Need-same-length-5
-same-length-5 c = search needs
+same-length-5 c = c .before .before .before .before .before .before .before .before .before .before .before .before .before .before .walk-columns .kept .1 .1 .1 .1 .1 .1 .1 .1 .1 .1 .1 .1 .1 .1 .1 .1 .1 .1 .1 .1 .1 .0
 
 same-length-6 : tie.Need-same-length-6
-same-length-6 c = search needs
+same-length-6 c = c .before .before .before .before .before .before .before .before .before .before .before .before .before .before .walk-columns .kept .1 .1 .1 .1 .1 .1 .1 .1 .1 .1 .1 .1 .1 .1 .1 .1 .1 .1 .1 .1 .1 .1 .0
 
 same-length-7 : tie.Need-same-length-7
-same-length-7 c = search needs
+same-length-7 c = c .before .before .before .before .before .before .before .before .before .before .before .before .before .before .walk-columns .kept .1 .1 .1 .1 .1 .1 .1 .1 .1 .1 .1 .1 .1 .1 .1 .1 .1 .1 .1 .1 .1 .1 .1 .0
 
 same-length-8 : tie.Need-same-length-8
-same-length-8 c = search needs
+same-length-8 c = c .before .before .before .before .before .before .before .before .before .before .before .before .before .before .walk-columns .kept .1 .1 .1 .1 .1 .1 .1 .1 .1 .1 .1 .1 .1 .1 .1 .1 .1 .1 .1 .1 .1 .1 .1 .1 .0
 
 same-length-9 : tie.Need-same-length-9
-same-length-9 c = search needs
+same-length-9 c = c .before .before .before .before .before .before .before .before .before .before .before .before .before .before .walk-columns .kept .1 .1 .1 .1 .1 .1 .1 .1 .1 .1 .1 .1 .1 .1 .1 .1 .1 .1 .1 .1 .1 .1 .1 .1 .1 .0
 
 same-length-10 : tie.Need-same-length-10
-same-length-10 c = search needs
+same-length-10 c = c .before .before .before .before .before .before .before .before .before .before .before .before .before .before .walk-columns .kept .1 .1 .1 .1 .1 .1 .1 .1 .1 .1 .1 .1 .1 .1 .1 .1 .1 .1 .1 .1 .1 .1 .1 .1 .1 .1 .0
 
 returns-2 : tie.Need-returns-2
-unfolding fromUnits
 returns-2 c =
-    let t = c .before .before .before .before .before .before .before .before .before .before .before .before .before .before .before .before .before .before .before .before .before .before .before .before .before .before .before .before .before .before .before .before .before in
+    let w = c .before .before .before .before .before .before .before .before .before .before .before .before .before .before in
+    let e = c .before .before .before .before .before .before .before .before .before .before .before .before .before .before .before .before .before .before .before .before .before .before .before .before .before .before .before .before .before in
     let a = c .before .before .before .before .before .before .before .before .before .before .before .before .before .before .before .before .before .before .before .before .before .before .before .before .before .before .before .before .before .before .before .before .before .before .before .before .before .before .before .before .before .before .before .before .before .before .before .before .before .before .before .before .before .before .before .before .before .before .before .before .before .args in
-    let passed = sym (t .take-units .ensures .said) ∙ (ap meaning (c .before .before .before .before .before .before .before .before .before .before .before .before .before .before .before .before .before .before .before .before .before .before .before .before .before .before .before .before .before .enum-told2 .given .1)) in
-    gives-goes passed
-    (gives-as (ap (λ (l : List ℕ). walkOf (imageOf (a .symbols .now) (a .symbol-places .now) (a .name-bytes .now) (a .name-places .now) (a .name-lengths .now)) (sectionsOf (a .heads .now) (a .head-places .now) (a .image .now) (a .image-places .now)) (relocOf (a .relocs .now) (a .reloc-places .now)) (length (a .reloc-places .now)) (rowsOf (columns (a .starts .now) (a .ends .now) (a .units .now) (a .rest .now)) (a .rows)) (unitNames (a .unit-table .now) l) (roomIn (length (a .pieces .now)) (length (a .entries .now)) (length (a .offsets .now)))) (taken-places 8 1024 (a .unit-table .now) _ _ (t .take-units .ensures) (ap meaning (c .before .before .before .before .before .before .before .before .before .before .before .before .before .before .before .before .before .before .before .before .before .before .before .before .before .before .before .before .before .enum-told2 .given .1))))
-    (c .before .before .before .before .before .before .before .before .before .before .before .before .before .before .walk-columns .ensures))
+    units-go (a .name-lengths .now) (imageOf (a .symbols .now) (a .symbol-places .now) (a .name-bytes .now) (a .name-places .now) (a .name-lengths .now)) (sectionsOf (a .heads .now) (a .head-places .now) (a .image .now) (a .image-places .now)) (relocOf (a .relocs .now) (a .reloc-places .now)) (length (a .reloc-places .now)) (rowsOf (columns (a .starts .now) (a .ends .now) (a .units .now) (a .rest .now)) (a .rows)) (a .unit-table .now)
+    (take (length (a .unit-table .now) / 8) (e .before .before .before .before .take-units .last .1 .1 .1 .0)) (roomIn (length (a .pieces .now)) (length (a .entries .now)) (length (a .offsets .now))) (w .walk-columns .result) (w .walk-columns .last .1 .1 .1 .1 .1 .1 .1 .1 .1 .1 .1 .1 .1 .1 .1 .1 .1 .1 .1 .1 .1 .1 .1 .1 .0) (w .walk-columns .last .1 .1 .1 .1 .1 .1 .1 .1 .1 .1 .1 .1 .1 .1 .1 .1 .1 .1 .1 .1 .1 .1 .1 .1 .1 .0) (w .walk-columns .last .1 .1 .1 .1 .1 .1 .1 .1 .1 .1 .1 .1 .1 .1 .1 .1 .1 .1 .1 .1 .1 .1 .1 .1 .1 .1 .0)
+    (passed e) (places-are e) (w .walk-columns .ensures)
 
 pub from-units-spec : {M : Type 1} → statement M
 from-units-spec =
