@@ -1,4 +1,5 @@
 pub mod Inserted
+pub mod Shifts
 pub mod Search
 pub mod Sorting
 pub mod Renaming
