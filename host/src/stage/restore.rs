@@ -87,9 +87,11 @@ fn walked(case: &Case, counts: &mut Counts, tally: &mut Tally) {
 }
 
 /// Each piece where the entry `piece_bytes` says that it lies in the image: its bytes are
-/// those of its section; none for a section without bytes.
+/// those of its section; none for a section without bytes. Nothing while it isn't linked.
 fn places(t: &Tables, table: &[u8], pieces: &[Piece], tally: &mut Tally) {
-    let call = PIECE_BYTES.call.expect("it is linked");
+    let Some(call) = PIECE_BYTES.call else {
+        return;
+    };
     let sections = Image::of(t).sections;
     for (which, p) in (0..).zip(pieces) {
         let mut place = [0x55; 9];
