@@ -18,11 +18,11 @@ use Rattle.lists.proofs.Filter.{keep-all, keep-some}
 use Rattle.lists.proofs.Sort.{length-sort}
 use Rattle.lists.proofs.Rising.{numbers-below}
 use Rattle.lists.proofs.FirstIn.{firstIn-le, firstIn-passes}
-use Rattle.lists.proofs.Between.{part-between, place-below}
+use Rattle.lists.proofs.Between.{part-between, place-above, place-below}
 use Rattle.obj.specs.declared.Symbol.{Symbol}
 use Rattle.symbol_order.specs.Order.{symbolOf, key, keyAt, numbers, inSection, symbolsOf, Readable, Order}
 use Rattle.symbol_order.proofs.Parts.{order-sorted, readable-keep}
-use Rattle.symbol_order.proofs.Sections.{section-part}
+use Rattle.symbol_order.proofs.Sections.{section-part, small-address}
 use Rattle.symbols.specs.Ranges.{symbolsBetween, symbolsThrough, symbolsBelow, hasSymbols}
 
 module _ (b places order : List ℕ) (o : Order b places order) where
@@ -66,6 +66,20 @@ module _ (b places order : List ℕ) (o : Order b places order) where
         ∙ section-part b places order o bytes n 0 4294967296 (omega arith) (omega arith) (λ y. true)
         (λ i h. let z : 0 ≤ symbol i .address = zero-le in rw (le-leb _ _ z, lt-ltb _ _ h))
         ∙ keep-all (λ i. true) (symbolsOf symbol (length places) n) (all-any (λ i. refl) (symbolsOf symbol (length places) n)))
+
+    -- a place whose symbol has an earlier section stands before the section's first, any other not
+    module _ (j : ℕ) (y : Symbol) (h : j < length order) (e : y ≡ symbol (getD order j 0)) where
+      pub section-later : y .section < n → j < firstIn (atLeast (keyAt b places) (key n 0)) order
+      section-later q =
+          let i = getD order j 0 in
+          let r : symbol i .section < n = rw (sym e) q in
+          place-above (keyAt b places) (key n 0) order j 0 (order-sorted b places order o) h (omega (arith, r, small-address b places bytes i))
+
+      pub section-begun : n ≤ y .section → firstIn (atLeast (keyAt b places) (key n 0)) order ≤ j
+      section-begun q =
+          let i = getD order j 0 in
+          let r : n ≤ symbol i .section = rw (sym e) q in
+          place-below (keyAt b places) (key n 0) order j 0 h (omega (arith, r))
 
     module _ (low high end : ℕ) (small : end < 4294967296) (eh : high ≡ key n end) where
       pub below-part : low ≡ key n 0 → part low high ≡ symbolsBelow symbol (length places) n end

@@ -6,7 +6,7 @@ ghost use lib.ListN.{length};
 ghost use Rattle.lists.specs.Rows.{keepIf, firstIn as firstPlace};
 ghost use Rattle.lists.specs.Sort.{between, atLeast};
 ghost use Rattle.symbol_order.specs.Order.{symbolOf, keyAt, symbolsOf, Readable, Order};
-ghost use Rattle.symbols.specs.Ranges.{sized, sizedUnstripped, lastOr, firstOf, highestOf, symbolsBetween, symbolsThrough, symbolsBelow, hasSymbols};
+ghost use Rattle.symbols.specs.Ranges.{sized, sizedUnstripped, lastOr, firstOf, highestOf, symbolsBetween, symbolsThrough, hasSymbols};
 ghost use Rattle.symbols.specs.Ranges.{backwards as isBackwards, lastBelow, lastIn, firstIn, highestIn, foundMeaning, highestMeaning, Within, raise};
 use obj::Symbol;
 use obj::symbol_at;
@@ -133,22 +133,6 @@ pub fn for_section_through<'a>(
     part_of(b, places, order, low, high + 1)
 }
 
-// The section's symbols in ..end.
-pub fn for_section_below<'a>(
-    b: &[u8],
-    places: &[u32],
-    order: &'a [u16],
-    section: u16,
-    end: u32,
-) -> &'a [u16]
-    requires { ⌜ Order (now b) (now places) (now order) ⌝ }
-    ensures { λ r. ⌜ now r ≡ symbolsBelow (symbolOf (now (b .entry)) (now (places .entry))) (length (now (places .entry))) section end ⌝ }
-{
-    let low = key_of(section, 0);
-    let high = key_of(section, end);
-    part_of(b, places, order, low, high)
-}
-
 // Whether the section has a symbol at all: "a section that has such records".
 pub fn has_symbols(b: &[u8], places: &[u32], order: &[u16], section: u16) -> bool
     requires { ⌜ Order (now b) (now places) (now order) ⌝ }
@@ -207,6 +191,7 @@ pub fn last_of(b: &[u8], places: &[u32], part: &[u16], objects: bool) -> Found
 }
 
 // "the last sized unstripped symbol below" an address of a section, or only of its Objects.
+// It goes down from the address's place and ends at a symbol of an earlier section, so the section's first place is not searched for.
 pub fn last_below(
     b: &[u8],
     places: &[u32],
@@ -218,8 +203,19 @@ pub fn last_below(
     requires { ⌜ Order (now b) (now places) (now order) ⌝ }
     ensures { λ r. ⌜ r ≡ lastBelow (symbolOf (now (b .entry)) (now (places .entry))) (length (now (places .entry))) section objects address ⌝ }
 {
-    let part = for_section_below(b, places, order, section, address);
-    last_of(b, places, part, objects)
+    let mut j = first_at(b, places, order, key_of(section, address));
+    while 0 < j {
+        j -= 1;
+        let i = number(order, j);
+        let y = symbol_at(b, places, i);
+        if y.section < section {
+            return Found::Nothing;
+        }
+        if is_sized_unstripped(y, objects) {
+            return Found::At(i);
+        }
+    }
+    Found::Nothing
 }
 
 // "the last such symbol in start..end"
