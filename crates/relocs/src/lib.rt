@@ -46,13 +46,13 @@ pub fn for_section(b: &[u8], places: &[u32], section: u16, part: &mut [u16]) -> 
     k
 }
 
-// The first place of `part` whose relocation's address is at least this.
-fn first_at(b: &[u8], places: &[u32], part: &[u16], address: u32) -> usize
-    requires { ⌜ Ordered (now b) (now places) (now part) ⌝ }
+// The first place of `part` whose relocation's address is at least this, if it lies in from..=to.
+fn search(b: &[u8], places: &[u32], part: &[u16], from: usize, to: usize, address: u32) -> usize
+    requires { ⌜ Ordered (now b) (now places) (now part) × (from ≤ firstIn (atLeast (addressOf (now b) (now places)) address) (now part)) × (firstIn (atLeast (addressOf (now b) (now places)) address) (now part) ≤ to) × (to ≤ length (now part)) ⌝ }
     ensures { λ r. ⌜ Within (firstIn (atLeast (addressOf (now (b .entry)) (now (places .entry))) address) (now (part .entry))) (length (now (part .entry))) r ⌝ }
 {
-    let mut lo: usize = 0;
-    let mut hi = part.len();
+    let mut lo = from;
+    let mut hi = to;
     while lo < hi {
         let mid = lo + (hi - lo) / 2;
         if address_in(b, places, part, mid) < address {
@@ -64,15 +64,40 @@ fn first_at(b: &[u8], places: &[u32], part: &[u16], address: u32) -> usize
     lo
 }
 
+// The first place of `part` whose relocation's address is at least this.
+fn first_at(b: &[u8], places: &[u32], part: &[u16], address: u32) -> usize
+    requires { ⌜ Ordered (now b) (now places) (now part) ⌝ }
+    ensures { λ r. ⌜ Within (firstIn (atLeast (addressOf (now (b .entry)) (now (places .entry))) address) (now (part .entry))) (length (now (part .entry))) r ⌝ }
+{
+    search(b, places, part, 0, part.len(), address)
+}
+
+// The same place, if it is not before `from`. Most ranges hold few relocations, so it looks close to `from` first, then twice as far each time:
+// at from, from + 2, from + 6, from + 14.
+fn first_from(b: &[u8], places: &[u32], part: &[u16], from: usize, address: u32) -> usize
+    requires { ⌜ Ordered (now b) (now places) (now part) × (from ≤ firstIn (atLeast (addressOf (now b) (now places)) address) (now part)) ⌝ }
+    ensures { λ r. ⌜ Within (firstIn (atLeast (addressOf (now (b .entry)) (now (places .entry))) address) (now (part .entry))) (length (now (part .entry))) r ⌝ }
+{
+    let mut lo = from;
+    while lo - from < part.len() - lo {
+        let ahead = lo + (lo - from);
+        if address <= address_in(b, places, part, ahead) {
+            return search(b, places, part, lo, ahead, address);
+        }
+        lo = ahead + 1;
+    }
+    search(b, places, part, lo, part.len(), address)
+}
+
 // Those of the section's relocations that lie in start..end.
 pub fn range<'a>(b: &[u8], places: &[u32], part: &'a [u16], start: u32, end: u32) -> &'a [u16]
     requires { ⌜ Ordered (now b) (now places) (now part) ⌝ }
     ensures { λ r. ⌜ now r ≡ keepIf (between (addressOf (now (b .entry)) (now (places .entry))) start end) (now (part .entry)) ⌝ }
 {
-    let from = first_at(b, places, part, start);
-    let to = first_at(b, places, part, end);
-    if from < to {
-        return &part[from..to];
+    if end <= start {
+        return &part[..0];
     }
-    &part[..0]
+    let from = first_at(b, places, part, start);
+    let to = first_from(b, places, part, from, end);
+    &part[from..to]
 }

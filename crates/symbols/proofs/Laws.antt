@@ -1,13 +1,13 @@
 -- A turn of each pass over a part of the symbol order: the last that passes, from behind, and the highest alignment, from the front.
 -- Assumes nothing.
-use mathlib.Core.Path.{_≡_, refl, ap, _∙_}
+use mathlib.Core.Path.{_≡_, refl, ap, ap₂, _∙_}
 use mathlib.Core.List.{List, [], _∷_, _++_}
 use mathlib.Core.Bool.{Bool, true, false, cond}
 use Prim.Native.Nat.{ℕ, suc, _+_, _-_, _≤_, _<_, max}
 use native.Mathlib.Numerals.{add-one}
 use native.Mathlib.Omega.{arith}
-use lib.ListN.{length, getD, take, drop, drop-of-length-le}
-use lib.Seq.{take-suc, drop-cons}
+use lib.ListN.{length, getD, take, drop, drop-of-length-le, length-drop}
+use lib.Seq.{take-suc, drop-cons, getD-drop}
 use Rattle.lists.specs.Rows.{keepIf}
 use Rattle.lists.proofs.Filter.{keep-append}
 use Rattle.obj.specs.declared.Symbol.{Symbol}
@@ -36,6 +36,24 @@ last-turn p l j best h q =
     go : (t : Bool) → lastOr (lastOr best (keepIf p (take (j - 1) l))) (cond t (getD l (j - 1) 0 ∷ []) []) ≡ cond t (At (getD l (j - 1) 0)) (lastOr best (keepIf p (take (j - 1) l)))
     go true = refl
     go false = refl
+
+-- .. of the places from `from` to before j
+module _ (p : ℕ → Bool) (l : List ℕ) (from : ℕ) where
+  abbrev pub lastFrom : ℕ → Found
+  lastFrom j = lastOr Nothing (keepIf p (take (j - from) (drop from l)))
+
+  pub last-none : (j : ℕ) → j ≤ from → lastFrom j ≡ Nothing
+  unfolding lastOr keepIf
+  last-none j h = let z : j - from ≡ 0 = omega arith in ap (λ (m : ℕ). lastOr Nothing (keepIf p (take m (drop from l)))) z
+
+  pub last-from : (j : ℕ) → from < j → j ≤ length l → lastFrom j ≡ cond (p (getD l (j - 1) 0)) (At (getD l (j - 1) 0)) (lastFrom (j - 1))
+  last-from j h q =
+      let n = length-drop from l in
+      let e : j - from - 1 ≡ j - 1 - from = omega arith in
+      let f : from + (j - from - 1) ≡ j - 1 = omega arith in
+      let g : getD (drop from l) (j - from - 1) 0 ≡ getD l (j - 1) 0 = getD-drop from l (j - from - 1) 0 ∙ ap (λ (k : ℕ). getD l k 0) f in
+      last-turn p (drop from l) (j - from) Nothing (omega arith) (omega (arith, n))
+      ∙ ap₂ (λ (x m : ℕ). cond (p x) (At x) (lastOr Nothing (keepIf p (take m (drop from l))))) g e
 
 -- ---- the highest alignment
 module _ (y : ℕ → Symbol) (l : List ℕ) where

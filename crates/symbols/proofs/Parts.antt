@@ -3,33 +3,55 @@
 use mathlib.Core.Path.{_≡_, refl, sym, ap, subst, _∙_}
 use mathlib.Core.List.{List, []}
 use mathlib.Core.Bool.{Bool, true, not, _&&_}
+use mathlib.Core.Logic.{_⊎_, inl, inr}
 use Prim.Native.Nat.{ℕ, suc, _+_, _-_, _≤_, _<_, zero-le}
+use native.Mathlib.Nat.{le-trans}
 use native.Mathlib.Omega.{arith}
 use lib.Dec.{leb, ltb, eqb}
 use lib.ListN.{length, getD, take, drop}
-use borrow.Author.Tests.{le-leb, lt-ltb}
+use borrow.Author.Tests.{le-leb, lt-ltb, leb-true}
 use Rattle.lists.specs.Rows.{keepIf, firstIn}
 use Rattle.lists.specs.Sort.{All, between, atLeast}
-use Rattle.lists.proofs.Compare.{same-leb}
+use Rattle.lists.proofs.Compare.{same-leb, lt-or-ge}
 use Rattle.lists.proofs.All.{all-any, all-keep, all-sort}
 use Rattle.lists.proofs.Filter.{keep-all, keep-some}
 use Rattle.lists.proofs.Sort.{length-sort}
 use Rattle.lists.proofs.Rising.{numbers-below}
-use Rattle.lists.proofs.Between.{part-between}
+use Rattle.lists.proofs.FirstIn.{firstIn-le, firstIn-passes}
+use Rattle.lists.proofs.Between.{part-between, place-above, place-below}
 use Rattle.obj.specs.declared.Symbol.{Symbol}
 use Rattle.symbol_order.specs.Order.{symbolOf, key, keyAt, numbers, inSection, symbolsOf, Readable, Order}
 use Rattle.symbol_order.proofs.Parts.{order-sorted, readable-keep}
-use Rattle.symbol_order.proofs.Sections.{section-part}
+use Rattle.symbol_order.proofs.Sections.{section-part, small-address}
 use Rattle.symbols.specs.Ranges.{symbolsBetween, symbolsThrough, symbolsBelow, hasSymbols}
 
 module _ (b places order : List ℕ) (o : Order b places order) where
-  -- the part between two places that a binary search gave
-  module _ (low high from to : ℕ) (ef : from ≡ firstIn (atLeast (keyAt b places) low) order) (et : to ≡ firstIn (atLeast (keyAt b places) high) order) where
-    pub part-some : take (to - from) (drop from order) ≡ keepIf (between (keyAt b places) low high) order
-    part-some = rw (ef, et) (part-between (keyAt b places) low high order (order-sorted b places order o))
+  -- the first place of a key, and of a later one
+  module _ (low high : ℕ) where
+    abbrev first : ℕ → ℕ
+    first k = firstIn (atLeast (keyAt b places) k) order
 
-    pub part-none : to ≤ from → [] ≡ keepIf (between (keyAt b places) low high) order
-    part-none h = let z : to - from ≡ 0 = omega arith in sym (ap (λ (m : ℕ). take m (drop from order)) z) ∙ part-some
+    pub first-later : low ≤ high → first low ≤ first high
+    first-later h = go (lt-or-ge (first high) (length order))
+      where
+        go : (first high < length order) ⊎ (length order ≤ first high) → first low ≤ first high
+        go (inl q) = place-below (keyAt b places) low order (first high) 0 q (le-trans h (leb-true _ _ (firstIn-passes (atLeast (keyAt b places) high) order 0 q)))
+        go (inr q) = le-trans (firstIn-le (atLeast (keyAt b places) low) order) q
+
+    -- the part between two places that the searches gave
+    module _ (from to : ℕ) (ef : from ≡ first low) (et : to ≡ first high) where
+      pub part-some : take (to - from) (drop from order) ≡ keepIf (between (keyAt b places) low high) order
+      part-some = rw (ef, et) (part-between (keyAt b places) low high order (order-sorted b places order o))
+
+      pub part-later : low ≤ high → from ≤ to
+      part-later h = rw (ef, et) (first-later h)
+
+  pub part-none : (low high : ℕ) → high ≤ low → [] ≡ keepIf (between (keyAt b places) low high) order
+  part-none low high h =
+      let f = firstIn (atLeast (keyAt b places) low) order in
+      let t = firstIn (atLeast (keyAt b places) high) order in
+      let z : t - f ≡ 0 = omega (arith, first-later high low h) in
+      sym (ap (λ (m : ℕ). take m (drop f order)) z) ∙ part-some low high f t refl refl
 
   module _ (bytes : (j : ℕ) → getD b j 0 < 256) (n : ℕ) where
     abbrev symbol : ℕ → Symbol
@@ -44,6 +66,20 @@ module _ (b places order : List ℕ) (o : Order b places order) where
         ∙ section-part b places order o bytes n 0 4294967296 (omega arith) (omega arith) (λ y. true)
         (λ i h. let z : 0 ≤ symbol i .address = zero-le in rw (le-leb _ _ z, lt-ltb _ _ h))
         ∙ keep-all (λ i. true) (symbolsOf symbol (length places) n) (all-any (λ i. refl) (symbolsOf symbol (length places) n)))
+
+    -- a place whose symbol has an earlier section stands before the section's first, any other not
+    module _ (j : ℕ) (y : Symbol) (h : j < length order) (e : y ≡ symbol (getD order j 0)) where
+      pub section-later : y .section < n → j < firstIn (atLeast (keyAt b places) (key n 0)) order
+      section-later q =
+          let i = getD order j 0 in
+          let r : symbol i .section < n = rw (sym e) q in
+          place-above (keyAt b places) (key n 0) order j 0 (order-sorted b places order o) h (omega (arith, r, small-address b places bytes i))
+
+      pub section-begun : n ≤ y .section → firstIn (atLeast (keyAt b places) (key n 0)) order ≤ j
+      section-begun q =
+          let i = getD order j 0 in
+          let r : n ≤ symbol i .section = rw (sym e) q in
+          place-below (keyAt b places) (key n 0) order j 0 h (omega (arith, r))
 
     module _ (low high end : ℕ) (small : end < 4294967296) (eh : high ≡ key n end) where
       pub below-part : low ≡ key n 0 → part low high ≡ symbolsBelow symbol (length places) n end

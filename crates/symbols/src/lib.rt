@@ -6,7 +6,7 @@ ghost use lib.ListN.{length};
 ghost use Rattle.lists.specs.Rows.{keepIf, firstIn as firstPlace};
 ghost use Rattle.lists.specs.Sort.{between, atLeast};
 ghost use Rattle.symbol_order.specs.Order.{symbolOf, keyAt, symbolsOf, Readable, Order};
-ghost use Rattle.symbols.specs.Ranges.{sized, sizedUnstripped, lastOr, firstOf, highestOf, symbolsBetween, symbolsThrough, symbolsBelow, hasSymbols};
+ghost use Rattle.symbols.specs.Ranges.{sized, sizedUnstripped, lastOr, firstOf, highestOf, symbolsBetween, symbolsThrough, hasSymbols};
 ghost use Rattle.symbols.specs.Ranges.{backwards as isBackwards, lastBelow, lastIn, firstIn, highestIn, foundMeaning, highestMeaning, Within, raise};
 use obj::Symbol;
 use obj::symbol_at;
@@ -34,13 +34,13 @@ pub enum Highest {
     Backwards,
 }
 
-// The first place of `order` whose symbol's key is at least `key`.
-fn first_at(b: &[u8], places: &[u32], order: &[u16], key: u64) -> usize
-    requires { ⌜ Order (now b) (now places) (now order) ⌝ }
+// The first place of `order` whose symbol's key is at least `key`, if it lies in from..=to.
+fn search(b: &[u8], places: &[u32], order: &[u16], from: usize, to: usize, key: u64) -> usize
+    requires { ⌜ Order (now b) (now places) (now order) × (from ≤ firstPlace (atLeast (keyAt (now b) (now places)) key) (now order)) × (firstPlace (atLeast (keyAt (now b) (now places)) key) (now order) ≤ to) × (to ≤ length (now order)) ⌝ }
     ensures { λ r. ⌜ Within (firstPlace (atLeast (keyAt (now (b .entry)) (now (places .entry))) key) (now (order .entry))) (length (now (order .entry))) r ⌝ }
 {
-    let mut lo: usize = 0;
-    let mut hi = order.len();
+    let mut lo = from;
+    let mut hi = to;
     while lo < hi {
         let mid = lo + (hi - lo) / 2;
         if key_in(b, places, order, mid) < key {
@@ -52,17 +52,42 @@ fn first_at(b: &[u8], places: &[u32], order: &[u16], key: u64) -> usize
     lo
 }
 
+// The first place of `order` whose symbol's key is at least `key`.
+fn first_at(b: &[u8], places: &[u32], order: &[u16], key: u64) -> usize
+    requires { ⌜ Order (now b) (now places) (now order) ⌝ }
+    ensures { λ r. ⌜ Within (firstPlace (atLeast (keyAt (now (b .entry)) (now (places .entry))) key) (now (order .entry))) (length (now (order .entry))) r ⌝ }
+{
+    search(b, places, order, 0, order.len(), key)
+}
+
+// The same place, if it is not before `from`. Most ranges hold few symbols, so it looks close to `from` first, then twice as far each time:
+// at from, from + 2, from + 6, from + 14.
+fn first_from(b: &[u8], places: &[u32], order: &[u16], from: usize, key: u64) -> usize
+    requires { ⌜ Order (now b) (now places) (now order) × (from ≤ firstPlace (atLeast (keyAt (now b) (now places)) key) (now order)) ⌝ }
+    ensures { λ r. ⌜ Within (firstPlace (atLeast (keyAt (now (b .entry)) (now (places .entry))) key) (now (order .entry))) (length (now (order .entry))) r ⌝ }
+{
+    let mut lo = from;
+    while lo - from < order.len() - lo {
+        let ahead = lo + (lo - from);
+        if key <= key_in(b, places, order, ahead) {
+            return search(b, places, order, lo, ahead, key);
+        }
+        lo = ahead + 1;
+    }
+    search(b, places, order, lo, order.len(), key)
+}
+
 // The numbers of the symbols whose keys are from `low` to before `high`: a part of `order`.
 fn part_of<'a>(b: &[u8], places: &[u32], order: &'a [u16], low: u64, high: u64) -> &'a [u16]
     requires { ⌜ Order (now b) (now places) (now order) ⌝ }
     ensures { λ r. ⌜ now r ≡ keepIf (between (keyAt (now (b .entry)) (now (places .entry))) low high) (now (order .entry)) ⌝ }
 {
-    let from = first_at(b, places, order, low);
-    let to = first_at(b, places, order, high);
-    if from < to {
-        return &order[from..to];
+    if high <= low {
+        return &order[..0];
     }
-    &order[..0]
+    let from = first_at(b, places, order, low);
+    let to = first_from(b, places, order, from, high);
+    &order[from..to]
 }
 
 // The section's symbols.
@@ -106,22 +131,6 @@ pub fn for_section_through<'a>(
     let low = key_of(section, start);
     let high = key_of(section, end);
     part_of(b, places, order, low, high + 1)
-}
-
-// The section's symbols in ..end.
-pub fn for_section_below<'a>(
-    b: &[u8],
-    places: &[u32],
-    order: &'a [u16],
-    section: u16,
-    end: u32,
-) -> &'a [u16]
-    requires { ⌜ Order (now b) (now places) (now order) ⌝ }
-    ensures { λ r. ⌜ now r ≡ symbolsBelow (symbolOf (now (b .entry)) (now (places .entry))) (length (now (places .entry))) section end ⌝ }
-{
-    let low = key_of(section, 0);
-    let high = key_of(section, end);
-    part_of(b, places, order, low, high)
 }
 
 // Whether the section has a symbol at all: "a section that has such records".
@@ -182,6 +191,7 @@ pub fn last_of(b: &[u8], places: &[u32], part: &[u16], objects: bool) -> Found
 }
 
 // "the last sized unstripped symbol below" an address of a section, or only of its Objects.
+// It goes down from the address's place and ends at a symbol of an earlier section, so the section's first place is not searched for.
 pub fn last_below(
     b: &[u8],
     places: &[u32],
@@ -193,8 +203,19 @@ pub fn last_below(
     requires { ⌜ Order (now b) (now places) (now order) ⌝ }
     ensures { λ r. ⌜ r ≡ lastBelow (symbolOf (now (b .entry)) (now (places .entry))) (length (now (places .entry))) section objects address ⌝ }
 {
-    let part = for_section_below(b, places, order, section, address);
-    last_of(b, places, part, objects)
+    let mut j = first_at(b, places, order, key_of(section, address));
+    while 0 < j {
+        j -= 1;
+        let i = number(order, j);
+        let y = symbol_at(b, places, i);
+        if y.section < section {
+            return Found::Nothing;
+        }
+        if is_sized_unstripped(y, objects) {
+            return Found::At(i);
+        }
+    }
+    Found::Nothing
 }
 
 // "the last such symbol in start..end"
