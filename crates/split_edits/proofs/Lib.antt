@@ -1,5 +1,6 @@
 pub mod Inserted
 pub mod Shifts
+pub mod Removal
 pub mod Search
 pub mod Sorting
 pub mod Renaming
