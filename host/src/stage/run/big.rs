@@ -135,7 +135,9 @@ fn fault(maker: &mut Maker, partials: &mut Vec<Split>, r: &mut Random) {
         return;
     }
     let (i, j) = (r.below(partials.len()), r.below(partials.len()));
-    let near = maker.near(partials[i].section as usize, r);
+    // An earlier fault may have named a section that isn't there.
+    let section = (partials[i].section as usize).min(maker.sections.len() - 1);
+    let near = maker.near(section, r);
     match r.below(9) {
         0 => partials[i].unit = partials[j].unit,
         1 => partials[i].end = r.pick(&[near, 0, partials[i].start]),
