@@ -57,14 +57,7 @@ pub fn random(r: &mut Random) -> Set {
         55..65 => plan[5] = 1022 + r.below(5),
         _ => {}
     }
-    let maker = planned(plan, r);
-    let mut set = of_records(&maker.records);
-    if r.one_in(800) {
-        // Few sections have room for so many.
-        repeat(&mut set[RELOCATION_TABLE], 23, 4094 + r.below(5));
-    }
-    damage_all(&mut set, &maker, r);
-    set
+    of_plan(plan, 800, r)
 }
 
 /// With a table at its ceiling, or all tables of a run over a large file.
@@ -80,9 +73,14 @@ pub fn large(r: &mut Random) -> Set {
     let mut plan: Plan = [40, 20, 40, 40, 40, 40].map(|most| r.below(most + 1));
     let (kind, ceiling) = r.pick(&[(1, 64), (2, 4096), (4, 1024), (5, 1024)]);
     plan[kind] = ceiling - 2 + r.below(4);
+    of_plan(plan, 4, r)
+}
+
+/// One in so many with relocations at their ceiling: few sections have room for so many.
+fn of_plan(plan: Plan, relocations_one_in: usize, r: &mut Random) -> Set {
     let maker = planned(plan, r);
     let mut set = of_records(&maker.records);
-    if r.one_in(4) {
+    if r.one_in(relocations_one_in) {
         repeat(&mut set[RELOCATION_TABLE], 23, 4094 + r.below(5));
     }
     damage_all(&mut set, &maker, r);

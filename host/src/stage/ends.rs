@@ -17,6 +17,13 @@ use crate::{
     random::Random,
 };
 
+/// The case with the number of one of so many records, seldom one past the last.
+fn asking_one(mut case: Case, count: usize, r: &mut Random) -> Case {
+    let which = if r.one_in(20) { count } else { r.below(count.max(1)) };
+    (case.numbers, case.lent) = (vec![which as u32], vec![number_room(r)]);
+    case
+}
+
 pub struct EndForSection;
 
 impl Stage for EndForSection {
@@ -25,11 +32,9 @@ impl Stage for EndForSection {
     const OUTCOMES: &'static [u16] = &[0, 1, 2, 3, 4, 5, 10, 20];
     const STEP: &'static str = "gap";
 
-    fn enlarged(mut case: Case, r: &mut Random) -> Case {
+    fn enlarged(case: Case, r: &mut Random) -> Case {
         let sections = case.tables().sections.len() / 15;
-        let section = if r.one_in(20) { sections } else { r.below(sections.max(1)) };
-        (case.numbers, case.lent) = (vec![section as u32], vec![number_room(r)]);
-        case
+        asking_one(case, sections, r)
     }
 
     fn random(r: &mut Random) -> Case {
@@ -97,11 +102,9 @@ impl Stage for SplitAlignment {
     const OUTCOMES: &'static [u16] = &[0, 1, 2, 3, 4, 5, 7, 11, 20];
     const STEP: &'static str = "trim";
 
-    fn enlarged(mut case: Case, r: &mut Random) -> Case {
+    fn enlarged(case: Case, r: &mut Random) -> Case {
         let splits = case.tables().splits.len() / 19;
-        let which = if r.one_in(20) { splits } else { r.below(splits.max(1)) };
-        (case.numbers, case.lent) = (vec![which as u32], vec![number_room(r)]);
-        case
+        asking_one(case, splits, r)
     }
 
     fn random(r: &mut Random) -> Case {
