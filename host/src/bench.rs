@@ -26,6 +26,8 @@ const TURNS: usize = 10;
 /// The steps that the Rust and the entries both have, and the checks of all tables, which
 /// every stage entry makes and the Rust doesn't. The listing is no part of the run.
 const WHOLE: &str = "whole run";
+/// The Rust's lap before its stages: the records read, and its objects made of them.
+const LOAD: &str = "load";
 const STEPS: [&str; 9] =
     [WHOLE, "merge", "common", "gap", "check", "trim", "order", "walk", timed::TABLES];
 
@@ -35,6 +37,8 @@ struct Measured {
     /// How many split records the file has.
     splits: usize,
     rust: Vec<Option<Spread>>,
+    /// The Rust's stages with its loading before them: from records, as an entry begins.
+    loading: Vec<Option<Spread>>,
     ours: Vec<Option<Spread>>,
 }
 
@@ -77,14 +81,19 @@ fn measured(name: &'static str, file: &[u8], rounds: usize) -> Measured {
     let of = |lap: &Vec<(&str, Duration)>, step: &str| -> Duration {
         lap.iter().filter(|(name, _)| belongs(name, step)).map(|(_, time)| *time).sum()
     };
+    let there = |step: &str| laps[0].iter().any(|(name, _)| belongs(name, step));
     let rust = |step: &&str| {
-        let there = laps[0].iter().any(|(name, _)| belongs(name, step));
-        there.then(|| spread(laps.iter().map(|lap| of(lap, step)).collect()))
+        there(step).then(|| spread(laps.iter().map(|lap| of(lap, step)).collect()))
+    };
+    let loading = |step: &&str| {
+        let from_records = |lap| of(lap, LOAD) + of(lap, step);
+        (there(step) && *step != WHOLE).then(|| spread(laps.iter().map(from_records).collect()))
     };
     Measured {
         name,
         splits: load(file).map_or(0, |loaded| loaded.partials.len() / SPLITS.width),
         rust: STEPS.iter().map(rust).collect(),
+        loading: STEPS.iter().map(loading).collect(),
         ours: STEPS.iter().map(|step| ours.of(step).map(spread)).collect(),
     }
 }
@@ -114,13 +123,16 @@ fn times_table(all: &[Measured]) -> Table {
         "median",
         "ratio, least",
         "median",
+        "ratio with loading, least",
     ]);
-    for Measured { name, rust, ours, .. } in all {
+    for Measured { name, rust, loading, ours, .. } in all {
         for (i, step) in STEPS.iter().enumerate() {
             let mut row = vec![name.to_string(), step.to_string()];
             row.extend(shown(ours[i]));
             row.extend(shown(rust[i]));
             row.extend(shown(over(rust[i], ours[i])));
+            let [least, _] = shown(over(loading[i], ours[i]));
+            row.push(least);
             table.row(row);
         }
     }

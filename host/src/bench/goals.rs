@@ -1,10 +1,13 @@
 //! What the measured times must reach, and where they don't.
-use super::{Measured, STEPS, over, timed};
+use super::{Measured, STEPS, Spread, over, timed};
 use crate::markdown::listed;
 
 /// How many times as fast as the Rust a whole run must be, and from how many splits on.
 const FASTER: f64 = 10.0;
 const FROM_SPLITS: usize = 64;
+
+/// So many inputs that miss a goal are named.
+const FEW: usize = 4;
 
 /// By the least times.
 fn ratio(measured: &Measured, step: usize) -> Option<f64> {
@@ -31,13 +34,25 @@ fn whole_runs(all: &[Measured]) {
 }
 
 fn stages(all: &[Measured]) {
-    let slower = |i: usize| {
-        let slower = |m: &&Measured| ratio(m, i).is_none_or(|ratio| ratio < 1.0);
-        let count = all.iter().filter(slower).count();
-        (count > 0).then(|| format!("{} on {count} of {} inputs", STEPS[i], all.len()))
+    slower(all, "No stage slower than the Rust's", |m| &m.rust);
+    slower(all, "No stage slower than the Rust's loading and stage", |m| &m.loading);
+}
+
+/// Names the stages that take longer than the Rust does, and on how many inputs.
+fn slower(all: &[Measured], goal: &str, rust: impl Fn(&Measured) -> &Vec<Option<Spread>>) {
+    let stage = |i: usize| {
+        let ratio = |m: &&Measured| over(rust(m)[i], m.ours[i]).map(|ratio| ratio.least);
+        let slower = all.iter().filter(|m| ratio(m).is_none_or(|ratio| ratio < 1.0));
+        let names: Vec<String> = slower.map(|m| m.name.to_string()).collect();
+        let of = format!("{} on {} of {} inputs", STEPS[i], names.len(), all.len());
+        match names.len() {
+            0 => None,
+            1..=FEW => Some(format!("{of} ({})", names.join("; "))),
+            _ => Some(of),
+        }
     };
     let stages = (1..STEPS.len()).filter(|i| STEPS[*i] != timed::TABLES);
-    let slower: Vec<String> = stages.filter_map(slower).collect();
+    let slower: Vec<String> = stages.filter_map(stage).collect();
     let none = if slower.is_empty() { " None is." } else { "" };
-    println!("- No stage slower than the Rust's.{none}{}", listed(" Slower", &slower));
+    println!("- {goal}.{none}{}", listed(" Slower", &slower));
 }

@@ -16,6 +16,7 @@ pub fn all() -> Vec<(&'static str, Vec<u8>)> {
         ("512 splits, 700 symbols, 1,000 relocations", mixed(512, 700, 1000)),
         ("512 splits, 900 symbols", mixed(512, 900, 0)),
         ("512 splits, 1,800 symbols", mixed(512, 1800, 0)),
+        ("1,024 splits, 1,100 symbols", mixed(1024, 1100, 0)),
         ("256 splits", mixed(256, 0, 0)),
         ("512 splits", mixed(512, 0, 0)),
         ("1,024 splits", mixed(1024, 0, 0)),
