@@ -10,21 +10,6 @@ use Rattle.tables.specs.Records.{relocsIn}
 use Rattle.load.specs.Good.{Rising}
 use Rattle.load.proofs.Growth.{all-none}
 use Rattle.loaded.specs.Tables.{tablesWith, Usable}
-use Rattle.run_file.specs.RunFile.{sum}
-
--- one length more is summed
-pub sum-turn : (l : List ℕ) (i : ℕ) → i < length l → sum (drop i l) ≡ getD l i 0 + sum (drop (i + 1) l)
-unfolding sum
-sum-turn [] i h = absurd (omega arith)
-sum-turn (x ∷ l) zero h = refl
-sum-turn (x ∷ l) (suc i) h = sum-turn l i (omega arith) ∙ ap (λ (k : ℕ). getD l i 0 + sum (drop k (x ∷ l))) (let z : suc (i + 1) ≡ suc i + 1 = omega arith in z)
-
-pub sum-none : (l : List ℕ) (i : ℕ) → length l ≤ i → sum (drop i l) ≡ 0
-unfolding sum
-sum-none [] zero h = refl
-sum-none [] (suc i) h = refl
-sum-none (x ∷ l) zero h = absurd (omega arith)
-sum-none (x ∷ l) (suc i) h = sum-none l i (omega arith)
 
 -- ---- a usable file, without some of its tables
 module _ {file names lengths sections symbols relocs partials units : List ℕ} (q : Usable file (tablesWith names lengths sections symbols relocs partials units)) where

@@ -30,8 +30,9 @@ use Rattle.run.specs.Run.{Rooms, Ended, linked, walked, onOrder, orderedAndWalk
 use Rattle.run.specs.Answers.{walkedAfter, Keeps, Units, Within, Names}
 use Rattle.run.specs.declared.Ran.{Ran}
 use Rattle.run.specs.declared.Ran.the-variants.{Done, Cycle, Refused}
-use Rattle.run_file.specs.RunFile.{lower, sum, roomsIn, Lent, Holds}
-use Rattle.run_file.proofs.Laws.{sum-turn, sum-none}
+use Rattle.run_room.specs.Room.{lower, sum}
+use Rattle.run_room.proofs.Sums.{sum-turn, sum-none}
+use Rattle.run_file.specs.RunFile.{roomsIn, Lent, Holds}
 
 -- ---- the lower of two
 module _ (a b : ℕ) where
@@ -131,15 +132,15 @@ holds (Cycle count) most most-bytes cap room c units e keeps stand few p q v w =
 holds (Refused number section address) most most-bytes cap room c units e keeps stand few p q v w = tt
 
 -- ---- what the ceilings leave
-module _ {a x : ℕ} (most n ceiling : ℕ) (e : a ≡ lower x most) (f : x ≡ ceiling - n) where
+module _ {a : ℕ} (most n ceiling : ℕ) (e : a ≡ lower (ceiling - n) most) where
   pub left-first : a ≤ ceiling
-  left-first = omega (arith, e, f, lower-first x most)
+  left-first = omega (arith, e, lower-first (ceiling - n) most)
 
   pub left-second : a ≤ most
-  left-second = omega (arith, e, lower-second x most)
+  left-second = omega (arith, e, lower-second (ceiling - n) most)
 
   pub left-sum : n ≤ ceiling → n + a ≤ ceiling
-  left-sum h = omega (arith, e, f, h, lower-first x most)
+  left-sum h = omega (arith, e, h, lower-first (ceiling - n) most)
 
 pub room-beside : {starts ends units rest added-bytes added-places added-lengths : List ℕ} {a b : ℕ} → Lent starts ends units rest added-bytes added-places added-lengths
     → a ≤ 4096 → b ≤ 65535 → Room (beside added-bytes added-places added-lengths) a b

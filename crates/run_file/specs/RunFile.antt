@@ -1,10 +1,8 @@
 -- The run of a record file over lent columns: what room the lent tables give it, what its functions are given, and what they leave. The run is `runOf` of run/specs/Run.antt.
-use Prim.Native.Nat.{ℕ, _+_, _*_, _-_, _≤_, _<_}
+use Prim.Native.Nat.{ℕ, _-_, _≤_}
 use mathlib.Core.Path.{_≡_}
-use mathlib.Core.List.{List, [], _∷_}
-use mathlib.Core.Bool.{cond}
-use lib.ListN.{length, take}
-use lib.Dec.{ltb}
+use mathlib.Core.List.{List}
+use lib.ListN.{length}
 use Rattle.lists.specs.Outcome.{Outcome, accepted}
 use Rattle.names.specs.Names.{namesOf}
 use Rattle.names.specs.Index.{Indexed}
@@ -15,6 +13,7 @@ use Rattle.load.specs.Columns as columns
 use Rattle.load.specs.Columns.{tablesIn}
 use Rattle.load.specs.declared.Counts as load
 use Rattle.run_load.specs.Prepared.{Ordered}
+use Rattle.run_room.specs.Room.{lower}
 use Rattle.loaded.specs.Tables.{bytePlaces, tablesWith, Usable}
 use Rattle.symbol_order.specs.Order.{symbolOf, orderOf}
 use Rattle.splits.specs.Columns.{Columns}
@@ -28,14 +27,6 @@ use Rattle.run.specs.declared.Ran.the-variants.{Done, Cycle, Refused}
 use Rattle.run_file.specs.declared.RanFile.{RanFile}
 
 -- ---- the room
-
-abbrev pub lower : ℕ → ℕ → ℕ
-lower a b = cond (ltb a b) a b
-
--- the sum of these lengths
-unfoldable pub sum : List ℕ → ℕ
-sum [] = 0
-sum (x ∷ later) = x + sum later
 
 -- "4,096 names of 65,535 bytes in all", of which the file has some; "A shorter lent output table has its own length as ceiling": so many names are lent a place, and so
 -- many bytes

@@ -15,7 +15,7 @@ ghost use Rattle.run_splits.specs.Table.{splitTable};
 ghost use Rattle.stage_walk.specs.Room.{roomIn};
 ghost use Rattle.run.specs.Run.{stages, runOf};
 ghost use Rattle.run.specs.Answers.{ranIn};
-ghost use Rattle.run_file.specs.RunFile.{lower as lowerOf, sum, roomsIn, Ready, Lent, Loader, Stored, Holds, Runs};
+ghost use Rattle.run_file.specs.RunFile.{roomsIn, Ready, Lent, Loader, Stored, Holds, Runs};
 use gap_splits::Entered;
 use load::Counts;
 use load::NAMES;
@@ -28,45 +28,14 @@ use run::Ran;
 use run::order_and_walk;
 use run_load::Prepared;
 use run_load::prepare;
+use run_room::bytes_room;
+use run_room::names_room;
 use run_splits::split_table;
 
 // What the run answers, and how many records of each kind the file has.
 pub struct RanFile {
     pub ran: Ran,
     pub counts: Counts,
-}
-
-fn lower(a: usize, b: usize) -> usize
-    ensures { λ r. ⌜ r ≡ lowerOf a b ⌝ }
-{
-    if a < b {
-        return a;
-    }
-    b
-}
-
-// What a ceiling leaves beside what is there.
-fn left(ceiling: usize, there: usize) -> usize
-    ensures { λ r. ⌜ r ≡ ceiling - there ⌝ }
-{
-    if there < ceiling {
-        return ceiling - there;
-    }
-    0
-}
-
-// How many bytes the names have in all.
-fn bytes_of(lengths: &[u8]) -> usize
-    requires { ⌜ length (now lengths) ≤ 4096 ⌝ }
-    ensures { λ r. ⌜ r ≡ sum (now (lengths .entry)) ⌝ }
-{
-    let mut bytes: usize = 0;
-    let mut i: usize = 0;
-    while i < lengths.len() {
-        bytes += lengths[i] as usize;
-        i += 1;
-    }
-    bytes
 }
 
 // The file made ready for the stages, with a column of its own for the sort of the symbols.
@@ -211,8 +180,8 @@ fn run_tables(
         × Holds most «most_bytes» cap (roomIn (length (now (pieces .entry))) (length (now (entries .entry))) (length (now (offsets .entry))))
         (entering.beside (now («added_bytes» .exit)) (now («added_places» .exit)) (now («added_lengths» .exit))) (now («out_units» .exit)) r ⌝ }
 {
-    let names_room = lower(left(4096, names.len()), most);
-    let bytes_room = lower(left(65535, bytes_of(lengths)), most_bytes);
+    let more_names = names_room(names.len(), most);
+    let more_bytes = bytes_room(lengths, most_bytes);
     let e = split_rows(
         file,
         names,
@@ -234,8 +203,8 @@ fn run_tables(
         added_bytes,
         added_places,
         added_lengths,
-        names_room,
-        bytes_room,
+        more_names,
+        more_bytes,
     );
     order_and_walk(
         e,

@@ -1,6 +1,6 @@
 -- `run_file::run_tables` meets its contract: the rooms for names are what the ceilings leave, and the stages one after another are the run's.
 -- Assumes nothing.
-use Prim.Native.Nat.{ℕ, _-_, _/_}
+use Prim.Native.Nat.{ℕ, _/_}
 use mathlib.Core.Path.{_≡_, refl, ap, _∙_}
 use mathlib.Core.List.{List}
 use native.Mathlib.Omega.{arith}
@@ -16,19 +16,13 @@ use Rattle.stage_walk.specs.Room.{roomIn}
 use Rattle.run_splits.specs.Table.{splitTable}
 use Rattle.run_splits.proofs.Tables.{rows-homed}
 use Rattle.run.specs.Run.{Rooms}
-use Rattle.run_file.specs.RunFile.{lower, roomsIn}
+use Rattle.run_room.specs.Room.{sum}
+use Rattle.run_file.specs.RunFile.{roomsIn}
 use Rattle.run_file.proofs.Laws.{usable-rest}
 use Rattle.run_file.proofs.Stages.{names-room, stages-are, holds, left-first, left-second, left-sum, room-beside, lent-long}
 use borrow.Author.Needs.{needs}
 use Rattle.run_file.proofs.run_tables.Statement.{statement}
 use Rattle.run_file.proofs.run_tables.Tie as tie
-use Rattle.run_file.proofs.run_tables.Reads as reads
-use Rattle.run_file.proofs.run_tables.Lts as lts
-use Rattle.run.proofs.order_and_walk.Reads as order-and-walk-reads
-use Rattle.run_file.proofs.bytes_of.Reads as bytes-of-reads
-use Rattle.run_file.proofs.left.Reads as left-reads
-use Rattle.run_file.proofs.lower.Reads as lower-reads
-use Rattle.run_file.proofs.split_rows.Reads as split-rows-reads
 
 -- the file's tables and names, and the rooms that the lent tables give
 abbrev tablesOf : tie.Start → Loaded
@@ -48,39 +42,30 @@ base-is : (s : tie.Start) → baseOf s ≡ namesIn (s .args .file .now) (tablesO
 unfolding namesIn
 base-is s = refl
 
-left-requires : tie.Need-left-requires
-left-requires c κs = search needs
+names-room-requires : tie.Need-names-room-requires
+names-room-requires c κs = search needs
 
-lower-requires : tie.Need-lower-requires
-lower-requires c κs = search needs
-
-bytes-of-requires : tie.Need-bytes-of-requires
-bytes-of-requires c κs = let u = c .before .before .before .before .before .before .before .before .before .before .before .before .before .before .before .before .before .before .before .before .before .before .before .before .before .pre .0 .usable in omega (arith, few-names u, measured u)
-
-left-requires-2 : tie.Need-left-requires-2
-left-requires-2 c κs = search needs
-
-lower-requires-2 : tie.Need-lower-requires-2
-lower-requires-2 c κs = search needs
+bytes-room-requires : tie.Need-bytes-room-requires
+bytes-room-requires c κs = let u = c .before .before .before .before .before .before .before .before .before .before .before .before .before .before .before .before .before .before .before .before .before .before .before .before .pre .0 .usable in omega (arith, few-names u, measured u)
 
 split-rows-requires : tie.Need-split-rows-requires
 split-rows-requires c κs =
-    let s = c .before .before .before .before .before .before .before .before .before .before .before .before .before .before .before .before .before .before .before .before .before .before .before .before .before .before .before .before .before .before .before .before .before .before .before in
+    let s = c .before .before .before .before .before .before .before .before .before .before .before .before .before .before .before .before .before .before .before .before .before .before .before .before .before .before .before .before .before .before .before .before in
     let q = s .pre in (
       q .0,
       lent-long (q .1) (q .2),
       q .2,
-      room-beside (q .1) (left-first (s .args .most) (length (s .args .names .now)) 4096 (c .before .before .before .before .before .before .before .before .before .before .lower .ensures) (c .before .before .before .before .before .before .before .before .before .before .before .left .ensures)) (left-first (s .args .most-bytes) (c .before .before .before .before .before .before .before .before .before .bytes-of .result) 65535 (c .before .before .before .before .before .before .before .lower2 .ensures) (c .before .before .before .before .before .before .before .before .left2 .ensures)),
+      room-beside (q .1) (left-first (s .args .most) (length (s .args .names .now)) 4096 (c .before .before .before .before .before .before .before .before .names-room .ensures)) (left-first (s .args .most-bytes) (sum (s .args .lengths .now)) 65535 (c .before .before .before .before .before .before .before .bytes-room .ensures)),
     )
 
 order-and-walk-requires : tie.Need-order-and-walk-requires
 order-and-walk-requires c κs =
-    let s = c .before .before .before .before .before .before .before .before .before .before .before .before .before .before .before .before .before .before .before .before .before .before .before .before .before .before .before .before .before .before .before .before .before .before .before .before .before .before .before .before .before .before .before .before .before .before .before .before .before .before .before .before .before .before .before .before .before .before in
+    let s = c .before .before .before .before .before .before .before .before .before .before .before .before .before .before .before .before .before .before .before .before .before .before .before .before .before .before .before .before .before .before .before .before .before .before .before .before .before .before .before .before .before .before .before .before .before .before .before .before .before .before .before .before .before .before .before in
     let q = s .pre in
     let e = c .before .before .before .before .before .before .before .before .before .before .before .before .before .before .before .before .before .before .before .before .before .before .split-rows in
     let u = q .0 .usable in
     let base = length-names (s .args .file .now) (s .args .names .now) (s .args .lengths .now) (length (s .args .names .now)) in
-    let room = left-sum (s .args .most) (length (s .args .names .now)) 4096 (c .before .before .before .before .before .before .before .before .before .before .before .before .before .before .before .before .before .before .before .before .before .before .before .before .before .before .before .before .before .before .before .before .before .lower .ensures) (c .before .before .before .before .before .before .before .before .before .before .before .before .before .before .before .before .before .before .before .before .before .before .before .before .before .before .before .before .before .before .before .before .before .before .left .ensures) (few-names u) in (
+    let room = left-sum (s .args .most) (length (s .args .names .now)) 4096 (c .before .before .before .before .before .before .before .before .before .before .before .before .before .before .before .before .before .before .before .before .before .before .before .before .before .before .before .before .before .before .before .names-room .ensures) (few-names u) in (
       record { usable = usable-rest u; images-are = q .0 .images-are; order-is = q .0 .order-is },
       record {
         long = long-same _ _ _ _ (record { starts = e .kept .1 .1 .1 .1 .1 .1 .1 .1 .1 .1 .1 .1 .0; ends = e .kept .1 .1 .1 .1 .1 .1 .1 .1 .1 .1 .1 .1 .1 .0; units = e .kept .1 .1 .1 .1 .1 .1 .1 .1 .1 .1 .1 .1 .1 .1 .0; rest = e .kept .1 .1 .1 .1 .1 .1 .1 .1 .1 .1 .1 .1 .1 .1 .1 .0 }) (e .ensures .2) (lent-long (q .1) (q .2));
@@ -125,31 +110,27 @@ same-length-11 c = search needs
 returns : tie.Need-returns
 unfolding roomsIn namesIn
 returns c =
-    let s = c .before .before .before .before .before .before .before .before .before .before .before .before .before .before .before .before .before .before .before .before .before .before .before .before .before .before .before .before .before .before .before .before .before .before .before .before .before .before .before .before .before .before .before .before .before .before .before .before .before .before .before .before .before .before .before .before .before .before .before .before .before .before .before .before .before .before .before in
+    let s = c .before .before .before .before .before .before .before .before .before .before .before .before .before .before .before .before .before .before .before .before .before .before .before .before .before .before .before .before .before .before .before .before .before .before .before .before .before .before .before .before .before .before .before .before .before .before .before .before .before .before .before .before .before .before .before .before .before .before .before .before .before .before .before .before in
     let q = s .pre in
     let e = c .before .before .before .before .before .before .before .before .before .before .before .before .before .before .before .before .before .before .before .before .before .before .before .before .before .before .before .before .before .before .before .split-rows in
     let w = c .before .before .before .before .before .before .before .before .order-and-walk in
     let u = q .0 .usable in
-    let names = c .before .before .before .before .before .before .before .before .before .before .before .before .before .before .before .before .before .before .before .before .before .before .before .before .before .before .before .before .before .before .before .before .before .before .before .before .before .before .before .before .before .before .lower .ensures in
-    let bytes = c .before .before .before .before .before .before .before .before .before .before .before .before .before .before .before .before .before .before .before .before .before .before .before .before .before .before .before .before .before .before .before .before .before .before .before .before .before .before .before .lower2 .ensures in
-    let sized = bytes ∙ ap (λ (n : ℕ). lower n (s .args .most-bytes)) (c .before .before .before .before .before .before .before .before .before .before .before .before .before .before .before .before .before .before .before .before .before .before .before .before .before .before .before .before .before .before .before .before .before .before .before .before .before .before .before .before .left2 .ensures ∙ ap (λ (n : ℕ). 65535 - n) (c .before .before .before .before .before .before .before .before .before .before .before .before .before .before .before .before .before .before .before .before .before .before .before .before .before .before .before .before .before .before .before .before .before .before .before .before .before .before .before .before .before .bytes-of .ensures)) in
-    let counted = names ∙ ap (λ (n : ℕ). lower n (s .args .most)) (c .before .before .before .before .before .before .before .before .before .before .before .before .before .before .before .before .before .before .before .before .before .before .before .before .before .before .before .before .before .before .before .before .before .before .before .before .before .before .before .before .before .before .before .left .ensures) in (
+    let counted = c .before .before .before .before .before .before .before .before .before .before .before .before .before .before .before .before .before .before .before .before .before .before .before .before .before .before .before .before .before .before .before .before .before .before .before .before .before .before .before .before .names-room .ensures in
+    let sized = c .before .before .before .before .before .before .before .before .before .before .before .before .before .before .before .before .before .before .before .before .before .before .before .before .before .before .before .before .before .before .before .before .before .before .before .before .before .before .before .bytes-room .ensures in (
       stages-are (s .args .file .now) (s .args .names .now) (s .args .lengths .now) (s .args .sections .now) (s .args .symbols .now) (s .args .relocs .now) (s .args .partials .now) (s .args .unit-places .now)
           (baseOf s) (roomsOf s) (base-is s) (w .ensures .0 (baseOf s) _)
           (e .ensures .0 ∙ ap (splitTable (s .args .file .now) (tablesOf s) (s .args .cap)) (names-room u (s .args .most) (s .args .most-bytes) (s .args .cap) (length (s .args .out-units .now) / 8) (outputOf s) counted sized)),
       holds (w .result) (s .args .most) (s .args .most-bytes) (s .args .cap) (outputOf s) _ _ (e .result) (w .ensures .1) (e .ensures .1) (e .ensures .2)
-          (left-second (s .args .most) (length (s .args .names .now)) 4096 names (c .before .before .before .before .before .before .before .before .before .before .before .before .before .before .before .before .before .before .before .before .before .before .before .before .before .before .before .before .before .before .before .before .before .before .before .before .before .before .before .before .before .before .before .left .ensures)) (left-first (s .args .most) (length (s .args .names .now)) 4096 names (c .before .before .before .before .before .before .before .before .before .before .before .before .before .before .before .before .before .before .before .before .before .before .before .before .before .before .before .before .before .before .before .before .before .before .before .before .before .before .before .before .before .before .before .left .ensures)) (left-second (s .args .most-bytes) (c .before .before .before .before .before .before .before .before .before .before .before .before .before .before .before .before .before .before .before .before .before .before .before .before .before .before .before .before .before .before .before .before .before .before .before .before .before .before .before .before .before .bytes-of .result) 65535 bytes (c .before .before .before .before .before .before .before .before .before .before .before .before .before .before .before .before .before .before .before .before .before .before .before .before .before .before .before .before .before .before .before .before .before .before .before .before .before .before .before .before .left2 .ensures)) (left-first (s .args .most-bytes) (c .before .before .before .before .before .before .before .before .before .before .before .before .before .before .before .before .before .before .before .before .before .before .before .before .before .before .before .before .before .before .before .before .before .before .before .before .before .before .before .before .before .bytes-of .result) 65535 bytes (c .before .before .before .before .before .before .before .before .before .before .before .before .before .before .before .before .before .before .before .before .before .before .before .before .before .before .before .before .before .before .before .before .before .before .before .before .before .before .before .before .left2 .ensures)),
+          (left-second (s .args .most) (length (s .args .names .now)) 4096 counted) (left-first (s .args .most) (length (s .args .names .now)) 4096 counted)
+          (left-second (s .args .most-bytes) (sum (s .args .lengths .now)) 65535 sized) (left-first (s .args .most-bytes) (sum (s .args .lengths .now)) 65535 sized),
     )
 
 pub run-tables-spec : {M : Type 1} → statement M
 run-tables-spec =
     tie.close
     (tie.spec
-    left-requires
-    lower-requires
-    bytes-of-requires
-    left-requires-2
-    lower-requires-2
+    names-room-requires
+    bytes-room-requires
     split-rows-requires
     order-and-walk-requires
     same-length

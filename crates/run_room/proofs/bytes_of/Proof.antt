@@ -1,4 +1,4 @@
--- `run_file::bytes_of` meets its contract. Invariant: the bytes so far and the sum of what is left are the sum of all.
+-- `run_room::bytes_of` meets its contract. Invariant: the bytes so far and the sum of what is left are the sum of all.
 -- Assumes nothing.
 use borrow.Author.Needs.{needs}
 use Prim.Native.Nat.{_+_, _*_, _-_, _≤_}
@@ -6,12 +6,12 @@ use mathlib.Core.Path.{_≡_}
 use native.Mathlib.Nat.{zero-add}
 use native.Mathlib.Omega.{arith}
 use lib.ListN.{length, drop}
-use Rattle.run_file.specs.RunFile.{sum}
-use Rattle.run_file.proofs.Laws.{sum-turn, sum-none}
-use Rattle.run_file.proofs.bytes_of.Statement.{statement}
-use Rattle.run_file.proofs.bytes_of.Tie as tie
-use Rattle.run_file.proofs.bytes_of.Reads as reads
-use Rattle.run_file.proofs.bytes_of.Lts as lts
+use Rattle.run_room.specs.Room.{sum}
+use Rattle.run_room.proofs.Sums.{sum-turn, sum-none}
+use Rattle.run_room.proofs.bytes_of.Statement.{statement}
+use Rattle.run_room.proofs.bytes_of.Tie as tie
+use Rattle.run_room.proofs.bytes_of.Reads as reads
+use Rattle.run_room.proofs.bytes_of.Lts as lts
 
 abbrev Inv-loop : tie.InvT-loop
 Inv-loop lengths bytes₀ i₀ bytes i = (bytes + sum (drop i lengths) ≡ sum lengths) × (bytes ≤ 255 * i) × (i ≤ length lengths)
