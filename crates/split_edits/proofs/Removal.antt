@@ -49,16 +49,21 @@ module _ {A : Type 0} (p : A → Bool) (f : ℕ → A) (n : ℕ) where
       ∙ ap (λ (t : List A). f i ∷ t) (kept-rest d (i + 1) (omega arith) (λ k q l. stay k (omega arith) l))
       ∙ sym (rest-cons f i n (omega arith))
 
--- the rows from `first` up to `stop` go, and those from there on go down to `first`
+-- the rows from `first` up to `stop` go, and those from there on go down to `first`: those before and those behind are left
+pub lowered-parts : {A : Type 0} (f₀ f : ℕ → A) (n first stop : ℕ) → first ≤ stop → stop ≤ n → Lowered first stop (n - stop) f₀ f
+    → tabulate f 0 (n - (stop - first)) ≡ tabulate f₀ 0 first ++ tabulate f₀ stop (n - stop)
+lowered-parts {A} f₀ f n first stop h l q =
+    sym (tabulate-all f (n - (stop - first)))
+    ∙ tabulate-append f 0 first (n - (stop - first)) (omega arith) (omega arith)
+    ∙ ap₂ (λ (x y : ℕ). tabulate f 0 x ++ tabulate f first y) (let e : first - 0 ≡ first = omega arith in e) (let e : n - (stop - first) - first ≡ n - stop = omega arith in e)
+    ∙ ap₂ (λ (x y : List A). x ++ y) (tabulate-same f f₀ 0 first (λ j m r. q .below j (omega arith))) (tabulate-ext f f₀ first stop (n - stop) (q .moved))
+
 module _ {A : Type 0} (p : A → Bool) (f₀ f : ℕ → A) (n first stop : ℕ) (h : first ≤ stop) (l : stop ≤ n)
     (low : (k : ℕ) → k < first → p (f₀ k) ≡ true) (mid : (k : ℕ) → first ≤ k → k < stop → p (f₀ k) ≡ false) (high : (k : ℕ) → stop ≤ k → k < n → p (f₀ k) ≡ true)
     (q : Lowered first stop (n - stop) f₀ f) where
   pub closed : tabulate f 0 (n - (stop - first)) ≡ keepIf p (tabulate f₀ 0 n)
   closed =
-      sym (tabulate-all f (n - (stop - first)))
-      ∙ tabulate-append f 0 first (n - (stop - first)) (omega arith) (omega arith)
-      ∙ ap₂ (λ (x y : ℕ). tabulate f 0 x ++ tabulate f first y) (let e : first - 0 ≡ first = omega arith in e) (let e : n - (stop - first) - first ≡ n - stop = omega arith in e)
-      ∙ ap₂ (λ (x y : List A). x ++ y) (tabulate-same f f₀ 0 first (λ j m r. q .below j (omega arith))) (tabulate-ext f f₀ first stop (n - stop) (q .moved))
+      lowered-parts f₀ f n first stop h l q
       ∙ ap (λ (t : List A). tabulate f₀ 0 first ++ t) (sym rest)
       ∙ kept-first p f₀ n first (omega arith) low
     where
