@@ -95,6 +95,12 @@ bit-product a b h l = go (eqb a 0) refl
     go false e = let q : a ≡ 1 = omega (arith, eqb-false a 0 e) in rw q (let z : 1 * b < 2 = omega arith in z)
 
 -- ---- the splits of the unit in the section
+
+-- none, and a place is free
+pub none-pushed : (room : ℕ) (l : List Split) (new : Split) (own : List Split) → own ≡ [] → length l < room → onOwn room l new own ≡ accepted push
+unfolding onOwn
+none-pushed room l new own e h = ap (onOwn room l new) e ∙ passes 27 _ _ _ _ (lt-leb _ _ h)
+
 module _ (room : ℕ) (c : Columns) (n : ℕ) (new : Split) where
   abbrev own : List Split
   own = keepIf (ofUnit (new .section) (new .unit)) (rows c n)
@@ -115,10 +121,7 @@ module _ (room : ℕ) (c : Columns) (n : ℕ) (new : Split) where
         ∙ fails 27 _ _ _ _ (ap (λ (k : ℕ). leb room k) (length-tabulate (rowAt c) 0 n) ∙ le-leb _ _ h)
 
     pub own-pushed : i ≡ n → n < room → onOwn room (rows c n) new own ≡ accepted push
-    unfolding onOwn
-    own-pushed e h =
-        ap (onOwn room (rows c n) new) (own-none e)
-        ∙ passes 27 _ _ _ _ (ap (λ (k : ℕ). leb room k) (length-tabulate (rowAt c) 0 n) ∙ lt-leb _ _ h)
+    own-pushed e h = none-pushed room (rows c n) new own (own-none e) (omega (arith, length-tabulate (rowAt c) 0 n))
 
     module _ (j : ℕ) (there : i < n) (second : Hit (ofUnit (new .section) (new .unit)) c n (i + 1) j) where
       own-more : own ≡ rowAt c i ∷ fromHit (ofUnit (new .section) (new .unit)) c n j

@@ -1,5 +1,6 @@
 pub mod Rounds
 pub mod Decisions
+pub mod AtOnce
 pub mod Keeping
 pub mod Tables
 pub mod Refusals

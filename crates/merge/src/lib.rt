@@ -3,15 +3,17 @@
 ghost use mathlib.Core.Path.{_≡_};
 ghost use mathlib.Core.Bool.{cond};
 ghost use lib.Dec.{eqb};
-ghost use Prim.Native.Nat.{_≤_};
+ghost use Prim.Native.Nat.{ℕ, _≤_, _<_};
 ghost use lib.ListN.{length, getD};
 ghost use Rattle.lists.specs.Rows.{keepIf};
+ghost use Rattle.lists.specs.Outcome.{accepted};
 ghost use Rattle.obj.specs.Records.{sectionAt, Held};
 ghost use Rattle.tables.specs.Tables.{AllHeld};
 ghost use Rattle.tables.specs.Records.{sectionsIn, splitsIn};
 ghost use Rattle.splits.specs.Columns.{Good, columns, rows, Long};
 ghost use Rattle.splits.specs.Questions.{ofUnit};
 ghost use Rattle.splits.specs.Bytes.{Loadable};
+ghost use Rattle.split_joins.specs.Joins.{joinedBy};
 ghost use Rattle.merge.specs.Merge.{given, sectionEnd, lower, higher, jointOf, onJoint, onOld, onOwn, decide, mergeOne, mergeAll};
 ghost use Rattle.merge.specs.Answers.{decided, HandsGood, merged, count};
 ghost use Rattle.merge.specs.declared.Decision.the-variants.{Refuse};
@@ -20,6 +22,7 @@ use obj::section_at;
 use obj::split_at;
 use split_edits::join;
 use split_edits::push;
+use split_joins::join_and_push;
 use splits::meets;
 use splits::next_of_unit;
 use splits::row;
@@ -238,6 +241,37 @@ fn decide_round(
 
 // ---- the merge
 
+// A join and the push that is the next round's, in one move, where nothing else can come of that round; else 0, and nothing changed. 20 and 21 of that round are
+// asked here.
+fn join_at_once(
+    starts: &mut [u32],
+    ends: &mut [u32],
+    units: &mut [u16],
+    rest: &mut [u64],
+    n: usize,
+    heads: &[u8],
+    head_places: &[u32],
+    joint: Split,
+) -> usize
+    requires { ⌜ Long (columns (now starts) (now ends) (now units) (now rest)) n × AllHeld 15 (now heads) (now «head_places») × Good (joint .alignment) ⌝ }
+    ensures { λ r. ⌜
+        (r ≡ 0 → (now (starts .exit) ≡ now (starts .entry)) × (now (ends .exit) ≡ now (ends .entry)) × (now (units .exit) ≡ now (units .entry)) × (now (rest .exit) ≡ now (rest .entry)))
+        × (0 < r → ((cap : ℕ) → n ≤ cap
+        → accepted (rows (columns (now (starts .exit)) (now (ends .exit)) (now (units .exit)) (now (rest .exit))) r)
+        ≡ mergeOne (given (sectionsIn (now (heads .entry)) (now («head_places» .entry))) cap) (joinedBy joint (rows (columns (now (starts .entry)) (now (ends .entry)) (now (units .entry)) (now (rest .entry))) n)) joint)
+        × (r ≤ n)) ⌝ }
+{
+    let section = joint.section as usize;
+    if head_places.len() <= section {
+        return 0;
+    }
+    let limit = section_end(heads, head_places, section);
+    if (joint.end != 0) & (limit < joint.end as u64) {
+        return 0;
+    }
+    join_and_push(starts, ends, units, rest, n, joint)
+}
+
 // One split, by rounds: "then the merge begins again with the joint split".
 pub fn add_split(
     starts: &mut [u32],
@@ -280,6 +314,10 @@ pub fn add_split(
                 return Merged::Accepted { n: k + 1 };
             }
             Decision::Join(joint) => {
+                let made = join_at_once(starts, ends, units, rest, k, heads, head_places, joint);
+                if 0 < made {
+                    return Merged::Accepted { n: made };
+                }
                 k = join(
                     starts,
                     ends,

@@ -1,5 +1,5 @@
 -- `merge::add_split` meets its contract. Invariant: merging the round's split into the rows that are left is merging the new split into those given.
--- Measure: the rows, of which each round that goes on removes one. Assumes nothing.
+-- Measure: the rows, of which each round that goes on removes one. A join and a push made at once end the merge. Assumes nothing.
 use mathlib.Core.Path.{_≡_, refl, sym, ap, _∙_}
 use mathlib.Core.List.{List}
 use Prim.Native.Nat.{_+_, _≤_, _<_}
@@ -9,6 +9,7 @@ use Rattle.obj.specs.declared.Split.{Split}
 use Rattle.tables.specs.Records.{sectionsIn}
 use Rattle.splits.specs.Columns.{Good, columns, rows}
 use Rattle.splits.proofs.Rows.{Same, same, long-same}
+use Rattle.split_joins.specs.Joins.{joinedBy}
 use Rattle.merge.specs.Merge.{given, push, join, decide, mergeOne}
 use Rattle.merge.specs.Answers.{decided}
 use Rattle.merge.proofs.Rounds.{round-refused, round-keep, round-push, round-join}
@@ -44,6 +45,33 @@ joins : (c : tie.After-d2 Inv-loop μ-loop)
     decide (given (sectionsIn (a .heads .now) (a .head-places .now)) (a .cap)) (rows (columns (l .starts) (l .ends) (l .units) (l .rest)) (l .k)) (l .s)
     ≡ accepted (join (c .d2 .given .0 .0))
 joins c = sym (c .before .before .decide-round .ensures .0) ∙ ap decided (c .d2 .given .1)
+
+-- .. and the joint split that it hands on
+joint-good : (c : tie.After-d2 Inv-loop μ-loop) → Good (c .d2 .given .0 .0 .alignment)
+joint-good c = handed _ _ (c .d2 .given .1) (c .before .before .decide-round .ensures .1)
+
+-- the join at once leaves the columns as long as they were
+still-long : (c : tie.After-join-at-once Inv-loop μ-loop)
+    → let m = c .join-at-once in
+    let a = c .before .before .before .before .before .before .before .before .before .before .before .before .before .before .before .before .before .before .before .before .args in
+    Same (columns (m .last .0) (m .last .1 .0) (m .last .1 .1 .0) (m .last .1 .1 .1 .0)) (columns (a .starts .now) (a .ends .now) (a .units .now) (a .rest .now))
+still-long c =
+    let m = c .join-at-once in
+    let q = c .before .before .before .before .before .before .before .before .before .before .before .before .before .loop .inv .1 in
+    record { starts = m .kept .0 ∙ q .starts; ends = m .kept .1 .0 ∙ q .ends; units = m .kept .1 .1 .0 ∙ q .units; rest = m .kept .1 .1 .1 .0 ∙ q .rest }
+
+-- where it made nothing, the join is of the rows as they were
+joined-rows : (c : tie.After-join Inv-loop μ-loop)
+    → let l = c .before .before .before .before .before .before .before .before .before .before .before .before .before .before .before .before .before .before .before .before .before .before .before .before .before .before .before .loop in
+    let j = c .join in
+    rows (columns (j .last .0) (j .last .1 .0) (j .last .1 .1 .0) (j .last .1 .1 .1 .0)) (j .result) ≡ joinedBy (c .before .before .before .before .before .before .before .before .before .before .before .before .before .before .before .before .before .before .before .before .d2 .given .0 .0) (rows (columns (l .starts) (l .ends) (l .units) (l .rest)) (l .k))
+joined-rows c =
+    let l = c .before .before .before .before .before .before .before .before .before .before .before .before .before .before .before .before .before .before .before .before .before .before .before .before .before .before .before .loop in
+    let m = c .before .before .before .before .before .before .before .before .before .before .before .before .before .before .join-at-once in
+    let none : m .result ≡ 0 = omega (arith, c .before .before .before .before .before .if1 .left) in
+    let q = m .ensures .0 none in
+    c .join .ensures .0
+    ∙ (λ i. joinedBy (c .before .before .before .before .before .before .before .before .before .before .before .before .before .before .before .before .before .before .before .before .d2 .given .0 .0) (rows (columns (q .0 i) (q .1 i) (q .2 i) (q .3 i)) (l .k)))
 
 loop-holds : tie.Need-loop-holds Inv-loop μ-loop
 loop-holds c = let q = c .before .before .before .before .before .before .pre in (q .1, same _, q .3, refl)
@@ -106,8 +134,8 @@ push-requires c κs =
     let k = pushes-below (c .before .before .before .before) in
     (long-same _ _ (l .k + 1) _ (l .inv .1) (omega (arith, k)) (q .0), l .inv .2)
 
-add-t34 : tie.Need-add-t34 Inv-loop μ-loop
-add-t34 c =
+add-t35 : tie.Need-add-t35 Inv-loop μ-loop
+add-t35 c =
     let k = pushes-below (c .before .before .before .before .before .before .before .before .before .before .before .before .before) in
     omega (arith, k, c .before .before .before .before .before .before .before .before .before .before .before .before .before .before .before .before .before .before .before .before .before .before .before .before .before .before .before .pre .0 .starts)
 
@@ -132,34 +160,60 @@ returns-3 c =
 enum-known-d-2 : tie.Need-enum-known-d-2 Inv-loop μ-loop
 enum-known-d-2 c = search needs
 
+join-at-once-requires : tie.Need-join-at-once-requires Inv-loop μ-loop
+join-at-once-requires c κs =
+    let l = c .before .before .before .before .before .before .before .before .before .before .before .before .loop in
+    let q = c .before .before .before .before .before .before .before .before .before .before .before .before .before .before .before .before .before .before .before .pre in
+    (long-same _ _ (l .k) _ (l .inv .1) (l .inv .0) (q .0), q .2, joint-good (c .before .before .before .before .before))
+
+same-length-13 : tie.Need-same-length-13 Inv-loop μ-loop
+same-length-13 c = still-long (c .before .before .before .before .before .before .before .before .before) .starts
+
+same-length-14 : tie.Need-same-length-14 Inv-loop μ-loop
+same-length-14 c = still-long (c .before .before .before .before .before .before .before .before .before) .ends
+
+same-length-15 : tie.Need-same-length-15 Inv-loop μ-loop
+same-length-15 c = still-long (c .before .before .before .before .before .before .before .before .before) .units
+
+same-length-16 : tie.Need-same-length-16 Inv-loop μ-loop
+same-length-16 c = still-long (c .before .before .before .before .before .before .before .before .before) .rest
+
+returns-4 : tie.Need-returns-4 Inv-loop μ-loop
+returns-4 c =
+    let l = c .before .before .before .before .before .before .before .before .before .before .before .before .before .before .before .before .before .before .before .before .before .before .loop in
+    let a = c .before .before .before .before .before .before .before .before .before .before .before .before .before .before .before .before .before .before .before .before .before .before .before .before .before .before .before .before .before .args in
+    let made = c .before .before .before .before .before .before .before .before .before .join-at-once .ensures .1 (c .if1 .taken) in
+    (made .0 (a .cap) (l .inv .0) ∙ sym (round-join _ _ (l .s) _ (joins (c .before .before .before .before .before .before .before .before .before .before .before .before .before .before .before))) ∙ l .inv .3, omega (arith, made .1, l .inv .0))
+
 join-requires : tie.Need-join-requires Inv-loop μ-loop
 join-requires c κs =
-    let l = c .before .before .before .before .before .before .before .before .before .before .before .before .loop in
-    long-same _ _ (l .k) _ (l .inv .1) (l .inv .0) (c .before .before .before .before .before .before .before .before .before .before .before .before .before .before .before .before .before .before .before .pre .0)
+    let l = c .before .before .before .before .before .before .before .before .before .before .before .before .before .before .before .before .before .before .before .before .before .before .before .before .before .before .loop in
+    long-same _ _ (l .k) _ (still-long (c .before .before .before .before .before .before .before .before .before .before .before .before .before)) (l .inv .0) (c .before .before .before .before .before .before .before .before .before .before .before .before .before .before .before .before .before .before .before .before .before .before .before .before .before .before .before .before .before .before .before .before .before .pre .0)
 
 loop-less : tie.Need-loop-less Inv-loop μ-loop
 loop-less c =
-    let l = c .before .before .before .before .before .before .before .before .before .before .before .before .before .before .before .before .before .before .before .before .before .loop in
+    let l = c .before .before .before .before .before .before .before .before .before .before .before .before .before .before .before .before .before .before .before .before .before .before .before .before .before .before .before .before .before .before .before .before .before .before .before .loop in
     let j = c .before .before .before .before .before .before .before .before .join in
     join-less _ (columns (l .starts) (l .ends) (l .units) (l .rest)) (columns (j .last .0) (j .last .1 .0) (j .last .1 .1 .0) (j .last .1 .1 .1 .0)) (l .k) (j .result) (l .s) _
-    (joins (c .before .before .before .before .before .before .before .before .before .before .before .before .before .before)) (j .ensures .0)
+    (joins (c .before .before .before .before .before .before .before .before .before .before .before .before .before .before .before .before .before .before .before .before .before .before .before .before .before .before .before .before)) (joined-rows (c .before .before .before .before .before .before .before .before))
 
 loop-again : tie.Need-loop-again Inv-loop μ-loop
 loop-again c =
-    let l = c .before .before .before .before .before .before .before .before .before .before .before .before .before .before .before .before .before .before .before .before .before .loop in
-    let a = c .before .before .before .before .before .before .before .before .before .before .before .before .before .before .before .before .before .before .before .before .before .before .before .before .before .before .before .before .args in
+    let l = c .before .before .before .before .before .before .before .before .before .before .before .before .before .before .before .before .before .before .before .before .before .before .before .before .before .before .before .before .before .before .before .before .before .before .before .loop in
+    let a = c .before .before .before .before .before .before .before .before .before .before .before .before .before .before .before .before .before .before .before .before .before .before .before .before .before .before .before .before .before .before .before .before .before .before .before .before .before .before .before .before .before .before .args in
     let j = c .before .before .before .before .before .before .before .before .join in
-    let d = c .before .before .before .before .before .before .before .before .before .before .before .before .before .before .d2 .given in (
+    let long = still-long (c .before .before .before .before .before .before .before .before .before .before .before .before .before .before .before .before .before .before .before .before .before .before) in
+    let d = c .before .before .before .before .before .before .before .before .before .before .before .before .before .before .before .before .before .before .before .before .before .before .before .before .before .before .before .before in (
       omega (arith, j .ensures .1, l .inv .0),
       record {
-        starts = j .kept .0 ∙ l .inv .1 .starts;
-        ends = j .kept .1 .0 ∙ l .inv .1 .ends;
-        units = j .kept .1 .1 .0 ∙ l .inv .1 .units;
-        rest = j .kept .1 .1 .1 .0 ∙ l .inv .1 .rest;
+        starts = j .kept .0 ∙ long .starts;
+        ends = j .kept .1 .0 ∙ long .ends;
+        units = j .kept .1 .1 .0 ∙ long .units;
+        rest = j .kept .1 .1 .1 .0 ∙ long .rest;
       },
-      handed _ _ (d .1) (c .before .before .before .before .before .before .before .before .before .before .before .before .before .before .before .before .decide-round .ensures .1),
-      ap (λ (x : List Split). mergeOne (given (sectionsIn (a .heads .now) (a .head-places .now)) (a .cap)) x (d .0 .0)) (j .ensures .0)
-          ∙ sym (round-join _ _ (l .s) _ (joins (c .before .before .before .before .before .before .before .before .before .before .before .before .before .before)))
+      joint-good d,
+      ap (λ (x : List Split). mergeOne (given (sectionsIn (a .heads .now) (a .head-places .now)) (a .cap)) x (d .d2 .given .0 .0)) (joined-rows (c .before .before .before .before .before .before .before .before))
+          ∙ sym (round-join _ _ (l .s) _ (joins d))
           ∙ l .inv .3,
     )
 
@@ -185,13 +239,19 @@ add-split-spec =
     returns-2
     enum-told-2
     push-requires
-    add-t34
+    add-t35
     same-length-9
     same-length-10
     same-length-11
     same-length-12
     returns-3
     enum-known-d-2
+    join-at-once-requires
+    same-length-13
+    same-length-14
+    same-length-15
+    same-length-16
+    returns-4
     join-requires
     loop-less
     loop-again)
