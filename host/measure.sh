@@ -60,6 +60,7 @@ sample() {
         "$(git describe --always --dirty --exclude '*' --abbrev=12)" "$(nproc)" "$(uname -m)"
     part 'Speed' "$measure" bench 200
     part 'Instructions' growth/whole_run.sh
+    part 'Stages within a run' growth/stages.sh
     part 'Memory' "$measure" memory
     soak "$@"
     sample

@@ -6,6 +6,8 @@ cd "$(dirname "$0")/.."
 host=${HOST:-target/measure/host}
 out=$(mktemp)
 trap 'rm -f "$out"' EXIT
+# valgrind counts each byte that `rep stosb` stores as an instruction: what clears memory is to use vector stores
+export GLIBC_TUNABLES=glibc.cpu.x86_rep_stosb_threshold=4294967295
 
 # count FUNCTION ARGUMENT..: the instructions within the function, the host called with the arguments
 count() {

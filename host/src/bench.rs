@@ -168,6 +168,12 @@ fn growth_table(all: &[Measured]) -> Table {
     table
 }
 
+/// The names of the inputs, a line each.
+pub fn inputs() -> ExitCode {
+    bench_inputs::all().iter().for_each(|(name, _)| println!("{name}"));
+    ExitCode::SUCCESS
+}
+
 /// One run over a named input, by the entry or by the Rust, under which growth/whole_run.sh
 /// counts instructions.
 pub fn once(name: &str, rust: bool) -> ExitCode {

@@ -82,6 +82,7 @@ host some ENTRY COUNT [SEED]   compares so many random cases of one stage entry
 host store [SEED]     stores the right answers in stored/
 host restore          restores the images of the stored cases from their pieces
 host bench [ROUNDS]   times whole runs and stages, the Rust's and the linked entries'
+host inputs           names the inputs of the benchmark
 host once NAME [rust] runs one of these inputs once, by the entry or by the Rust
 host memory           measures the Rust's heap, and what is lent to the entry and its stack
 host soak [SMALL] [LARGE] [SECONDS] [SEED]   compares so many small and large random cases of
@@ -110,6 +111,7 @@ fn main() -> ExitCode {
         (["bench", _], Ok(rounds)) => bench::run(rounds),
         (["once", name], _) => bench::once(name, false),
         (["once", name, "rust"], _) => bench::once(name, true),
+        (["inputs"], _) => bench::inputs(),
         (["memory"], _) => memory::run(),
         (["soak", words @ ..], _) => match soak::Plan::of(words) {
             Some(plan) => compare(|tally| soak::run(&plan, tally)),
