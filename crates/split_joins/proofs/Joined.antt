@@ -6,12 +6,12 @@ use mathlib.Core.Bool.{Bool, true, false, cond, not, _&&_}
 use mathlib.Core.Logic.{_⊎_, inl, inr}
 use Prim.Native.Nat.{ℕ, zero, suc, _+_, _-_, _≤_, _<_}
 use native.Mathlib.Omega.{arith}
-use borrow.Author.Tests.{le-leb, lt-ltb, le-ltb, ne-eqb, eqb-true, eqb-false}
-use lib.Dec.{eqb, leb, ltb}
+use borrow.Author.Tests.{lt-ltb, le-ltb, ne-eqb, eqb-true, eqb-false}
+use lib.Dec.{eqb, ltb}
 use lib.ListN.{length, getD}
 use Rattle.lists.specs.Rows.{tabulate, keepIf, some, insertAt, firstFrom}
 use Rattle.lists.specs.InsertBy.{insertBy}
-use Rattle.lists.proofs.Compare.{lt-or-ge, never, and-fails}
+use Rattle.lists.proofs.Compare.{lt-or-ge, and-fails}
 use Rattle.lists.proofs.Rows.{length-tabulate, tabulate-insert}
 use Rattle.lists.proofs.Parts.{tabulate-all, tabulate-map}
 use Rattle.lists.proofs.Filter.{keep-append}
@@ -26,21 +26,10 @@ use Rattle.splits.proofs.Blocks.{some-skip}
 use Rattle.split_edits.specs.Edits.{together, after, grouped, pushed, renamed, joined}
 use Rattle.split_edits.specs.Shifts.{Lowered}
 use Rattle.split_edits.proofs.Removal.{lowered-parts, closed}
-use Rattle.split_edits.proofs.Search.{first-past}
+use Rattle.split_edits.proofs.Search.{first-past, outside-apart}
 use Rattle.split_joins.specs.Joins.{TakesPlace, AtOnce, joinedBy}
 
 -- ---- one row
-
--- a row that is not in a range is not of the group at its start
-apart : (section start end : ℕ) (y : Split) → start < end → within section start end y ≡ false → together section start y ≡ false
-apart section start end y h e = go (eqb (y .section) section) (eqb (y .start) start) refl e
-  where
-    go : (a b : Bool) → eqb (y .start) start ≡ b → (a && (leb start (y .start) && ltb (y .start) end)) ≡ false → (a && b) ≡ false
-    go false b q f = refl
-    go true false q f = refl
-    go true true q f =
-        let z : y .start ≡ start = eqb-true (y .start) start q in
-        absurd (never (sym f ∙ rw (le-leb start (y .start) (omega arith), lt-ltb (y .start) end (omega arith)) refl))
 
 -- a row that takes the name it has, or none
 same-name : (unit : ℕ) (y : Split) (b : Bool) → y .unit ≡ unit → y ≡ cond b (withUnit unit y) y
@@ -148,8 +137,8 @@ module _ (s : Split) (c₀ : Columns) (n first stop : ℕ) (l : stop ≤ n)
       ap (insertBy (after s) s)
       (grouped-rows (s .section) (s .start) g 0 size
       (λ k m r. each-left (λ y. together (s .section) (s .start) y ≡ false)
-      (λ j a. apart (s .section) (s .start) (s .end) (rowAt c₀ j) (t .ranged) (low j a))
-      (λ j a e. apart (s .section) (s .start) (s .end) (rowAt c₀ j) (t .ranged) (t .none j a e)) k (omega arith)))
+      (λ j a. outside-apart (s .section) (s .start) (s .end) (rowAt c₀ j) (t .ranged) (low j a))
+      (λ j a e. outside-apart (s .section) (s .start) (s .end) (rowAt c₀ j) (t .ranged) (t .none j a e)) k (omega arith)))
       ∙ insert-rows (after s) g size s first (omega arith)
       (λ k m. ap (after s) (q .below k m) ∙ t .lies .before k m)
       (λ m. ap (after s) (ap g (let e : first ≡ first + 0 = omega arith in e) ∙ q .moved 0 (omega arith) ∙ ap (rowAt c₀) (let e : stop + 0 ≡ stop = omega arith in e)) ∙ t .lies .behind (omega arith))
