@@ -8,13 +8,13 @@ use native.Mathlib.Nat.{le-of-suc-le-suc, not-suc-le-zero, le-trans, suc-sub-suc
 use native.Mathlib.Omega.{arith}
 use lib.Dec.{leb, ltb}
 use lib.ListN.{length, getD, take, drop}
-use borrow.Author.Tests.{le-leb, lt-leb, lt-ltb, le-ltb}
+use borrow.Author.Tests.{le-leb, lt-leb, lt-ltb, le-ltb, leb-true}
 use Rattle.lists.specs.Rows.{keepIf, firstIn}
 use Rattle.lists.specs.Sort.{Sorted, between, atLeast}
 use Rattle.lists.proofs.Compare.{lt-or-ge, and-fails, and-holds}
 use Rattle.lists.proofs.All.{all-at, all-map}
 use Rattle.lists.proofs.Filter.{keep-same, keep-nothing}
-use Rattle.lists.proofs.FirstIn.{firstIn-first}
+use Rattle.lists.proofs.FirstIn.{firstIn-first, firstIn-le, firstIn-passes}
 
 module _ {A : Type 0} (k : A → ℕ) (low : ℕ) where
   before-first : (s : List A) → Sorted k s → take (firstIn (atLeast k low) s) s ≡ keepIf (λ y. ltb (k y) low) s
@@ -63,3 +63,30 @@ module _ {A : Type 0} (k : A → ℕ) (low : ℕ) where
       let q : k x ≤ k (getD s m d) = all-at m d (p .0) (le-of-suc-le-suc h) in
       let r : k x < low = omega arith in
       rw (lt-leb _ _ r) (suc-le-suc (place-above s m d (p .1) (le-of-suc-le-suc h) e))
+
+-- ---- the part between two places that such searches gave; d is read where there is no element
+module _ {A : Type 0} (k : A → ℕ) (d : A) (s : List A) (p : Sorted k s) where
+  module _ (low high : ℕ) where
+    abbrev first : ℕ → ℕ
+    first n = firstIn (atLeast k n) s
+
+    pub first-later : low ≤ high → first low ≤ first high
+    first-later h = go (lt-or-ge (first high) (length s))
+      where
+        go : (first high < length s) ⊎ (length s ≤ first high) → first low ≤ first high
+        go (inl q) = place-below k low s (first high) d q (le-trans h (leb-true _ _ (firstIn-passes (atLeast k high) s d q)))
+        go (inr q) = le-trans (firstIn-le (atLeast k low) s) q
+
+    module _ (from to : ℕ) (ef : from ≡ first low) (et : to ≡ first high) where
+      pub part-some : take (to - from) (drop from s) ≡ keepIf (between k low high) s
+      part-some = rw (ef, et) (part-between k low high s p)
+
+      pub part-later : low ≤ high → from ≤ to
+      part-later h = rw (ef, et) (first-later h)
+
+  pub part-none : (low high : ℕ) → high ≤ low → [] ≡ keepIf (between k low high) s
+  part-none low high h =
+      let f = firstIn (atLeast k low) s in
+      let t = firstIn (atLeast k high) s in
+      let z : t - f ≡ 0 = omega (arith, first-later high low h) in
+      sym (ap (λ (m : ℕ). take m (drop f s)) z) ∙ part-some low high f t refl refl

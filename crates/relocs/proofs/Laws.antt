@@ -1,23 +1,19 @@
 -- A section's relocations: they can be read, and stand by address where the table has none that falls; the part between two places that a binary search
 -- gave; and a section has a relocation exactly if its list has one. Assumes nothing.
-use mathlib.Core.Path.{_≡_, refl, sym, ap, subst, _∙_}
+use mathlib.Core.Path.{_≡_, sym, subst, _∙_}
 use mathlib.Core.List.{List, [], _∷_}
 use mathlib.Core.Bool.{Bool, true, not}
-use mathlib.Core.Logic.{_⊎_, inl, inr}
 use Prim.Native.Nat.{ℕ, _-_, _≤_, _<_}
-use native.Mathlib.Nat.{le-trans}
 use native.Mathlib.Omega.{arith}
 use lib.Dec.{eqb}
 use lib.ListN.{length, getD, take, drop}
-use borrow.Author.Tests.{leb-true, eqb-true}
+use borrow.Author.Tests.{eqb-true}
 use Rattle.lists.specs.Rows.{keepIf, firstIn}
 use Rattle.lists.specs.Sort.{All, none, each, Sorted, Rising as RisingBy, between, atLeast}
 use Rattle.lists.proofs.All.{all-at, all-map, all-keep, all-both}
 use Rattle.lists.proofs.Filter.{keep-passes, keep-some}
 use Rattle.lists.proofs.Rising.{numbers-rise, numbers-below, rising-keep}
-use Rattle.lists.proofs.Compare.{lt-or-ge}
-use Rattle.lists.proofs.FirstIn.{firstIn-le, firstIn-passes}
-use Rattle.lists.proofs.Between.{part-between, place-below}
+use Rattle.lists.proofs.Between as parts
 use Rattle.obj.specs.Records.{Held}
 use Rattle.obj.specs.declared.Reloc.{Reloc}
 use Rattle.symbol_order.specs.Order.{numbers}
@@ -70,26 +66,18 @@ readable-part b places part p h e = record { whole = h .whole; inside = subst (�
 module _ (b places part : List ℕ) (o : Ordered b places part) where
   module _ (low high : ℕ) where
     abbrev first : ℕ → ℕ
-    first a = firstIn (atLeast (addressOf b places) a) part
+    first k = firstIn (atLeast (addressOf b places) k) part
 
     pub first-later : low ≤ high → first low ≤ first high
-    first-later h = go (lt-or-ge (first high) (length part))
-      where
-        go : (first high < length part) ⊎ (length part ≤ first high) → first low ≤ first high
-        go (inl q) = place-below (addressOf b places) low part (first high) 0 q (le-trans h (leb-true _ _ (firstIn-passes (atLeast (addressOf b places) high) part 0 q)))
-        go (inr q) = le-trans (firstIn-le (atLeast (addressOf b places) low) part) q
+    first-later = parts.first-later (addressOf b places) 0 part (o .sorted) low high
 
     -- the part between two places that the searches gave
     module _ (from to : ℕ) (ef : from ≡ first low) (et : to ≡ first high) where
       pub part-some : take (to - from) (drop from part) ≡ keepIf (between (addressOf b places) low high) part
-      part-some = rw (ef, et) (part-between (addressOf b places) low high part (o .sorted))
+      part-some = parts.part-some (addressOf b places) 0 part (o .sorted) low high from to ef et
 
       pub part-later : low ≤ high → from ≤ to
-      part-later h = rw (ef, et) (first-later h)
+      part-later = parts.part-later (addressOf b places) 0 part (o .sorted) low high from to ef et
 
   pub part-none : (low high : ℕ) → high ≤ low → [] ≡ keepIf (between (addressOf b places) low high) part
-  part-none low high h =
-      let f = firstIn (atLeast (addressOf b places) low) part in
-      let t = firstIn (atLeast (addressOf b places) high) part in
-      let z : t - f ≡ 0 = omega (arith, first-later high low h) in
-      sym (ap (λ (m : ℕ). take m (drop f part)) z) ∙ part-some low high f t refl refl
+  part-none = parts.part-none (addressOf b places) 0 part (o .sorted)

@@ -3,22 +3,20 @@
 use mathlib.Core.Path.{_≡_, refl, sym, ap, subst, _∙_}
 use mathlib.Core.List.{List, []}
 use mathlib.Core.Bool.{Bool, true, not, _&&_}
-use mathlib.Core.Logic.{_⊎_, inl, inr}
 use Prim.Native.Nat.{ℕ, suc, _+_, _-_, _≤_, _<_, zero-le}
-use native.Mathlib.Nat.{le-trans}
 use native.Mathlib.Omega.{arith}
 use lib.Dec.{leb, ltb, eqb}
 use lib.ListN.{length, getD, take, drop}
-use borrow.Author.Tests.{le-leb, lt-ltb, leb-true}
+use borrow.Author.Tests.{le-leb, lt-ltb}
 use Rattle.lists.specs.Rows.{keepIf, firstIn}
 use Rattle.lists.specs.Sort.{All, between, atLeast}
-use Rattle.lists.proofs.Compare.{same-leb, lt-or-ge}
+use Rattle.lists.proofs.Compare.{same-leb}
 use Rattle.lists.proofs.All.{all-any, all-keep, all-sort}
 use Rattle.lists.proofs.Filter.{keep-all, keep-some}
 use Rattle.lists.proofs.Sort.{length-sort}
 use Rattle.lists.proofs.Rising.{numbers-below}
-use Rattle.lists.proofs.FirstIn.{firstIn-le, firstIn-passes}
-use Rattle.lists.proofs.Between.{part-between, place-above, place-below}
+use Rattle.lists.proofs.Between as parts
+use Rattle.lists.proofs.Between.{place-above, place-below}
 use Rattle.obj.specs.declared.Symbol.{Symbol}
 use Rattle.symbol_order.specs.Order.{symbolOf, key, keyAt, numbers, inSection, symbolsOf, Readable, Order}
 use Rattle.symbol_order.proofs.Parts.{order-sorted, readable-keep}
@@ -32,26 +30,18 @@ module _ (b places order : List ℕ) (o : Order b places order) where
     first k = firstIn (atLeast (keyAt b places) k) order
 
     pub first-later : low ≤ high → first low ≤ first high
-    first-later h = go (lt-or-ge (first high) (length order))
-      where
-        go : (first high < length order) ⊎ (length order ≤ first high) → first low ≤ first high
-        go (inl q) = place-below (keyAt b places) low order (first high) 0 q (le-trans h (leb-true _ _ (firstIn-passes (atLeast (keyAt b places) high) order 0 q)))
-        go (inr q) = le-trans (firstIn-le (atLeast (keyAt b places) low) order) q
+    first-later = parts.first-later (keyAt b places) 0 order (order-sorted b places order o) low high
 
     -- the part between two places that the searches gave
     module _ (from to : ℕ) (ef : from ≡ first low) (et : to ≡ first high) where
       pub part-some : take (to - from) (drop from order) ≡ keepIf (between (keyAt b places) low high) order
-      part-some = rw (ef, et) (part-between (keyAt b places) low high order (order-sorted b places order o))
+      part-some = parts.part-some (keyAt b places) 0 order (order-sorted b places order o) low high from to ef et
 
       pub part-later : low ≤ high → from ≤ to
-      part-later h = rw (ef, et) (first-later h)
+      part-later = parts.part-later (keyAt b places) 0 order (order-sorted b places order o) low high from to ef et
 
   pub part-none : (low high : ℕ) → high ≤ low → [] ≡ keepIf (between (keyAt b places) low high) order
-  part-none low high h =
-      let f = firstIn (atLeast (keyAt b places) low) order in
-      let t = firstIn (atLeast (keyAt b places) high) order in
-      let z : t - f ≡ 0 = omega (arith, first-later high low h) in
-      sym (ap (λ (m : ℕ). take m (drop f order)) z) ∙ part-some low high f t refl refl
+  part-none = parts.part-none (keyAt b places) 0 order (order-sorted b places order o)
 
   module _ (bytes : (j : ℕ) → getD b j 0 < 256) (n : ℕ) where
     abbrev symbol : ℕ → Symbol
