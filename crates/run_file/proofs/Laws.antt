@@ -1,10 +1,8 @@
--- What the run of a file rests on: a usable file's tables are usable without some of them, and blank marks are clean.
+-- What the run of a file rests on: a usable file's tables are usable without some of them.
 -- Assumes nothing.
-use Prim.Native.Nat.{ℕ, zero, suc, _+_, _≤_, _<_}
-use mathlib.Core.Path.{_≡_, refl, sym, ap, _∙_}
-use mathlib.Core.List.{List, [], _∷_}
+use Prim.Native.Nat.{ℕ}
+use mathlib.Core.List.{List, []}
 use native.Mathlib.Omega.{arith}
-use lib.ListN.{length, getD, drop}
 use native.Mathlib.Nat.{not-suc-le-zero}
 use Rattle.tables.specs.Records.{relocsIn}
 use Rattle.load.specs.Good.{Rising}
