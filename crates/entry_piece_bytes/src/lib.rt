@@ -13,6 +13,7 @@ use obj::read_section;
 use obj::refusal;
 use obj::word_of;
 use outputs::clear_from;
+use pieces::PIECE_BYTES;
 use pieces::Piece;
 use pieces::piece_at;
 use tables::table_size;
@@ -122,7 +123,7 @@ fn find_piece(sections: &[u8], places: &[u8], image: usize, pieces: &[u8], which
     ensures { λ r. ⌜ foundMeaning r ≡ ofPiece (now (sections .entry)) (imagePlaces (now (places .entry))) image (now (pieces .entry)) which ⌝ }
 {
     let k = which as usize;
-    if pieces.len() / 28 <= k {
+    if pieces.len() / PIECE_BYTES <= k {
         return refused(20, 0, which);
     }
     find_in_section(sections, places, image, piece_at(pieces, k))
@@ -143,7 +144,7 @@ fn find(sections: &[u8], places: &[u8], image: &[u8], pieces: &[u8], which: u32)
             place: none,
         };
     }
-    let b = table_size(pieces.len(), 28, 1024);
+    let b = table_size(pieces.len(), PIECE_BYTES, 1024);
     if let Answer::Refused { .. } = b {
         return Found {
             answer: b,
