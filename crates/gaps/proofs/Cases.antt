@@ -22,7 +22,8 @@ use Rattle.sections.specs.Sections.{Sections}
 use Rattle.sections.specs.Alignment.{defaultAlignment, larger, alignmentOf}
 use Rattle.sections.specs.Ends.{lowered, splittingEnd}
 use Rattle.gap_columns.specs.Columns.{Gap, gap, placed, inOrder}
-use Rattle.gaps.specs.Gaps.{nextStart, endAfter, endFrom, gapEnd, gapsUpTo, gapsBefore, gapsFrom, sectionGaps, gapsOf, into, foundGaps}
+use Rattle.splits.specs.Questions.{nextStart}
+use Rattle.gaps.specs.Gaps.{endAfter, endFrom, gapEnd, gapsUpTo, gapsBefore, gapsFrom, sectionGaps, gapsOf, into, foundGaps}
 
 -- ---- tables
 

@@ -21,9 +21,9 @@ use Rattle.sections.proofs.Good.{default-good, chosen-good}
 use Rattle.pieces.specs.declared.Piece.{Piece}
 use Rattle.units.specs.Units.{unitOf}
 use Rattle.walk.specs.Walk.{Input, Output, alignmentIn, fits, halved, onAligned, onKept, walk}
+use Rattle.lists.proofs.Among.{all-find}
 use Rattle.restore.specs.Restoring.{Checked}
 use Rattle.restore.specs.Alignments.{Largest, None}
-use Rattle.restore.proofs.Parts.{all-find}
 use Rattle.restore.proofs.Steps.{Reached, From}
 use Rattle.restore.proofs.Walked.{pieces-from}
 use Rattle.restore.proofs.Refusals.{Says, says-of, says-then, Line, walk-says, end-says, split-says}

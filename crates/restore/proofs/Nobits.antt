@@ -16,14 +16,14 @@ use Rattle.lists.proofs.All.{all-map}
 use Rattle.lists.proofs.Both.{both}
 use Rattle.lists.proofs.Compare.{never}
 use Rattle.obj.specs.declared.Split.{Split}
-use Rattle.splits.specs.Questions.{within}
+use Rattle.splits.specs.Questions.{within, nextStart}
 use Rattle.sections.specs.Sections.{Sections, headOf, sectionsOf}
 use Rattle.sections.specs.Bytes.{bytesOf, zeroBetween}
 use Rattle.sections.specs.Ends.{splittingEnd}
 use Rattle.sections.proofs.Nobits.{nobits-end, nobits-bytes}
 use Rattle.sections.proofs.Zero.{zero-past}
 use Rattle.pieces.specs.declared.Piece.{Piece}
-use Rattle.walk.specs.Walk.{Input, Output, startIn, endIn, splittingEndIn, nonzero, given, onAligned, onKept, onSplit, nextStart, walkSplits, walkSection, walkSections, walk, nothing}
+use Rattle.walk.specs.Walk.{Input, Output, startIn, endIn, splittingEndIn, nonzero, given, onAligned, onKept, onSplit, walkSplits, walkSection, walkSections, walk, nothing}
 use Rattle.restore.specs.Restoring.{bytesIn}
 use Rattle.restore.proofs.Steps.{From}
 use Rattle.restore.proofs.Walked.{pieces-from}

@@ -15,7 +15,8 @@ use Rattle.symbols.specs.Ranges.{highestIn}
 use Rattle.sections.specs.Ends.{loweredEnd, lessFour, splittingEnd}
 use Rattle.sections.specs.Alignment.{Chosen, given as chosen, defaultAlignment, larger, alignmentOf}
 use Rattle.units.specs.Units.{unitOf}
-use Rattle.walk.specs.Walk.{Input, Output, startIn, endIn, splittingEndIn, nonzero, isSkipped, alignmentIn, fits, halved, onAligned, onKept, onSplit, nextStart, walkSplits, walkSection, walkSections, walk, nothing}
+use Rattle.walk.specs.Walk.{Input, Output, startIn, endIn, splittingEndIn, nonzero, alignmentIn, fits, halved, onAligned, onKept, onSplit, walkSplits, walkSection, walkSections, walk, nothing}
+use Rattle.splits.specs.Questions.{isSkipped, nextStart}
 use Rattle.restore.proofs.Steps.{Reached}
 use Rattle.restore.proofs.Walked.{reached-all}
 

@@ -19,13 +19,13 @@ use Rattle.pieces.specs.Pieces.{pieceBytes, piecesIn, packed}
 use Rattle.walk.specs.Walk.{Output, startIn, splittingEndIn}
 use Rattle.restore.specs.Restoring.{bytesIn, parts, byteAt, Plain, Restored, Alike}
 use Rattle.restore.specs.Alignments.{Largest}
-use Rattle.restore.proofs.Parts.{all-find}
 use Rattle.restore.proofs.Steps.{From}
 use Rattle.restore.proofs.Walked.{pieces-from}
 use Rattle.restore.proofs.Halving.{halves-le}
 use Rattle.restore.proofs.Alignments as alignments
 use Rattle.restore.proofs.Nobits as nobits
 use Rattle.restore.proofs.Theorems as walks
+use Rattle.lists.proofs.Among.{all-find}
 use Rattle.restore_entry.specs.Tables.{Lent, inputIn, Accepted, SameTables, spot}
 use Rattle.restore_entry.proofs.Tables.{head-is, length-sections, sections-few, splits-end, input-checked}
 use Rattle.restore_entry.proofs.Decoded.{Small, read-back, parts-same, piece-there, all-same, restored-same}

@@ -75,7 +75,7 @@ numbers : (c : Call) → Says (λ number section address. 0 < number) (outcome c
 numbers c = says (λ number section address. 0 < number) (λ number section address q. q .least) c (walk-numbers (inputIn (lent c)))
 
 -- at most 1,024 pieces
-few : (ceiling width size : ℕ) → roomFor ceiling width size ≤ ceiling
+pub few : (ceiling width size : ℕ) → roomFor ceiling width size ≤ ceiling
 unfolding roomFor
 few ceiling width size = go (ltb (size / width) ceiling) refl
   where
@@ -115,7 +115,7 @@ module _ (r : Run) where
       ap (λ (l : List ℕ). le16 l 0) (r .leaves .left .counted)
       ∙ first-count (c .sizes .counts) (count r) _ h (omega (arith, pieces-room (input r) (outputOf o) (passed .walked), few 1024 28 (c .sizes .pieces)))
 
-  held-is : tables.held (lent c) (outputOf o) passed (c .sizes .pieces) ≡ piecesOf r
+  pub held-is : tables.held (lent c) (outputOf o) passed (c .sizes .pieces) ≡ piecesOf r
   held-is = ap (λ (l : List ℕ). piecesIn l (count r)) (sym (r .leaves .left .pieces-are))
 
   -- THEOREM T2: in every section that holds bytes and has no skipped and no common split anywhere in the lent table, the pieces that the output table holds, laid

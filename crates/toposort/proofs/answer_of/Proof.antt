@@ -1,10 +1,10 @@
--- `order::answer` meets its contract: each arm gives the definition's refusal of its case.
+-- `toposort::answer_of` meets its contract: each arm gives the definition's refusal of its case.
 use native.Mathlib.Omega.{arith}
 use Prim.Native.Nat.{_≤_}
 use Rattle.toposort.specs.Sorting.{carried}
 use borrow.Author.Needs.{needs}
-use Rattle.order.proofs.answer.Statement.{statement}
-use Rattle.order.proofs.answer.Tie as tie
+use Rattle.toposort.proofs.answer_of.Statement.{statement}
+use Rattle.toposort.proofs.answer_of.Tie as tie
 
 enum-told : tie.Need-enum-told
 enum-told c = search needs
@@ -44,8 +44,8 @@ returns-3 c = rw (c .before .before .r .given .1) (c .refusal2 .ensures)
 returns-4 : tie.Need-returns-4
 returns-4 c = rw (c .before .enum-told3 .given .1) (c .refusal3 .ensures)
 
-pub answer-spec : {M : Type 1} → statement M
-answer-spec =
+pub answer-of-spec : {M : Type 1} → statement M
+answer-of-spec =
     tie.close
     (tie.spec
     enum-told
