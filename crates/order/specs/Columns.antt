@@ -15,7 +15,8 @@ use Rattle.obj.specs.declared.Unit as units
 use Rattle.obj.specs.declared.Answer.{Answer}
 use Rattle.obj.specs.declared.Answer.the-variants.{Accepted, Refused}
 use Rattle.tables.specs.Records.{noUnit}
-use Rattle.order_numbers.specs.Numbers.{Whole, unitOf}
+use Rattle.order_numbers.specs.Numbers.{Whole}
+use Rattle.symbol_order.specs.Keys.{unitOf}
 use Rattle.splits.specs.Columns.{Columns, rows, rowAt, Long}
 use Rattle.toposort.specs.Search.{End, all, cyclic, lost}
 use Rattle.toposort.specs.Sorting.{Within}
