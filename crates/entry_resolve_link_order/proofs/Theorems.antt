@@ -37,8 +37,9 @@ use Rattle.name_table.specs.Stored.{stageLengths, nameLengths}
 use Rattle.stage_tables.specs.StageTables.{stageSections, stageSplits, stageUnits, sectionsCheck, splitsCheck, unitsCheck}
 use Rattle.stage_tables.proofs.Laws.{table-passed}
 use Rattle.toposort.specs.Search.{End, all, cyclic}
-use Rattle.order_numbers.specs.Numbers.{rankOf, hasOrder, twice, orderTwice}
-use Rattle.order_numbers.proofs.Ranks.{unit-fits, rank-same}
+use Rattle.order_numbers.specs.Numbers.{hasOrder, twice, orderTwice}
+use Rattle.symbol_order.specs.Keys.{rankOf}
+use Rattle.symbol_order.proofs.Ranks.{unit-fits, rank-same}
 use Rattle.link_graph.specs.Graph.{Given, unitsOf, counted, nodes}
 use Rattle.link_graph.specs.Joined.{InOrder, HasCycle, IsCycle}
 use Rattle.link_graph.proofs.Nodes.{in-counted}

@@ -21,7 +21,8 @@ use Rattle.lists.proofs.Rising.{numbers-below}
 use Rattle.obj.specs.declared.Split.{Split}
 use Rattle.obj.specs.declared.Unit as units
 use Rattle.tables.specs.Records.{noSplit, unitsIn}
-use Rattle.order_numbers.specs.Numbers.{rankOf, hasOrder, unitOf, ordered, orderedNumbers}
+use Rattle.order_numbers.specs.Numbers.{hasOrder, ordered, orderedNumbers}
+use Rattle.symbol_order.specs.Keys.{rankOf, unitOf}
 use Rattle.order_numbers.proofs.Records.{ordered-records, length-ordered}
 use Rattle.order_numbers.proofs.Parts.{ordered-readable}
 use Rattle.splits.specs.Columns.{Columns, rows, rowAt}

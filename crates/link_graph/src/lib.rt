@@ -8,7 +8,7 @@ ghost use lib.ListN.{length, getD, take, replicate};
 ghost use Rattle.lists.specs.Rows.{keepIf};
 ghost use Rattle.lists.specs.Sort.{All};
 ghost use Rattle.splits.specs.Columns.{columns, rows, rowAt, Long};
-ghost use Rattle.order_numbers.specs.Numbers.{unitOf};
+ghost use Rattle.symbol_order.specs.Keys.{unitOf};
 ghost use Rattle.splits.specs.Questions.{isCommon};
 ghost use Rattle.link_graph.specs.Graph.{UnitEdge, isFirst as firstOfSection, apart as keptApart, splitEdges, links};
 ghost use Rattle.link_graph.specs.Columns.{pointersIn, givenOf, SectionNames, Splits, Units, Countable, Counted, Listed, Front, Edgeable, Edged, Lent, Graphed};

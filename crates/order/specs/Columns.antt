@@ -13,7 +13,8 @@ use Rattle.obj.specs.Answers.{meaning}
 use Rattle.obj.specs.declared.Split.{Split}
 use Rattle.obj.specs.declared.Unit as units
 use Rattle.tables.specs.Records.{noUnit}
-use Rattle.order_numbers.specs.Numbers.{Whole, unitOf}
+use Rattle.order_numbers.specs.Numbers.{Whole}
+use Rattle.symbol_order.specs.Keys.{unitOf}
 use Rattle.splits.specs.Columns.{Columns, rows, rowAt, Long}
 use Rattle.toposort.specs.Search.{End, all, cyclic, lost}
 use Rattle.toposort.specs.Sorting.{Within}
