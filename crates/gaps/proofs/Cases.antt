@@ -1,4 +1,4 @@
--- Small tables and the gaps that are found in them, or the first refusal: P7, then a case for each decision on gaps (DECISIONS.md, 23 and 44 to 49).
+-- Small tables and the gaps that are found in them, or the first refusal: P7, then a case for each decision on gaps (DECISIONS.md, 23, 26, 44 to 49 and 52).
 -- Names are numbers; name 0 is `.data`, which has the default alignment 8.
 use Prim.Native.Nat.{ℕ}
 use mathlib.Core.Path.{_≡_, refl}
