@@ -1,3 +1,6 @@
 pub mod Lists
 pub mod Symbols
 pub mod Sections
+pub mod Gaps
+pub mod Validate
+pub mod Trim

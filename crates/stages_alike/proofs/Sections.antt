@@ -90,9 +90,15 @@ module _ (g h : Image) (same : SameImages g h) where
     pub default-alike : (n : ℕ) → n < s .count → defaultAlignment (s .head n) (g .name (s .head n .name)) ≡ defaultAlignment (t .head n) (h .name (t .head n .name))
     default-alike n b = ap₂ defaultAlignment (sections .heads n b) (section-named n b)
 
+    -- the alignment of a split of section n, which has it or asks its default and its symbols
+    pub alignment-in-alike : (n : ℕ) → n < s .count → (own start end : ℕ)
+        → alignmentOf (g .symbol) (g .count) n (defaultAlignment (s .head n) (g .name (s .head n .name))) own start end
+        ≡ alignmentOf (h .symbol) (h .count) n (defaultAlignment (t .head n) (h .name (t .head n .name))) own start end
+    alignment-in-alike n b own start end =
+        alignment-alike n (defaultAlignment (s .head n) (g .name (s .head n .name))) own start end
+        ∙ ap (λ (least : ℕ). alignmentOf (h .symbol) (h .count) n least own start end) (default-alike n b)
+
     -- THEOREM: one alignment of a split, asked from `start` on
     pub alignment-from-alike : (start : ℕ) (x : Split) → x .section < s .count → alignmentFrom g (s .head) start x ≡ alignmentFrom h (t .head) start x
     unfolding alignmentFrom
-    alignment-from-alike start x b =
-        alignment-alike (x .section) (defaultAlignment (s .head (x .section)) (g .name (s .head (x .section) .name))) (x .alignment) start (x .end)
-        ∙ ap (λ (least : ℕ). alignmentOf (h .symbol) (h .count) (x .section) least (x .alignment) start (x .end)) (default-alike (x .section) b)
+    alignment-from-alike start x b = alignment-in-alike (x .section) b (x .alignment) start (x .end)

@@ -7,16 +7,15 @@ use Prim.Native.Nat.{ℕ, _<_, max}
 use lib.Dec.{leb, ltb}
 use Rattle.lists.specs.Outcome.{Outcome, accepted, refuse, _>>_}
 use Rattle.lists.specs.Rows.{keepIf}
-use Rattle.lists.specs.Sort.{All, none, each, sortBy}
-use Rattle.lists.proofs.All.{all-keep, all-sort, all-map}
-use Rattle.lists.proofs.Filter.{keep-same}
+use Rattle.lists.specs.Sort.{All, none, each}
+use Rattle.lists.proofs.All.{all-keep, all-sort}
 use Rattle.lists.proofs.Rising.{numbers-below}
 use Rattle.obj.specs.declared.Symbol.{Symbol}
 use Rattle.symbol_order.specs.Order.{hasSection, inSection, keyOf, symbolsOf, orderOf}
 use Rattle.symbols.specs.Ranges.{sized, sizedUnstripped, lastOr, firstOf, highestOf, symbolsBetween, symbolsThrough, symbolsBelow, hasSymbols, lastBelow, lastIn, firstIn, highestIn}
 use Rattle.symbols.specs.declared.Found.{Found}
 use Rattle.symbols.specs.declared.Found.the-variants.{Nothing}
-use Rattle.stages_alike.proofs.Lists.{sort-same, some-same}
+use Rattle.stages_alike.proofs.Lists.{kept-alike, some-alike, sorted-alike, kept-twice}
 
 -- a section's symbols are symbols of the table
 pub symbols-below : (symbol : ℕ → Symbol) (count n : ℕ) → All (λ i. i < count) (symbolsOf symbol count n)
@@ -24,44 +23,31 @@ unfolding symbolsOf
 symbols-below symbol count n = all-sort (λ i. symbol i .address) (all-keep (λ i. inSection n (symbol i)) (numbers-below count))
 
 module _ (y z : ℕ → Symbol) (count : ℕ) (same : (i : ℕ) → i < count → y i ≡ z i) where
-  -- ---- lists of symbols that are there
-
-  pub kept-alike : (p : Symbol → Bool) {l : List ℕ} → All (λ i. i < count) l → keepIf (λ i. p (y i)) l ≡ keepIf (λ i. p (z i)) l
-  kept-alike p {l} all = keep-same (λ i. p (y i)) (λ i. p (z i)) l (all-map (λ i h. ap p (same i h)) all)
-
-  pub sorted-alike : (k : Symbol → ℕ) {l : List ℕ} → All (λ i. i < count) l → sortBy (λ i. k (y i)) l ≡ sortBy (λ i. k (z i)) l
-  sorted-alike k {l} all = sort-same (λ i. k (y i)) (λ i. k (z i)) l (all-map (λ i h. ap k (same i h)) all)
-
-  -- what passes a test, by a key
-  by-key : (k : Symbol → ℕ) (p : Symbol → Bool) {l : List ℕ} → All (λ i. i < count) l
-      → sortBy (λ i. k (y i)) (keepIf (λ i. p (y i)) l) ≡ sortBy (λ i. k (z i)) (keepIf (λ i. p (z i)) l)
-  by-key k p all = sorted-alike k (all-keep (λ i. p (y i)) all) ∙ ap (sortBy (λ i. k (z i))) (kept-alike p all)
-
   -- ---- the order
 
   pub symbols-alike : (n : ℕ) → symbolsOf y count n ≡ symbolsOf z count n
   unfolding symbolsOf
-  symbols-alike n = by-key (λ s. s .address) (inSection n) (numbers-below count)
+  symbols-alike n = sorted-alike y z count same (λ s. s .address) (inSection n) (numbers-below count)
 
   -- THEOREM: one symbol order
   pub order-alike : orderOf y count ≡ orderOf z count
   unfolding orderOf
-  order-alike = by-key keyOf hasSection (numbers-below count)
+  order-alike = sorted-alike y z count same keyOf hasSection (numbers-below count)
 
   -- ---- the questions, of the symbols of section n
   module _ (n : ℕ) where
     -- its symbols that pass a test
     passing-alike : (p : Symbol → Bool) → keepIf (λ i. p (y i)) (symbolsOf y count n) ≡ keepIf (λ i. p (z i)) (symbolsOf z count n)
-    passing-alike p = kept-alike p (symbols-below y count n) ∙ ap (keepIf (λ i. p (z i))) (symbols-alike n)
+    passing-alike p = kept-alike y z count same p (symbols-below y count n) ∙ ap (keepIf (λ i. p (z i))) (symbols-alike n)
 
     -- .. and a second one
     twice-alike : (p q : Symbol → Bool)
         → keepIf (λ i. p (y i)) (keepIf (λ i. q (y i)) (symbolsOf y count n)) ≡ keepIf (λ i. p (z i)) (keepIf (λ i. q (z i)) (symbolsOf z count n))
-    twice-alike p q = kept-alike p (all-keep (λ i. q (y i)) (symbols-below y count n)) ∙ ap (keepIf (λ i. p (z i))) (passing-alike q)
+    twice-alike p q = kept-twice y z count same p q (symbols-below y count n) (symbols-alike n)
 
     pub has-alike : hasSymbols y count n ≡ hasSymbols z count n
     unfolding hasSymbols
-    has-alike = some-same (λ i. inSection n (y i)) (λ i. inSection n (z i)) (all-map (λ i h. ap (inSection n) (same i h)) (numbers-below count))
+    has-alike = some-alike y z count same (inSection n) (numbers-below count)
 
     pub below-alike : (objects : Bool) (address : ℕ) → lastBelow y count n objects address ≡ lastBelow z count n objects address
     below-alike objects address = ap (lastOr Nothing) (twice-alike (sizedUnstripped objects) (λ s. ltb (s .address) address))
