@@ -4,3 +4,5 @@ pub mod Sections
 pub mod Gaps
 pub mod Validate
 pub mod Trim
+pub mod Walk
+pub mod Order
