@@ -1,8 +1,8 @@
 -- The search for gaps and their filling, of tables that say the same: each address at which a gap begins or ends comes from symbols and sections that are
 -- there, and the gaps that are named lie in these sections. Assumes nothing.
-use mathlib.Core.Path.{_≡_, refl, ap, ap₂, _∙_}
+use mathlib.Core.Path.{_≡_, refl, ap, _∙_}
 use mathlib.Core.List.{List, [], _∷_, _++_}
-use mathlib.Core.Bool.{Bool, cond, not}
+use mathlib.Core.Bool.{cond, not}
 use Prim.Native.Nat.{ℕ, zero, suc, _+_, _-_, _%_, _≤_, _<_}
 use native.Mathlib.Omega.{arith}
 use lib.Dec.{eqb, leb, ltb}
@@ -17,12 +17,12 @@ use Rattle.names.specs.GapName.{gapName}
 use Rattle.symbols.specs.Ranges.{stripped, symbolsBetween}
 use Rattle.sections.specs.Image.{Image}
 use Rattle.sections.specs.Sections.{Sections}
-use Rattle.sections.specs.Alignment.{Chosen, alignmentOf}
 use Rattle.merge.specs.Merge.{Given, mergeOne}
 use Rattle.gap_columns.specs.Columns.{Gap, gap}
 use Rattle.gaps.specs.Gaps.{misses, endAfter, endFrom, gapEnd, gapsUpTo, gapsTo, gapsBefore, gapsFrom, below, sectionGaps, gapsOf, into, foundGaps}
 use Rattle.gaps.proofs.Inside.{found-lies}
 use Rattle.gap_splits.specs.Entering.{Filled, Ceilings, named, gapSplit, entered, filled}
+use Rattle.create_gap_splits.specs.Create.{nameIn, gapsFilled}
 use Rattle.stages_alike.specs.Alike.{SameImages, SameSections}
 use Rattle.stages_alike.proofs.Lists.{bind-when}
 use Rattle.stages_alike.proofs.Symbols.{symbols-below, between-alike}
@@ -108,3 +108,12 @@ entering-alike f e limits room x (each {x = a} p all) = λ k.
     >>= λ rows. accepted (record { names = unit .names; rows = rows }))
     >>= λ more. entering-alike f e limits room more all k
 
+-- THEOREM: the same tables are left, or the same refusal
+pub filled-alike : (g h : Image) (same : SameImages g h) (s t : Sections) (sections : SameSections g h s t) (limits : Given) (room : Ceilings) (x : Filled)
+    → gapsFilled g s limits room x ≡ gapsFilled h t limits room x
+unfolding gapsFilled
+filled-alike g h same s t sections limits room x =
+    bind-when (foundGaps g s (x .rows)) (filled (nameIn g s) limits room x) (filled (nameIn h t) limits room x)
+    (λ gaps e. entering-alike (nameIn g s) (nameIn h t) limits room x
+    (all-map (λ a lies. section-named g h same s t sections (a .section) (lies .there)) (found-lies g s (x .rows) gaps e)))
+    ∙ ap (λ (o : Outcome (List Gap)). o >>= filled (nameIn h t) limits room x) (found-alike g h same s t sections (x .rows))

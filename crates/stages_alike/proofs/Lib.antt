@@ -1,6 +1,7 @@
 pub mod Lists
 pub mod Symbols
 pub mod Sections
+pub mod Common
 pub mod Gaps
 pub mod Validate
 pub mod Trim

@@ -1,7 +1,7 @@
 -- Two functions that agree on each element of a list: what is kept, sorted, found and chained by them agrees. Paths are written out as functions of the
 -- interval: the definition with a path in place of each part that may differ. Assumes nothing.
 use mathlib.Core.Path.{_≡_, refl, ap, ap₂, _∙_}
-use mathlib.Core.List.{List, [], _∷_, reverseAux}
+use mathlib.Core.List.{List, reverseAux}
 use mathlib.Core.Bool.{Bool, _||_}
 use Prim.Native.Nat.{ℕ, _<_}
 use lib.Dec.{leb}

@@ -7,8 +7,8 @@ use Prim.Native.Nat.{ℕ, _+_, _-_, _<_}
 use native.Mathlib.Omega.{arith}
 use lib.Dec.{eqb}
 use lib.ListN.{length}
-use Rattle.lists.specs.Outcome.{Outcome, refuse, _>>_}
-use Rattle.lists.specs.Rows.{anyOf, keepIf, tabulate}
+use Rattle.lists.specs.Outcome.{refuse, _>>_}
+use Rattle.lists.specs.Rows.{anyOf, tabulate}
 use Rattle.lists.specs.Sort.{All}
 use Rattle.lists.proofs.All.{all-at, all-map}
 use Rattle.lists.proofs.Filter.{keep-same}
@@ -16,10 +16,15 @@ use Rattle.lists.proofs.Rising.{numbers-below}
 use Rattle.obj.specs.declared.Split.{Split}
 use Rattle.obj.specs.declared.Unit as units
 use Rattle.tables.specs.Records.{noSplit}
+use Rattle.names.specs.Fixed.{isPointerList}
+use Rattle.sections.specs.Image.{Image}
+use Rattle.sections.specs.Sections.{Sections}
 use Rattle.order_numbers.specs.Numbers.{orderTwice}
 use Rattle.link_graph.specs.Graph.{Given, UnitEdge, nodeOf, nodes, splitAt, isCommon, isFirst, apart, edgeAt, splitEdges, chained, links, edges}
 use Rattle.toposort.specs.Sorting.{sortOf}
 use Rattle.order.specs.LinkOrder.{linkOrder}
+use Rattle.stages_alike.specs.Alike.{SameImages, SameSections}
+use Rattle.stages_alike.proofs.Sections.{section-named}
 
 module _ (p q : ℕ → Bool) (splits : List Split) (same : All (λ s. p (s .section) ≡ q (s .section)) splits) where
   apart-alike : (i : ℕ) → i < length splits → apart p splits i ≡ apart q splits i
@@ -67,3 +72,12 @@ pub link-alike : (g h : Given) → g .splits ≡ h .splits → g .units ≡ h .u
 link-alike g h splits us same room =
     order-alike (g .pointers) (h .pointers) (g .splits) same (g .units) room
     ∙ λ k. linkOrder (record { splits = splits k; units = us k; pointers = h .pointers }) room
+
+-- THEOREM: so too for tables that say the same, of splits whose sections are there
+pub linked-alike : (g h : Image) (same : SameImages g h) (s t : Sections) → SameSections g h s t → (us : List units.Unit) {rows : List Split}
+    → All (λ r. r .section < s .count) rows → (room : ℕ)
+    → linkOrder (record { splits = rows; units = us; pointers = λ n. isPointerList (g .name (s .head n .name)) }) room
+    ≡ linkOrder (record { splits = rows; units = us; pointers = λ n. isPointerList (h .name (t .head n .name)) }) room
+linked-alike g h same s t sections us {rows} there room =
+    order-alike (λ n. isPointerList (g .name (s .head n .name))) (λ n. isPointerList (h .name (t .head n .name))) rows
+    (all-map (λ r b. ap isPointerList (section-named g h same s t sections (r .section) b)) there) us room

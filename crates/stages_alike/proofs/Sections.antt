@@ -1,8 +1,8 @@
 -- The splitting end and the alignment of a split, of tables that say the same: symbols below the count, sections below the count, names of these.
 -- Each law is shown for tables of one count first (`recounted`), then carried along the equation of the counts. Assumes nothing.
 use mathlib.Core.Path.{_≡_, refl, ap, ap₂, _∙_}
-use mathlib.Core.List.{List, [], _∷_, reverse}
-use mathlib.Core.Bool.{Bool, cond, not, _&&_, _||_}
+use mathlib.Core.List.{List, reverse}
+use mathlib.Core.Bool.{cond, not, _&&_, _||_}
 use Prim.Native.Nat.{ℕ, _+_, _<_}
 use lib.Dec.{eqb, ltb}
 use Rattle.lists.specs.Outcome.{Outcome, accepted, refuse, _>>_, _>>=_}
@@ -11,10 +11,9 @@ use Rattle.obj.specs.declared.Section.{Section}
 use Rattle.obj.specs.declared.Symbol.{Symbol}
 use Rattle.obj.specs.declared.Split.{Split}
 use Rattle.names.specs.Fixed.{isLinkerObject, isPointerList}
-use Rattle.symbol_order.specs.Order.{symbolsOf}
 use Rattle.sections.specs.Image.{Image}
 use Rattle.sections.specs.Sections.{Sections}
-use Rattle.sections.specs.Alignment.{Chosen, given, larger, defaultAlignment, alignmentOf, alignmentFrom}
+use Rattle.sections.specs.Alignment.{given, larger, defaultAlignment, alignmentOf, alignmentFrom}
 use Rattle.sections.specs.Ends.{objectBelow, lowered, loweredEnd, lessFour, splittingEnd}
 use Rattle.stages_alike.specs.Alike.{SameImages, SameSections}
 use Rattle.stages_alike.proofs.Lists.{all-reverse}
@@ -23,10 +22,6 @@ use Rattle.stages_alike.proofs.Symbols.{symbols-below, symbols-alike, h
 -- the symbols and names of h, so many of them
 abbrev pub recounted : (h : Image) → (count : ℕ) → Image
 recounted h count = record { symbol = h .symbol; count = count; name = h .name }
-
--- the sections of t, so many of them
-abbrev pub resized : (t : Sections) → (count : ℕ) → Sections
-resized t count = record { count = count; head = t .head; bytes = t .bytes }
 
 -- the end of a section of this name, before linker objects lower it
 abbrev before : Section → (bytes name : List ℕ) → ℕ

@@ -1,7 +1,7 @@
 -- The trim, of tables that say the same, for splits of sections that are there: the falls ask a section's default and symbols that are there, the cut a
 -- section's end. Assumes nothing.
 use mathlib.Core.Path.{_≡_, refl, ap, _∙_}
-use mathlib.Core.List.{List, [], _∷_}
+use mathlib.Core.List.{List, _∷_}
 use mathlib.Core.Bool.{cond}
 use Prim.Native.Nat.{ℕ, zero, suc, _+_, _≤_, _<_}
 use native.Mathlib.Omega.{arith}

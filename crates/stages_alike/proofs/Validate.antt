@@ -4,15 +4,18 @@ use mathlib.Core.List.{List, [], _∷_}
 use mathlib.Core.Bool.{false, _&&_, _||_}
 use Prim.Native.Nat.{ℕ, _+_, _<_}
 use lib.Dec.{eqb, ltb}
-use Rattle.lists.specs.Outcome.{Outcome, accepted, refuse, _>>_}
+use Rattle.lists.specs.Outcome.{accepted, refuse, _>>_}
 use Rattle.obj.specs.declared.Symbol.{Symbol}
 use Rattle.obj.specs.declared.Split.{Split}
 use Rattle.symbols.specs.Ranges.{lastBelow}
 use Rattle.symbols.specs.declared.Found.{Found}
 use Rattle.symbols.specs.declared.Found.the-variants.{At, Nothing}
 use Rattle.symbols.proofs.Finds.{below-found}
+use Rattle.sections.specs.Image.{Image}
 use Rattle.validate.specs.Check.{endOf, endBelow, validateOne, validateFrom, validate}
-use Rattle.stages_alike.proofs.Symbols.{below-alike}
+use Rattle.stages_alike.specs.Alike.{SameImages}
+use Rattle.stages_alike.proofs.Symbols.{last-below-alike}
+use Rattle.stages_alike.proofs.Sections.{counted}
 
 module _ (y z : ℕ → Symbol) (count : ℕ) (same : (i : ℕ) → i < count → y i ≡ z i) where
   end-of : (f : Found) → ((i : ℕ) → f ≡ At i → i < count) → endOf y count f ≡ endOf z count f
@@ -21,7 +24,7 @@ module _ (y z : ℕ → Symbol) (count : ℕ) (same : (i : ℕ) → i < count �
   end-of Nothing there = refl
 
   end-below-alike : (n address : ℕ) → endBelow y count n address ≡ endBelow z count n address
-  end-below-alike n address = end-of (lastBelow y count n false address) (below-found y count n false address) ∙ ap (endOf z count) (below-alike y z count same n false address)
+  end-below-alike n address = end-of (lastBelow y count n false address) (below-found y count n false address) ∙ ap (endOf z count) (last-below-alike y z count same n false address)
 
   one-alike : (before last : ℕ) (s : Split) → validateOne y count before last s ≡ validateOne z count before last s
   unfolding validateOne
@@ -41,3 +44,8 @@ module _ (y z : ℕ → Symbol) (count : ℕ) (same : (i : ℕ) → i < count �
   pub validate-alike : (rows : List Split) → validate y count rows ≡ validate z count rows
   unfolding validate
   validate-alike rows = from-alike 0 0 rows
+
+-- .. of two images
+pub validate-images : (g h : Image) → SameImages g h → (rows : List Split) → validate (g .symbol) (g .count) rows ≡ validate (h .symbol) (h .count) rows
+validate-images g h same rows =
+    counted g h same (λ x. validate (x .symbol) (x .count) rows) (validate-alike (g .symbol) (h .symbol) (g .count) (same .symbols) rows)

@@ -2,21 +2,20 @@
 -- shown against the first input with the other one's tables put in (`fed`). Assumes nothing.
 use mathlib.Core.Path.{_≡_, refl, ap, _∙_}
 use mathlib.Core.List.{List, [], _∷_, _++_}
-use mathlib.Core.Bool.{Bool, cond, not, _&&_, _||_}
+use mathlib.Core.Bool.{cond, not, _&&_, _||_}
 use Prim.Native.Nat.{ℕ, zero, suc, _+_, _≤_, _<_}
 use native.Mathlib.Omega.{arith}
 use lib.Dec.{eqb, leb, ltb}
 use lib.ListN.{length}
-use Rattle.lists.specs.Outcome.{Outcome, accepted, refuse, _>>_, _>>=_}
+use Rattle.lists.specs.Outcome.{accepted, refuse, _>>_, _>>=_}
 use Rattle.lists.specs.Rows.{keepIf}
 use Rattle.lists.specs.Sort.{All, none, each}
 use Rattle.lists.proofs.All.{all-keep}
 use Rattle.lists.proofs.Rising.{numbers-below}
 use Rattle.obj.specs.declared.Section.{Section}
-use Rattle.obj.specs.declared.Symbol.{Symbol}
 use Rattle.obj.specs.declared.Reloc.{Reloc}
 use Rattle.obj.specs.declared.Split.{Split}
-use Rattle.symbols.specs.Ranges.{symbolsThrough, hasSymbols}
+use Rattle.symbols.specs.Ranges.{hasSymbols}
 use Rattle.sections.specs.Image.{Image}
 use Rattle.sections.specs.Sections.{Sections}
 use Rattle.splits.specs.Questions.{within}
