@@ -6,7 +6,6 @@ use mathlib.Core.Bool.{Bool}
 use mathlib.Core.List.{List, [], _++_}
 use native.Mathlib.Omega.{arith}
 use lib.ListN.{length, getD}
-use Rattle.lists.specs.Sort.{All}
 use Rattle.lists.proofs.All.{all-map}
 use Rattle.lists.proofs.Filter.{keep-same}
 use Rattle.lists.proofs.Rising.{numbers-below}
@@ -16,7 +15,7 @@ use Rattle.obj.specs.declared.Section.{Section}
 use Rattle.obj.proofs.Laws.{length-stagePlaces}
 use Rattle.names.specs.Names.{nameAt}
 use Rattle.names.specs.Fixed.{isBss, isPointerList}
-use Rattle.tables.specs.Records.{sectionsIn, noSection, imagePlaces}
+use Rattle.tables.specs.Records.{noSection, imagePlaces}
 use Rattle.name_table.specs.NameTable.{nameIn, stageNames}
 use Rattle.name_table.specs.Stored.{nameStarts, stageLengths}
 use Rattle.name_table.proofs.Laws.{stage-name}
@@ -31,7 +30,7 @@ use Rattle.common.specs.Common.{bssSections}
 use Rattle.common.specs.Sections.{bssAt, bssIn}
 use Rattle.link_graph.specs.Columns.{pointersIn}
 use Rattle.gap_splits.specs.Entering.{bytesOf}
-use Rattle.loaded.specs.Tables.{imageFrom, sectionsFrom, bytePlaces, Usable}
+use Rattle.loaded.specs.Tables.{imageFrom, sectionsFrom, Usable}
 use Rattle.loaded.proofs.Laws.{section-named}
 use Rattle.stages_alike.specs.Alike.{SameImages, SameSections, SameRelocs}
 use Rattle.file_tables.specs.Tables.{endsOf, tablesOf}

@@ -1,9 +1,9 @@
 -- The tables of an accepted file pass the checks of stage tables: what is known of each record is that none of its kind's tests holds. Names may have come behind the file's:
 -- a record that refers to a name of the file finds the same length. Assumes nothing.
-use Prim.Native.Nat.{ℕ, zero, suc, _+_, _*_, _/_, _%_, _≤_, _<_}
+use Prim.Native.Nat.{ℕ, zero, suc, _+_, _/_, _%_, _≤_, _<_}
 use mathlib.Core.Path.{_≡_, refl, sym, ap, ap₂, _∙_}
 use mathlib.Core.Bool.{Bool, true, false, cond, not, _&&_}
-use mathlib.Core.List.{List, [], _∷_, _++_, map, map-append}
+use mathlib.Core.List.{List, [], _++_, map}
 use mathlib.Core.Logic.{_⊎_, inl, inr, _≢_}
 use native.Mathlib.Omega.{arith}
 use borrow.Author.Tests.{le-ltb, lt-leb, eq-eqb, ne-eqb, eqb-true, eqb-false}
@@ -13,10 +13,8 @@ use lib.Seq.{length-take-le}
 use Rattle.lists.specs.Outcome.{accepted}
 use Rattle.lists.specs.Rows.{anyOf, anyFrom}
 use Rattle.lists.proofs.Binds.{after-goes}
-use Rattle.lists.proofs.Compare.{and-fails}
 use Rattle.lists.proofs.Rows.{getD-map}
-use Rattle.align.specs.Align.{badAlign}
-use Rattle.obj.specs.Records.{sectionAt, symbolAt, relocAt, splitAt, unitAt}
+use Rattle.obj.specs.Records.{sectionAt, relocAt}
 use Rattle.obj.specs.declared.Section.{Section}
 use Rattle.obj.specs.declared.Symbol.{Symbol}
 use Rattle.obj.specs.declared.Reloc.{Reloc}
@@ -25,18 +23,18 @@ use Rattle.obj.specs.declared.Unit as units
 use Rattle.names.specs.Names.{nameAt}
 use Rattle.names.proofs.Laws.{length-names, name-there}
 use Rattle.faults.specs.Faults.{sectionBad, symbolBad, relocBad, splitBad, unitBad}
-use Rattle.tables.specs.Tables.{sizeCheck, recordsCheck}
-use Rattle.tables.specs.Records.{sectionsIn, symbolsIn, relocsIn, splitsIn, unitsIn, noSection, noSymbol, noReloc, noSplit, noUnit, imagePlaces, bytesCut, floorFrom, sectionFault, imageFault, symbolFault, relocFaultAbove, relocFault, partialFault, unitFault}
+use Rattle.tables.specs.Tables.{sizeCheck}
+use Rattle.tables.specs.Records.{sectionsIn, symbolsIn, relocsIn, splitsIn, unitsIn, noSection, noSymbol, noReloc, noSplit, noUnit, bytesCut, floorFrom, sectionFault, imageFault, symbolFault, relocFaultAbove, relocFault, partialFault, unitFault}
 use Rattle.tables.proofs.Loops.{size-good}
 use Rattle.tables.proofs.Laws.{records-pass}
 use Rattle.tables.proofs.Floors.{floor-more}
-use Rattle.stage_tables.specs.StageTables.{tableCheck, stageSections, stageSymbols, stageRelocs, stageSplits, stageUnits, sectionsCheck, imageCheck, symbolsCheck, relocsCheck, partialsCheck, unitsCheck}
+use Rattle.stage_tables.specs.StageTables.{tableCheck, stageSections, sectionsCheck, imageCheck, symbolsCheck, relocsCheck, partialsCheck, unitsCheck}
 use Rattle.load.specs.Load.{Loaded, namesIn}
-use Rattle.load.specs.Good.{SectionGood, SymbolGood, RelocGood, SplitGood, UnitGood, Rising}
+use Rattle.load.specs.Good.{SectionGood, SymbolGood, RelocGood, SplitGood, UnitGood}
 use Rattle.load.proofs.Laws.{name-known, good-sections, good-symbols, good-relocs, good-splits, good-units}
 use Rattle.sections.specs.Sections.{headOf}
 use Rattle.loaded.specs.Tables.{bytePlaces, Usable}
-use Rattle.loaded.proofs.Laws.{measured, few-sections, few-symbols, few-relocs, few-splits, few-units, all-named, sections-kept}
+use Rattle.loaded.proofs.Laws.{few-sections, few-symbols, few-relocs, few-splits, few-units, sections-kept}
 use Rattle.file_tables.specs.Tables.{tablesOf}
 use Rattle.file_tables.proofs.Records.{sections-count, sections-whole, sections-back, symbols-count, symbols-whole, symbols-back, relocs-count, relocs-whole, relocs-back, partials-count, partials-whole, partials-back, units-count, units-whole, units-back, places-back}
 

@@ -1,12 +1,10 @@
--- The names of a loaded file are names that a table may hold: each new name takes the six bytes of its record's head and its own, so all of them together are fewer than the
--- file's 65,536. They still are when gaps' names come: a gap's name is good where its section's is, and only a name that is not there is added, within the ceilings.
--- Assumes nothing.
+-- The names of a loaded file are names that a table may hold: each new name takes the six bytes of its record's head and its own of the file, so all of them together are
+-- below the file's 65,536. Assumes nothing.
 use Prim.Native.Nat.{ℕ, zero, suc, _+_, _*_, _≤_, _<_}
-use mathlib.Core.Path.{_≡_, refl, sym, ap, subst, _∙_}
+use mathlib.Core.Path.{_≡_, refl, sym, ap, subst}
 use mathlib.Core.Bool.{Bool, true, false, cond}
-use mathlib.Core.List.{List, [], _∷_, _++_, List·Memᴰ, List·Memᴰ·cases-cons, List·Memᴰ·not-nil}
+use mathlib.Core.List.{List, [], _∷_, List·Memᴰ, List·Memᴰ·cases-cons, List·Memᴰ·not-nil}
 use mathlib.Core.Logic.{_⊎_, inl, inr}
-use native.Mathlib.Nat.{not-suc-le-zero}
 use native.Mathlib.Omega.{arith}
 use borrow.Author.Tests.{ltb-false}
 use lib.Dec.{ltb, leb}
@@ -16,7 +14,7 @@ use Rattle.lists.specs.Outcome.{accepted, refused}
 use Rattle.lists.proofs.Compare.{lt-or-ge}
 use Rattle.lists.proofs.Outcomes.{not-both, same-accepted, then-inv}
 use Rattle.fields.specs.Fields.{le16, le32}
-use Rattle.names.specs.Names.{nameAt, nameBad}
+use Rattle.names.specs.Names.{nameBad}
 use Rattle.names.proofs.Laws.{length-names, name-there}
 use Rattle.tables.specs.declared.Ceilings as tables
 use Rattle.tables.specs.Tables.{mainCeilings}

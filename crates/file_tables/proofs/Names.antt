@@ -1,6 +1,6 @@
 -- A name table that was laid out is read back as the same names, fits, and passes its check: name k lies behind the bytes of those before it.
 -- Assumes nothing.
-use Prim.Native.Nat.{ℕ, zero, suc, _+_, _-_, _*_, _/_, _%_, _≤_, _<_}
+use Prim.Native.Nat.{ℕ, zero, suc, _+_, _-_, _*_, _/_, _≤_, _<_}
 use mathlib.Core.Path.{_≡_, refl, sym, ap, ap₂, _∙_}
 use mathlib.Core.Bool.{Bool, false}
 use mathlib.Core.List.{List, [], _∷_, _++_, map, List·Memᴰ, List·Memᴰ·head, List·Memᴰ·tail}
@@ -16,7 +16,7 @@ use Rattle.lists.proofs.Rows.{getD-map, getD-tabulate}
 use Rattle.fields.specs.Fields.{le16, enc16}
 use Rattle.outputs.specs.Outputs.{halves}
 use Rattle.outputs.proofs.Laws.{length-halves}
-use Rattle.names.specs.Names.{nameAt, numberOf, nameBad}
+use Rattle.names.specs.Names.{nameAt, numberOf}
 use Rattle.names.proofs.Laws.{none-number, other-sym}
 use Rattle.tables.specs.Tables.{sizeCheck}
 use Rattle.tables.proofs.Loops.{size-good}

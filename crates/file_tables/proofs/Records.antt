@@ -3,7 +3,7 @@
 use Prim.Native.Nat.{ℕ, zero, suc, _+_, _*_, _/_, _%_, _≤_, _<_}
 use mathlib.Core.Path.{_≡_, refl, sym, ap, _∙_}
 use mathlib.Core.List.{List, [], _∷_, _++_, map, map-id}
-use native.Mathlib.Nat.{zero-add, mul-zero, mul-suc, mul-div-cancel-left, mul-mod-right, le-of-suc-le-suc, not-suc-le-zero}
+use native.Mathlib.Nat.{mul-zero, mul-suc, mul-div-cancel-left, mul-mod-right, le-of-suc-le-suc, not-suc-le-zero}
 use native.Mathlib.Omega.{arith}
 use lib.ListN.{length, getD, take, drop, length-append, length-drop, length-map, List·getD-append}
 use lib.Seq.{length-take-le, getD-append-add, getD-take, getD-drop}

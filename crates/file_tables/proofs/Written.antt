@@ -1,6 +1,6 @@
 -- A split table or a unit table that one stage wrote and the next takes: its records are read as they were written, and where none has a fault the table passes.
 -- A split without a fault has fields within their widths. Assumes nothing.
-use Prim.Native.Nat.{ℕ, _+_, _*_, _/_, _%_, _≤_, _<_}
+use Prim.Native.Nat.{ℕ, _+_, _*_, _/_, _≤_, _<_}
 use mathlib.Core.Path.{_≡_, refl, sym, ap, _∙_}
 use mathlib.Core.Bool.{Bool, true, false}
 use mathlib.Core.List.{List, [], _++_, append-nil, map-id}
@@ -23,7 +23,6 @@ use Rattle.obj.specs.Records.{unitAt, stagePlaces}
 use Rattle.obj.specs.declared.Section.{Section}
 use Rattle.obj.specs.declared.Split.{Split}
 use Rattle.obj.specs.declared.Unit as units
-use Rattle.tables.specs.Tables.{recordsCheck}
 use Rattle.tables.specs.Records.{splitsIn, unitsIn, noSplit, noUnit, splitFault, unitFault}
 use Rattle.tables.proofs.Laws.{records-pass, splits-partials, splits-section, partials-named, partials-renamed, partials-aligned, partials-flags, partials-start, partials-end}
 use Rattle.stage_tables.specs.StageTables.{tableCheck, stageSplits, stageUnits, splitsCheck, unitsCheck}
