@@ -3,9 +3,9 @@
 use Prim.Native.Nat.{ℕ, _+_, _*_, _/_, _≤_, _<_}
 use mathlib.Core.Path.{_≡_, refl, sym, ap, _∙_}
 use mathlib.Core.Bool.{Bool, true, false}
-use mathlib.Core.List.{List, [], _++_, append-nil, map-id}
+use mathlib.Core.List.{List, [], _++_, append-nil, map, map-id, map-map}
 use mathlib.Core.Logic.{_⊎_, inl, inr}
-use native.Mathlib.Nat.{zero-add}
+use native.Mathlib.Nat.{zero-add, not-suc-le-zero}
 use native.Mathlib.Omega.{arith}
 use borrow.Author.Tests.{eqb-true, eqb-false}
 use mir.Syntax.{w32}
@@ -14,6 +14,7 @@ use lib.Dec.{eqb}
 use lib.ListN.{length, getD, drop, List·getD-eq-default}
 use lib.Seq.{sets, sets-eq, drop-length}
 use Rattle.lists.specs.Outcome.{accepted}
+use Rattle.lists.specs.Rows.{tabulate}
 use Rattle.lists.proofs.Compare.{lt-or-ge}
 use Rattle.lists.proofs.Parts.{tabulate-map, tabulate-list}
 use Rattle.align.specs.Align.{badAlign}
@@ -28,6 +29,7 @@ use Rattle.tables.proofs.Laws.{records-pass, splits-partials, splits-section, p
 use Rattle.stage_tables.specs.StageTables.{tableCheck, stageSplits, stageUnits, splitsCheck, unitsCheck}
 use Rattle.splits.specs.Bytes.{tableBytes, Fits}
 use Rattle.splits.proofs.Bytes.{length-tableBytes, splits-back}
+use Rattle.units.specs.Units.{unitNames}
 use Rattle.order.specs.Bytes as written
 use Rattle.order.proofs.Bytes.{length-unitsBytes, units-back}
 use Rattle.file_tables.proofs.Checks.{table-passes}
@@ -97,6 +99,14 @@ module _ (lengths : List ℕ) (sections : List Section) (rows : List Split) (few
       ap (λ (l : List Split). tableCheck 19 ceiling (tableBytes rows) (splitFault lengths sections l)) split-table-back
       ∙ table-passes 19 ceiling (tableBytes rows) (splitFault lengths sections rows) (length rows) (omega (arith, length-tableBytes rows)) (omega (arith, length-tableBytes rows)) few faultless
 
+-- a table without splits
+pub no-splits-back : stageSplits [] ≡ []
+unfolding stagePlaces tabulate
+no-splits-back = refl
+
+pub no-splits-pass : (ceiling : ℕ) (lengths : List ℕ) (sections : List Section) → splitsCheck ceiling lengths sections [] ≡ accepted tt
+no-splits-pass ceiling lengths sections = table-passes 19 ceiling [] (splitFault lengths sections (stageSplits [])) 0 refl refl (omega arith) (λ k h. absurd (not-suc-le-zero h))
+
 -- ---- units
 
 module _ (us : List units.Unit) (fits : (k : ℕ) → k < length us → written.Fits (getD us k noUnit)) where
@@ -110,6 +120,12 @@ module _ (us : List units.Unit) (fits : (k : ℕ) → k < length us → written.
       ∙ tabulate-list (λ x. x) (λ k. unitAt bytes (8 * k)) us noUnit
       (λ k h. ap (λ (b : List ℕ). unitAt b (8 * k)) (sym (append-nil bytes)) ∙ units-back us [] k noUnit h (fits k h))
       ∙ map-id us
+
+  -- .. and their names alone, as the walk takes them
+  pub unit-names-written : unitNames (written.unitsBytes us) (stagePlaces 8 (length (written.unitsBytes us) / 8)) ≡ map (λ (x : units.Unit). x .name) us
+  unit-names-written =
+      sym (map-map (λ (x : units.Unit). x .name) (unitAt (written.unitsBytes us)) (stagePlaces 8 (length (written.unitsBytes us) / 8)))
+      ∙ ap (map (λ (x : units.Unit). x .name)) units-table-back
 
   -- THEOREM: .. and pass where none has a fault, under any ceiling that they are within
   pub units-table-passes : (lengths : List ℕ) (ceiling : ℕ) → length us ≤ ceiling → ((k : ℕ) → k < length us → unitFault lengths us k ≡ 0)
