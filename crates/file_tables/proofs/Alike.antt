@@ -84,7 +84,8 @@ module _ {file : List ℕ} {t : Loaded} (u : Usable file t) (names more : List (
 
   -- THEOREM: the same sections are those of pointer lists
   pub pointers-same : (k : ℕ) → k < length (t .sections)
-      → pointersIn file (t .sections) file (t .names) (t .lengths) k ≡ isPointerList (nameIn (endsOf names) (flat names) (getD (stageSections (tablesOf file t .sections)) k noSection .name))
+      → pointersIn file (t .sections) file (t .names) (t .lengths) k
+      ≡ isPointerList (nameIn (endsOf names) (flat names) (getD (stageSections (tablesOf file t .sections)) k noSection .name))
   pointers-same k h =
       ap isPointerList (name-in-same (headOf file (t .sections) k .name) (section-named u k h))
       ∙ ap (λ (s : Section). isPointerList (nameIn (endsOf names) (flat names) (s .name))) (sym (head-same k h))
@@ -106,5 +107,6 @@ module _ {file : List ℕ} {t : Loaded} (u : Usable file t) (names more : List (
           let q = section-named u k h in
           ap isBss
           (name-in-same (headOf file (t .sections) k .name) q
-          ∙ sym (stage-name (endsOf names) (flat names) (length (endsOf names) / 2) (headOf file (t .sections) k .name) (omega (arith, q, names-more u names more extends, name-count names))))
+          ∙ sym (stage-name (endsOf names) (flat names) (length (endsOf names) / 2) (headOf file (t .sections) k .name)
+          (omega (arith, q, names-more u names more extends, name-count names))))
           ∙ ap (λ (s : Section). isBss (getD (stageNames (endsOf names) (flat names) (length (endsOf names) / 2)) (s .name) [])) (sym (head-same k h))

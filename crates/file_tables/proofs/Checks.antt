@@ -195,7 +195,12 @@ module _ {file : List ℕ} {t : Loaded} (u : Usable file t) (names more : List (
   not-cut k h =
       let lies = sections-kept u .lies k h in
       rw (getD-map (sectionAt file) (t .sections) k 0 noSection h)
-      (asked (headOf file (t .sections) k .kind) 3 _ (λ n. rw (lt-leb (length (bytePlaces (t .sections))) k (lies .there n), le-ltb (length file) (getD (bytePlaces (t .sections)) k 0 + headOf file (t .sections) k .size) (lies .inside n))))
+      (asked (headOf file (t .sections) k .kind) 3 _
+      (λ n.
+      rw (
+        lt-leb (length (bytePlaces (t .sections))) k (lies .there n),
+        le-ltb (length file) (getD (bytePlaces (t .sections)) k 0 + headOf file (t .sections) k .size) (lies .inside n),
+      )))
 
   image-none : (k : ℕ) → k < length (t .sections) → imageFault (map length names) (bytePlaces (t .sections)) (length file) (sectionsIn file (t .sections)) k ≡ 0
   unfolding imageFault
@@ -204,9 +209,10 @@ module _ {file : List ℕ} {t : Loaded} (u : Usable file t) (names more : List (
   -- THEOREM: .. with their bytes in the file
   pub image-pass : imageCheck 64 (map length names) (tablesOf file t .places) (length file) (tablesOf file t .sections) ≡ accepted tt
   image-pass =
-      ap₂ (λ (places : List ℕ) (l : List Section). tableCheck 15 64 (tablesOf file t .sections) (imageFault (map length names) places (length file) l)) (places-back u) (sections-back u)
-      ∙ table-passes 15 64 (tablesOf file t .sections) (imageFault (map length names) (bytePlaces (t .sections)) (length file) (sectionsIn file (t .sections))) (length (t .sections))
-      (sections-whole u) (sections-count u) (few-sections u) image-none
+      ap₂ (λ (places : List ℕ) (l : List Section). tableCheck 15 64 (tablesOf file t .sections) (imageFault (map length names) places (length file) l))
+      (places-back u) (sections-back u)
+      ∙ table-passes 15 64 (tablesOf file t .sections) (imageFault (map length names) (bytePlaces (t .sections)) (length file) (sectionsIn file (t .sections)))
+      (length (t .sections)) (sections-whole u) (sections-count u) (few-sections u) image-none
 
   -- ---- symbols
   symbol-none : (k : ℕ) → k < length (t .symbols) → symbolFault (length names) (sectionsIn file (t .sections)) (symbolsIn file (t .symbols)) k ≡ 0
@@ -278,13 +284,14 @@ module _ {file : List ℕ} {t : Loaded} (u : Usable file t) where
   reloc-none : (k : ℕ) → k < length (t .relocations) → relocFault (sectionsIn file (t .sections)) (length (t .symbols)) (relocsIn file (t .relocations)) k ≡ 0
   unfolding relocFault relocFaultAbove
   reloc-none k h =
-      rw (reloc-faultless (sectionsIn file (t .sections)) (length (t .symbols)) (floorFrom (getD (relocsIn file (t .relocations)) k noReloc .section) 0 (take k (relocsIn file (t .relocations))))
-      (getD (relocsIn file (t .relocations)) k noReloc) (good-relocs (u .good) k h) (reloc-above k h))
+      let r = getD (relocsIn file (t .relocations)) k noReloc in
+      rw (reloc-faultless (sectionsIn file (t .sections)) (length (t .symbols)) (floorFrom (r .section) 0 (take k (relocsIn file (t .relocations)))) r
+      (good-relocs (u .good) k h) (reloc-above k h))
 
   -- THEOREM: the relocations pass
   pub relocs-pass : relocsCheck 4096 (stageSections (tablesOf file t .sections)) (length (tablesOf file t .symbols) / 20) (tablesOf file t .relocations) ≡ accepted tt
   relocs-pass =
       ap (λ (n : ℕ). relocsCheck 4096 (stageSections (tablesOf file t .sections)) n (tablesOf file t .relocations)) (symbols-count u)
       ∙ ap₂ (λ (l : List Section) (r : List Reloc). tableCheck 23 4096 (tablesOf file t .relocations) (relocFault l (length (t .symbols)) r)) (sections-back u) (relocs-back u)
-      ∙ table-passes 23 4096 (tablesOf file t .relocations) (relocFault (sectionsIn file (t .sections)) (length (t .symbols)) (relocsIn file (t .relocations))) (length (t .relocations))
-      (relocs-whole u) (relocs-count u) (few-relocs u) reloc-none
+      ∙ table-passes 23 4096 (tablesOf file t .relocations) (relocFault (sectionsIn file (t .sections)) (length (t .symbols)) (relocsIn file (t .relocations)))
+      (length (t .relocations)) (relocs-whole u) (relocs-count u) (few-relocs u) reloc-none

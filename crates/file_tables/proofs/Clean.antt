@@ -66,7 +66,8 @@ module _ (c : tables.Ceilings) (file : List ℕ) (at len : ℕ) (t : Loaded) (me
   unfolding withRecord namesIn
   taken-kind _ (again e) = rw e (omega arith)
   taken-kind _ (name p) =
-      rw (p .new) (omega (arith, ap bytesOf (names-more file (t .names) (t .lengths) at len measured), bytes-one (namesIn file t) (take len (drop at file)), long, length-append (t .names) (at ∷ [])))
+      let names = ap bytesOf (names-more file (t .names) (t .lengths) at len measured) in
+      rw (p .new) (omega (arith, names, bytes-one (namesIn file t) (take len (drop at file)), long, length-append (t .names) (at ∷ [])))
     where
       long : length (take len (drop at file)) ≡ len
       long = length-take-le len (drop at file) (simp length-drop (omega arith))
@@ -82,7 +83,8 @@ record Taken (c : tables.Ceilings) (file : List ℕ) (at : ℕ) (t : Loaded) : T
   pub before : taken file t ≤ at
   pub within : taken file t ≤ length file
 
-taken-more : (c : tables.Ceilings) (file : List ℕ) (at : ℕ) (t : Loaded) → Taken c file at t → recordNumber c file at t ≡ 0 → Taken c file (at + 6 + le32 file at) (nextLoaded c file at t)
+taken-more : (c : tables.Ceilings) (file : List ℕ) (at : ℕ) (t : Loaded) → Taken c file at t → recordNumber c file at t ≡ 0
+    → Taken c file (at + 6 + le32 file at) (nextLoaded c file at t)
 taken-more c file at t h e =
     let p = record-passed c file at t e in
     let more = taken-kind c file (at + 6) (le32 file at) t (h .good .names .measured) (p .whole) (le16 file (at + 4)) (p .passed) in
@@ -113,7 +115,8 @@ module _ (file : List ℕ) (t : Loaded) (accepts : loadOf mainCeilings file ≡ 
   names-taken : (end : ℕ) × Taken mainCeilings file end t
   unfolding loadOf
   names-taken =
-      kept-from mainCeilings file (Taken mainCeilings file) (taken-more mainCeilings file) (length file) 0 0 nothing t (taken-nothing mainCeilings file) (then-inv _ _ _ _ _ _ accepts .1)
+      kept-from mainCeilings file (Taken mainCeilings file) (taken-more mainCeilings file) (length file) 0 0 nothing t (taken-nothing mainCeilings file)
+      (then-inv _ _ _ _ _ _ accepts .1)
 
   many : length (namesIn file t) ≡ length (t .names)
   unfolding namesIn

@@ -25,7 +25,9 @@ use Rattle.file_tables.proofs.Names.{name-count, lengths-back}
 use Rattle.file_tables.proofs.Checks.{sections-pass, image-pass, symbols-pass, partials-pass, units-pass}
 use Rattle.file_tables.proofs.Written.{split-table-back, split-table-passes, units-table-passes}
 
-lengths-as : {A : Type 0} (names : List (List ℕ)) (c : Clean names) (check : List ℕ → A) {want : A} → check (map length names) ≡ want → check (stageLengths (endsOf names) (flat names)) ≡ want
+-- what holds with the names' lengths holds with those that are read of their table
+lengths-as : {A : Type 0} (names : List (List ℕ)) → Clean names → (check : List ℕ → A) {want : A} → check (map length names) ≡ want
+    → check (stageLengths (endsOf names) (flat names)) ≡ want
 lengths-as names c check e = ap check (lengths-back names (c .short)) ∙ e
 
 module _ {file : List ℕ} {t : Loaded} (u : Usable file t) (names more : List (List ℕ)) (extends : names ≡ namesIn file t ++ more) (c : Clean names) where
@@ -37,7 +39,8 @@ module _ {file : List ℕ} {t : Loaded} (u : Usable file t) (names more : List (
   stage-image-pass = lengths-as names c (λ l. imageCheck 64 l (tablesOf file t .places) (length file) (tablesOf file t .sections)) (image-pass u names more extends)
 
   pub stage-symbols-pass : symbolsCheck 4096 (length (endsOf names) / 2) (stageSections (tablesOf file t .sections)) (tablesOf file t .symbols) ≡ accepted tt
-  stage-symbols-pass = ap (λ (n : ℕ). symbolsCheck 4096 n (stageSections (tablesOf file t .sections)) (tablesOf file t .symbols)) (name-count names) ∙ symbols-pass u names more extends
+  stage-symbols-pass =
+      ap (λ (n : ℕ). symbolsCheck 4096 n (stageSections (tablesOf file t .sections)) (tablesOf file t .symbols)) (name-count names) ∙ symbols-pass u names more extends
 
   pub stage-partials-pass : partialsCheck 1024 (stageLengths (endsOf names) (flat names)) (tablesOf file t .partials) ≡ accepted tt
   stage-partials-pass = lengths-as names c (λ l. partialsCheck 1024 l (tablesOf file t .partials)) (partials-pass u names more extends)

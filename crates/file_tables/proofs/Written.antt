@@ -97,7 +97,8 @@ module _ (lengths : List ℕ) (sections : List Section) (rows : List Split) (few
   pub split-table-passes : (ceiling : ℕ) → length rows ≤ ceiling → splitsCheck ceiling lengths sections (tableBytes rows) ≡ accepted tt
   split-table-passes ceiling few =
       ap (λ (l : List Split). tableCheck 19 ceiling (tableBytes rows) (splitFault lengths sections l)) split-table-back
-      ∙ table-passes 19 ceiling (tableBytes rows) (splitFault lengths sections rows) (length rows) (omega (arith, length-tableBytes rows)) (omega (arith, length-tableBytes rows)) few faultless
+      ∙ table-passes 19 ceiling (tableBytes rows) (splitFault lengths sections rows) (length rows) (omega (arith, length-tableBytes rows))
+      (omega (arith, length-tableBytes rows)) few faultless
 
 -- a table without splits
 pub no-splits-back : stageSplits [] ≡ []
