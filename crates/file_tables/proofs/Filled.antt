@@ -141,7 +141,8 @@ module _ (room : Ceilings) (few : room .names ≤ 4096) (short : room .bytes ≤
   clean-named section start names x r c good e = go (ltb (numberOf names x) (length names)) refl e
     where
       go : (t : Bool) → ltb (numberOf names x) (length names) ≡ t
-          → cond t (accepted (record { names = names; number = numberOf names x })) (refuse 28 section start (full room names x) >> accepted (record { names = names ++ (x ∷ []); number = length names })) ≡ accepted r
+          → cond t (accepted (record { names = names; number = numberOf names x }))
+          (refuse 28 section start (full room names x) >> accepted (record { names = names ++ (x ∷ []); number = length names })) ≡ accepted r
           → Clean (r .names)
       go true t q = rw (sym (same-accepted q)) c
       go false t q =
