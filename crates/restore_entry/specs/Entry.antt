@@ -1,11 +1,16 @@
 -- A call of the entry `split_obj`: what it is lent, and how its definition reads that. The theorems of proofs/Entry.antt speak of nothing but these bytes, the
 -- answer, and the bytes of the outputs.
 use Prim.Native.Nat.{ℕ, _/_}
+use mathlib.Core.Path.{_≡_}
 use mathlib.Core.List.{List}
 use lib.ListN.{length}
-use Rattle.lists.specs.Outcome.{Outcome}
+use Rattle.lists.specs.Outcome.{Outcome, accepted}
 use Rattle.obj.specs.Records.{stagePlaces}
+use Rattle.tables.specs.Tables.{mainCeilings}
+use Rattle.tables.specs.Records.{imagePlaces, bytesCut}
+use Rattle.name_table.specs.NameTable.{namesCheck}
 use Rattle.name_table.specs.Stored.{stageLengths, nameStarts}
+use Rattle.stage_tables.specs.StageTables.{stageSections, imageCheck, symbolsCheck, relocsCheck, splitsCheck, unitsCheck}
 use Rattle.relocs.specs.Relocs.{relocOf}
 use Rattle.units.specs.Units.{unitNames}
 use Rattle.pieces.specs.declared.Piece.{Piece}
@@ -50,6 +55,41 @@ lent c = record {
   units = unitNames (c .units) (stagePlaces 8 (length (c .units) / 8));
   room = roomIn (c .sizes .pieces) (c .sizes .symbols) (c .sizes .relocs);
 }
+
+-- no table check refuses: a line for each table, as in the entry's definition
+pub record Checks (c : Call) : Type 0 where
+  pub of-names : namesCheck (mainCeilings .names) (c .ends) (c .bytes) ≡ accepted tt
+  pub of-sections : imageCheck (mainCeilings .sections) (stageLengths (c .ends) (c .bytes)) (c .places) (length (c .image)) (c .sections) ≡ accepted tt
+  pub of-symbols : symbolsCheck (mainCeilings .symbols) (length (c .ends) / 2) (stageSections (c .sections)) (c .symbols) ≡ accepted tt
+  pub of-relocs : relocsCheck (mainCeilings .relocations) (stageSections (c .sections)) (length (c .symbols) / 20) (c .relocs) ≡ accepted tt
+  pub of-splits : splitsCheck (mainCeilings .splits) (stageLengths (c .ends) (c .bytes)) (stageSections (c .sections)) (c .splits) ≡ accepted tt
+  pub of-units : unitsCheck (mainCeilings .units) (stageLengths (c .ends) (c .bytes)) (c .units) ≡ accepted tt
+
+-- ---- two images
+
+-- the call with another image, and other places of the sections' bytes in it
+abbrev pub withImage : Call → (image places : List ℕ) → Call
+withImage c image places = record {
+  ends = c .ends;
+  bytes = c .bytes;
+  sections = c .sections;
+  places = places;
+  image = image;
+  symbols = c .symbols;
+  relocs = c .relocs;
+  splits = c .splits;
+  units = c .units;
+  sizes = c .sizes;
+}
+
+-- section n lies in both images or in neither, and has the same bytes in both
+pub record SameBytes (c d : Call) (n : ℕ) : Type 0 where
+  pub lies :
+      bytesCut (imagePlaces (c .places)) (length (c .image)) n (inputIn (lent c) .sections .head n)
+      ≡ bytesCut (imagePlaces (d .places)) (length (d .image)) n (inputIn (lent c) .sections .head n)
+  pub bytes : inputIn (lent c) .sections .bytes n ≡ inputIn (lent d) .sections .bytes n
+
+-- ---- a call that is accepted
 
 -- a call whose answer is 0, and what it leaves in its outputs: as the entry's contract says
 pub record Run : Type 0 where
