@@ -202,6 +202,11 @@ same-seen g s u n h b = record {
   ends = λ i. splittingEnd g n (h i) (b i);
 }
 
+-- THEOREM: two walks of the same tables, with the same head and bytes of each section, have equal outcomes
+pub walk-same : (t : Input) (u : Sections) → t .sections .count ≡ u .count
+    → ((n : ℕ) → n < t .sections .count → (t .sections .head n ≡ u .head n) × (t .sections .bytes n ≡ u .bytes n)) → walk t ≡ walk (withSections t u)
+walk-same t u count same = walk-alike t u count (λ n h. same-seen (t .image) (t .sections) u n (same n h .0) (same n h .1))
+
 -- THEOREM T6: two images, with the places of the sections' bytes in them, that differ in no byte of sections of kinds 0 to 2 have equal outcomes: a section of kind 3
 -- "occupies no space in the file"
 pub images-alike : (t : Input) (heads head-places image places image′ places′ : List ℕ)
@@ -209,9 +214,8 @@ pub images-alike : (t : Input) (heads head-places image places image′ places�
     → bytesOf image places n (headOf heads head-places n) ≡ bytesOf image′ places′ n (headOf heads head-places n))
     → walk (withSections t (sectionsOf heads head-places image places)) ≡ walk (withSections t (sectionsOf heads head-places image′ places′))
 images-alike t heads head-places image places image′ places′ same =
-    walk-alike (withSections t (sectionsOf heads head-places image places)) (sectionsOf heads head-places image′ places′) refl
-    (λ n h. same-seen (t .image) (sectionsOf heads head-places image places) (sectionsOf heads head-places image′ places′) n refl
-    (go n h (ℕ-discrete (headOf heads head-places n .kind) 3)))
+    walk-same (withSections t (sectionsOf heads head-places image places)) (sectionsOf heads head-places image′ places′) refl
+    (λ n h. (refl, go n h (ℕ-discrete (headOf heads head-places n .kind) 3)))
   where
     go : (n : ℕ) → n < length head-places → Dec (headOf heads head-places n .kind ≡ 3)
         → bytesOf image places n (headOf heads head-places n) ≡ bytesOf image′ places′ n (headOf heads head-places n)

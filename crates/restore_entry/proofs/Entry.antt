@@ -41,7 +41,7 @@ use Rattle.restore.proofs.Nobits as nobits
 use Rattle.stage_walk.specs.Room.{roomFor}
 use Rattle.entry_split_obj.specs.Entry.{splitObjOf, outputOf}
 use Rattle.restore_entry.specs.Tables.{inputIn, Accepted, SameTables}
-use Rattle.restore_entry.specs.Entry.{Call, outcome, lent, Checks, withImage, SameBytes, Run, input, count, piecesOf}
+use Rattle.restore_entry.specs.Entry.{Call, outcome, lent, Checks, otherSections, SameBytes, AsData, Run, input, count, piecesOf}
 use Rattle.restore_entry.proofs.Tables.{input-checked}
 use Rattle.restore_entry.proofs.Images.{check-alike}
 use Rattle.restore_entry.proofs.Answers.{Table, says-map, says-after, names-say, sections-say, symbols-say, relocs-say, splits-say, units-say, accepted-of}
@@ -239,11 +239,11 @@ nobits-never c number n address e = says-of P (outcome c) number n address (says
 
 -- THEOREM T6: two images of any lengths, with the places of the sections' bytes in them: where the sections of kinds 0 to 2 lie in both or in neither, and have the same
 -- bytes in both, the outcomes are equal
-pub images-alike : (c : Call) (image places : List ℕ)
-    → ((n : ℕ) → n < inputIn (lent c) .sections .count → inputIn (lent c) .sections .head n .kind ≢ 3 → SameBytes c (withImage c image places) n)
-    → outcome c ≡ outcome (withImage c image places)
+pub images-alike : (c : Call) (places image : List ℕ)
+    → ((n : ℕ) → n < inputIn (lent c) .sections .count → inputIn (lent c) .sections .head n .kind ≢ 3 → SameBytes c (otherSections c (c .sections) places image) n)
+    → outcome c ≡ outcome (otherSections c (c .sections) places image)
 unfolding splitObjOf
-images-alike c image places same = λ i.
+images-alike c places image same = λ i.
     namesCheck 4096 (c .ends) (c .bytes)
     >> (check i
     >> (symbolsCheck 4096 (length (c .ends) / 2) (stageSections (c .sections)) (c .symbols)
@@ -258,16 +258,20 @@ images-alike c image places same = λ i.
         check-alike (c .sections) (c .places) (c .image) places image
         (λ k h d. same k (rw (length-stagePlaces 15 (length (c .sections) / 15)) h) d .lies) 64 (stageLengths (c .ends) (c .bytes))
 
-    walks : walk (inputIn (lent c)) ≡ walk (inputIn (lent (withImage c image places)))
+    walks : walk (inputIn (lent c)) ≡ walk (inputIn (lent (otherSections c (c .sections) places image)))
     walks =
         nobits.images-alike (inputIn (lent c)) (c .sections) (stagePlaces 15 (length (c .sections) / 15)) (c .image) (imagePlaces (c .places)) image (imagePlaces places)
         (λ n h d. same n h d .bytes)
 
--- THEOREM T6: a call whose tables pass answers as the walk of the same tables in which a section of kind 3 is data whose bytes are zeros, where no reduction lowers the
--- splitting end of that
-pub resembles : (c : Call) → Checks c → (n : ℕ) → inputIn (lent c) .sections .head n .kind ≡ 3
+-- THEOREM T6: two calls whose tables pass, the same but for a section that is of kind 3 in the first and data whose bytes are zeros in the second: where no reduction
+-- lowers the splitting end of the latter, the outcomes are equal
+pub resembles : (c : Call) (sections places image : List ℕ) → Checks c → Checks (otherSections c sections places image)
+    → (n : ℕ) → inputIn (lent c) .sections .head n .kind ≡ 3 → AsData c (otherSections c sections places image) n
     → Whole (inputIn (lent c) .image) (asData (inputIn (lent c) .sections) n) n
-    → outcome c ≡ walk (withSections (inputIn (lent c)) (asData (inputIn (lent c) .sections) n))
-resembles c k n is whole =
+    → outcome c ≡ outcome (otherSections c sections places image)
+resembles c sections places image k j n is same whole =
     passed-walk c k
     ∙ nobits.resembles (inputIn (lent c)) n is (nobits-bytes n (inputIn (lent c) .sections .head n) is (c .image) (imagePlaces (c .places))) whole
+    ∙ nobits.walk-same (withSections (inputIn (lent c)) (asData (inputIn (lent c) .sections) n)) (inputIn (lent (otherSections c sections places image)) .sections)
+    (same .count) (λ m h. (same .heads m h, same .bytes m h))
+    ∙ sym (passed-walk (otherSections c sections places image) j)

@@ -1,6 +1,6 @@
 -- A call of the entry `split_obj`: what it is lent, and how its definition reads that. The theorems of proofs/Entry.antt speak of nothing but these bytes, the
 -- answer, and the bytes of the outputs.
-use Prim.Native.Nat.{ℕ, _/_}
+use Prim.Native.Nat.{ℕ, _/_, _<_}
 use mathlib.Core.Path.{_≡_}
 use mathlib.Core.List.{List}
 use lib.ListN.{length}
@@ -16,6 +16,7 @@ use Rattle.units.specs.Units.{unitNames}
 use Rattle.pieces.specs.declared.Piece.{Piece}
 use Rattle.pieces.specs.Pieces.{piecesIn}
 use Rattle.walk.specs.Walk.{Input, Output}
+use Rattle.restore.specs.Nobits.{asData}
 use Rattle.stage_walk.specs.Room.{roomIn}
 use Rattle.entry_split_obj.specs.Entry.{Sizes, splitObjOf, outputOf, Leaves}
 use Rattle.restore_entry.specs.Tables.{Lent, inputIn}
@@ -65,14 +66,14 @@ pub record Checks (c : Call) : Type 0 where
   pub of-splits : splitsCheck (mainCeilings .splits) (stageLengths (c .ends) (c .bytes)) (stageSections (c .sections)) (c .splits) ≡ accepted tt
   pub of-units : unitsCheck (mainCeilings .units) (stageLengths (c .ends) (c .bytes)) (c .units) ≡ accepted tt
 
--- ---- two images
+-- ---- two calls that differ in their sections
 
--- the call with another image, and other places of the sections' bytes in it
-abbrev pub withImage : Call → (image places : List ℕ) → Call
-withImage c image places = record {
+-- the call with other section records, another image, and other places of the sections' bytes in it
+abbrev pub otherSections : Call → (sections places image : List ℕ) → Call
+otherSections c sections places image = record {
   ends = c .ends;
   bytes = c .bytes;
-  sections = c .sections;
+  sections = sections;
   places = places;
   image = image;
   symbols = c .symbols;
@@ -88,6 +89,12 @@ pub record SameBytes (c d : Call) (n : ℕ) : Type 0 where
       bytesCut (imagePlaces (c .places)) (length (c .image)) n (inputIn (lent c) .sections .head n)
       ≡ bytesCut (imagePlaces (d .places)) (length (d .image)) n (inputIn (lent c) .sections .head n)
   pub bytes : inputIn (lent c) .sections .bytes n ≡ inputIn (lent d) .sections .bytes n
+
+-- the second call's sections are those of the first, but for section n, which is data whose bytes are zeros
+pub record AsData (c d : Call) (n : ℕ) : Type 0 where
+  pub count : inputIn (lent c) .sections .count ≡ inputIn (lent d) .sections .count
+  pub heads : (m : ℕ) → m < inputIn (lent c) .sections .count → asData (inputIn (lent c) .sections) n .head m ≡ inputIn (lent d) .sections .head m
+  pub bytes : (m : ℕ) → m < inputIn (lent c) .sections .count → asData (inputIn (lent c) .sections) n .bytes m ≡ inputIn (lent d) .sections .bytes m
 
 -- ---- a call that is accepted
 
