@@ -25,7 +25,7 @@ use Rattle.name_table.specs.Stored.{stageLengths}
 use Rattle.stage_tables.specs.StageTables.{stageUnits, unitsCheck}
 use Rattle.stage_names.specs.StageNames.{flat}
 use Rattle.units.specs.Units.{unitNames}
-use Rattle.order_numbers.proofs.Ranks.{unit-fits}
+use Rattle.symbol_order.proofs.Ranks.{unit-fits}
 use Rattle.link_graph.specs.Graph.{unitsOf, nodes}
 use Rattle.link_graph.proofs.Nodes.{in-counted}
 use Rattle.link_graph.proofs.Graph.{in-at}

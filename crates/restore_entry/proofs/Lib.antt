@@ -1,4 +1,5 @@
 pub mod Tables
+pub mod Images
 pub mod Decoded
 pub mod Answers
 pub mod Bytes

@@ -10,7 +10,7 @@ use lib.ListN.{length}
 use Rattle.stage_splits.specs.StageSplits.{roomOf}
 use Rattle.stage_names.specs.StageNames.{namesRoom, bytesRoom}
 use Rattle.gap_splits.specs.Entering.{bytesOf}
-use Rattle.run_room.specs.Room.{lower}
+use Rattle.lists.specs.Bounds.{lower}
 use Rattle.run_entries.specs.Entries.{endsSize, bytesSize}
 
 -- 1,024 splits at most

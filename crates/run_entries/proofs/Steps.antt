@@ -40,7 +40,6 @@ use Rattle.relocs.specs.Relocs.{relocOf}
 use Rattle.walk.specs.declared.Counts.{Counts}
 use Rattle.walk.specs.Giving.{inputOf}
 use Rattle.stage_walk.specs.Room.{roomIn}
-use Rattle.run_room.specs.Room.{lower}
 use Rattle.run_splits.specs.Table as table
 use Rattle.run.specs.Run.{done, cycle, linked, walked, onOrder}
 use Rattle.run.specs.Run as run
@@ -64,6 +63,7 @@ use Rattle.entry_validate_splits.specs.Entry.{validateOf}
 use Rattle.entry_trim_splits.specs.Entry.{trimOf}
 use Rattle.entry_resolve_link_order.specs.Entry.{givenIn, resolveOf}
 use Rattle.entry_split_obj.specs.Entry.{inputIn, splitObjOf}
+use Rattle.lists.specs.Bounds.{lower}
 use Rattle.run_entries.specs.Entries.{endsSize, bytesSize, unitsLeft, walkEntry}
 use Rattle.run_entries.proofs.Good.{Good, sections-there}
 use Rattle.run_entries.proofs.Tables.{rows-back, splits-pass, none-pass, none-back}

@@ -20,9 +20,9 @@ use Rattle.obj.specs.declared.Split.{Split}
 use Rattle.sections.specs.Sections.{Sections}
 use Rattle.sections.specs.Alignment.{defaultAlignment}
 use Rattle.sections.proofs.Kept.{end-within}
-use Rattle.splits.specs.Questions.{within}
+use Rattle.splits.specs.Questions.{within, isSkipped, nextStart}
 use Rattle.units.specs.Units.{lastNamed, unitOf}
-use Rattle.walk.specs.Walk.{Input, Output, startIn, endIn, splittingEndIn, outside, isSkipped, alignmentIn, halved, onAligned, onKept, onSplit, nextStart, walkSplits, walkSection, walkSections, walk, nothing}
+use Rattle.walk.specs.Walk.{Input, Output, startIn, endIn, splittingEndIn, outside, alignmentIn, halved, onAligned, onKept, onSplit, walkSplits, walkSection, walkSections, walk, nothing}
 use Rattle.restore.proofs.Refusals.{Says, says-then, says-bind}
 use Rattle.run_entries.specs.Numbers as places
 use Rattle.run_entries.proofs.Numbers.{Can, end-can, alignment-can}

@@ -18,7 +18,6 @@ use Rattle.toposort.specs.Search.{End, all, cyclic, lost}
 use Rattle.order.specs.LinkOrder.{recordsOf}
 use Rattle.order.specs.Bytes.{unitsBytes}
 use Rattle.stage_walk.specs.Room.{roomIn}
-use Rattle.run_room.specs.Room.{lower}
 use Rattle.run.specs.Run.{Ended, done, cycle}
 use Rattle.run_outputs.specs.Laid.{Sizes}
 use Rattle.file_tables.specs.Tables.{tablesOf, endsOf}
@@ -29,6 +28,7 @@ use Rattle.entry_validate_splits.specs.Entry.{validateOf}
 use Rattle.entry_trim_splits.specs.Entry.{trimOf}
 use Rattle.entry_resolve_link_order.specs.Entry.{resolveOf}
 use Rattle.entry_split_obj.specs.Entry.{splitObjOf}
+use Rattle.lists.specs.Bounds.{lower}
 
 -- ---- the name outputs of `create_gap_splits`, which gives all names back, where `split_file` gives only those that were added
 

@@ -20,9 +20,10 @@ use Rattle.names.specs.Fixed.{isPointerList}
 use Rattle.sections.specs.Image.{Image}
 use Rattle.sections.specs.Sections.{Sections}
 use Rattle.order_numbers.specs.Numbers.{orderTwice}
-use Rattle.link_graph.specs.Graph.{Given, UnitEdge, nodeOf, nodes, splitAt, isCommon, isFirst, apart, edgeAt, splitEdges, chained, links, edges}
+use Rattle.link_graph.specs.Graph.{Given, UnitEdge, nodeOf, nodes, splitAt, isFirst, apart, edgeAt, splitEdges, chained, links, edges}
 use Rattle.toposort.specs.Sorting.{sortOf}
 use Rattle.order.specs.LinkOrder.{linkOrder}
+use Rattle.splits.specs.Questions.{isCommon}
 use Rattle.stages_alike.specs.Alike.{SameImages, SameSections}
 use Rattle.stages_alike.proofs.Sections.{section-named}
 

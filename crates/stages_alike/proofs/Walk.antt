@@ -18,13 +18,13 @@ use Rattle.obj.specs.declared.Split.{Split}
 use Rattle.symbols.specs.Ranges.{hasSymbols}
 use Rattle.sections.specs.Image.{Image}
 use Rattle.sections.specs.Sections.{Sections}
-use Rattle.splits.specs.Questions.{within}
+use Rattle.splits.specs.Questions.{within, isCommon, isSkipped, nextStart}
 use Rattle.pieces.specs.declared.PieceSymbol.{PieceSymbol}
 use Rattle.pieces.specs.declared.PieceReloc.{PieceReloc}
 use Rattle.pieces.specs.Questions.{countOf, has}
 use Rattle.relocs.specs.Relocs.{relocsOf, relocsBetween, hasRelocs}
 use Rattle.units.specs.Units.{unitOf}
-use Rattle.walk.specs.Walk.{Input, Output, outside, nonzero, isCommon, isSkipped, fits, halved, passedOver, entryOf, addSymbol, addSymbols, splitSymbols, relocEntry, addRelocs, splitRelocs, pieceOf, given, over, onAligned, onKept, onSplit, nextStart, walkSplits, walkSection, walkSections, nothing, walk}
+use Rattle.walk.specs.Walk.{Input, Output, outside, nonzero, fits, halved, passedOver, entryOf, addSymbol, addSymbols, splitSymbols, relocEntry, addRelocs, splitRelocs, pieceOf, given, over, onAligned, onKept, onSplit, walkSplits, walkSection, walkSections, nothing, walk}
 use Rattle.stages_alike.specs.Alike.{SameImages, SameSections, SameRelocs}
 use Rattle.stages_alike.proofs.Lists.{some-alike, kept-twice}
 use Rattle.stages_alike.proofs.Symbols.{symbols-below, through-alike, has-alike}
