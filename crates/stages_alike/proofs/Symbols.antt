@@ -12,7 +12,7 @@ use Rattle.lists.proofs.All.{all-keep, all-sort}
 use Rattle.lists.proofs.Rising.{numbers-below}
 use Rattle.obj.specs.declared.Symbol.{Symbol}
 use Rattle.symbol_order.specs.Order.{hasSection, inSection, keyOf, symbolsOf, orderOf}
-use Rattle.symbols.specs.Ranges.{sized, sizedUnstripped, lastOr, firstOf, highestOf, symbolsBetween, symbolsThrough, hasSymbols, lastBelow, lastIn, firstIn, highestIn}
+use Rattle.symbols.specs.Ranges.{sized, sizedUnstripped, lastOr, highestOf, symbolsBetween, symbolsThrough, hasSymbols, lastBelow, lastIn, highestIn}
 use Rattle.symbols.specs.declared.Found.the-variants.{Nothing}
 use Rattle.stages_alike.proofs.Lists.{kept-alike, some-alike, sorted-alike, kept-twice}
 
@@ -74,14 +74,10 @@ module _ (y z : ℕ → Symbol) (count : ℕ) (same : (i : ℕ) → i < count �
           → (refuse 11 n start (ltb end start && hasSymbols y count n) >> accepted a) ≡ (refuse 11 n start (ltb end start && hasSymbols z count n) >> accepted b)
       range-alike e = λ i. refuse 11 n start (ltb end start && has-alike i) >> accepted (e i)
 
-      -- the questions: the last such symbol, the first, the highest alignment
+      -- the questions: the last such symbol, the highest alignment
       pub last-alike : lastIn y count n start end ≡ lastIn z count n start end
       unfolding lastIn
       last-alike = range-alike (ap (lastOr Nothing) (twice-alike (sizedUnstripped false) between))
-
-      pub first-alike : firstIn y count n start end ≡ firstIn z count n start end
-      unfolding firstIn
-      first-alike = range-alike (ap firstOf through-alike)
 
       highest-of : {l : List ℕ} → All (λ i. i < count) l → highestOf y l ≡ highestOf z l
       unfolding highestOf
