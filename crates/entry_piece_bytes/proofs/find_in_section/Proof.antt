@@ -17,7 +17,7 @@ refused-requires c κs = search needs
 
 returns : tie.Need-returns
 returns c =
-    let a = c .before .before .before .before .before .args in
+    let a = c .before .before .before .before .before .before .args in
     c .refused .ensures ∙ sym (no-section (a .sections .now) (imagePlaces (a .places .now)) (length (a .image .now)) (a .p) (c .before .if1 .taken))
 
 mul-read-section : tie.Need-mul-read-section
@@ -31,7 +31,7 @@ find-within-requires c κs = search needs
 
 returns-2 : tie.Need-returns-2
 returns-2 c =
-    let a = c .before .before .before .before .before .before .args in
+    let a = c .before .before .before .before .before .before .before .args in
     c .find-within .ensures
     ∙ ap (λ (s : Section). within (imagePlaces (a .places .now)) (length (a .image .now)) s (a .p)) (c .before .read-section .ensures)
     ∙ sym (section-there (a .sections .now) (imagePlaces (a .places .now)) (length (a .image .now)) (a .p) (c .before .before .if1 .left))

@@ -13,7 +13,7 @@ refused-requires c κs = search needs
 
 returns : tie.Need-returns
 returns c =
-    let a = c .before .before .before .before .before .args in
+    let a = c .before .before .before .before .before .before .args in
     c .refused .ensures ∙ sym (no-piece (a .sections .now) (imagePlaces (a .places .now)) (length (a .image .now)) (a .pieces .now) (a .which) (c .before .if1 .taken))
 
 piece-at-requires : tie.Need-piece-at-requires
@@ -24,7 +24,7 @@ find-in-section-requires c κs = search needs
 
 returns-2 : tie.Need-returns-2
 returns-2 c =
-    let a = c .before .before .before .before .before .before .args in
+    let a = c .before .before .before .before .before .before .before .args in
     c .find-in-section .ensures
     ∙ ap (inSection (a .sections .now) (imagePlaces (a .places .now)) (length (a .image .now))) (c .before .piece-at .ensures)
     ∙ sym (piece-there (a .sections .now) (imagePlaces (a .places .now)) (length (a .image .now)) (a .pieces .now) (a .which) (c .before .before .if1 .left))

@@ -1,6 +1,6 @@
 -- `entry_piece_bytes::find_within` meets its contract: each return is the definition's, and what passed keeps the sum within four bytes.
 -- Assumes nothing.
-use Prim.Native.Nat.{ℕ, _+_, _-_}
+use Prim.Native.Nat.{ℕ, _+_, _-_, _≤_}
 use mathlib.Core.Path.{_≡_, sym, ap, _∙_}
 use mathlib.Core.Bool.{false}
 use native.Mathlib.Omega.{arith}
@@ -19,7 +19,7 @@ placeAt offset size = record { offset = offset; length = size }
 
 -- where the function starts
 abbrev start : tie.After-bytes-cut → tie.Start
-start c = c .before .before .before .before
+start c = c .before .before .before .before .before
 
 -- the section's bytes are cut as the definition says
 cut-said : (c : tie.After-bytes-cut)
@@ -89,10 +89,10 @@ image-place-requires c κs = search needs
 
 -- the section's bytes lie in the image from the place on, also as far as an offset reaches
 held : (c : tie.After-image-place)
-    → let a = start (c .before .before .before .before .before) .args in
+    → let a = start (c .before .before .before .before .before .before) .args in
     (c .image-place .result + a .head .size ≤ length (a .image .now)) × (c .image-place .result + a .head .size ≤ 4294967295)
 held c =
-    let t = c .before .before in
+    let t = c .before .before .before in
     let a = start (t .before .before .before) .args in
     let lies = bytes-lie (imagePlaces (a .places .now)) (reach (length (a .image .now))) (a .p .section) (a .head) (whole t) (c .before .if3 .left) in
     (omega (arith, lies, c .image-place .ensures), omega (arith, lies, c .image-place .ensures))
@@ -102,9 +102,37 @@ cast-part-of c = search needs
 
 part-of-requires : tie.Need-part-of-requires
 part-of-requires c κs =
-    let t = c .before .before in
+    let t = c .before .before .before in
     let a = start (t .before .before .before) .args in
     (held c .0, not-below (a .head) (a .p) (inside t), not-above (a .head) (a .p) (inside t))
+
+sub-t17 : tie.Need-sub-t17
+sub-t17 c =
+    let t = c .before .before .before .before .before .before in
+    let a = start (t .before .before .before) .args in
+    not-below (a .head) (a .p) (inside t)
+
+add-t18 : tie.Need-add-t18
+add-t18 c =
+    let t = c .before .before .before .before .before .before in
+    let a = start (t .before .before .before) .args in
+    omega (arith, held (c .before .before .before) .1, not-below (a .head) (a .p) (inside t), not-above (a .head) (a .p) (inside t))
+
+cast-t19 : tie.Need-cast-t19
+cast-t19 c =
+    let t = c .before .before .before .before .before .before in
+    let a = start (t .before .before .before) .args in
+    omega (arith, c .before .before .part-of .ensures, held (c .before .before .before) .1, not-below (a .head) (a .p) (inside t), not-above (a .head) (a .p) (inside t))
+
+returns-4 : tie.Need-returns-4
+returns-4 c =
+    let t = c .before .before .before .before .before .before in
+    let a = start (t .before .before .before) .args in
+    let at = c .before .before .before in
+    ap (λ (m : ℕ). accepted (placeAt (at .image-place .result + (a .p .address - a .head .address)) m)) (c .before .before .part-of .ensures)
+    ∙ ap (λ (m : ℕ). accepted (placeAt (m + (a .p .address - a .head .address)) (a .p .size))) (at .image-place .ensures)
+    ∙ ap accepted (sym (placed-some _ (a .head) (a .p) (at .before .if3 .left)))
+    ∙ sym (said t)
 
 pub find-within-spec : {M : Type 1} → statement M
 find-within-spec =
@@ -123,6 +151,7 @@ find-within-spec =
     image-place-requires
     cast-part-of
     part-of-requires
-    sub-t15
-    add-t16
+    sub-t17
+    add-t18
+    cast-t19
     returns-4)

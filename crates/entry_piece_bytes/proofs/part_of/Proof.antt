@@ -39,7 +39,13 @@ piece-bytes-requires : tie.Need-piece-bytes-requires
 piece-bytes-requires c κs = search needs
 
 returns : tie.Need-returns
-returns c = ?
+returns c =
+    let s = c .before .before .before .before .before .before .before in
+    let a = s .args in
+    let from = a .p .address - a .head .address in
+    ap length (c .piece-bytes .ensures)
+    ∙ part-long (a .image .now) (a .start) (a .head .size) from (from + a .p .size) (s .pre .0) (omega (arith, s .pre .1, s .pre .2)) (omega arith)
+    ∙ (let e : from + a .p .size - from ≡ a .p .size = omega arith in e)
 
 pub part-of-spec : {M : Type 1} → statement M
 part-of-spec =
