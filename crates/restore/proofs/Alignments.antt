@@ -12,7 +12,6 @@ use Rattle.lists.specs.Outcome.{accepted, refused}
 use Rattle.lists.specs.Sort.{All}
 use Rattle.lists.proofs.All.{all-map}
 use Rattle.lists.proofs.Binds.{bind-goes, bind-stops}
-use Rattle.lists.proofs.Compare.{never}
 use Rattle.lists.proofs.Outcomes.{fails, passes, bind-inv}
 use Rattle.align.specs.Align.{goodAlign}
 use Rattle.obj.specs.declared.Split.{Split}
@@ -30,7 +29,7 @@ use Rattle.restore.proofs.Parts.{second}
 use Rattle.restore.proofs.Steps.{From, split-inv, kept-inv}
 use Rattle.restore.proofs.Walked.{pieces-from}
 use Rattle.restore.proofs.Coming.{comes-reached, behind, split-turn, split-left}
-use Rattle.restore.proofs.Refusals.{Says, says-of, says-then, Line, walk-says, end-says, split-says}
+use Rattle.restore.proofs.Refusals.{says-of, Line, walk-says, end-says, split-says}
 use Rattle.restore.proofs.Halving.{halved-largest, halved-none}
 
 -- the alignment of a split of the table is good, wherever its range is asked
@@ -54,45 +53,26 @@ pieces-aligned t out checked e = all-map (λ p q. (q .1, one p (q .1))) (pieces-
 
 -- ---- 75
 
--- at a split that is not skipped, whose unit is listed and whose alignment is asked without a refusal, 75 comes exactly if none fits
-misfits : (t : Input) → Checked t → (s : Split) → List·Memᴰ s (t .splits) → (n current : ℕ) (out : Output) (c : Chosen)
-    → unitOf (t .units) (s .unit) ≢ length (t .units) → alignmentIn (t .image) (t .sections .head n) n current s ≡ accepted c
-    → (onKept t n current s out ≡ refused 75 n current) ↔ None (c .value) current
+-- a split whose unit is listed and whose alignment is asked without a refusal is refused with 75 if none fits
+kept-misfits : (t : Input) → Checked t → (s : Split) → List·Memᴰ s (t .splits) → (n current : ℕ) (out : Output) (c : Chosen)
+    → unitOf (t .units) (s .unit) ≢ length (t .units) → alignmentIn (t .image) (t .sections .head n) n current s ≡ accepted c → None (c .value) current
+    → onKept t n current s out ≡ refused 75 n current
 unfolding onKept onAligned
-misfits t checked s listed n current out c unit is = (λ e. none e (fits q current) refl, λ f. found f (fits q current) refl)
+kept-misfits t checked s listed n current out c unit is none =
+    passes 74 n current _ _ (ne-eqb _ _ unit)
+    ∙ bind-goes (alignmentIn (t .image) (t .sections .head n) n current s) _ c is
+    ∙ fails 75 n current _ _ (ap not (misfit (fits q current) refl))
   where
     q : ℕ
     q = halved 16 (c .value) current
 
-    good : goodAlign (c .value) ≡ true
-    good = alignment-good t checked s listed n current c is
-
-    whole : onKept t n current s out ≡ onAligned t n current (unitOf (t .units) (s .unit)) q s out
-    whole =
-        passes 74 n current _ _ (ne-eqb _ _ unit)
-        ∙ bind-goes (alignmentIn (t .image) (t .sections .head n) n current s) _ c is
-
-    Other : (number section address : ℕ) → Type 0
-    Other number m a = number ≢ 75
-
-    fitted : fits q current ≡ true → Says Other (onAligned t n current (unitOf (t .units) (s .unit)) q s out)
-    fitted f =
-        says-then Other 75 n current _ _ (λ e. absurd (never (sym (ap not f) ∙ e))) (λ e.
-        says-then Other 11 n current _ _ (λ e z. omega arith) (λ e.
-        says-then Other 11 n current _ _ (λ e z. omega arith) (λ e.
-        says-then Other 11 n current _ _ (λ e z. omega arith) (λ e.
-        says-then Other 76 n current _ _ (λ e z. omega arith) (λ e. tt)))))
-
-    none : onKept t n current s out ≡ refused 75 n current → (b : Bool) → fits q current ≡ b → None (c .value) current
-    none e true f = absurd (says-of Other _ 75 n current (fitted f) (sym whole ∙ e) refl)
-    none e false f = halved-none (c .value) current good f
-
-    found : None (c .value) current → (b : Bool) → fits q current ≡ b → onKept t n current s out ≡ refused 75 n current
-    found h true f = absurd (h q (halved-largest (c .value) current good f .fitting))
-    found h false f = whole ∙ fails 75 n current _ _ (ap not f)
+    misfit : (b : Bool) → fits q current ≡ b → fits q current ≡ false
+    misfit true f = absurd (none q (halved-largest (c .value) current (alignment-good t checked s listed n current c is) f .fitting))
+    misfit false f = f
 
 -- .. and so it is where nothing before its alignment refuses
-asked-misfits : (t : Input) → Checked t → (n current next : ℕ) (s : Split) → List·Memᴰ s (t .splits) → (out : Output) (a : Asked t n current next s) → None (a .chosen .value) current
+asked-misfits : (t : Input) → Checked t → (n current next : ℕ) (s : Split) → List·Memᴰ s (t .splits) → (out : Output) (a : Asked t n current next s)
+    → None (a .chosen .value) current
     → onSplit t n current next s out ≡ refused 75 n current
 unfolding onSplit
 asked-misfits t checked n current next s listed out a none =
@@ -100,7 +80,7 @@ asked-misfits t checked n current next s listed out a none =
     ∙ passes 72 n current _ _ (a .inside)
     ∙ passes 73 n current _ _ (a .zeros)
     ∙ second (isSkipped s) (accepted out) (onKept t n current s out) (a .kept)
-    ∙ misfits t checked s listed n current out (a .chosen) (a .listed) (a .asked) .1 none
+    ∙ kept-misfits t checked s listed n current out (a .chosen) (a .listed) (a .asked) none
 
 -- a walk that is refused with 75 has come to such a split
 misfit-found : (t : Input) → Checked t → (n address : ℕ) → walk t ≡ refused 75 n address → Misfit t n address

@@ -100,7 +100,8 @@ nobits-pieces t out no-bytes e = all-map (λ p q nobits. (empty p (no-bytes (p .
 -- ---- file offsets
 
 -- what a split adds lies at its offset
-given-placed : (t : Input) (n unit alignment : ℕ) (s : Split) (o : Output) → All (Placed (t .sections)) (o .pieces) → All (Placed (t .sections)) (given t n unit alignment s o .pieces)
+given-placed : (t : Input) (n unit alignment : ℕ) (s : Split) (o : Output) → All (Placed (t .sections)) (o .pieces)
+    → All (Placed (t .sections)) (given t n unit alignment s o .pieces)
 unfolding given pieceOf
 given-placed t n unit alignment s o f = go (isCommon s)
   where
@@ -121,7 +122,8 @@ split-placed t n current next s o o′ e f = go (isSkipped s) (split-inv t n cur
 pub pieces-placed : (t : Input) (out : Output) → walk t ≡ accepted out → All (Placed (t .sections)) (out .pieces)
 unfolding walk
 pieces-placed t out e =
-    sections-keep t (λ o. All (Placed (t .sections)) (o .pieces)) 0 (t .sections .count) (λ m a b s r current next o o′ q f. split-placed t m current next s o o′ q f) nothing out e none
+    sections-keep t (λ o. All (Placed (t .sections)) (o .pieces)) 0 (t .sections .count)
+    (λ m a b s r current next o o′ q f. split-placed t m current next s o o′ q f) nothing out e none
 
 -- ---- sections that look alike to a walk
 
@@ -157,7 +159,8 @@ module _ (t : Input) (u : Sections) where
       (q .zeros (s .end - t .sections .head n .address) (next - t .sections .head n .address))
       ∙ ap (λ (h : Section). onSplit (alone t h (u .bytes n)) n current next s out) (sym (q .head))
 
-  splits-alike : (n : ℕ) → Seen (t .image) (t .sections) u n → (end current : ℕ) (out : Output) (l : List Split) → walkSplits t n end current out l ≡ walkSplits other n end current out l
+  splits-alike : (n : ℕ) → Seen (t .image) (t .sections) u n → (end current : ℕ) (out : Output) (l : List Split)
+      → walkSplits t n end current out l ≡ walkSplits other n end current out l
   unfolding walkSplits
   splits-alike n q end current out [] = refl
   splits-alike n q end current out (s ∷ later) =
