@@ -5,3 +5,6 @@ pub mod Rooms
 pub mod Tables
 pub mod Steps
 pub mod Theorem
+pub mod Numbers
+pub mod Walks
+pub mod Never
