@@ -184,7 +184,8 @@ module _ {file : List ℕ} {t : Loaded} (u : Usable file t) where
           let c = bind-inv _ _ _ (b .2) in
           let d = bind-inv _ _ _ (c .2) in
           let both = then-both _ _ _ (d .1) in
-          let before = gaps-good u (room .splits) (room .names) (b .0) (c .0) (common-good u (room .splits) (room .names) (a .0) (b .0) (merged-good u (room .splits) (room .names) (a .0) (a .1)) (b .1)) (c .1) in
+          let marked = common-good u (room .splits) (room .names) (a .0) (b .0) (merged-good u (room .splits) (room .names) (a .0) (a .1)) (b .1) in
+          let before = gaps-good u (room .splits) (room .names) (b .0) (c .0) marked (c .1) in
           let good = trimmed-good u (room .splits) (room .names) (c .0 .names) (c .0 .rows) (d .0) before (both .1) in
           subst (λ (r : Filled). Says Can (orderedAndWalked file t (room .units) (room .output) (drop (length (namesIn file t)) (r .names)) (r .rows))) (same-accepted (d .2))
           (ordered-can (c .0 .rows) (d .0) (both .0) (aligned-at before) (both .1) (room .output) (drop (length (namesIn file t)) (c .0 .names)) (omega (arith, low, good .few))
@@ -197,14 +198,17 @@ Either number section address = CanCome number
 run-says : (file : List ℕ) (rooms : Loaded → Rooms) → ((t : Loaded) → rooms t .splits ≤ 1024) → Says Either (runOf file rooms)
 unfolding runOf
 run-says file rooms low =
-    says-bind Either (loadOf mainCeilings file) _ (says-map {P = Loads} {Q = Either} (λ number section address h. places.loading (h .0) (h .1)) (loadOf mainCeilings file) (load-says mainCeilings file))
+    says-bind Either (loadOf mainCeilings file) _
+    (says-map {P = Loads} {Q = Either} (λ number section address h. places.loading (h .0) (h .1)) (loadOf mainCeilings file) (load-says mainCeilings file))
     (λ t e. says-map {P = Can} {Q = Either} (λ number section address h. places.staging h) (stages file t (rooms t)) (stages-can (loaded-usable file t e) (rooms t) (low t)))
 
 -- .. of a stage, where the loader accepted
-accepted-says : (file : List ℕ) (t : Loaded) (rooms : Loaded → Rooms) → ((t : Loaded) → rooms t .splits ≤ 1024) → loadOf mainCeilings file ≡ accepted t → Says Can (runOf file rooms)
+accepted-says : (file : List ℕ) (t : Loaded) (rooms : Loaded → Rooms) → ((t : Loaded) → rooms t .splits ≤ 1024) → loadOf mainCeilings file ≡ accepted t
+    → Says Can (runOf file rooms)
 unfolding runOf
 accepted-says file t rooms low e =
-    subst (λ (o : Outcome Ended). Says Can o) (sym (bind-goes (loadOf mainCeilings file) (λ t. stages file t (rooms t)) t e)) (stages-can (loaded-usable file t e) (rooms t) (low t))
+    subst (λ (o : Outcome Ended). Says Can o) (sym (bind-goes (loadOf mainCeilings file) (λ t. stages file t (rooms t)) t e))
+    (stages-can (loaded-usable file t e) (rooms t) (low t))
 
 rooms-low : (file : List ℕ) (names bytes size units : ℕ) (output : Counts) (t : Loaded) → roomsIn file names bytes (roomOf size) units output t .splits ≤ 1024
 unfolding roomsIn
@@ -224,10 +228,11 @@ stage-numbers file t sizes number section address l e =
     (accepted-says file t _ (rooms-low file (sizes .ends / 2) (sizes .bytes) (sizes .splits) (sizes .units / 8) (roomIn (sizes .pieces) (sizes .symbols) (sizes .relocs))) l) e
 
 -- none of the four is among them
-none-of-four : (number low high : ℕ) → low ≤ number → number ≤ high → (high < 54) ⊎ ((54 < low) × (high < 62)) ⊎ ((62 < low) × (high < 72)) ⊎ ((72 < low) × (high < 74)) ⊎ (74 < low)
-    → NeverThese number
+none-of-four : (number low high : ℕ) → low ≤ number → number ≤ high
+    → (high < 54) ⊎ ((54 < low) × (high < 62)) ⊎ ((62 < low) × (high < 72)) ⊎ ((72 < low) × (high < 74)) ⊎ (74 < low) → NeverThese number
 none-of-four number low high a b (inl h) = record { fall = λ e. omega arith; edge = λ e. omega arith; outside = λ e. omega arith; unlisted = λ e. omega arith }
-none-of-four number low high a b (inr (inl h)) = record { fall = λ e. omega (arith, h .0); edge = λ e. omega (arith, h .1); outside = λ e. omega (arith, h .1); unlisted = λ e. omega (arith, h .1) }
+none-of-four number low high a b (inr (inl h)) =
+    record { fall = λ e. omega (arith, h .0); edge = λ e. omega (arith, h .1); outside = λ e. omega (arith, h .1); unlisted = λ e. omega (arith, h .1) }
 none-of-four number low high a b (inr (inr (inl h))) =
     record { fall = λ e. omega (arith, h .0); edge = λ e. omega (arith, h .0); outside = λ e. omega (arith, h .1); unlisted = λ e. omega (arith, h .1) }
 none-of-four number low high a b (inr (inr (inr (inl h)))) =

@@ -196,7 +196,9 @@ end-can g n head bytes = go (eqb (head .kind) 3 || eqb (head .size) 0)
     list = isPointerList (g .name (head .name))
 
     go : (b : Bool)
-        → Says Can (cond b (accepted (head .address + head .size)) (refuse 10 n (head .address) (list && ltb (head .size) 4) >> accepted (loweredEnd g n (lessFour list bytes (head .address + head .size)))))
+        → Says Can
+        (cond b (accepted (head .address + head .size))
+        (refuse 10 n (head .address) (list && ltb (head .size) 4) >> accepted (loweredEnd g n (lessFour list bytes (head .address + head .size)))))
     go true = tt
     go false = says-then Can 10 _ _ _ _ (λ e. places.shared (omega arith) (omega arith)) (λ e. tt)
 
@@ -228,7 +230,8 @@ module _ (symbol : ℕ → Symbol) (count : ℕ) where
   one-gap-can : (n current next : ℕ) → Says Can (gapEnd symbol count n current next)
   unfolding gapEnd
   one-gap-can n current next =
-      says-bind Can (endFrom symbol n current next [] (symbolsBetween symbol count n current next)) _ (gap-end-can symbol n current next [] (symbolsBetween symbol count n current next))
+      says-bind Can (endFrom symbol n current next [] (symbolsBetween symbol count n current next)) _
+      (gap-end-can symbol n current next [] (symbolsBetween symbol count n current next))
       (λ end e. says-then Can 42 _ _ _ _ (λ f. places.gap (omega arith) (omega arith)) (λ f. tt))
 
   up-to-can : (most n current next alignment : ℕ) → Says Can (gapsUpTo symbol count most n current next alignment)

@@ -116,7 +116,8 @@ module _ {file : List ℕ} {t : Loaded} (u : Usable file t) (clean : Clean (name
         ∙ after-goes _ _ (stage-image-pass u N [] none-more clean)
         ∙ after-goes _ _ (stage-symbols-pass u N [] none-more clean)
         ∙ after-goes _ _ (splits-pass u clean good (roomOf size) (omega arith))
-        ∙ (λ k. gapsFilled I S (given (sections-back u k) (roomOf size)) (record { names = names k; bytes = bytes k }) (record { names = all-back N (clean .short) k; rows = rows-back u clean good k }))
+        ∙ (λ k. gapsFilled I S (given (sections-back u k) (roomOf size)) (record { names = names k; bytes = bytes k })
+        (record { names = all-back N (clean .short) k; rows = rows-back u clean good k }))
         ∙ sym (filled-alike (imageFrom file t) I images (sectionsFrom file t) S sections _ _ _)
       where
         I : Image
@@ -144,7 +145,8 @@ module _ {file : List ℕ} {t : Loaded} (u : Usable file t) (names more : List (
 
     -- THEOREM: `validate_splits` is the check
     pub validate-is : room ≤ 1024
-        → validateOf (endsOf names) (flat names) (tablesOf file t .sections) (tablesOf file t .symbols) (tableBytes rows) ≡ validate (imageFrom file t .symbol) (imageFrom file t .count) rows
+        → validateOf (endsOf names) (flat names) (tablesOf file t .sections) (tablesOf file t .symbols) (tableBytes rows)
+        ≡ validate (imageFrom file t .symbol) (imageFrom file t .count) rows
     unfolding validateOf
     validate-is low =
         after-goes _ _ (names-pass names clean)
@@ -183,8 +185,8 @@ module _ {file : List ℕ} {t : Loaded} (u : Usable file t) (names more : List (
     module _ (low : room ≤ 1024) (output : Counts) (l : List ℕ) (inside : (v : ℕ) → In v l → v < length (nodes rows)) (few : length l ≤ 1024) where
       -- THEOREM: `split_obj` with the unit table that the link order left is the walk
       pub walk-is :
-          splitObjOf (endsOf names) (flat names) (tablesOf file t .sections) (tablesOf file t .places) file (tablesOf file t .symbols) (tablesOf file t .relocations) (tableBytes rows)
-          (unitsBytes (recordsOf rows (unitsIn file (t .units)) l)) output
+          splitObjOf (endsOf names) (flat names) (tablesOf file t .sections) (tablesOf file t .places) file (tablesOf file t .symbols) (tablesOf file t .relocations)
+          (tableBytes rows) (unitsBytes (recordsOf rows (unitsIn file (t .units)) l)) output
           ≡ walked file t output rows (recordsOf rows (unitsIn file (t .units)) l)
       unfolding splitObjOf walked
       walk-is =
@@ -195,11 +197,12 @@ module _ {file : List ℕ} {t : Loaded} (u : Usable file t) (names more : List (
           ∙ after-goes _ _ (splits-pass u clean good 1024 low)
           ∙ after-goes _ _ (stage-ordered-pass u names more extends clean rows (good .faultless) l inside 1024 few)
           ∙ sym (walk-alike
-          (inputOf (imageFrom file t) (sectionsFrom file t) (relocOf file (t .relocations)) (length (t .relocations)) rows (map (λ (x : units.Unit). x .name) (recordsOf rows (unitsIn file (t .units)) l)) output)
-          (inputIn (endsOf names) (flat names) (tablesOf file t .sections) (tablesOf file t .places) file (tablesOf file t .symbols) (tablesOf file t .relocations) (tableBytes rows)
-          (unitsBytes (recordsOf rows (unitsIn file (t .units)) l)) output)
-          (images-same u names more extends (clean .short)) (sections-same u names more extends (clean .short)) (relocs-same u) (sym (relocs-count u)) (sym (rows-back u clean good))
-          (sym (stage-ordered-names u names more extends clean rows (good .faultless) l inside)) refl)
+          (inputOf (imageFrom file t) (sectionsFrom file t) (relocOf file (t .relocations)) (length (t .relocations)) rows
+          (map (λ (x : units.Unit). x .name) (recordsOf rows (unitsIn file (t .units)) l)) output)
+          (inputIn (endsOf names) (flat names) (tablesOf file t .sections) (tablesOf file t .places) file (tablesOf file t .symbols) (tablesOf file t .relocations)
+          (tableBytes rows) (unitsBytes (recordsOf rows (unitsIn file (t .units)) l)) output)
+          (images-same u names more extends (clean .short)) (sections-same u names more extends (clean .short)) (relocs-same u) (sym (relocs-count u))
+          (sym (rows-back u clean good)) (sym (stage-ordered-names u names more extends clean rows (good .faultless) l inside)) refl)
 
     -- the unit records are those of the run
     left-same : (sizes : Sizes) (l : List ℕ) → unitsLeft file t sizes rows l ≡ run.unitsOf file t rows l

@@ -70,7 +70,8 @@ module _ (file : List ℕ) (t : Loaded) (room : Rooms) where
   onward names rows = linkOrder (linked file t rows) (room .units) >>= onOrder file t (room .output) (drop (length (namesIn file t)) names) rows
 
   abbrev checkedOnward : Filled → Outcome Ended
-  checkedOnward full = validate (imageFrom file t .symbol) (imageFrom file t .count) (full .rows) >> (trimmed (imageFrom file t) (sectionsFrom file t) (full .rows) >>= λ rows. onward (full .names) rows)
+  checkedOnward full =
+      validate (imageFrom file t .symbol) (imageFrom file t .count) (full .rows) >> (trimmed (imageFrom file t) (sectionsFrom file t) (full .rows) >>= onward (full .names))
 
   abbrev chain : Outcome Ended
   chain =
@@ -120,6 +121,18 @@ module _ (file : List ℕ) (t : Loaded) (accepts : loadOf mainCeilings file ≡ 
   abbrev heads : List Section
   heads = sectionsIn file (t .sections)
 
+  -- the entries from the link order on, and from the check on
+  abbrev fromOrder : (names : List (List ℕ)) → List Split → Outcome Ended
+  fromOrder names rows =
+      resolveOf (endsOf names) (flat names) (tablesOf file t .sections) (tableBytes rows) (tablesOf file t .units) (sizes .units) >>= walkEntry file t sizes names rows
+
+  abbrev fromCheck : Filled → Outcome Ended
+  fromCheck full =
+      validateOf (endsOf (full .names)) (flat (full .names)) (tablesOf file t .sections) (tablesOf file t .symbols) (tableBytes (full .rows))
+      >> (trimOf (endsOf (full .names)) (flat (full .names)) (tablesOf file t .sections) (tablesOf file t .places) file (tablesOf file t .symbols) (tableBytes (full .rows))
+      (sizes .splits)
+      >>= fromOrder (full .names))
+
   usable : Usable file t
   usable = loaded-usable file t accepts
 
@@ -132,38 +145,30 @@ module _ (file : List ℕ) (t : Loaded) (accepts : loadOf mainCeilings file ≡ 
   -- ---- after the gaps
   module _ (full : Filled) (more : List (List ℕ)) (extends : full .names ≡ namesIn file t ++ more) (cleaned : Clean (full .names)) where
     ordered-same : (rows : List Split) → Good heads room (full .names) rows
-        → onward file t rooms (full .names) rows
-        ≡ (resolveOf (endsOf (full .names)) (flat (full .names)) (tablesOf file t .sections) (tableBytes rows) (tablesOf file t .units) (sizes .units) >>= walkEntry file t sizes (full .names) rows)
+        → onward file t rooms (full .names) rows ≡ fromOrder (full .names) rows
     unfolding roomsIn
     ordered-same rows q =
         sym (ends-is usable (full .names) more extends cleaned q sizes low (sizes .units / 8) (linkOrder (linked file t rows) (sizes .units / 8))
         (ways (linked file t rows) (by-section q) (omega (arith, q .few, low)) (omega (arith, length-map (t .units) (unitAt file), few-units usable)) (sizes .units / 8)))
         ∙ ap (λ (o : Outcome End). o >>= walkEntry file t sizes (full .names) rows) (sym (resolve-is usable (full .names) more extends cleaned q (sizes .units) low))
 
-    checked-same : Good heads room (full .names) (full .rows)
-        → checkedOnward file t rooms full
-        ≡ (validateOf (endsOf (full .names)) (flat (full .names)) (tablesOf file t .sections) (tablesOf file t .symbols) (tableBytes (full .rows))
-        >> (trimOf (endsOf (full .names)) (flat (full .names)) (tablesOf file t .sections) (tablesOf file t .places) file (tablesOf file t .symbols) (tableBytes (full .rows)) (sizes .splits)
-        >>= λ rows. resolveOf (endsOf (full .names)) (flat (full .names)) (tablesOf file t .sections) (tableBytes rows) (tablesOf file t .units) (sizes .units)
-        >>= walkEntry file t sizes (full .names) rows))
+    checked-same : Good heads room (full .names) (full .rows) → checkedOnward file t rooms full ≡ fromCheck full
     checked-same good =
         let check = sym (validate-is usable (full .names) more extends cleaned good low) in
-        let rest = bind-both (trimmed (imageFrom file t) (sectionsFrom file t) (full .rows)) _ _ _ (sym (trim-is usable (full .names) more extends cleaned good (sizes .splits) (omega arith)))
+        let rest =
+        bind-both (trimmed (imageFrom file t) (sectionsFrom file t) (full .rows)) _ _ _ (sym (trim-is usable (full .names) more extends cleaned good (sizes .splits) (omega arith)))
         (λ rows e. ordered-same rows (trimmed-good usable room (rooms .names) (full .names) (full .rows) rows good e)) in
         λ k. check k >> rest k
 
   -- what the gaps leave
   full-same : (common : List Split) (full : Filled) → Good heads room (namesIn file t) common → table.withGaps file t room (rooms .names) common ≡ accepted full
-      → checkedOnward file t rooms full
-      ≡ (validateOf (endsOf (full .names)) (flat (full .names)) (tablesOf file t .sections) (tablesOf file t .symbols) (tableBytes (full .rows))
-      >> (trimOf (endsOf (full .names)) (flat (full .names)) (tablesOf file t .sections) (tablesOf file t .places) file (tablesOf file t .symbols) (tableBytes (full .rows)) (sizes .splits)
-      >>= λ rows. resolveOf (endsOf (full .names)) (flat (full .names)) (tablesOf file t .sections) (tableBytes rows) (tablesOf file t .units) (sizes .units)
-      >>= walkEntry file t sizes (full .names) rows))
+      → checkedOnward file t rooms full ≡ fromCheck full
   unfolding roomsIn table.withGaps
   full-same common full good e =
       let added = gaps-leave usable room (rooms .names) common full good e .added in
       checked-same full (added .0) (added .1)
-      (clean-run file t accepts (given heads room) (rooms .names) common full (names-low (namesIn file t) (sizes .ends / 2) (clean .few)) (bytes-low (namesIn file t) (sizes .bytes) (clean .short)) e)
+      (clean-run file t accepts (given heads room) (rooms .names) common full (names-low (namesIn file t) (sizes .ends / 2) (clean .few))
+      (bytes-low (namesIn file t) (sizes .bytes) (clean .short)) e)
       (gaps-good usable room (rooms .names) common full good e)
 
   chain-same : chain file t rooms ≡ stageEntries file t sizes
@@ -184,6 +189,7 @@ run-is-entries file sizes =
 
 -- THEOREM: so what `split_file` answers, and every byte of its outputs, is what the entries one after another give
 pub leaves-entries : (file : List ℕ) (sizes : Sizes) (answer : ℕ) (ends bytes splits units pieces symbols relocs counts : List ℕ)
-    → Leaves (splitFileOf file sizes) sizes answer ends bytes splits units pieces symbols relocs counts → Leaves (entriesOf file sizes) sizes answer ends bytes splits units pieces symbols relocs counts
+    → Leaves (splitFileOf file sizes) sizes answer ends bytes splits units pieces symbols relocs counts
+    → Leaves (entriesOf file sizes) sizes answer ends bytes splits units pieces symbols relocs counts
 leaves-entries file sizes answer ends bytes splits units pieces symbols relocs counts l =
     subst (λ (o : Outcome Ended). Leaves o sizes answer ends bytes splits units pieces symbols relocs counts) (run-is-entries file sizes) l

@@ -61,7 +61,12 @@ inside sections n from to low high e =
     let p = both (ltb from to) (outside sections n from to) e in
     let rises = ltb-true from to (p .0) in
     let no : outside sections n from to ≡ false =
-    rw (le-leb (startIn sections n) from low, lt-ltb from (endIn sections n) (omega (arith, rises, high)), lt-ltb (startIn sections n) to (omega (arith, rises, low)), le-leb to (endIn sections n) high) in
+    rw (
+      le-leb (startIn sections n) from low,
+      lt-ltb from (endIn sections n) (omega (arith, rises, high)),
+      lt-ltb (startIn sections n) to (omega (arith, rises, low)),
+      le-leb to (endIn sections n) high,
+    ) in
     absurd (let z : _≡_ {A = Bool} true false = sym (p .1) ∙ no in let w : _≡_ {A = ℕ} 0 1 = ap (λ (b : Bool). cond b 0 1) z in omega (arith, w))
 
 module _ (t : Input) where
