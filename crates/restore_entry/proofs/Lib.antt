@@ -1,5 +1,6 @@
 pub mod Tables
 pub mod Decoded
 pub mod Answers
+pub mod Pieces
 pub mod Bytes
 pub mod Entry
