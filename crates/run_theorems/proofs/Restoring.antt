@@ -31,6 +31,7 @@ use Rattle.restore.specs.Restoring.{bytesIn, parts, byteAt, Plain, Checked, Res
 use Rattle.restore.specs.Alignments.{Largest}
 use Rattle.restore.proofs.Steps.{From}
 use Rattle.restore.proofs.Walked.{pieces-room}
+use Rattle.restore.proofs.Nobits as nobits
 use Rattle.restore.proofs.Theorems as walks
 use Rattle.restore_entry.specs.Tables.{spot}
 use Rattle.restore_entry.proofs.Decoded.{parts-same}
@@ -119,6 +120,10 @@ module _ (c : Call) (e : c .word ≡ 0) where
   nobits-pieces =
       subst (All (λ p. input c .sections .head (p .section) .kind ≡ 3 → (bytesIn (input c .sections) p ≡ []) × ((g : From (input c) p) × (p .size ≡ g .split .end - g .split .start)))) held-is
       (pieces.nobits-pieces (input c) (result c .output) input-checked (few-sections u) low-ends walks-is (c .sizes .pieces))
+
+-- THEOREM T6: a section of kind 3 ends at its address plus its size, whatever the answer
+pub nobits-ends : (c : Call) (n : ℕ) → input c .sections .head n .kind ≡ 3 → splittingEndIn (input c .image) (input c .sections) n ≡ accepted (endIn (input c .sections) n)
+nobits-ends c = nobits.nobits-ends (input c)
 
 -- the same heads and splits are the walks'
 alike : (c d : Call) → SameTables c d → Alike (input c) (input d)

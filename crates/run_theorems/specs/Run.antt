@@ -158,7 +158,7 @@ pub record OnCycle (c : Call) : Type 0 where
   pub relocs : c .relocs ≡ replicate (c .sizes .relocs) 0
   pub counts : c .counts ≡ countsOf (c .sizes .counts) (0 ∷ 0 ∷ 0 ∷ k ∷ 0 ∷ 0 ∷ 0 ∷ [])
 
--- what is lent as a file is bytes: so each slice of `u8` is
+-- what is lent as a file is bytes, as each slice of `u8` is: of other numbers a section's number of "20 no section" could be read that makes its word that of 61
 abbrev pub Bytes : List ℕ → Type 0
 Bytes file = (at : ℕ) → getD file at 0 < 256
 
