@@ -44,9 +44,10 @@ use Rattle.run.specs.Run.{Rooms, Result, Ended, done, cycle, linked, unitsOf, w
 use Rattle.run_file.specs.RunFile.{roomsIn}
 use Rattle.entry_split_file.specs.Entry.{splitFileOf, wordBy}
 use Rattle.run_outputs.specs.Laid.{Sizes}
-use Rattle.splits.specs.Questions.{isSkipped}
+use Rattle.splits.specs.Questions.{isSkipped, nextStart}
 use Rattle.lists.specs.Bounds.{lower}
 use Rattle.lists.proofs.Among.{all-find}
+use Rattle.restore.proofs.Coming.{comes-reached}
 use Rattle.run_theorems.specs.Run.{roomsFor, Bytes}
 use Rattle.run_theorems.proofs.Table.{Good, merged-good, common-good, gaps-good, table-good, row-sound, row-home, rows-lie}
 use Rattle.run_theorems.proofs.Refusals.{not-zero, not-cycle, P, low, high, load-says, end-says, alignment-says, New, all-say}
@@ -89,7 +90,7 @@ module _ (B : Type 0) (t : Input) (few : t .sections .count ≤ 64) (within : Be
       record {
         end = end-says B (t .image) n (t .sections .head n) (t .sections .bytes n) (omega arith) (omega arith);
         missing = λ current. high B 70 n current (omega arith);
-        split = split-says n h;
+        split = λ s current out r. split-says n h s (comes-reached t r) current (nextStart (r .end) (r .later)) out;
       })
 
 -- ---- the run

@@ -24,7 +24,6 @@ use Rattle.sections.specs.Ends.{splittingEnd}
 use Rattle.sections.proofs.Kept.{end-within}
 use Rattle.merge.specs.Merge.{Given, mergeOne}
 use Rattle.gap_columns.specs.Columns.{Gap, gap}
-use Rattle.gaps.specs.Gaps as search
 use Rattle.gaps.specs.Gaps.{endAfter, misses, endFrom, gapEnd, gapsUpTo, gapsBefore, gapsFrom, below, defaultOf, sectionGaps, gapsOf, into, foundGaps}
 use Rattle.gaps.specs.Found.{Lies}
 use Rattle.gaps.proofs.Rounds.{gap-ended}
@@ -38,6 +37,7 @@ use Rattle.trim.specs.Trim.{askNext, alignedEnd, fallOf, fallsOf, carryOne, car
 use Rattle.trim.proofs.Ends.{endless-one, same-section, same-start}
 use Rattle.restore.proofs.Refusals.{Says, says-then, says-bind}
 use Rattle.restore_entry.proofs.Answers.{says-after}
+use Rattle.splits.specs.Questions.{nextStart}
 use Rattle.run_theorems.proofs.Refusals.{P, low, end-says, alignment-says, New, one-says}
 
 module _ (B : Type 0) where
@@ -95,7 +95,7 @@ module _ (B : Type 0) where
         (λ chosen e. says-then (P B) 40 n current _ _ (λ f. at-gap 40 current (omega arith) (omega arith) h) (λ f. up-says _ current (s .start) (chosen .value) h (q .start)))
 
     after-low : (end : ℕ) (s : Split) {later : List Split} → end ≤ 4026531840 → Bounded s → All Bounded later → endAfter end s later ≤ 4026531840
-    unfolding endAfter search.nextStart
+    unfolding endAfter nextStart
     after-low end s h q none = go (eqb (s .end) 0)
       where
         go : (b : Bool) → cond b end (s .end) ≤ 4026531840
