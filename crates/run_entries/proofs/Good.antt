@@ -1,5 +1,5 @@
 -- A split table that a stage of a run leaves: no split has a fault, and there are no more than there is room for. What is known of each split. Assumes nothing.
-use Prim.Native.Nat.{ℕ, _≤_, _<_}
+use Prim.Native.Nat.{ℕ, _+_, _≤_, _<_}
 use mathlib.Core.Path.{_≡_}
 use mathlib.Core.List.{List, map}
 use mathlib.Core.Bool.{false}
@@ -11,8 +11,8 @@ use Rattle.align.specs.Align.{badAlign}
 use Rattle.obj.specs.declared.Section.{Section}
 use Rattle.obj.specs.declared.Split.{Split}
 use Rattle.tables.specs.Tables.{recordsCheck}
-use Rattle.tables.specs.Records.{noSplit, splitFault}
-use Rattle.tables.proofs.Laws.{partial-good, split-good, records-pass, splits-section, splits-rise}
+use Rattle.tables.specs.Records.{noSection, noSplit, splitFault}
+use Rattle.tables.proofs.Laws.{partial-good, split-good, records-pass, splits-section, splits-in-section, splits-rise}
 use Rattle.merge.proofs.Tables.{Sound, sound-of}
 use Rattle.link_graph.proofs.Joined.{BySection}
 
@@ -35,6 +35,11 @@ module _ {heads : List Section} {room : ℕ} {names : List (List ℕ)} {rows : L
 
   pub section-at : (k : ℕ) → k < length rows → getD rows k noSplit .section < length heads
   section-at k h = splits-section (map length names) heads rows (length rows) passed k h
+
+  -- it ends in its section
+  pub ends-at : (k : ℕ) → k < length rows → let s = getD rows k noSplit in
+      s .end ≤ getD heads (s .section) noSection .address + getD heads (s .section) noSection .size
+  ends-at k h = splits-in-section (map length names) heads rows (length rows) passed k h
 
   pub sections-there : All (λ s. s .section < length heads) rows
   sections-there = all-placed rows noSplit section-at

@@ -1,28 +1,16 @@
--- The room for splits is the document's at most, and the room for names: the outputs of `create_gap_splits` give the ceilings that the run has. Assumes nothing.
+-- The room for names: the outputs of `create_gap_splits` give the ceilings that the run has. Assumes nothing.
 use Prim.Native.Nat.{ℕ, _+_, _-_, _*_, _/_, _≤_}
 use mathlib.Core.Path.{_≡_, refl, ap, _∙_}
 use mathlib.Core.List.{List}
 use mathlib.Core.Bool.{Bool, true, false, cond}
 use native.Mathlib.Omega.{arith}
-use borrow.Author.Tests.{ltb-true, ltb-false}
+use borrow.Author.Tests.{ltb-false}
 use lib.Dec.{ltb}
 use lib.ListN.{length}
-use Rattle.stage_splits.specs.StageSplits.{roomOf}
 use Rattle.stage_names.specs.StageNames.{namesRoom, bytesRoom}
 use Rattle.gap_splits.specs.Entering.{bytesOf}
 use Rattle.lists.specs.Bounds.{lower}
 use Rattle.run_entries.specs.Entries.{endsSize, bytesSize}
-
--- 1,024 splits at most
-pub room-low : (size : ℕ) → roomOf size ≤ 1024
-unfolding roomOf
-room-low size = go (ltb (size / 19) 1024) refl
-  where
-    go : (b : Bool) → ltb (size / 19) 1024 ≡ b → cond b (size / 19) 1024 ≤ 1024
-    go true e = omega (arith, ltb-true (size / 19) 1024 e)
-    go false e = omega arith
-
--- ---- names
 
 lower-first : (a b : ℕ) → lower a b ≤ a
 lower-first a b = go (ltb a b) refl

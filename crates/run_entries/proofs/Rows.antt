@@ -1,6 +1,6 @@
 -- What every stage of a run leaves: a split table in which no split has a fault, of no more splits than there is room for. The merge of partial splits without a fault,
 -- marking common, filling gaps, and the trim keep it so. Assumes nothing.
-use Prim.Native.Nat.{ℕ, _<_}
+use Prim.Native.Nat.{ℕ, _≤_, _<_}
 use mathlib.Core.Path.{_≡_, refl, sym, ap, subst, _∙_}
 use mathlib.Core.List.{List, [], map, map-id}
 use mathlib.Core.Bool.{false}
@@ -10,8 +10,9 @@ use lib.ListN.{length, getD, take, drop, length-map, length-drop}
 use lib.Seq.{length-take-le}
 use Rattle.lists.specs.Outcome.{accepted}
 use Rattle.lists.specs.Rows.{tabulate}
+use Rattle.lists.proofs.Outcomes.{bind-inv, then-both, same-accepted}
 use Rattle.lists.proofs.Parts.{tabulate-map, tabulate-list}
-use Rattle.obj.specs.Records.{splitAt}
+use Rattle.obj.specs.Records.{splitAt, unitAt}
 use Rattle.obj.specs.declared.Section.{Section}
 use Rattle.obj.specs.declared.Split.{Split}
 use Rattle.names.specs.Names.{nameAt, namesOf}
@@ -19,17 +20,22 @@ use Rattle.tables.specs.Records.{sectionsIn, splitsIn, noSplit, partialFault}
 use Rattle.load.specs.Load.{Loaded, namesIn}
 use Rattle.load.proofs.Laws.{good-splits}
 use Rattle.loaded.specs.Tables.{imageFrom, sectionsFrom, Usable}
-use Rattle.loaded.proofs.Laws.{measured, section-below}
+use Rattle.loaded.proofs.Laws.{measured, section-below, few-units}
 use Rattle.merge.specs.Merge.{given}
 use Rattle.merge.proofs.Keeping.{all-few}
 use Rattle.merge.proofs.Tables.{Sound, sound-good, all-good}
 use Rattle.gap_splits.specs.Entering.{Filled, Ceilings}
+use Rattle.gap_laws.specs.Good.{Within}
 use Rattle.gap_laws.proofs.Tables.{Leaves, filled-good}
+use Rattle.validate.specs.Check.{validate}
 use Rattle.trim.specs.Trim.{trimmed}
 use Rattle.trim.proofs.Bounds.{trim-faultless}
 use Rattle.trim.proofs.Ends.{trim-keeps, same-length}
+use Rattle.order.specs.LinkOrder.{linkOrder}
+use Rattle.order.proofs.Theorems.{Ways, ways}
 use Rattle.run_splits.specs.Table as table
-use Rattle.run_entries.proofs.Good.{Good}
+use Rattle.run.specs.Run.{linked}
+use Rattle.run_entries.proofs.Good.{Good, by-section}
 use Rattle.run_entries.proofs.Common.{common-faultless, common-length}
 
 -- ---- the stages
@@ -62,6 +68,12 @@ module _ {file : List ℕ} {t : Loaded} (u : Usable file t) where
       (record { named = g .named; renamed = g .renamed; aligned = g .aligned; flags = g .flags; start = g .start; end = g .end }) in
       rw (sound-good (map length (namesIn file t)) s sound)
 
+  -- what the link order of a table without a fault may give
+  pub link-ways : {room : ℕ} {names : List (List ℕ)} {rows : List Split} → Good heads room names rows → room ≤ 1024 → (most : ℕ)
+      → Ways (linked file t rows) most (linkOrder (linked file t rows) most)
+  link-ways {rows = rows} q low most =
+      ways (linked file t rows) (by-section q) (omega (arith, q .few, low)) (omega (arith, length-map (t .units) (unitAt file), few-units u)) most
+
   module _ (room : ℕ) (names : Ceilings) where
     pub merged-good : (l : List Split) → table.merged file t room names ≡ accepted l → Good heads room (namesIn file t) l
     unfolding table.merged
@@ -93,3 +105,33 @@ module _ {file : List ℕ} {t : Loaded} (u : Usable file t) where
       faultless = trim-faultless (map length all) heads (imageFrom file t) (sectionsFrom file t) l m e (q .faultless);
       few = omega (arith, same-length l m (trim-keeps (imageFrom file t) (sectionsFrom file t) l m e), q .few);
     }
+
+    -- the split table of a run: the gaps left a table without a fault, which passed the check, and the trim of it has none either
+    pub record Staged (r : Filled) : Type 0 where
+      pub filled : List Split
+      pub before : Good heads room (r .names) filled
+      pub checks : validate (imageFrom file t .symbol) (imageFrom file t .count) filled ≡ accepted tt
+      pub trims : trimmed (imageFrom file t) (sectionsFrom file t) filled ≡ accepted (r .rows)
+      pub good : Good heads room (r .names) (r .rows)
+      pub within : Within names (namesIn file t) → Within names (r .names)
+
+    -- THEOREM: so it is of every run
+    pub staged : (r : Filled) → table.splitTable file t room names ≡ accepted r → Staged r
+    unfolding table.splitTable table.checked
+    staged r e =
+        let a = bind-inv _ _ _ e in
+        let b = bind-inv _ _ _ (a .2) in
+        let c = bind-inv _ _ _ (b .2) in
+        let d = bind-inv _ _ _ (c .2) in
+        let both = then-both _ _ _ (d .1) in
+        let marked = common-good (a .0) (b .0) (merged-good (a .0) (a .1)) (b .1) in
+        let before = gaps-good (b .0) (c .0) marked (c .1) in
+        subst Staged (same-accepted (d .2))
+        (record {
+          filled = c .0 .rows;
+          before = before;
+          checks = both .0;
+          trims = both .1;
+          good = trimmed-good (c .0 .names) (c .0 .rows) (d .0) before (both .1);
+          within = gaps-leave (b .0) (c .0) marked (c .1) .within;
+        })

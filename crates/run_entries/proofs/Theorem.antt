@@ -4,9 +4,8 @@ use Prim.Native.Nat.{ℕ, _/_, _≤_}
 use mathlib.Core.Path.{_≡_, refl, sym, ap, subst, _∙_}
 use mathlib.Core.List.{List, _++_}
 use native.Mathlib.Omega.{arith}
-use lib.ListN.{length, drop, length-map}
+use lib.ListN.{length, drop}
 use Rattle.lists.specs.Outcome.{Outcome, accepted, refused, _>>_, _>>=_}
-use Rattle.obj.specs.Records.{unitAt}
 use Rattle.obj.specs.declared.Section.{Section}
 use Rattle.obj.specs.declared.Split.{Split}
 use Rattle.tables.specs.Tables.{mainCeilings}
@@ -15,7 +14,6 @@ use Rattle.stage_names.specs.StageNames.{flat}
 use Rattle.load.specs.Load.{Loaded, loadOf, namesIn}
 use Rattle.loaded.specs.Tables.{imageFrom, sectionsFrom, Usable}
 use Rattle.loaded.proofs.Bytes.{loaded-usable}
-use Rattle.loaded.proofs.Laws.{few-units}
 use Rattle.splits.specs.Bytes.{tableBytes}
 use Rattle.merge.specs.Merge.{given}
 use Rattle.gap_splits.specs.Entering.{Filled}
@@ -23,8 +21,8 @@ use Rattle.validate.specs.Check.{validate}
 use Rattle.trim.specs.Trim.{trimmed}
 use Rattle.toposort.specs.Search.{End}
 use Rattle.order.specs.LinkOrder.{linkOrder}
-use Rattle.order.proofs.Theorems.{ways}
 use Rattle.stage_splits.specs.StageSplits.{roomOf}
+use Rattle.stage_splits.proofs.Laws.{room-low}
 use Rattle.stage_walk.specs.Room.{roomIn}
 use Rattle.run_splits.specs.Table as table
 use Rattle.run.specs.Run.{Rooms, Ended, linked, onOrder, orderedAndWalked, stages, runOf}
@@ -39,9 +37,9 @@ use Rattle.entry_trim_splits.specs.Entry.{trimOf}
 use Rattle.entry_resolve_link_order.specs.Entry.{resolveOf}
 use Rattle.entry_split_file.specs.Entry.{splitFileOf, Leaves}
 use Rattle.run_entries.specs.Entries.{walkEntry, stageEntries, entriesOf}
-use Rattle.run_entries.proofs.Good.{Good, by-section}
-use Rattle.run_entries.proofs.Rows.{merged-good, common-good, gaps-leave, gaps-good, trimmed-good}
-use Rattle.run_entries.proofs.Rooms.{room-low, names-low, bytes-low}
+use Rattle.run_entries.proofs.Good.{Good}
+use Rattle.run_entries.proofs.Rows.{link-ways, merged-good, common-good, gaps-leave, gaps-good, trimmed-good}
+use Rattle.run_entries.proofs.Rooms.{names-low, bytes-low}
 use Rattle.run_entries.proofs.Steps.{add-is, update-is, gaps-is, validate-is, trim-is, resolve-is, ends-is}
 
 -- ---- chains
@@ -148,8 +146,7 @@ module _ (file : List ℕ) (t : Loaded) (accepts : loadOf mainCeilings file ≡ 
         → onward file t rooms (full .names) rows ≡ fromOrder (full .names) rows
     unfolding roomsIn
     ordered-same rows q =
-        sym (ends-is usable (full .names) more extends cleaned q sizes low (sizes .units / 8) (linkOrder (linked file t rows) (sizes .units / 8))
-        (ways (linked file t rows) (by-section q) (omega (arith, q .few, low)) (omega (arith, length-map (t .units) (unitAt file), few-units usable)) (sizes .units / 8)))
+        sym (ends-is usable (full .names) more extends cleaned q sizes low (sizes .units / 8) (linkOrder (linked file t rows) (sizes .units / 8)) (link-ways usable q low (sizes .units / 8)))
         ∙ ap (λ (o : Outcome End). o >>= walkEntry file t sizes (full .names) rows) (sym (resolve-is usable (full .names) more extends cleaned q (sizes .units) low))
 
     checked-same : Good heads room (full .names) (full .rows) → checkedOnward file t rooms full ≡ fromCheck full

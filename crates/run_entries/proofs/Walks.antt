@@ -1,6 +1,6 @@
 -- The numbers that a walk can give where no split that it takes ends below its section's start, and every split's unit is listed: neither 72 nor 74. A between-range then
 -- lies in the section, since the splitting end does. Assumes nothing.
-use Prim.Native.Nat.{ℕ, zero, suc, _+_, _≤_, _<_}
+use Prim.Native.Nat.{ℕ, suc, _+_, _≤_, _<_}
 use mathlib.Core.Path.{_≡_, sym, ap, _∙_}
 use mathlib.Core.List.{List, [], _∷_}
 use mathlib.Core.Bool.{Bool, true, false, cond, _&&_}
@@ -9,7 +9,7 @@ use native.Mathlib.Omega.{arith}
 use borrow.Author.Tests.{eqb-true, eq-eqb, ltb-true, lt-ltb, leb-true, le-leb}
 use lib.Dec.{eqb, leb, ltb}
 use lib.ListN.{length}
-use Rattle.lists.specs.Outcome.{accepted, _>>=_}
+use Rattle.lists.specs.Outcome.{accepted}
 use Rattle.lists.specs.Members.{In}
 use Rattle.lists.specs.Rows.{keepIf}
 use Rattle.lists.specs.Sort.{All, none, each}
@@ -22,10 +22,12 @@ use Rattle.sections.specs.Alignment.{defaultAlignment}
 use Rattle.sections.proofs.Kept.{end-within}
 use Rattle.splits.specs.Questions.{within, isSkipped, nextStart}
 use Rattle.units.specs.Units.{lastNamed, unitOf}
-use Rattle.walk.specs.Walk.{Input, Output, startIn, endIn, splittingEndIn, outside, alignmentIn, halved, onAligned, onKept, onSplit, walkSplits, walkSection, walkSections, walk, nothing}
-use Rattle.restore.proofs.Refusals.{Says, says-then, says-bind}
+use Rattle.walk.specs.Walk.{Input, Output, startIn, endIn, splittingEndIn, outside, alignmentIn, halved, onAligned, onKept, onSplit, walk}
+use Rattle.gap_laws.specs.Good.{Below}
+use Rattle.restore.specs.Misfits.{ToSplit, at-start, split-past}
+use Rattle.restore.proofs.Refusals.{Says, says-then, says-bind, walk-says}
 use Rattle.run_entries.specs.Numbers as places
-use Rattle.run_entries.proofs.Numbers.{Can, end-can, alignment-can}
+use Rattle.run_entries.proofs.Numbers.{Can, low, high, end-can, alignment-can}
 
 -- ---- a unit that is listed
 stays-low : (name found number m : ℕ) (l : List ℕ) → found < m → number + length l ≤ m → lastNamed name found number l < m
@@ -69,52 +71,51 @@ inside sections n from to low high e =
     ) in
     absurd (let z : _≡_ {A = Bool} true false = sym (p .1) ∙ no in let w : _≡_ {A = ℕ} 0 1 = ap (λ (b : Bool). cond b 0 1) z in omega (arith, w))
 
-module _ (t : Input) where
+first-of : {A : Type 0} {P : A → Type 0} {x : A} {l : List A} → All P (x ∷ l) → P x
+first-of (each h q) = h
+
+rest-of : {A : Type 0} {P : A → Type 0} {x : A} {l : List A} → All P (x ∷ l) → All P l
+rest-of (each h q) = q
+
+module _ (B : Type 0) (t : Input) (few : t .sections .count ≤ 64) (below : Below (t .sections)) where
   next-within : (n end : ℕ) → end ≤ endIn (t .sections) n → {l : List Split} → All (Taken t n end) l → nextStart end l ≤ endIn (t .sections) n
   unfolding nextStart
   next-within n end h none = h
   next-within n end h (each p q) = omega (arith, h, p .high)
 
-  aligned-can : (n current unit alignment : ℕ) (s : Split) (out : Output) → Says Can (onAligned t n current unit alignment s out)
-  unfolding onAligned
-  aligned-can n current unit alignment s out =
-      says-then Can 75 _ _ _ _ (λ e. places.full (omega arith) (omega arith)) (λ e.
-      says-then Can 11 _ _ _ _ (λ e. places.shared (omega arith) (omega arith)) (λ e.
-      says-then Can 11 _ _ _ _ (λ e. places.shared (omega arith) (omega arith)) (λ e.
-      says-then Can 11 _ _ _ _ (λ e. places.shared (omega arith) (omega arith)) (λ e.
-      says-then Can 76 _ _ _ _ (λ e. places.full (omega arith) (omega arith)) (λ e. tt)))))
+  -- ---- a split at `current`
+  module _ (n current : ℕ) (there : n < 65536) (inside-section : current ≤ 4026531840) (s : Split) (out : Output) where
+    shared : Can B 11 n current
+    shared = low B (places.shared (omega arith) (omega arith)) (λ b. there) inside-section
 
-  kept-can : (n current end : ℕ) (s : Split) → Taken t n end s → (out : Output) → Says Can (onKept t n current s out)
-  unfolding onKept
-  kept-can n current end s taken out =
-      says-then Can 74 _ _ _ _ (λ e. absurd (omega (arith, eqb-true (unitOf (t .units) (s .unit)) (length (t .units)) e, taken .listed))) (λ e.
-      says-bind Can (alignmentIn (t .image) (t .sections .head n) n current s) _
-      (alignment-can (t .image .symbol) (t .image .count) n (defaultAlignment (t .sections .head n) (t .image .name (t .sections .head n .name))) (s .alignment) current (s .end))
-      (λ c is. aligned-can n current (unitOf (t .units) (s .unit)) (halved 16 (c .value) current) s out))
+    aligned-can : (unit alignment : ℕ) → Says (Can B) (onAligned t n current unit alignment s out)
+    unfolding onAligned
+    aligned-can unit alignment =
+        says-then (Can B) 75 _ _ _ _ (λ e. high B (places.full (omega arith) (omega arith)) (omega arith)) (λ e.
+        says-then (Can B) 11 _ _ _ _ (λ e. shared) (λ e.
+        says-then (Can B) 11 _ _ _ _ (λ e. shared) (λ e.
+        says-then (Can B) 11 _ _ _ _ (λ e. shared) (λ e.
+        says-then (Can B) 76 _ _ _ _ (λ e. high B (places.full (omega arith) (omega arith)) (omega arith)) (λ e. tt)))))
 
-  split-can : (n current end next : ℕ) (s : Split) → Taken t n end s → next ≤ endIn (t .sections) n → (out : Output) → Says Can (onSplit t n current next s out)
-  unfolding onSplit
-  split-can n current end next s taken h out =
-      says-then Can 71 _ _ _ _ (λ e. places.missing (omega arith) (omega arith)) (λ e.
-      says-then Can 72 _ _ _ _ (λ f. absurd (inside (t .sections) n (s .end) next (taken .forward) h f)) (λ f.
-      says-then Can 73 _ _ _ _ (λ k. places.nonzero (omega arith) (omega arith)) (λ k. go (isSkipped s))))
-    where
-      go : (b : Bool) → Says Can (cond b (accepted out) (onKept t n current s out))
-      go true = tt
-      go false = kept-can n current end s taken out
+    kept-can : unitOf (t .units) (s .unit) < length (t .units) → Says (Can B) (onKept t n current s out)
+    unfolding onKept
+    kept-can listed =
+        says-then (Can B) 74 _ _ _ _ (λ e. absurd (omega (arith, eqb-true (unitOf (t .units) (s .unit)) (length (t .units)) e, listed))) (λ e.
+        says-bind (Can B) (alignmentIn (t .image) (t .sections .head n) n current s) _
+        (alignment-can B (t .image .symbol) (t .image .count) n (defaultAlignment (t .sections .head n) (t .image .name (t .sections .head n .name))) (s .alignment) current (s .end)
+        there inside-section)
+        (λ c is. aligned-can (unitOf (t .units) (s .unit)) (halved 16 (c .value) current)))
 
-  splits-can : (n end current : ℕ) → end ≤ endIn (t .sections) n → (out : Output) (l : List Split) → All (Taken t n end) l → Says Can (walkSplits t n end current out l)
-  unfolding walkSplits
-  splits-can n end current h out [] q = says-then Can 70 _ _ _ _ (λ e. places.missing (omega arith) (omega arith)) (λ e. tt)
-  splits-can n end current h out (s ∷ later) (each p q) = go (ltb current end) (λ o. splits-can n end (nextStart end later) h o later q)
-    where
-      next : ℕ
-      next = nextStart end later
-
-      go : (b : Bool) → ((o : Output) → Says Can (walkSplits t n end next o later))
-          → Says Can (cond b (onSplit t n current next s out >>= λ o. walkSplits t n end next o later) (accepted out))
-      go true ih = says-bind Can (onSplit t n current next s out) _ (split-can n current end next s p (next-within n end h q) out) (λ o e. ih o)
-      go false ih = tt
+    split-can : (end next : ℕ) → Taken t n end s → next ≤ endIn (t .sections) n → Says (Can B) (onSplit t n current next s out)
+    unfolding onSplit
+    split-can end next taken h =
+        says-then (Can B) 71 _ _ _ _ (λ e. high B (places.missing (omega arith) (omega arith)) (omega arith)) (λ e.
+        says-then (Can B) 72 _ _ _ _ (λ f. absurd (inside (t .sections) n (s .end) next (taken .forward) h f)) (λ f.
+        says-then (Can B) 73 _ _ _ _ (λ k. high B (places.nonzero (omega arith) (omega arith)) (omega arith)) (λ k. go (isSkipped s))))
+      where
+        go : (b : Bool) → Says (Can B) (cond b (accepted out) (onKept t n current s out))
+        go true = tt
+        go false = kept-can (taken .listed)
 
   module _ (forward : (n end : ℕ) → n < t .sections .count → splittingEndIn (t .image) (t .sections) n ≡ accepted end
       → All (λ s. s .section ≡ n → s .start < end → startIn (t .sections) n ≤ s .start → startIn (t .sections) n ≤ s .end) (t .splits))
@@ -136,19 +137,23 @@ module _ (t : Input) where
             let high = ltb-true (s .start) end (b .1) in
             record { high = high; forward = f (eqb-true (s .section) n (a .0)) high (leb-true low (s .start) (b .0)); listed = l }
 
-    section-can : (n : ℕ) → n < t .sections .count → (out : Output) → Says Can (walkSection t n out)
-    unfolding walkSection
-    section-can n h out =
-        says-bind Can (splittingEndIn (t .image) (t .sections) n) _ (end-can (t .image) n (t .sections .head n) (t .sections .bytes n))
-        (λ end e. splits-can n end (startIn (t .sections) n) (end-within (t .image) n (t .sections .head n) (t .sections .bytes n) end e) out _ (taken-all n end h e))
-
-    sections-can : (n more : ℕ) → n + more ≤ t .sections .count → (out : Output) → Says Can (walkSections t n more out)
-    unfolding walkSections
-    sections-can n zero h out = tt
-    sections-can n (suc more) h out =
-        says-bind Can (walkSection t n out) _ (section-can n (omega arith) out) (λ o e. sections-can (suc n) more (omega arith) o)
+    -- the splits that are left where the walk comes to
+    left-taken : {n end current : ℕ} {out : Output} {l : List Split} → n < t .sections .count → splittingEndIn (t .image) (t .sections) n ≡ accepted end
+        → ToSplit t n end current out l → All (Taken t n end) l
+    left-taken {n} {end} h e (at-start q) = taken-all n end h e
+    left-taken h e (split-past q b f) = rest-of (left-taken h e q)
 
     -- THEOREM: neither 72 nor 74 comes
-    pub walk-can : Says Can (walk t)
-    unfolding walk
-    walk-can = sections-can 0 (t .sections .count) (omega arith) nothing
+    pub walk-can : Says (Can B) (walk t)
+    walk-can =
+        walk-says (Can B) t (λ n h.
+        let b = below n h in
+        record {
+          end = end-can B (t .image) n (t .sections .head n) (t .sections .bytes n) (omega arith) (omega arith);
+          missing = λ current. high B (places.missing (omega arith) (omega arith)) (omega arith);
+          split = λ s current out r.
+              let within-section = end-within (t .image) n (t .sections .head n) (t .sections .bytes n) (r .end) (r .ends) in
+              let taken = left-taken h (r .ends) (r .left) in
+              split-can n current (omega arith) (omega (arith, b, within-section, r .below)) s out (r .end) (nextStart (r .end) (r .later)) (first-of taken)
+              (next-within n (r .end) within-section (rest-of taken));
+        })

@@ -2,7 +2,7 @@
 -- say how many records there are. Assumes nothing.
 use Prim.Native.Nat.{ℕ, zero, suc, _+_, _*_, _-_, _/_, _≤_, _<_}
 use mathlib.Core.Path.{_≡_, refl, sym, ap, subst, _∙_}
-use mathlib.Core.List.{List, [], _∷_, _++_, append-assoc}
+use mathlib.Core.List.{List, [], _∷_, _++_, map, append-assoc}
 use native.Mathlib.Nat.{zero-add}
 use native.Mathlib.Omega.{arith}
 use lib.ListN.{length, getD, take, drop, replicate, length-append, length-take, length-map}
@@ -18,7 +18,7 @@ use Rattle.lists.proofs.Outcomes.{bind-inv}
 use Rattle.fields.specs.Fields.{le16, enc16}
 use Rattle.fields.proofs.Laws.{round16}
 use Rattle.obj.specs.Answers.{refusalWord}
-use Rattle.obj.specs.Records.{unitAt, stagePlaces}
+use Rattle.obj.specs.Records.{sectionAt, unitAt, stagePlaces}
 use Rattle.obj.specs.declared.Split.{Split}
 use Rattle.obj.specs.declared.Unit as units
 use Rattle.outputs.specs.Outputs.{halves, countsOf}
@@ -28,12 +28,14 @@ use Rattle.load.specs.Load.{Loaded, namesIn, loadOf}
 use Rattle.load.proofs.Laws.{name-known, good-units}
 use Rattle.loaded.specs.Tables.{Usable}
 use Rattle.loaded.proofs.Bytes.{loaded-usable}
+use Rattle.loaded.proofs.Laws.{few-sections}
 use Rattle.splits.specs.Bytes as split-bytes
 use Rattle.splits.specs.Bytes.{tableBytes}
 use Rattle.splits.proofs.Bytes.{length-tableBytes, splits-back}
 use Rattle.gap_splits.specs.Entering.{Filled}
 use Rattle.gap_laws.specs.Good.{Within}
 use Rattle.symbol_order.proofs.Ranks.{unit-fits}
+use Rattle.file_tables.proofs.Written as written
 use Rattle.link_graph.specs.Graph.{nodes}
 use Rattle.order.specs.LinkOrder.{linkOrder, recordOf}
 use Rattle.order.specs.Bytes.{Fits}
@@ -46,9 +48,12 @@ use Rattle.run.specs.Run.{Ended, done, cycle, stages, runOf}
 use Rattle.run_listing.proofs.Ended.{Finished, finished}
 use Rattle.entry_resolve_link_order.proofs.Theorems.{node-split, own-fits}
 use Rattle.entry_split_file.specs.Entry.{splitFileOf, leftBy}
-use Rattle.run_theorems.specs.Run.{Call, loadedBy, tables, unitRecords, roomsFor, rooms, result, splitCount, splitsOf, givenBy, Bytes}
-use Rattle.run_theorems.proofs.Table.{Good, table-good, row-fits}
-use Rattle.run_theorems.proofs.Running.{names-within, names-few, splits-few, run-ways, run-says, done-of, cycle-of}
+use Rattle.run_theorems.specs.Run.{Call, loadedBy, tables, sectionHeads, unitRecords, roomsFor, rooms, result, splitCount, splitsOf, givenBy, Bytes}
+use Rattle.run_entries.proofs.Good.{Good}
+use Rattle.run_entries.proofs.Rows as rows-laws
+use Rattle.run_entries.proofs.Rows.{Staged, staged}
+use Rattle.run_entries.proofs.Never.{split-file-says}
+use Rattle.run_theorems.proofs.Running.{names-within, names-few, splits-few, done-of, cycle-of}
 
 -- an order number of the file has 32 bits
 pub file-order : (c : Call) (k : ℕ) → k < length (unitRecords c) → SFits w32 (getD (unitRecords c) k noUnit .order)
@@ -75,7 +80,7 @@ module _ (c : Call) where
   -- an answer of 0 is that of a run that was done
   pub done-is : c .word ≡ 0 → splitFileOf (c .file) (c .sizes) ≡ accepted (done (result c))
   done-is e =
-      let d = done-of (Bytes (c .file)) (splitFileOf (c .file) (c .sizes)) (run-says (c .file) (c .sizes)) (sym (c .leaves .said) ∙ e) in
+      let d = done-of (Bytes (c .file)) (splitFileOf (c .file) (c .sizes)) (split-file-says (c .file) (c .sizes)) (sym (c .leaves .said) ∙ e) in
       d .1 ∙ ap (λ (o : Outcome Ended). accepted (done (leftBy o))) (sym (d .1))
 
   pub came-done : c .word ≡ 0 → Came (done (result c))
@@ -87,7 +92,7 @@ module _ (c : Call) where
   -- .. and one of 61 that of a run that ended on a cycle
   pub came-cycle : Bytes (c .file) → c .word ≡ refusalWord 61 0 0 → (us : List units.Unit) × (splitFileOf (c .file) (c .sizes) ≡ accepted (cycle us)) × Came (cycle us)
   came-cycle b e =
-      let d = cycle-of (Bytes (c .file)) (splitFileOf (c .file) (c .sizes)) (run-says (c .file) (c .sizes)) b (sym (c .leaves .said) ∙ e) in
+      let d = cycle-of (Bytes (c .file)) (splitFileOf (c .file) (c .sizes)) (split-file-says (c .file) (c .sizes)) b (sym (c .leaves .said) ∙ e) in
       (d .0, d .1, came (cycle (d .0)) (d .1))
 
   -- ---- a split table of the run
@@ -105,8 +110,21 @@ module _ (c : Call) where
     few-splits = splits-few (c .file) (c .sizes) (tables c)
 
     module _ (full : Filled) (tabled : splitTable (c .file) (tables c) (rooms c .splits) (rooms c .names) ≡ accepted full) where
-      pub good-table : Good usable (rooms c .splits) (rooms c .names) full
-      good-table = table-good usable (rooms c .splits) (rooms c .names) within full tabled
+      pub staged-table : Staged usable (rooms c .splits) (rooms c .names) full
+      staged-table = staged usable (rooms c .splits) (rooms c .names) full tabled
+
+      -- it has no fault, and as many names as there are ceilings for
+      pub good-table : Good (sectionHeads c) (rooms c .splits) (full .names) (full .rows)
+      good-table = staged-table .good
+
+      many-names : length (full .names) ≤ 4096
+      many-names = omega (arith, few-names, staged-table .within within .few)
+
+      -- a split of it has its widths
+      pub rows-fit : (k : ℕ) → k < length (full .rows) → split-bytes.Fits (getD (full .rows) k noSplit)
+      rows-fit =
+          written.rows-fit (map length (full .names)) (sectionHeads c) (full .rows) (omega (arith, length-map (full .names) (length {A = ℕ}), many-names))
+          (omega (arith, length-map (tables c .sections) (sectionAt (c .file)), few-sections usable)) (good-table .faultless)
 
       -- a unit record of the file has its widths
       file-fits : (k : ℕ) → k < length (unitRecords c) → Fits (getD (unitRecords c) k noUnit)
@@ -122,7 +140,7 @@ module _ (c : Call) where
 
       homed : All (Homed (length (tables c .sections)) 4096) (full .rows)
       homed =
-          all-map (λ s q. homed-more (omega (arith, few-names, good-table .named .few)) q) (table-homed usable (rooms c .splits) (rooms c .names) full tabled)
+          all-map (λ s q. homed-more many-names q) (table-homed usable (rooms c .splits) (rooms c .names) full tabled)
 
       -- the record of a unit that has splits has its widths
       pub records-fit : (v : ℕ) → In v (nodes (full .rows)) → Fits (recordOf (full .rows) (unitRecords c) v)
@@ -132,14 +150,14 @@ module _ (c : Call) where
 
       -- what the link order may give
       pub link-ways : Ways (givenBy c (full .rows)) (rooms c .units) (linkOrder (givenBy c (full .rows)) (rooms c .units))
-      link-ways = run-ways usable (rooms c) within few-splits full good-table
+      link-ways = rows-laws.link-ways usable good-table few-splits (rooms c .units)
 
   -- ---- the split table, read from its output
   module _ (e : c .word ≡ 0) where
     abbrev f : Finished (c .file) (tables c) (rooms c) (result c)
     f = finished-is e
 
-    pub good-full : Good (usable (came-done e .loaded)) (rooms c .splits) (rooms c .names) (f .full)
+    pub good-full : Good (sectionHeads c) (rooms c .splits) (f .full .names) (f .full .rows)
     good-full = good-table (came-done e .loaded) (f .full) (f .tabled)
 
     -- THEOREM: the rows that the split output holds are those of the run's split table
@@ -147,8 +165,7 @@ module _ (c : Call) where
     splits-read =
         ap (λ (b : List ℕ). splitsIn b (stagePlaces 19 (splitCount c))) (c .leaves .left .splits-are ∙ sym front)
         ∙ splits-back out rows (omega (arith, length-tableBytes rows, length-append (tableBytes rows) rest)) noSplit
-        (λ k h. subst (λ (l : List Split). split-bytes.Fits (getD l k noSplit)) (sym (f .splits)) (row-fits (usable (came-done e .loaded)) (rooms c .splits) (rooms c .names) (f .full) good-full
-        (omega (arith, few-names (came-done e .loaded))) k (subst (λ (l : List Split). k < length l) (f .splits) h)))
+        (λ k h. subst (λ (l : List Split). split-bytes.Fits (getD l k noSplit)) (sym (f .splits)) (rows-fit (came-done e .loaded) (f .full) (f .tabled) k (subst (λ (l : List Split). k < length l) (f .splits) h)))
         ∙ f .splits
       where
         rows : List Split

@@ -47,9 +47,11 @@ use Rattle.entry_resolve_link_order.specs.Entry.{namesRead, Records}
 use Rattle.entry_resolve_link_order.proofs.Theorems.{records-names, names-read, own-records, not-twice, closed, own-name}
 use Rattle.symbol_order.specs.Keys.{rankOf}
 use Rattle.run_theorems.specs.Run.{Call, tables, unitRecords, rooms, result, unitCount, splitCount, givenBy, HoldsTable, InLinkOrder, Tabled, Orderly, Walks, OnCycle, Bytes}
-use Rattle.run_theorems.proofs.Refusals.{P, not-cycle}
-use Rattle.run_theorems.proofs.Running.{few-rows, walked-run-says}
-use Rattle.run_theorems.proofs.Ended.{Came, came-done, came-cycle, finished-is, usable, within, few-splits, good-table, good-full, records-fit, link-ways, splits-read, count-at, file-order}
+use Rattle.run_entries.specs.Numbers.{staging}
+use Rattle.run_entries.proofs.Numbers.{Can}
+use Rattle.run_entries.proofs.Never.{walked-can}
+use Rattle.run_theorems.proofs.Running.{not-cycle}
+use Rattle.run_theorems.proofs.Ended.{Came, came-done, came-cycle, finished-is, usable, few-splits, staged-table, good-full, records-fit, link-ways, splits-read, count-at, file-order}
 
 -- ---- what the link order gave
 
@@ -101,7 +103,7 @@ module _ (c : Call) (e : c .word ≡ 0) where
       ∙ sym (records-names S (unitRecords c) (f .nodes))
 
   few-walked : length (result c .splits) ≤ 1024
-  few-walked = subst (λ (l : List Split). length l ≤ 1024) (sym (f .splits)) (few-rows (usable c loads) (rooms c) (within c loads) (few-splits c loads) (f .full) (good-full c e))
+  few-walked = subst (λ (l : List Split). length l ≤ 1024) (sym (f .splits)) (omega (arith, good-full c e .few, few-splits c loads))
 
   -- the third count says how many splits were walked
   pub splits-counted : 6 ≤ c .sizes .counts → le16 (c .counts) 4 ≡ splitCount c
@@ -200,9 +202,10 @@ module _ (c : Call) (t : Tabled c) where
     decided = two-ways (linkOrder G room) refl (link-ways c (t .loaded) (t .full) (t .tabled))
 
     -- no refusal of the walk has the word of a cycle
-    walk-apart : (o : Outcome Output) → Says (P (Unit {0})) o → outcomeWord o ≢ refusalWord 61 0 0
+    walk-apart : (o : Outcome Output) → Says (Can (Unit {0})) o → outcomeWord o ≢ refusalWord 61 0 0
     walk-apart (accepted out) s e = absurd (omega arith)
-    walk-apart (refused number section address) s e = not-cycle s tt e
+    walk-apart (refused number section address) s e =
+        not-cycle {B = Unit {0}} (record { comes = staging (s .comes); narrow = s .narrow }) tt e
 
     -- THEOREM (T1.2): a file that no check refuses up to the trim, with no order number twice and room for its units, is refused with 61 exactly if its units hold a cycle
     pub cycle-exactly : HasCycle G ↔ (c .word ≡ refusalWord 61 0 0)
@@ -217,7 +220,7 @@ module _ (c : Call) (t : Tabled c) where
         back (inl x) e =
             absurd
             (walk-apart (walked (c .file) (tables c) (rooms c .output) (t .full .rows) (x .0 .order))
-            (walked-run-says (usable c (t .loaded)) (rooms c) (within c (t .loaded)) (few-splits c (t .loaded)) (t .full) (good-table c (t .loaded) (t .full) (t .tabled)) (Unit {0}) (x .0 .order))
+            (walked-can (Unit {0}) (usable c (t .loaded)) (staged-table c (t .loaded) (t .full) (t .tabled)) (rooms c .output) (x .0 .order) (x .0 .in-order))
             (sym (x .0 .answer) ∙ e))
 
     -- THEOREM (T1.2): without a cycle a link order of its units is walked, and the answer is the walk's

@@ -40,7 +40,7 @@ use Rattle.run.specs.Run.{walked}
 use Rattle.run_listing.proofs.Ended.{Finished}
 use Rattle.run_file.specs.RunFile.{roomsIn}
 use Rattle.run_theorems.specs.Run.{Call, tables, sectionHeads, rooms, result, splitsOf, pieceCount, piecesOf, input, SameTables}
-use Rattle.run_theorems.proofs.Table.{row-sound, row-home, row-ends}
+use Rattle.run_entries.proofs.Good.{sound-at, aligned-at, section-at, ends-at}
 use Rattle.run_theorems.proofs.Ended.{came-done, finished-is, usable, good-full, splits-read, count-at}
 use Rattle.run_theorems.proofs.Order.{units-read}
 
@@ -72,8 +72,8 @@ module _ (c : Call) (e : c .word ≡ 0) where
   row-end : (k : ℕ) → k < length S → getD S k noSplit .end ≤ endIn (sectionsFrom (c .file) (tables c)) (getD S k noSplit .section)
   row-end k h =
       let s = getD S k noSplit in
-      let there = row-home u (rooms c .splits) (rooms c .names) (f .full) (good-full c e) k h in
-      subst (λ (x : Section). s .end ≤ x .address + x .size) (sym (head-is c (s .section) there)) (row-ends u (rooms c .splits) (rooms c .names) (f .full) (good-full c e) k h)
+      let there : s .section < length (tables c .sections) = omega (arith, section-at (good-full c e) k h, length-map (tables c .sections) (sectionAt (c .file))) in
+      subst (λ (x : Section). s .end ≤ x .address + x .size) (sym (head-is c (s .section) there)) (ends-at (good-full c e) k h)
 
   -- THEOREM: the tables of an accepted call give a walk what the theorems on restoring ask of its input
   pub input-checked : Checked (input c)
@@ -81,12 +81,12 @@ module _ (c : Call) (e : c .word ≡ 0) where
     sized = λ n h holds. kept-whole (c .file) (tables c .sections) (c .file) (bytePlaces (tables c .sections)) (tables c .names) (sections-kept u) n h .sized holds;
     nobits = λ n h q. nobits-bytes n (headOf (c .file) (tables c .sections) n) q (c .file) (bytePlaces (tables c .sections));
     sound = symbols-sound u;
-    aligned = each-row (λ s. badAlign (s .alignment) ≡ false) (λ k h. row-sound u (rooms c .splits) (rooms c .names) (f .full) (good-full c e) k h .aligned);
+    aligned = each-row (λ s. badAlign (s .alignment) ≡ false) (λ k h. aligned-at (good-full c e) k h);
     ended = each-row (λ s. s .end ≤ endIn (sectionsFrom (c .file) (tables c)) (s .section)) row-end;
   }
 
   low-ends : All (λ s. s .end ≤ 4026531840) (splitsOf c)
-  low-ends = each-row (λ s. s .end ≤ 4026531840) (λ k h. row-sound u (rooms c .splits) (rooms c .names) (f .full) (good-full c e) k h .end)
+  low-ends = each-row (λ s. s .end ≤ 4026531840) (λ k h. sound-at (good-full c e) k h .end)
 
   held-is : pieces.held (result c .output) (c .sizes .pieces) ≡ piecesOf c
   held-is = ap (λ (l : List ℕ). piecesIn l (pieceCount c)) (sym (c .leaves .left .pieces-are))
