@@ -16,14 +16,15 @@ use Rattle.toposort.specs.Search.{first, badEdge, moveOf, hops, climb, onSeen, 
 use Rattle.toposort.specs.Sorting.{sortOf}
 use Rattle.validate.specs.Check.{endOf, validateOne, validateFrom, validate}
 use Rattle.gap_columns.specs.Columns.{placed, inOrder}
-use Rattle.gaps.specs.Gaps.{nextStart as gapStart, endAfter, endFrom, gapEnd, gapsUpTo, gapsBefore, gapsFrom, sectionGaps, gapsOf, into, foundGaps}
+use Rattle.gaps.specs.Gaps.{endAfter, endFrom, gapEnd, gapsUpTo, gapsBefore, gapsFrom, sectionGaps, gapsOf, into, foundGaps}
 use Rattle.pieces.specs.Questions.{countOf, has}
 use Rattle.relocs.specs.Relocs.{relocsOf, hasRelocs}
 use Rattle.units.specs.Units.{lastNamed, unitOf}
-use Rattle.walk.specs.Walk.{halved, passedOver, entryOf, addSymbol, addSymbols, addRelocs, pieceOf, given, onAligned, onKept, onSplit, nextStart, walkSplits, walkSection, walkSections, walk}
+use Rattle.walk.specs.Walk.{halved, passedOver, entryOf, addSymbol, addSymbols, addRelocs, pieceOf, given, onAligned, onKept, onSplit, walkSplits, walkSection, walkSections, walk}
+use Rattle.splits.specs.Questions.{nextStart}
 use Rattle.document_cases.specs.Table.{Row, table, answered}
 
 -- THEOREM: every row has its answer
 pub cases-hold : map (λ (r : Row). answered (r .asked)) table ≡ map (λ (r : Row). r .answer) table
-unfolding answered refuse _>>=_ _>>_ codes spells spellsOne isLinkerObject isLinkerLabel isVectorTableEnd isPointerList isFourAligned tabulate keepIf some sortBy insertKey symbolsOf hasSymbols lastOr highestOf highestIn allZero lowered splittingEnd defaultAlignment larger alignmentOf alignUp sortOf first badEdge moveOf hops climb onSeen onMove onState run endOf validateOne validateFrom validate placed inOrder gapStart endAfter endFrom gapEnd gapsUpTo gapsBefore gapsFrom sectionGaps gapsOf into foundGaps countOf has relocsOf hasRelocs lastNamed unitOf halved passedOver entryOf addSymbol addSymbols addRelocs pieceOf given onAligned onKept onSplit nextStart walkSplits walkSection walkSections walk
+unfolding answered refuse _>>=_ _>>_ codes spells spellsOne isLinkerObject isLinkerLabel isVectorTableEnd isPointerList isFourAligned tabulate keepIf some sortBy insertKey symbolsOf hasSymbols lastOr highestOf highestIn allZero lowered splittingEnd defaultAlignment larger alignmentOf alignUp sortOf first badEdge moveOf hops climb onSeen onMove onState run endOf validateOne validateFrom validate placed inOrder endAfter endFrom gapEnd gapsUpTo gapsBefore gapsFrom sectionGaps gapsOf into foundGaps countOf has relocsOf hasRelocs lastNamed unitOf halved passedOver entryOf addSymbol addSymbols addRelocs pieceOf given onAligned onKept onSplit nextStart walkSplits walkSection walkSections walk
 cases-hold = refl

@@ -9,10 +9,13 @@ ghost use Rattle.name_table.specs.Stored.{Room as NameRoom};
 ghost use Rattle.splits.specs.Columns.{columns, Long};
 ghost use Rattle.stage_splits.specs.StageSplits.{roomOf, Gives, Leaves};
 ghost use Rattle.merge.specs.Answers.{merged, count};
+ghost use Rattle.obj.specs.Records.{splitWidth};
 ghost use Rattle.entry_add_splits.specs.Entry.{addSplitsOf, fromSplits, asMerged, Scratch};
 use merge::Merged;
 use name_table::check_names;
 use obj::Answer;
+use obj::PARTIAL_BYTES;
+use obj::SPLIT_BYTES;
 use stage_splits::finish;
 use stage_splits::give_splits;
 use stage_splits::room_of;
@@ -30,7 +33,7 @@ fn give_merged(
     out: &mut [u8],
     counts: &mut [u8],
 ) -> Answer
-    requires { ⌜ Long (columns (now starts) (now ends) (now units) (now rest)) (count r) × (19 * count r ≤ length (now out)) × (count r ≤ 1024) ⌝ }
+    requires { ⌜ Long (columns (now starts) (now ends) (now units) (now rest)) (count r) × (splitWidth * count r ≤ length (now out)) × (count r ≤ 1024) ⌝ }
     ensures { λ a. ⌜
         Gives (merged r (columns (now (starts .entry)) (now (ends .entry)) (now (units .entry)) (now (rest .entry)))) a
         (length (now (out .entry))) (length (now (counts .entry))) (now (out .exit)) (now (counts .exit)) ⌝ }
@@ -113,8 +116,8 @@ fn with_columns(
     if let Answer::Refused { .. } = b {
         return as_merged(b);
     }
-    let n = splits.len() / 19;
-    let m = partials.len() / 19;
+    let n = splits.len() / SPLIT_BYTES;
+    let m = partials.len() / PARTIAL_BYTES;
     merge::add_splits(
         starts,
         ends,

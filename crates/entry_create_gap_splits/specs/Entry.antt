@@ -1,6 +1,6 @@
 -- The entry `create_gap_splits` on its lent bytes: what it answers for every input, and the name table and the split table that it gives back. "stage tables by kind ..,
 -- each for 1, 2, then its kind's number", then the gaps (create_gap_splits/specs/Create.antt). "A shorter lent output table has its own length as ceiling; more input
--- splits or names: 2" (DECISIONS.md, 39): of the names at the first that does not fit, by count or by bytes, before anything else but 1 (78).
+-- splits or names: 2" (DECISIONS.md, 39): of the names at the first that does not fit, by count or by bytes, before anything else but 1 of their length.
 use Prim.Native.Nat.{ℕ, _+_, _*_, _/_, _≤_, _<_}
 use mathlib.Core.Path.{_≡_}
 use mathlib.Core.List.{List, [], _∷_}

@@ -4,9 +4,10 @@ use mathlib.Core.Path.{_≡_, sym, ap, _∙_}
 use mathlib.Core.List.{List}
 use mathlib.Core.Bool.{true, false, not}
 use mathlib.Core.Logic.{_≢_}
+use native.Mathlib.Omega.{arith}
 use borrow.Author.Tests.{le-leb, lt-leb, ltb-false, eq-eqb, ne-eqb}
 use lib.Dec.{ltb}
-use lib.ListN.{length, getD}
+use lib.ListN.{length, getD, take, drop, length-take, length-drop}
 use Rattle.lists.specs.Outcome.{Outcome, accepted, refused, _>>_}
 use Rattle.lists.proofs.Outcomes.{fails, passes}
 use Rattle.lists.proofs.Tests.{or-false, and-false, none-of}
@@ -55,6 +56,13 @@ module _ (head : Section) (p : Piece) (e : outside head p ≡ false) where
 
   pub not-above : p .address + p .size ≤ head .address + head .size
   not-above = ltb-false _ _ (or-false (ltb (p .address) (head .address)) (ltb (head .address + head .size) (p .address + p .size)) e .1)
+
+-- a part of a part that reaches no farther than both has the length that was asked for
+pub part-long : (l : List ℕ) (start size from to : ℕ) → start + size ≤ length l → to ≤ size → from ≤ to
+    → length (take (to - from) (drop from (take (start + size - start) (drop start l)))) ≡ to - from
+part-long l start size from to h q g =
+    let section = take (start + size - start) (drop start l) in
+    omega (arith, length-take (to - from) (drop from section), length-drop from section, length-take (start + size - start) (drop start l), length-drop start l)
 
 -- ---- its section, and the piece of a number
 module _ (sections places : List ℕ) (image : ℕ) (p : Piece) where

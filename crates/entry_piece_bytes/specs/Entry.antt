@@ -16,7 +16,7 @@ use Rattle.obj.specs.declared.Answer.the-variants.{Accepted, Refused}
 use Rattle.obj.specs.declared.Section.{Section}
 use Rattle.tables.specs.Tables.{sizeCheck}
 use Rattle.tables.specs.Records.{imagePlaces, bytesCut}
-use Rattle.pieces.specs.Pieces.{pieceAt}
+use Rattle.pieces.specs.Pieces.{pieceAt, pieceWidth}
 use Rattle.pieces.specs.declared.Piece.{Piece}
 use Rattle.entry_piece_bytes.specs.declared.Place.{Place}
 use Rattle.entry_piece_bytes.specs.declared.Found.{Found}
@@ -55,8 +55,8 @@ inSection sections places image p = do
 -- a piece that is not there is 20 at its number
 unfoldable pub ofPiece : (sections places : List ℕ) → (image : ℕ) → (pieces : List ℕ) → (which : ℕ) → Outcome Place
 ofPiece sections places image pieces which = do
-  refuse 20 0 which (leb (length pieces / 28) which)
-  inSection sections places image (pieceAt pieces (28 * which))
+  refuse 20 0 which (leb (length pieces / pieceWidth) which)
+  inSection sections places image (pieceAt pieces (pieceWidth * which))
 
 -- ---- the entry
 
@@ -66,7 +66,7 @@ placeOf sections places image pieces which = do
   -- "64 sections"
   sizeCheck 15 64 (length sections)
   -- 1,024 pieces
-  sizeCheck 28 1024 (length pieces)
+  sizeCheck pieceWidth 1024 (length pieces)
   ofPiece sections (imagePlaces places) (length image) pieces which
 
 -- offset and length in eight bytes, where they fit whole into the lent ones; zeros after a refusal

@@ -1,11 +1,11 @@
 // The entry `piece_bytes` behind its C name: where in the lent image a piece's bytes lie, so that a caller reads them there and copies nothing.
 // It asks the section heads, the places of their bytes and the piece table as `split_obj` takes and gives them.
 ghost use mathlib.Core.Path.{_≡_};
-ghost use lib.ListN.{length, getD};
+ghost use lib.ListN.{length};
+ghost use Prim.Native.Nat.{_+_, _≤_};
 ghost use Rattle.lists.specs.Outcome as outcome;
-ghost use Rattle.tables.specs.Records.{imagePlaces, bytesCut};
+ghost use Rattle.tables.specs.Records.{imagePlaces};
 ghost use Rattle.entry_piece_bytes.specs.Entry.{placeOf, ofPiece, inSection, within, outside, foundMeaning, reach, Leaves};
-use fields::get32;
 use fields::put32;
 use obj::Answer;
 use obj::Section;
@@ -13,8 +13,11 @@ use obj::read_section;
 use obj::refusal;
 use obj::word_of;
 use outputs::clear_from;
+use pieces::PIECE_BYTES;
 use pieces::Piece;
 use pieces::piece_at;
+use tables::bytes_cut;
+use tables::image_place;
 use tables::table_size;
 
 // Where a piece's bytes lie in the image.
@@ -51,24 +54,6 @@ fn reach_of(image: usize) -> usize
     0xFFFF_FFFF
 }
 
-// The place of section k's bytes in the image, 0 of one that has none.
-fn image_place(places: &[u8], k: usize) -> u32
-    ensures { λ r. ⌜ r ≡ getD (imagePlaces (now (places .entry))) k 0 ⌝ }
-{
-    if k < places.len() / 4 {
-        return get32(places, 4 * k);
-    }
-    0
-}
-
-// A section that has bytes, but no place for them in the image, or one from which they pass it.
-fn bytes_cut(places: &[u8], image: usize, k: usize, s: Section) -> bool
-    ensures { λ r. ⌜ r ≡ bytesCut (imagePlaces (now (places .entry))) image k s ⌝ }
-{
-    let start = image_place(places, k);
-    (s.kind != 3) & ((places.len() / 4 <= k) | ((image as u64) < (start as u64) + (s.size as u64)))
-}
-
 // The piece starts below its section's start, or ends above its end.
 fn is_outside(head: Section, p: Piece) -> bool
     ensures { λ r. ⌜ r ≡ outside head p ⌝ }
@@ -77,12 +62,23 @@ fn is_outside(head: Section, p: Piece) -> bool
     (p.address < head.address) | (end < (p.address as u64) + (p.size as u64))
 }
 
+// The bytes of a piece that lies in its section, whose bytes start at `start` of the image: "A piece's bytes are a returned part of the section's bytes, no copy".
+fn part_of(image: &[u8], start: usize, head: Section, p: Piece) -> &[u8]
+    requires { ⌜ (start + head .size ≤ length (now image)) × (head .address ≤ p .address) × (p .address + p .size ≤ head .address + head .size) ⌝ }
+    ensures { λ r. ⌜ length (now r) ≡ p .size ⌝ }
+{
+    let end = start + (head.size as usize);
+    let bytes = &image[start..end];
+    let from = (p.address - head.address) as usize;
+    pieces::piece_bytes(bytes, from, from + (p.size as usize))
+}
+
 // The place of a piece whose section has this head: 1 where the section's bytes are cut, 72 where the piece lies outside; none for kind 3.
-fn find_within(places: &[u8], image: usize, head: Section, p: Piece) -> Found
-    ensures { λ r. ⌜ foundMeaning r ≡ within (imagePlaces (now (places .entry))) image head p ⌝ }
+fn find_within(places: &[u8], image: &[u8], head: Section, p: Piece) -> Found
+    ensures { λ r. ⌜ foundMeaning r ≡ within (imagePlaces (now (places .entry))) (length (now (image .entry))) head p ⌝ }
 {
     let n = p.section as usize;
-    if bytes_cut(places, reach_of(image), n, head) {
+    if bytes_cut(places, reach_of(image.len()), n, head) {
         return refused(1, 0, p.section as u32);
     }
     if is_outside(head, p) {
@@ -97,18 +93,20 @@ fn find_within(places: &[u8], image: usize, head: Section, p: Piece) -> Found
             },
         };
     }
+    let start = image_place(places, n);
+    let part = part_of(image, start as usize, head, p);
     Found {
         answer: Answer::Accepted,
         place: Place {
-            offset: image_place(places, n) + (p.address - head.address),
-            length: p.size,
+            offset: start + (p.address - head.address),
+            length: part.len() as u32,
         },
     }
 }
 
 // The place of a piece: 20 where its section is not there.
-fn find_in_section(sections: &[u8], places: &[u8], image: usize, p: Piece) -> Found
-    ensures { λ r. ⌜ foundMeaning r ≡ inSection (now (sections .entry)) (imagePlaces (now (places .entry))) image p ⌝ }
+fn find_in_section(sections: &[u8], places: &[u8], image: &[u8], p: Piece) -> Found
+    ensures { λ r. ⌜ foundMeaning r ≡ inSection (now (sections .entry)) (imagePlaces (now (places .entry))) (length (now (image .entry))) p ⌝ }
 {
     let n = p.section as usize;
     if sections.len() / 15 <= n {
@@ -118,11 +116,11 @@ fn find_in_section(sections: &[u8], places: &[u8], image: usize, p: Piece) -> Fo
 }
 
 // The place of the piece of this number: 20 where it is not there.
-fn find_piece(sections: &[u8], places: &[u8], image: usize, pieces: &[u8], which: u32) -> Found
-    ensures { λ r. ⌜ foundMeaning r ≡ ofPiece (now (sections .entry)) (imagePlaces (now (places .entry))) image (now (pieces .entry)) which ⌝ }
+fn find_piece(sections: &[u8], places: &[u8], image: &[u8], pieces: &[u8], which: u32) -> Found
+    ensures { λ r. ⌜ foundMeaning r ≡ ofPiece (now (sections .entry)) (imagePlaces (now (places .entry))) (length (now (image .entry))) (now (pieces .entry)) which ⌝ }
 {
     let k = which as usize;
-    if pieces.len() / 28 <= k {
+    if pieces.len() / PIECE_BYTES <= k {
         return refused(20, 0, which);
     }
     find_in_section(sections, places, image, piece_at(pieces, k))
@@ -143,14 +141,14 @@ fn find(sections: &[u8], places: &[u8], image: &[u8], pieces: &[u8], which: u32)
             place: none,
         };
     }
-    let b = table_size(pieces.len(), 28, 1024);
+    let b = table_size(pieces.len(), PIECE_BYTES, 1024);
     if let Answer::Refused { .. } = b {
         return Found {
             answer: b,
             place: none,
         };
     }
-    find_piece(sections, places, image.len(), pieces, which)
+    find_piece(sections, places, image, pieces, which)
 }
 
 // The place into the lent output, where it was given and fits whole; zeros else.

@@ -10,7 +10,7 @@ use Rattle.lists.specs.Outcome.{Outcome, accepted, refused, refuse, _>>_, _>>=_
 use Rattle.lists.specs.Tables.{laid}
 use Rattle.fields.specs.Fields.{enc32}
 use Rattle.obj.specs.Answers.{outcomeWord}
-use Rattle.obj.specs.Records.{splitAt, stagePlaces, Held}
+use Rattle.obj.specs.Records.{splitAt, stagePlaces, Held, splitWidth}
 use Rattle.obj.specs.declared.Answer.{Answer}
 use Rattle.obj.specs.declared.Answer.the-variants.{Accepted, Refused}
 use Rattle.obj.specs.declared.Section.{Section}
@@ -61,7 +61,7 @@ abbrev pub sectionsIn : (sections places image : List ℕ) → Sections
 sectionsIn sections places image = sectionsOf sections (stagePlaces 15 (length sections / 15)) image (imagePlaces places)
 
 abbrev pub splitIn : (splits : List ℕ) → ℕ → Split
-splitIn splits k = splitAt splits (getD (stagePlaces 19 (length splits / 19)) k 0)
+splitIn splits k = splitAt splits (getD (stagePlaces splitWidth (length splits / splitWidth)) k 0)
 
 -- the tables, "stage tables by kind", and then the question
 unfoldable pub answerOf : (ends bytes sections places image symbols splits : List ℕ) → Question → Outcome ℕ
@@ -74,7 +74,7 @@ answerOf ends bytes sections places image symbols splits question = do
   symbolsCheck (mainCeilings .symbols) (length ends / 2) (stageSections sections) symbols
   -- "5 partial split"
   splitsCheck (mainCeilings .splits) (stageLengths ends bytes) (stageSections sections) splits
-  questionOf (imageIn ends bytes symbols) (sectionsIn sections places image) (length splits / 19) (splitIn splits) question
+  questionOf (imageIn ends bytes symbols) (sectionsIn sections places image) (length splits / splitWidth) (splitIn splits) question
 
 -- `end_for_section` takes no splits: an empty table passes every check (`no-splits` of proofs/Laws.antt), so it answers for the other tables and then
 -- the end (`end-answer`, a line for each)
@@ -115,7 +115,7 @@ fromSections name-bytes name-places name-lengths sections places image symbols s
   imageCheck (mainCeilings .sections) name-lengths places (length image) sections
   symbolsCheck (mainCeilings .symbols) (length name-lengths) (stageSections sections) symbols
   splitsCheck (mainCeilings .splits) name-lengths (stageSections sections) splits
-  questionOf (imageOf symbols (stagePlaces 20 (length symbols / 20)) name-bytes name-places name-lengths) (sectionsIn sections places image) (length splits / 19) (splitIn splits) question
+  questionOf (imageOf symbols (stagePlaces 20 (length symbols / 20)) name-bytes name-places name-lengths) (sectionsIn sections places image) (length splits / splitWidth) (splitIn splits) question
 
 -- the names are in columns of one length
 pub record Names (name-bytes name-places name-lengths : List ℕ) : Type 0 where
@@ -129,7 +129,7 @@ pub record Headed (heads head-places name-places : List ℕ) : Type 0 where
 
 -- every split's section is there
 pub record Homes (b places head-places : List ℕ) : Type 0 where
-  pub held : (k : ℕ) → k < length places → Held 19 b places k
+  pub held : (k : ℕ) → k < length places → Held splitWidth b places k
   pub home : (k : ℕ) → k < length places → splitOf b places k .section < length head-places
 
 -- the lent columns are long enough

@@ -11,6 +11,7 @@ use fields::put32;
 use name_table::check_names;
 use names::name_at;
 use obj::Answer;
+use obj::SPLIT_BYTES;
 use obj::refusal;
 use obj::section_at;
 use obj::split_at;
@@ -271,7 +272,7 @@ fn from_sections(
         image,
         &images[..p],
         splits,
-        &split_places[..splits.len() / 19],
+        &split_places[..splits.len() / SPLIT_BYTES],
         question,
     )
 }

@@ -13,6 +13,7 @@ ghost use Rattle.order.specs.Columns.{Resolves, SplitsTaken};
 ghost use Rattle.entry_resolve_link_order.specs.Entry.{resolveOf, fromUnits, fromSplits, fromSections, NamesTaken, SectionsTaken, SplitRoom, Leaves};
 use name_table::check_names;
 use obj::Answer;
+use obj::SPLIT_BYTES;
 use obj::word_of;
 use order::Resolved;
 use order::ordered;
@@ -124,7 +125,7 @@ fn from_splits(
         ends,
         units,
         rest,
-        split_bytes.len() / 19,
+        split_bytes.len() / SPLIT_BYTES,
         heads,
         head_places,
         name_bytes,

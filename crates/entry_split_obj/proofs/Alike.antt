@@ -16,9 +16,9 @@ use Rattle.sections.specs.Image.{Image}
 use Rattle.sections.specs.Bytes.{bytesOf}
 use Rattle.sections.specs.Ends.{splittingEnd}
 use Rattle.sections.specs.Sections.{Sections, headOf, sectionsOf}
-use Rattle.splits.specs.Questions.{within}
+use Rattle.splits.specs.Questions.{within, nextStart}
 use Rattle.walk.specs.declared.Counts.{Counts}
-use Rattle.walk.specs.Walk.{Input, Output, given, onAligned, onKept, onSplit, nextStart, walkSplits, walkSection, walkSections, walk, nothing}
+use Rattle.walk.specs.Walk.{Input, Output, given, onAligned, onKept, onSplit, walkSplits, walkSection, walkSections, walk, nothing}
 use Rattle.walk.specs.Giving.{inputOf}
 
 bytes-as : (image I J : List ℕ) (n : ℕ) (head : Section) → getD I n 0 ≡ getD J n 0 → bytesOf image I n head ≡ bytesOf image J n head
@@ -63,7 +63,7 @@ module _ (g : Image) (heads head-places image : List ℕ) (reloc : ℕ → Reloc
         ∙ onward (splittingEnd g n (headOf heads head-places n) (bytesOf image J n (headOf heads head-places n))) _ _ (λ end. splits-alike end low out (keepIf (within n low end) splits))
 
   module _ (I J : List ℕ) (same : (n : ℕ) → n < length head-places → getD I n 0 ≡ getD J n 0) where
-    sections-alike : (more n : ℕ) (out : Output) → n + more ≤ length head-places → walkSections (input I) n more out ≡ walkSections (input J) n more out
+    pub sections-alike : (more n : ℕ) (out : Output) → n + more ≤ length head-places → walkSections (input I) n more out ≡ walkSections (input J) n more out
     unfolding walkSections
     sections-alike zero n out h = refl
     sections-alike (suc more) n out h =

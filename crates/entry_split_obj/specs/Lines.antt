@@ -19,6 +19,7 @@ use Rattle.walk.specs.Walk.{Output}
 use Rattle.split_obj.specs.declared.Walked.{Walked}
 use Rattle.split_obj.specs.declared.Walked.the-variants.{Accepted, Refused}
 use Rattle.stage_walk.specs.Lines.{fromSplits, none}
+use Rattle.pieces.specs.Pieces.{pieceWidth}
 use Rattle.entry_split_obj.specs.Entry.{Sizes, sectionsIn}
 
 -- ---- the definition, from one table on
@@ -55,7 +56,7 @@ wordBy (Refused number section address) = refusalWord number section address
 
 -- so many records are whole in tables of these sizes
 pub record Fits (made : Counts) (pieces entries offsets : ℕ) : Type 0 where
-  pub pieces-fit : 28 * made .pieces ≤ pieces
+  pub pieces-fit : pieceWidth * made .pieces ≤ pieces
   pub entries-fit : 12 * made .symbols ≤ entries
   pub offsets-fit : 8 * made .relocs ≤ offsets
   pub few-pieces : made .pieces ≤ 1024

@@ -19,6 +19,7 @@ use obj::Answer;
 use obj::word_of;
 use outputs::clear_from;
 use outputs::put_count;
+use pieces::PIECE_BYTES;
 use split_obj::Walked;
 use stage_symbols::take_image_places;
 use stage_symbols::take_symbol_order;
@@ -476,7 +477,7 @@ fn with_names(
 }
 
 // How many records are left of each: none after a refusal.
-fn made_of(r: Walked) -> Counts
+pub fn made_of(r: Walked) -> Counts
     ensures { λ m. ⌜ m ≡ madeBy r ⌝ }
 {
     match r {
@@ -507,7 +508,13 @@ fn word_for(r: Walked) -> u64
 }
 
 // Zeros after the records, and their numbers in the counts.
-fn lay(made: Counts, pieces: &mut [u8], entries: &mut [u8], offsets: &mut [u8], counts: &mut [u8])
+pub fn lay(
+    made: Counts,
+    pieces: &mut [u8],
+    entries: &mut [u8],
+    offsets: &mut [u8],
+    counts: &mut [u8],
+)
     requires { ⌜ Fits made (length (now pieces)) (length (now entries)) (length (now offsets)) ⌝ }
     ensures { λ _. ⌜
         Laid (outputIn (now (pieces .entry)) (now (entries .entry)) (now (offsets .entry)) made)
@@ -515,7 +522,7 @@ fn lay(made: Counts, pieces: &mut [u8], entries: &mut [u8], offsets: &mut [u8], 
         (now (pieces .exit)) (now (entries .exit)) (now (offsets .exit)) (now (counts .exit))
         ⌝ }
 {
-    clear_from(pieces, 28 * made.pieces);
+    clear_from(pieces, PIECE_BYTES * made.pieces);
     clear_from(entries, 12 * made.symbols);
     clear_from(offsets, 8 * made.relocs);
     clear_from(counts, 0);

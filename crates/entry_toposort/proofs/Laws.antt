@@ -23,11 +23,11 @@ use Rattle.obj.specs.declared.Answer.the-variants.{Accepted, Refused}
 use Rattle.outputs.specs.Outputs.{halves, countsOf, storeCount, storeCounts}
 use Rattle.outputs.proofs.Laws.{length-halves, laid-after, counts-stored}
 use Rattle.toposort.specs.Search.{Graph, End}
-use Rattle.toposort.specs.Sorting.{sortOf, meaning, kept, Sorts, Within}
+use Rattle.toposort.specs.Sorting.{sortOf, meaning, kept, Sorts, Within, answerOf}
 use Rattle.toposort.specs.declared.Sorted.{Sorted}
 use Rattle.toposort.specs.declared.Sorted.the-variants.{Ordered, Cycle, NoNode, Short}
 use Rattle.entry_toposort.specs.declared.Ended.{Ended}
-use Rattle.entry_toposort.specs.Entry.{startsOf, goalsOf, graphOf, toposortOf, answerOf, wordOf, nodesOf, Room, Ends, Leaves}
+use Rattle.entry_toposort.specs.Entry.{startsOf, goalsOf, graphOf, toposortOf, wordOf, nodesOf, Room, Ends, Leaves}
 
 -- what an answer leaves is what its outcome says
 said : (r : Sorted) (t : List ℕ) (o : Outcome End) → meaning r t ≡ o → word (answerOf r) ≡ wordOf o

@@ -16,10 +16,6 @@ use Rattle.obj.specs.Answers.{refusalWord, word, place}
 use Rattle.outputs.specs.Outputs.{halves, countsOf}
 use Rattle.toposort.specs.Search.{Graph, End, all, cyclic, lost}
 use Rattle.toposort.specs.Sorting.{sortOf}
-use Rattle.toposort.specs.declared.Sorted.{Sorted}
-use Rattle.toposort.specs.declared.Sorted.the-variants.{Ordered, Cycle, NoNode, Short}
-use Rattle.obj.specs.declared.Answer.{Answer}
-use Rattle.obj.specs.declared.Answer.the-variants.{Accepted, Refused}
 use Rattle.entry_toposort.specs.declared.Ended.{Ended}
 
 -- an edge is four bytes, "from 2, to 2": the two columns
@@ -77,13 +73,6 @@ pub record Good (nodes : ℕ) (edges : List ℕ) (size : ℕ) : Type 0 where
   pub room : 2 * nodes ≤ size
 
 -- ---- inside the entry
-
--- document 01's number, section and address for each case of the sort's answer
-abbrev pub answerOf : Sorted → Answer
-answerOf (Ordered n) = Accepted
-answerOf (Cycle k) = Refused 61 0 0
-answerOf (NoNode e) = Refused 62 0 e
-answerOf Short = Refused 76 0 0
 
 -- room for the nodes of a table of this many bytes, of which no more than 1,024 are asked
 pub record Room (size r : ℕ) : Type 0 where

@@ -5,9 +5,9 @@ ghost use lib.ListN.{length, take};
 ghost use Rattle.lists.specs.Rows.{tabulate};
 ghost use Rattle.fields.specs.Fields.{le16};
 ghost use Rattle.obj.specs.declared.Answer.the-variants.{Refused};
-ghost use Rattle.toposort.specs.Sorting.{Within, sortOf, carried, kept as keptBy};
+ghost use Rattle.toposort.specs.Sorting.{Within, sortOf};
 ghost use Rattle.toposort.specs.Search.{Graph};
-ghost use Rattle.entry_toposort.specs.Entry.{graphOf, toposortOf, answerOf, Room, Scratch, Ends, Leaves};
+ghost use Rattle.entry_toposort.specs.Entry.{graphOf, toposortOf, Room, Scratch, Ends, Leaves};
 use fields::get16;
 use obj::Answer;
 use obj::place_of;
@@ -16,7 +16,8 @@ use obj::word_of;
 use outputs::clear_from;
 use outputs::put_count;
 use outputs::put_halves;
-use toposort::Sorted;
+use toposort::answer_of;
+use toposort::kept;
 
 // The answer, and how many nodes stand at the front of the node table.
 pub struct Ended {
@@ -33,31 +34,6 @@ fn column(edges: &[u8], at: usize, k: usize, out: &mut [u16])
     while i < k {
         out[i] = get16(edges, 4 * i + at);
         i += 1;
-    }
-}
-
-// How many nodes the answer leaves in the table.
-fn kept(r: Sorted) -> usize
-    ensures { λ k. ⌜ k ≡ keptBy r ⌝ }
-{
-    match r {
-        Sorted::Ordered(n) => n,
-        Sorted::Cycle(k) => k,
-        Sorted::NoNode(_) => 0,
-        Sorted::Short => 0,
-    }
-}
-
-// Document 01's number, section and address for each case of the sort's answer.
-fn answer(r: Sorted) -> Answer
-    requires { ⌜ carried r ≤ 2048 ⌝ }
-    ensures { λ a. ⌜ a ≡ answerOf r ⌝ }
-{
-    match r {
-        Sorted::Ordered(_) => Answer::Accepted,
-        Sorted::Cycle(_) => refusal(61, 0, 0),
-        Sorted::NoNode(e) => refusal(62, 0, e as u32),
-        Sorted::Short => refusal(76, 0, 0),
     }
 }
 
@@ -81,7 +57,7 @@ fn sort_columns(n: usize, from: &[u16], to: &[u16], table: &mut [u16], out: &mut
     let m = kept(r);
     put_halves(out, &table[..m]);
     Ended {
-        answer: answer(r),
+        answer: answer_of(r),
         kept: m,
     }
 }

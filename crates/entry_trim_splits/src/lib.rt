@@ -14,9 +14,11 @@ ghost use Rattle.stage_symbols.specs.StageSymbols as symbol_columns;
 ghost use Rattle.stage_splits.specs.StageSplits.{Gives, Leaves};
 ghost use Rattle.trim.specs.Trim.{trimmed};
 ghost use Rattle.trim.specs.Steps.{AllPlaced};
+ghost use Rattle.obj.specs.Records.{splitWidth};
 ghost use Rattle.entry_trim_splits.specs.Entry.{trimOf, fromSplits, fromSymbols, fromSections, Names, Headed, Scratch};
 use name_table::check_names;
 use obj::Answer;
+use obj::SPLIT_BYTES;
 use stage_splits::finish;
 use stage_splits::give_splits;
 use stage_splits::room_of;
@@ -54,7 +56,7 @@ fn trim_rows(
         × AllPlaced (length (now «head_places»)) (columns (now starts) (now ends) (now units) (now rest)) n
         × (n ≤ length (now falls))
         × (n ≤ 1024)
-        × (19 * n ≤ length (now out))
+        × (splitWidth * n ≤ length (now out))
         ⌝ }
     ensures { λ r. ⌜
         Gives
@@ -140,7 +142,7 @@ fn from_splits(
     if let Answer::Refused { .. } = a {
         return a;
     }
-    let n = splits.len() / 19;
+    let n = splits.len() / SPLIT_BYTES;
     trim_rows(
         symbols,
         symbol_places,

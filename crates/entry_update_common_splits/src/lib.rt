@@ -10,10 +10,12 @@ ghost use Rattle.splits.specs.Columns.{columns, rows, Long};
 ghost use Rattle.stage_splits.specs.StageSplits.{Gives, Leaves};
 ghost use Rattle.common.specs.Common.{commonOf};
 ghost use Rattle.common.specs.Sections.{bssIn, Sections};
+ghost use Rattle.obj.specs.Records.{splitWidth};
 ghost use Rattle.entry_update_common_splits.specs.Entry.{updateOf, fromSplits, fromSections, Names, Scratch};
 use common::update_common_records;
 use name_table::check_names;
 use obj::Answer;
+use obj::SPLIT_BYTES;
 use stage_splits::finish;
 use stage_splits::give_splits;
 use stage_splits::room_of;
@@ -41,7 +43,7 @@ fn update(
         Sections (now «name_bytes») (now «name_places») (now «name_lengths») (now heads) (now «head_places»)
         × Long (columns (now starts) (now ends) (now units) (now rest)) n
         × (n ≤ 1024)
-        × (19 * n ≤ length (now out))
+        × (splitWidth * n ≤ length (now out))
         ⌝ }
     ensures { λ r. ⌜
         Gives
@@ -116,7 +118,7 @@ fn from_splits(
     if let Answer::Refused { .. } = a {
         return a;
     }
-    let n = splits.len() / 19;
+    let n = splits.len() / SPLIT_BYTES;
     update(
         name_bytes,
         name_places,

@@ -12,6 +12,7 @@ ghost use Rattle.stage_symbols.specs.StageSymbols as symbol_columns;
 ghost use Rattle.entry_validate_splits.specs.Entry.{validateOf, fromSplits, fromSymbols, fromSections, Scratch};
 use name_table::check_names;
 use obj::Answer;
+use obj::SPLIT_BYTES;
 use obj::word_of;
 use stage_splits::take_split_columns;
 use stage_symbols::take_symbol_order;
@@ -59,7 +60,7 @@ fn from_splits(
     if let Answer::Refused { .. } = a {
         return a;
     }
-    let n = splits.len() / 19;
+    let n = splits.len() / SPLIT_BYTES;
     validate(symbols, symbol_places, order, starts, ends, units, rest, n)
 }
 

@@ -11,12 +11,12 @@ use lib.ListN.{length}
 use lib.Seq.{sets}
 use lib.IntN.{ℤ, pos, negsuc, _-ℤ_}
 use lib.Signed.{mag, ltZ}
-use mir.Syntax.{Width, w32, w64}
+use mir.Syntax.{Width, w32}
 use mir.Val.{bits, hbits, SFits, toZ, ofZ}
 use mir.Facts.{toZ-ofZ, fits-ofZ}
 use mir.ValLaws.{toZ-pos, toZ-neg}
-use Rattle.fields.specs.Fields.{le32, le64, enc32, enc64, signed32, signed64, word32, word64}
-use Rattle.fields.proofs.Laws.{le32-back, le64-back}
+use Rattle.fields.specs.Fields.{le32, enc32, signed32, word32}
+use Rattle.fields.proofs.Laws.{le32-back}
 
 -- ---- -1 less a number
 
@@ -74,6 +74,3 @@ module _ (w : Width) (z : ℤ) (fits : SFits w z) where
 module _ (b : List ℕ) (at : ℕ) (z : ℤ) where
   pub signed32-back : SFits w32 z → at + 4 ≤ length b → signed32 (le32 (sets b at (enc32 (word32 z))) at) ≡ z
   signed32-back fits q = ap signed32 (le32-back b at (word32 z) (fits-ofZ fits .fits) q) ∙ toZ-ofZ fits
-
-  pub signed64-back : SFits w64 z → at + 8 ≤ length b → signed64 (le64 (sets b at (enc64 (word64 z))) at) ≡ z
-  signed64-back fits q = ap signed64 (le64-back b at (word64 z) (fits-ofZ fits .fits) q) ∙ toZ-ofZ fits

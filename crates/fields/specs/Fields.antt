@@ -3,8 +3,8 @@
 -- Both are the little-endian case of one pair over the byte order and the width in bytes, `numberAt` and `bytesOf`; an ELF file may ask the other order.
 -- A signed field (a relocation's "addend 8 signed", a unit's order) is the number that its word is in two's complement, as the language reads an i32 or i64.
 -- Callers use the laws of proofs/Laws.antt: `read-back` (what was stored is read), `read-in` (a field within a longer run of stores), `read-beside` (a store beside
--- a field leaves it), these at each width, as `le16-back`, `le16-in` and `le16-beside`, and `round16`, that a number's bytes give it back; and `signed32-back` and
--- `signed64-back` of proofs/Signed.antt.
+-- a field leaves it), these at each width, as `le16-back`, `le16-in` and `le16-beside`, and `round16`, that a number's bytes give it back; and `signed32-back` of
+-- proofs/Signed.antt.
 use Prim.Native.Nat.{ℕ, zero, suc, _+_, _*_, _/_, _%_, _^_, _<_}
 use mathlib.Core.Path.{_≡_}
 use mathlib.Core.List.{List, [], _∷_, _++_}
@@ -52,10 +52,6 @@ signed64 v = toZ w64 v
 -- the word of 32 bits of a number
 abbrev pub word32 : ℤ → ℕ
 word32 z = ofZ w32 z
-
--- the word of 64 bits of a number
-abbrev pub word64 : ℤ → ℕ
-word64 z = ofZ w64 z
 
 -- ---- any width, either order
 

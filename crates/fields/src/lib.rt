@@ -3,7 +3,7 @@ ghost use mathlib.Core.Path.{_≡_};
 ghost use Prim.Native.Nat.{_+_, _≤_, _<_};
 ghost use lib.ListN.{length};
 ghost use lib.Seq.{sets};
-ghost use Rattle.fields.specs.Fields.{le16, le32, le64, enc16, enc32, enc64, signed32, signed64, word32, word64, Byte};
+ghost use Rattle.fields.specs.Fields.{le16, le32, le64, enc16, enc32, enc64, signed32, signed64, word32, Byte};
 
 // A byte as a number of 16 bits.
 fn byte16(s: &[u8], at: usize) -> u16
@@ -123,28 +123,10 @@ fn number64(v: u64) -> i64
     -1 - ((18446744073709551615 - v) as i64)
 }
 
-// The word of 64 bits of a number.
-fn bits64(z: i64) -> u64
-    ensures { λ r. ⌜ r ≡ word64 z ⌝ }
-{
-    if z < 0 {
-        return 18446744073709551615 - ((-1 - z) as u64);
-    }
-    z as u64
-}
-
 // The signed number of 8 bytes at `at`.
 pub fn get_i64(s: &[u8], at: usize) -> i64
     requires { ⌜ at + 8 ≤ length (now s) ⌝ }
     ensures { λ r. ⌜ r ≡ signed64 (le64 (now (s .entry)) at) ⌝ }
 {
     number64(get64(s, at))
-}
-
-// Stores the word of v as 8 bytes at `at`.
-pub fn put_i64(b: &mut [u8], at: usize, v: i64)
-    requires { ⌜ at + 8 ≤ length (now b) ⌝ }
-    ensures { λ _. ⌜ now (b .exit) ≡ sets (now (b .entry)) at (enc64 (word64 v)) ⌝ }
-{
-    put64(b, at, bits64(v));
 }

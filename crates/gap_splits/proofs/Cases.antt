@@ -1,4 +1,4 @@
--- The inputs that tell the decided readings apart (DECISIONS.md, 38, 50, 51 and 52a) as one table: the names and rows, the ceilings, the gaps and the expected outcome
+-- The inputs that tell the decided readings apart (DECISIONS.md, 38, 50 and 51) as one table: the names and rows, the ceilings, the gaps and the expected outcome
 -- of each. There are two sections, `.data` and `..`, which end at 0x2000; section 1 keeps nothing of its name.
 use Prim.Native.Nat.{ℕ}
 use Prim.Native.String.{String}

@@ -1,4 +1,4 @@
--- Small tables and the gaps that are found in them, or the first refusal: P7, then a case for each decision on gaps (DECISIONS.md, 23 and 44 to 49).
+-- Small tables and the gaps that are found in them, or the first refusal: P7, then a case for each decision on gaps (DECISIONS.md, 23, 26, 44 to 49 and 52).
 -- Names are numbers; name 0 is `.data`, which has the default alignment 8.
 use Prim.Native.Nat.{ℕ}
 use mathlib.Core.Path.{_≡_, refl}
@@ -22,7 +22,8 @@ use Rattle.sections.specs.Sections.{Sections}
 use Rattle.sections.specs.Alignment.{defaultAlignment, larger, alignmentOf}
 use Rattle.sections.specs.Ends.{lowered, splittingEnd}
 use Rattle.gap_columns.specs.Columns.{Gap, gap, placed, inOrder}
-use Rattle.gaps.specs.Gaps.{nextStart, endAfter, endFrom, gapEnd, gapsUpTo, gapsBefore, gapsFrom, sectionGaps, gapsOf, into, foundGaps}
+use Rattle.splits.specs.Questions.{nextStart}
+use Rattle.gaps.specs.Gaps.{endAfter, endFrom, gapEnd, gapsUpTo, gapsBefore, gapsFrom, sectionGaps, gapsOf, into, foundGaps}
 
 -- ---- tables
 

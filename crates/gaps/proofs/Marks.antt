@@ -18,6 +18,7 @@ use Rattle.lists.proofs.Tests.{or-false}
 use Rattle.obj.specs.declared.Symbol.{Symbol}
 use Rattle.symbol_order.specs.Order.{symbolOf, Readable}
 use Rattle.symbols.specs.Ranges.{stripped, symbolsBetween}
+use Rattle.lists.proofs.SomeRows.{some-append}
 use Rattle.gaps.specs.Gaps.{misses, endFrom, gapEnd}
 use Rattle.gaps.specs.Found.{Clean, Markable, Stopped, Unmarked, endIn}
 
@@ -29,18 +30,9 @@ clean-zeros (suc n) (suc k) = clean-zeros n k
 
 -- ---- one element more
 module _ {A : Type 0} (p : A → Bool) where
-  some-append : (s t : List A) → some p (s ++ t) ≡ (some p s || some p t)
-  unfolding some
-  some-append [] t = refl
-  some-append (x ∷ s) t = ap (λ (b : Bool). p x || b) (some-append s t) ∙ go (p x)
-    where
-      go : (a : Bool) → (a || (some p s || some p t)) ≡ ((a || some p s) || some p t)
-      go true = refl
-      go false = refl
-
   pub some-more : (l : List A) (j : ℕ) (d : A) → j < length l → some p (take (j + 1) l) ≡ (some p (take j l) || p (getD l j d))
   unfolding some
-  some-more l j d h = rw (add-one, take-suc l j d h) (some-append (take j l) (getD l j d ∷ []) ∙ ap (λ (b : Bool). some p (take j l) || b) (go (p (getD l j d))))
+  some-more l j d h = rw (add-one, take-suc l j d h) (some-append p (take j l) (getD l j d ∷ []) ∙ ap (λ (b : Bool). some p (take j l) || b) (go (p (getD l j d))))
     where
       go : (a : Bool) → (a || false) ≡ a
       go true = refl

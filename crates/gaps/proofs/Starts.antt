@@ -29,11 +29,11 @@ use Rattle.sections.specs.Sections.{Sections}
 use Rattle.sections.specs.Alignment.{Chosen, alignmentOf}
 use Rattle.sections.proofs.Good.{chosen-good}
 use Rattle.splits.specs.Columns.{Columns, rowOf, rowAt}
-use Rattle.splits.specs.Questions.{fromHit}
+use Rattle.splits.specs.Questions.{fromHit, nextStart}
 use Rattle.splits.proofs.Alignment.{alignment-good}
 use Rattle.splits.proofs.Rows.{good-row}
 use Rattle.gap_columns.specs.Columns.{Gap, keyOf}
-use Rattle.gaps.specs.Gaps.{nextStart, endAfter, gapsTo, gapsBefore, gapsFrom, below, into}
+use Rattle.gaps.specs.Gaps.{endAfter, gapsTo, gapsBefore, gapsFrom, below, into}
 use Rattle.gaps.specs.Found.{starts, alignmentOfNext}
 use Rattle.gaps.proofs.Gathered.{into-more, into-refused}
 use Rattle.gaps.proofs.Rounds.{no-gap, among-to}

@@ -19,11 +19,7 @@ use Rattle.sections.specs.Sections.{Sections}
 use Rattle.sections.specs.Alignment.{defaultAlignment, alignmentOf}
 use Rattle.sections.specs.Ends.{splittingEnd}
 use Rattle.gap_columns.specs.Columns.{Gap, gap, inOrder}
-
--- where the next split starts, or the splitting end
-unfoldable pub nextStart : (end : ℕ) → List Split → ℕ
-nextStart end [] = end
-nextStart end (s ∷ later) = s .start
+use Rattle.splits.specs.Questions.{nextStart}
 
 -- the address after a split: "An open split runs to the next start or the splitting end"
 unfoldable pub endAfter : (end : ℕ) → Split → (later : List Split) → ℕ

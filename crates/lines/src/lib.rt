@@ -1,6 +1,8 @@
 // The lines of the listing, each written into a small lent buffer: no buffer holds the whole listing.
 mod numbers;
 
+pub use numbers::put_decimal;
+pub use numbers::put_hex8;
 ghost use mathlib.Core.Path.{_≡_};
 ghost use mathlib.Core.Bool.{cond};
 ghost use Prim.Native.Nat.{_+_, _≤_};
@@ -8,8 +10,6 @@ ghost use mathlib.Core.List.{_++_, _∷_, []};
 ghost use lib.ListN.{length};
 ghost use Rattle.names.specs.Fixed.{codes};
 ghost use Rattle.lines.specs.Lines.{shown, ownerOf, unitLine, pieceLine, symLine, relocLine, totalLine, refusedLine, Put, Written};
-use crate::numbers::put_decimal;
-use crate::numbers::put_hex8;
 use crate::numbers::put_signed;
 use names::put_bytes;
 

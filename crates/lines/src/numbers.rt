@@ -3,20 +3,10 @@ ghost use mathlib.Core.Path.{_≡_};
 ghost use Prim.Native.Nat.{_+_, _≤_, _<_};
 ghost use mathlib.Core.List.{_++_, _∷_, []};
 ghost use lib.ListN.{length, drop};
-ghost use Rattle.names.specs.GapName.{digit, hex8};
+ghost use Rattle.names.specs.GapName.{hex8};
 ghost use Rattle.lines.specs.Lines.{decimal, signedDecimal, Put, Digits, magnitudeOf};
+use names::digit_of;
 use names::put_bytes;
-
-// A digit, 0 to 9 and A to F.
-fn digit_of(d: u64) -> u8
-    requires { ⌜ d < 16 ⌝ }
-    ensures { λ r. ⌜ r ≡ digit d ⌝ }
-{
-    if d < 10 {
-        return (48 + d) as u8;
-    }
-    (55 + d) as u8
-}
 
 // The decimal digits of a number stand at the end of `column`, from the place that is answered on: the last digit comes first.
 fn digits_of(column: &mut [u8], n: u64) -> usize

@@ -21,11 +21,13 @@ use Rattle.lists.proofs.Rising.{numbers-below}
 use Rattle.obj.specs.declared.Split.{Split}
 use Rattle.obj.specs.declared.Unit as units
 use Rattle.tables.specs.Records.{noSplit, unitsIn}
-use Rattle.order_numbers.specs.Numbers.{rankOf, hasOrder, unitOf, ordered, orderedNumbers}
+use Rattle.order_numbers.specs.Numbers.{hasOrder, ordered, orderedNumbers}
+use Rattle.symbol_order.specs.Keys.{rankOf, unitOf}
 use Rattle.order_numbers.proofs.Records.{ordered-records, length-ordered}
 use Rattle.order_numbers.proofs.Parts.{ordered-readable}
 use Rattle.splits.specs.Columns.{Columns, rows, rowAt}
-use Rattle.link_graph.specs.Graph.{Given, UnitEdge, edge, nodeOf, hasNode, unitsOf, counted, nodes, splitAt, isCommon, isFirst, apart, edgeAt, splitEdges, chained, links, edges, graphOf}
+use Rattle.splits.specs.Questions.{isCommon}
+use Rattle.link_graph.specs.Graph.{Given, UnitEdge, edge, nodeOf, hasNode, unitsOf, counted, nodes, splitAt, isFirst, apart, edgeAt, splitEdges, chained, links, edges, graphOf}
 use Rattle.link_graph.specs.Columns.{givenOf, Splits, mark, Marked, Listed, Edgeable, Edged}
 use Rattle.link_graph.proofs.Nodes.{in-has, counted-in, length-counted, mark-is, no-mark}
 use Rattle.link_graph.proofs.Rows.{row-at, units-of-rows}

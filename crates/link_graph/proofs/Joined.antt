@@ -24,7 +24,8 @@ use Rattle.lists.proofs.Tests.{none-of, and-false}
 use Rattle.obj.specs.declared.Split.{Split}
 use Rattle.obj.specs.declared.Unit as units
 use Rattle.order_numbers.specs.Numbers.{ordered}
-use Rattle.link_graph.specs.Graph.{Given, UnitEdge, edge, hasNode, nodes, splitAt, isCommon, isFirst, apart, edgeAt, splitEdges, chained, links, edges}
+use Rattle.splits.specs.Questions.{isCommon}
+use Rattle.link_graph.specs.Graph.{Given, UnitEdge, edge, hasNode, nodes, splitAt, isFirst, apart, edgeAt, splitEdges, chained, links, edges}
 use Rattle.link_graph.specs.Joined.{Neighbours, Next, Joined, by-splits, by-order}
 use Rattle.link_graph.proofs.Nodes.{has-in}
 use Rattle.link_graph.proofs.Rows.{first-of-all, first-by-section}

@@ -16,7 +16,8 @@ use Rattle.obj.specs.declared.Split.{Split}
 use Rattle.tables.specs.Records.{noSplit}
 use Rattle.splits.specs.Columns.{Columns, rows, rowAt}
 use Rattle.splits.proofs.Rows.{row-unit}
-use Rattle.link_graph.specs.Graph.{unitsOf, splitAt, isCommon, isFirst, apart}
+use Rattle.splits.specs.Questions.{isCommon}
+use Rattle.link_graph.specs.Graph.{unitsOf, splitAt, isFirst, apart}
 
 -- what holds of each place of a list holds of each member
 all-of : (P : ℕ → Type 0) (l : List ℕ) → ((i : ℕ) → i < length l → P (getD l i 0)) → All P l

@@ -10,7 +10,8 @@ use Rattle.names.specs.Names.{nameAt, Named}
 use Rattle.names.specs.Fixed.{isPointerList}
 use Rattle.tables.specs.Records.{unitsIn}
 use Rattle.splits.specs.Columns.{Columns, rows, rowAt, Long}
-use Rattle.order_numbers.specs.Numbers.{Whole, unitOf, orderedNumbers}
+use Rattle.order_numbers.specs.Numbers.{Whole, orderedNumbers}
+use Rattle.symbol_order.specs.Keys.{unitOf}
 use Rattle.link_graph.specs.declared.Made.{Made}
 use Rattle.link_graph.specs.Graph.{Given, UnitEdge, nodeOf, hasNode, counted, nodes, graphOf}
 

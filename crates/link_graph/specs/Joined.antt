@@ -8,7 +8,8 @@ use mathlib.Core.Bool.{true}
 use mathlib.Core.Logic.{_≢_}
 use lib.ListN.{length, getD}
 use Rattle.lists.specs.Members.{In, Distinct}
-use Rattle.link_graph.specs.Graph.{Given, nodes, splitAt, isCommon, chained}
+use Rattle.splits.specs.Questions.{isCommon}
+use Rattle.link_graph.specs.Graph.{Given, nodes, splitAt, chained}
 
 -- two neighbours of the split table that are joined
 pub record Neighbours (g : Given) (a b : ℕ) : Type 0 where

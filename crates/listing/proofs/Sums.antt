@@ -1,5 +1,5 @@
--- The figures: what a loop over the pieces adds up is the unit's figure, and (T8) the figures together are the sizes of all pieces, where each is a unit's of the
--- listing. Readers use `total-is-all`. Assumes nothing.
+-- The figures: what a loop over the pieces adds up is the unit's figure, and the figures together are the sizes of all pieces, where each is a unit's of the listing.
+-- Of every accepted run it is (T8, crate run_totals, which uses `total-is-all`). Assumes nothing.
 use mathlib.Core.Path.{_≡_, refl, sym, ap, ap₂, _∙_}
 use mathlib.Core.List.{List, [], _∷_}
 use mathlib.Core.Bool.{Bool, true, false, cond}
@@ -120,6 +120,6 @@ spread-all count [] none = spread-none 0 count
 spread-all count (p ∷ pieces) (each h a) =
     spread-once p pieces 0 count (omega arith) (omega arith) ∙ ap (λ (k : ℕ). p .size + k) (spread-all count pieces a)
 
--- T8: where each piece's unit is one of the listing's, the total is the sum of all pieces' sizes
+-- where each piece's unit is one of the listing's, the total is the sum of all pieces' sizes
 pub total-is-all : (t : Run) → All (λ (p : Piece). p .unit < length (t .units)) (t .pieces) → figures t 0 (t .units) ≡ sizes (t .pieces)
 total-is-all t a = figures-spread t 0 (t .units) ∙ spread-all (length (t .units)) (t .pieces) a

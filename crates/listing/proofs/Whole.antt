@@ -1,18 +1,15 @@
--- The lines one after another are the listing: from the first cursor on, whatever is written line by line until the end is `listing`. And T8. Assumes nothing.
+-- The lines one after another are the listing: from the first cursor on, whatever is written line by line until the end is `listing`. Assumes nothing.
 use mathlib.Core.Path.{_≡_, refl, sym, ap, _∙_}
 use mathlib.Core.List.{List, [], _++_}
-use Prim.Native.Nat.{ℕ, _<_}
+use Prim.Native.Nat.{ℕ}
 use native.Mathlib.Omega.{arith}
-use lib.ListN.{length, take}
-use Rattle.lists.specs.Sort.{All}
-use Rattle.pieces.specs.declared.Piece.{Piece}
+use lib.ListN.{take}
 use Rattle.listing.specs.declared.Cursor.{Cursor}
 use Rattle.listing.specs.declared.Cursor.the-variants.{Units, Done}
 use Rattle.listing.specs.declared.Line.{Line}
-use Rattle.listing.specs.Listing.{Run, sizes, piecesOf, figure, figures, listing}
-use Rattle.listing.specs.Cursor.{rest, fromTotal, Valid, Next}
+use Rattle.listing.specs.Listing.{Run, listing}
+use Rattle.listing.specs.Cursor.{rest, Valid, Next}
 use Rattle.listing.proofs.Rest.{rest-first}
-use Rattle.listing.proofs.Sums.{total-is-all}
 
 -- the texts of lines that were written from a cursor on, until the end
 pub data Lines (t : Run) : Cursor → List ℕ → Type 0 where
@@ -30,11 +27,3 @@ lines-listing t text l = lines-rest t (Units 0 0) text l ∙ rest-first t
 -- the first cursor is one of the run
 pub first-valid : (units : ℕ) → Valid units (Units 0 0)
 first-valid units = record { inside = omega arith; few = omega arith }
-
--- T8: "A unit's figure is the sum of its pieces' sizes taken from the piece table"
-pub figure-is : (t : Run) (unit : ℕ) → figure t unit ≡ sizes (piecesOf unit (t .pieces))
-figure-is t unit = refl
-
--- "the total's bytes the sum of the units'"; these are all pieces' sizes where each piece's unit is one of the listing's
-pub total-is : (t : Run) → All (λ (p : Piece). p .unit < length (t .units)) (t .pieces) → fromTotal t (figures t 0 (t .units)) ≡ fromTotal t (sizes (t .pieces))
-total-is t a = ap (fromTotal t) (total-is-all t a)

@@ -12,7 +12,7 @@ use Rattle.obj.specs.Records.{Held, unitAt}
 use Rattle.units.specs.Units.{unitNames}
 use Rattle.symbol_order.specs.Order.{symbolOf}
 use Rattle.relocs.specs.Relocs.{relocOf}
-use Rattle.pieces.specs.Pieces.{pieceAt, symbolAt, relocAt, piecesIn, symbolsIn, relocsIn}
+use Rattle.pieces.specs.Pieces.{pieceAt, symbolAt, relocAt, piecesIn, symbolsIn, relocsIn, pieceWidth}
 use Rattle.pieces.specs.declared.Piece.{Piece}
 use Rattle.listing.specs.Listing.{Run, sizes, piecesOf}
 use Rattle.listing.specs.Cursor.{most}
@@ -74,8 +74,8 @@ pub record Readable (t : Tables) : Type 0 where
   pub few-pieces : t .pieces .count ≤ 65535
   pub units : (k : ℕ) → k < length (t .units .places) → Held 8 (t .units .bytes) (t .units .places) k
   pub unit-names : (k : ℕ) → k < length (t .units .places) → Known (t .base) (t .added) (unitAt (t .units .bytes) (getD (t .units .places) k 0) .name)
-  pub pieces : 28 * t .pieces .count ≤ length (t .pieces .bytes)
-  pub piece-names : (k : ℕ) → k < t .pieces .count → Known (t .base) (t .added) (pieceAt (t .pieces .bytes) (28 * k) .name)
+  pub pieces : pieceWidth * t .pieces .count ≤ length (t .pieces .bytes)
+  pub piece-names : (k : ℕ) → k < t .pieces .count → Known (t .base) (t .added) (pieceAt (t .pieces .bytes) (pieceWidth * k) .name)
   pub «piece_symbols» : 12 * t .«piece_symbols» .count ≤ length (t .«piece_symbols» .bytes)
   pub symbols : (k : ℕ) → k < t .«piece_symbols» .count → Held 20 (t .symbols .bytes) (t .symbols .places) (symbolAt (t .«piece_symbols» .bytes) (12 * k) .symbol)
   pub symbol-names :

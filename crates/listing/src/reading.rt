@@ -2,7 +2,7 @@
 ghost use mathlib.Core.Path.{_≡_};
 ghost use Prim.Native.Nat.{_+_, _*_, _≤_};
 ghost use lib.ListN.{length};
-ghost use Rattle.pieces.specs.Pieces.{pieceAt, piecesIn};
+ghost use Rattle.pieces.specs.Pieces.{pieceAt, piecesIn, pieceWidth};
 ghost use Rattle.listing.specs.Cursor.{pieceOf, ownerAt};
 ghost use Rattle.listing.specs.Tables.{Known, Name, Size, Summed};
 use lines::Owner;
@@ -47,7 +47,7 @@ pub fn name_of<'a>(
 
 // Piece k; all zeros where there is none.
 pub fn piece_of(pieces: &[u8], count: usize, k: usize) -> Piece
-    requires { ⌜ 28 * count ≤ length (now pieces) ⌝ }
+    requires { ⌜ pieceWidth * count ≤ length (now pieces) ⌝ }
     ensures { λ r. ⌜ r ≡ pieceOf (piecesIn (now (pieces .entry)) count) k ⌝ }
 {
     if k < count {
@@ -67,7 +67,7 @@ pub fn piece_of(pieces: &[u8], count: usize, k: usize) -> Piece
 
 // "piece or `common`"
 pub fn owner_of(pieces: &[u8], count: usize, place: u16) -> Owner
-    requires { ⌜ 28 * count ≤ length (now pieces) ⌝ }
+    requires { ⌜ pieceWidth * count ≤ length (now pieces) ⌝ }
     ensures { λ r. ⌜ r ≡ ownerAt (piecesIn (now (pieces .entry)) count) place ⌝ }
 {
     if place == 65535 {
@@ -79,8 +79,8 @@ pub fn owner_of(pieces: &[u8], count: usize, place: u16) -> Owner
 
 // What piece k adds to the figure of the unit.
 fn size_in(pieces: &[u8], k: usize, unit: u16) -> u64
-    requires { ⌜ 28 * k + 28 ≤ length (now pieces) ⌝ }
-    ensures { λ r. ⌜ Size (pieceAt (now (pieces .entry)) (28 * k)) unit r ⌝ }
+    requires { ⌜ pieceWidth * k + pieceWidth ≤ length (now pieces) ⌝ }
+    ensures { λ r. ⌜ Size (pieceAt (now (pieces .entry)) (pieceWidth * k)) unit r ⌝ }
 {
     let p = piece_at(pieces, k);
     if p.unit == unit {
@@ -91,7 +91,7 @@ fn size_in(pieces: &[u8], k: usize, unit: u16) -> u64
 
 // "sum of its piece sizes", in 64 bits
 pub fn figure_of(pieces: &[u8], count: usize, unit: u16) -> u64
-    requires { ⌜ (28 * count ≤ length (now pieces)) × (count ≤ 65535) ⌝ }
+    requires { ⌜ (pieceWidth * count ≤ length (now pieces)) × (count ≤ 65535) ⌝ }
     ensures { λ r. ⌜ Summed (piecesIn (now (pieces .entry)) count) unit r ⌝ }
 {
     let mut sum: u64 = 0;

@@ -2,7 +2,7 @@
 ghost use mathlib.Core.Path.{_≡_};
 ghost use Prim.Native.Nat.{_+_, _*_, _≤_, _<_};
 ghost use lib.ListN.{length};
-ghost use Rattle.pieces.specs.Pieces.{pieceAt, symbolAt, relocAt, piecesIn, symbolsIn, relocsIn};
+ghost use Rattle.pieces.specs.Pieces.{pieceAt, symbolAt, relocAt, piecesIn, symbolsIn, relocsIn, pieceWidth};
 ghost use Rattle.listing.specs.declared.Cursor.the-variants.{Units, Pieces, Symbols, Relocs};
 ghost use Rattle.listing.specs.Cursor.{pieceIs, symbolIs, relocIs, First, Before, Within, Valid, Sought, SoughtRelocs, SoughtUnits};
 use crate::Cursor;
@@ -12,8 +12,8 @@ use pieces::piece_reloc_at;
 use pieces::piece_symbol_at;
 
 fn piece_is(pieces: &[u8], k: usize, unit: u16) -> bool
-    requires { ⌜ 28 * k + 28 ≤ length (now pieces) ⌝ }
-    ensures { λ r. ⌜ r ≡ pieceIs unit (pieceAt (now (pieces .entry)) (28 * k)) ⌝ }
+    requires { ⌜ pieceWidth * k + pieceWidth ≤ length (now pieces) ⌝ }
+    ensures { λ r. ⌜ r ≡ pieceIs unit (pieceAt (now (pieces .entry)) (pieceWidth * k)) ⌝ }
 {
     let p = piece_at(pieces, k);
     p.unit == unit
@@ -29,7 +29,7 @@ fn symbol_is(piece_symbols: &[u8], k: usize, unit: u16) -> bool
 
 // A relocation is its piece's unit's.
 fn reloc_is(pieces: &[u8], count: usize, piece_relocs: &[u8], k: usize, unit: u16) -> bool
-    requires { ⌜ (28 * count ≤ length (now pieces)) × (8 * k + 8 ≤ length (now «piece_relocs»)) ⌝ }
+    requires { ⌜ (pieceWidth * count ≤ length (now pieces)) × (8 * k + 8 ≤ length (now «piece_relocs»)) ⌝ }
     ensures { λ r. ⌜ r ≡ relocIs (piecesIn (now (pieces .entry)) count) unit (relocAt (now («piece_relocs» .entry)) (8 * k)) ⌝ }
 {
     let r = piece_reloc_at(piece_relocs, k);
@@ -39,8 +39,8 @@ fn reloc_is(pieces: &[u8], count: usize, piece_relocs: &[u8], k: usize, unit: u1
 
 // The first piece of the unit from `at` on, or how many there are.
 fn next_piece(pieces: &[u8], count: usize, unit: u16, at: usize) -> usize
-    requires { ⌜ 28 * count ≤ length (now pieces) ⌝ }
-    ensures { λ r. ⌜ First (pieceIs unit) (λ k. pieceAt (now (pieces .entry)) (28 * k)) count at r ⌝ }
+    requires { ⌜ pieceWidth * count ≤ length (now pieces) ⌝ }
+    ensures { λ r. ⌜ First (pieceIs unit) (λ k. pieceAt (now (pieces .entry)) (pieceWidth * k)) count at r ⌝ }
 {
     let mut k = at;
     while k < count {
@@ -76,7 +76,7 @@ fn next_reloc(
     unit: u16,
     at: usize,
 ) -> usize
-    requires { ⌜ (28 * «piece_count» ≤ length (now pieces)) × (8 * count ≤ length (now «piece_relocs»)) ⌝ }
+    requires { ⌜ (pieceWidth * «piece_count» ≤ length (now pieces)) × (8 * count ≤ length (now «piece_relocs»)) ⌝ }
     ensures { λ r. ⌜ First (relocIs (piecesIn (now (pieces .entry)) «piece_count») unit) (λ k. relocAt (now («piece_relocs» .entry)) (8 * k)) count at r ⌝ }
 {
     let mut k = at;
@@ -113,7 +113,7 @@ fn seek_reloc(
 ) -> Cursor
     requires { ⌜
         (units ≤ 65535)
-        × (28 * «piece_count» ≤ length (now pieces))
+        × (pieceWidth * «piece_count» ≤ length (now pieces))
         × (8 * «piece_reloc_count» ≤ length (now «piece_relocs»))
         × Within units unit bytes
         ⌝ }
@@ -150,7 +150,7 @@ fn seek_symbol(
 ) -> Cursor
     requires { ⌜
         (units ≤ 65535)
-        × (28 * «piece_count» ≤ length (now pieces))
+        × (pieceWidth * «piece_count» ≤ length (now pieces))
         × (12 * «piece_symbol_count» ≤ length (now «piece_symbols»))
         × (8 * «piece_reloc_count» ≤ length (now «piece_relocs»))
         × Within units unit bytes
@@ -191,7 +191,7 @@ fn seek_piece(
 ) -> Cursor
     requires { ⌜
         (units ≤ 65535)
-        × (28 * «piece_count» ≤ length (now pieces))
+        × (pieceWidth * «piece_count» ≤ length (now pieces))
         × (12 * «piece_symbol_count» ≤ length (now «piece_symbols»))
         × (8 * «piece_reloc_count» ≤ length (now «piece_relocs»))
         × Within units unit bytes
@@ -232,7 +232,7 @@ pub fn seek(
 ) -> Cursor
     requires { ⌜
         (units ≤ 65535)
-        × (28 * «piece_count» ≤ length (now pieces))
+        × (pieceWidth * «piece_count» ≤ length (now pieces))
         × (12 * «piece_symbol_count» ≤ length (now «piece_symbols»))
         × (8 * «piece_reloc_count» ≤ length (now «piece_relocs»))
         × Valid units cursor

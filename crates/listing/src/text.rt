@@ -5,7 +5,7 @@ ghost use lib.ListN.{length, getD};
 ghost use Rattle.obj.specs.Records.{Held, unitAt};
 ghost use Rattle.symbol_order.specs.Order.{symbolOf};
 ghost use Rattle.relocs.specs.Relocs.{relocOf};
-ghost use Rattle.pieces.specs.Pieces.{pieceAt, symbolAt, relocAt, piecesIn};
+ghost use Rattle.pieces.specs.Pieces.{pieceAt, symbolAt, relocAt, piecesIn, pieceWidth};
 ghost use Rattle.lines.specs.Lines.{unitLine};
 ghost use Rattle.listing.specs.declared.Cursor.the-variants.{Pieces, Symbols, Relocs};
 ghost use Rattle.listing.specs.Listing.{sizes, piecesOf};
@@ -46,7 +46,7 @@ pub fn unit_line<'a>(
 ) -> Line
     requires { ⌜
         (192 ≤ length (now out))
-        × (28 * «piece_count» ≤ length (now pieces))
+        × (pieceWidth * «piece_count» ≤ length (now pieces))
         × («piece_count» ≤ 65535)
         × (unit < 65535)
         × (bytes ≤ unit * most)
@@ -100,13 +100,13 @@ pub fn piece_line<'a>(
 ) -> Line
     requires { ⌜
         (192 ≤ length (now out))
-        × (28 * at + 28 ≤ length (now pieces))
+        × (pieceWidth * at + pieceWidth ≤ length (now pieces))
         × (at < 18446744073709551615)
-        × Known (record { bytes = now («base_bytes»); places = now («base_places»); lengths = now («base_lengths») }) (record { bytes = now («added_bytes»); places = now («added_places»); lengths = now («added_lengths») }) (pieceAt (now pieces) (28 * at) .name)
+        × Known (record { bytes = now («base_bytes»); places = now («base_places»); lengths = now («base_lengths») }) (record { bytes = now («added_bytes»); places = now («added_places»); lengths = now («added_lengths») }) (pieceAt (now pieces) (pieceWidth * at) .name)
         ⌝ }
     ensures { λ r. ⌜
         Wrote (now (out .entry)) (now (out .exit))
-        (pieceText (nameIn (record { bytes = now («base_bytes» .entry); places = now («base_places» .entry); lengths = now («base_lengths» .entry) }) (record { bytes = now («added_bytes» .entry); places = now («added_places» .entry); lengths = now («added_lengths» .entry) })) (pieceAt (now (pieces .entry)) (28 * at)))
+        (pieceText (nameIn (record { bytes = now («base_bytes» .entry); places = now («base_places» .entry); lengths = now («base_lengths» .entry) }) (record { bytes = now («added_bytes» .entry); places = now («added_places» .entry); lengths = now («added_lengths» .entry) })) (pieceAt (now (pieces .entry)) (pieceWidth * at)))
         (Pieces unit (at + 1) bytes) r
         ⌝ }
 {
@@ -152,7 +152,7 @@ pub fn symbol_line<'a>(
 ) -> Line
     requires { ⌜
         (192 ≤ length (now out))
-        × (28 * «piece_count» ≤ length (now pieces))
+        × (pieceWidth * «piece_count» ≤ length (now pieces))
         × (12 * at + 12 ≤ length (now «piece_symbols»))
         × (at < 18446744073709551615)
         × Held 20 (now symbols) (now «symbol_places») (symbolAt (now «piece_symbols») (12 * at) .symbol)
@@ -203,7 +203,7 @@ pub fn reloc_line(
 ) -> Line
     requires { ⌜
         (192 ≤ length (now out))
-        × (28 * «piece_count» ≤ length (now pieces))
+        × (pieceWidth * «piece_count» ≤ length (now pieces))
         × (8 * at + 8 ≤ length (now «piece_relocs»))
         × (at < 18446744073709551615)
         × Held 23 (now relocs) (now «reloc_places») (relocAt (now «piece_relocs») (8 * at) .relocation)

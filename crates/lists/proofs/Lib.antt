@@ -29,3 +29,5 @@ pub mod Each
 pub mod Mapping
 pub mod Binds
 pub mod DropRows
+pub mod Among
+pub mod Ranks

@@ -15,7 +15,7 @@ or-no true = refl
 or-no false = refl
 
 module _ {A : Type 0} (p : A → Bool) where
-  some-append : (l r : List A) → some p (l ++ r) ≡ (some p l || some p r)
+  pub some-append : (l r : List A) → some p (l ++ r) ≡ (some p l || some p r)
   unfolding some
   some-append [] r = refl
   some-append (x ∷ l) r = ap (λ (b : Bool). p x || b) (some-append l r) ∙ sym (or-assoc (p x) (some p l) (some p r))

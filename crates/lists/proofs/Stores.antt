@@ -8,7 +8,7 @@ use native.Mathlib.Numerals.{add-one}
 use native.Mathlib.Omega.{arith}
 use lib.ListN.{length, getD, take, drop, set, replicate, length-set, length-map, length-take, length-drop, take-append-drop, drop-of-length-le}
 use mathlib.Core.Logic.{_≢_}
-use lib.Seq.{take-suc, take-suc-set, drop-cons, getD-take, append-snoc, sets, sets-eq, length-take-le, take-append-le, take-append-seam, drop-append-le, drop-at, getD-set-other, getD-set-same}
+use lib.Seq.{drop-set-lt, take-nil, take-suc, take-suc-set, drop-cons, getD-take, append-snoc, sets, sets-eq, length-take-le, take-append-le, take-append-seam, drop-append-le, drop-at, getD-set-other, getD-set-same}
 use Rattle.lists.specs.Rows.{tabulate, insertAt, insertCol, clearFrom, keepIf, firstFrom, firstIn, anyOf, anyFrom}
 
 -- ---- runs of stores
@@ -73,3 +73,17 @@ module _ {A : Type 0} where
         ap (λ (m : List A). take (length vs) (drop i m)) around
         ∙ ap (take (length vs)) (drop-at (take i l) (vs ++ drop (i + length vs) l) i (length-take-le i l (omega arith)))
         ∙ take-append-seam vs (drop (i + length vs) l)
+
+-- ---- what lies from a place on
+
+pub drop-take : {A : Type 0} (i n : ℕ) (l : List A) → drop i (take n l) ≡ take (n - i) (drop i l)
+drop-take zero n l = ap (λ (k : ℕ). take k l) (let z : n ≡ n - 0 = omega arith in z)
+drop-take (suc i) zero [] = sym (take-nil (0 - suc i))
+drop-take (suc i) zero (x ∷ l) = ap (λ (k : ℕ). take k (drop i l)) (let z : 0 ≡ 0 - suc i = omega arith in z)
+drop-take (suc i) (suc n) [] = sym (take-nil (suc n - suc i))
+drop-take (suc i) (suc n) (x ∷ l) = drop-take i n l ∙ ap (λ (k : ℕ). take k (drop i l)) (let z : n - i ≡ suc n - suc i = omega arith in z)
+
+-- stores below a place leave what is above
+pub drop-sets : {A : Type 0} (l : List A) (i : ℕ) (vs : List A) (n : ℕ) → i + length vs ≤ n → drop n (sets l i vs) ≡ drop n l
+drop-sets l i [] n h = refl
+drop-sets l i (v ∷ vs) n h = drop-sets (set l i v) (suc i) vs n (omega arith) ∙ drop-set-lt n l i v (omega arith)

@@ -4,3 +4,4 @@ pub mod Members
 pub mod Tables
 pub mod Sort
 pub mod InsertBy
+pub mod Bounds

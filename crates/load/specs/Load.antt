@@ -9,7 +9,7 @@ use lib.ListN.{length, getD, take, drop}
 use lib.Dec.{eqb, ltb, leb}
 use Rattle.lists.specs.Outcome.{Outcome, accepted, refused, refuse, _>>_}
 use Rattle.fields.specs.Fields.{le16, le32}
-use Rattle.obj.specs.Records.{sectionAt, symbolAt, relocAt, splitAt, unitAt}
+use Rattle.obj.specs.Records.{sectionAt, symbolAt, relocAt, splitAt, unitAt, partialWidth}
 use Rattle.names.specs.Names.{namesOf, numberOf, nameBad}
 use Rattle.faults.specs.Faults.{sectionBad, symbolBad, relocBad, splitBad, unitBad}
 use Rattle.tables.specs.declared.Ceilings.{Ceilings}
@@ -74,7 +74,7 @@ module _ (c : Ceilings) (file : List ℕ) (at len : ℕ) (t : Loaded) where
   -- "a split's section is left to 20"
   unfoldable pub splitNumber : ℕ
   splitNumber =
-      cond (not (eqb len 19)) 1
+      cond (not (eqb len partialWidth)) 1
       (cond (leb (c .splits) (length (t .splits))) 2
       (cond (splitBad (getD (t .lengths) (splitAt file at .unit) 0) (getD (t .lengths) (splitAt file at .rename) 0) (splitAt file at)) 7 0))
 

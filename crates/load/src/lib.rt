@@ -3,7 +3,7 @@
 // are only read, and then kept.
 ghost use mathlib.Core.Path.{_≡_};
 ghost use Prim.Native.Nat.{_+_, _≤_, _<_};
-ghost use lib.ListN.{length, getD, set, take, drop, replicate};
+ghost use lib.ListN.{length, getD, set, take, drop};
 ghost use Rattle.lists.specs.Rows.{clearFrom};
 ghost use Rattle.fields.specs.Fields.{le16, le32};
 ghost use Rattle.obj.specs.Records.{relocAt};
@@ -22,9 +22,11 @@ use fields::get16;
 use fields::get32;
 use names::bad_name;
 use names::bucket_of;
+use names::clear_heads;
 use names::enter;
 use names::find;
 use obj::Answer;
+use obj::PARTIAL_BYTES;
 use obj::Section;
 use obj::read_reloc;
 use obj::read_section;
@@ -282,7 +284,7 @@ fn split_number(
     requires { ⌜ (at + len ≤ length (now file)) × Tabled c (now file) n (now places) (now lengths) ⌝ }
     ensures { λ r. ⌜ r ≡ splitNumber c (now (file .entry)) at len (tablesIn n (now (places .entry)) (now (lengths .entry))) ⌝ }
 {
-    if len != 19 {
+    if len != PARTIAL_BYTES {
         return 1;
     }
     if c.splits <= n.splits {
@@ -608,17 +610,6 @@ fn clear_floors(places: &mut [u32])
     let mut i = FLOORS;
     while i < places.len() {
         places[i] = 0;
-        i += 1;
-    }
-}
-
-// No name in the index.
-fn clear_heads(heads: &mut [u16])
-    ensures { λ _. ⌜ now (heads .exit) ≡ replicate (length (now (heads .entry))) 0 ⌝ }
-{
-    let mut i = 0;
-    while i < heads.len() {
-        heads[i] = 0;
         i += 1;
     }
 }

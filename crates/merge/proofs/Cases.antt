@@ -1,4 +1,4 @@
--- The inputs that tell the decided readings apart (DECISIONS.md, 14 and 29 to 39) as one table: the rows, the room, the partial splits and the expected outcome of
+-- The inputs that tell the decided readings apart (DECISIONS.md, 14, 29 to 37 and 39) as one table: the rows, the room, the partial splits and the expected outcome of
 -- each. There are two sections, which end at 0x2000. Units are numbers: a 1, b 2, c 3, x 4.
 use Prim.Native.Nat.{ℕ}
 use mathlib.Core.Path.{_≡_, refl}

@@ -25,7 +25,8 @@ use Rattle.tables.specs.Records.{noSection, noSplit, partialFault, splitBefore,
 use Rattle.tables.proofs.Laws as table-laws
 use Rattle.splits.specs.Rising.{NotBelow, Rising}
 use Rattle.splits.proofs.Rising.{rising-at, rising-of}
-use Rattle.merge.specs.Merge.{Given, given, sectionEnd, lower, higher, jointOf, mergeOne, mergeAll}
+use Rattle.lists.specs.Bounds.{lower, higher}
+use Rattle.merge.specs.Merge.{Given, given, sectionEnd, jointOf, mergeOne, mergeAll}
 use Rattle.merge.specs.Kept.{Inside, Keeps}
 use Rattle.merge.proofs.Decisions.{bit-product}
 use Rattle.merge.proofs.Keeping.{one-rising, all-rising, one-kept, all-kept}
@@ -159,7 +160,7 @@ module _ (lengths : List ℕ) (sections : List Section) (room : ℕ) where
     rows-good : All (Good lengths (given sections room)) rows
     rows-good = all-placed rows noSplit row-good
 
-    rows-rise : Rising rows
+    pub rows-rise : Rising rows
     rows-rise =
         rising-of rows noSplit
         (λ i j q h. let n = table-laws.splits-rise lengths sections rows (length rows) passed i j (omega arith) h in record { sections = n .sections; starts = n .starts })

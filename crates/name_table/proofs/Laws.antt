@@ -68,7 +68,7 @@ module _ (ends bytes : List ℕ) where
   short-name k s = ltb-false _ _ (none-of _ 0 (s .good))
 
   -- the part from a start to an end
-  name-part : (k : ℕ) {start end : ℕ} → start ≡ startOf ends k → end ≡ endOf ends k → take (end - start) (drop start bytes) ≡ nameIn ends bytes k
+  pub name-part : (k : ℕ) {start end : ℕ} → start ≡ startOf ends k → end ≡ endOf ends k → take (end - start) (drop start bytes) ≡ nameIn ends bytes k
   unfolding nameIn
   name-part k es ee = ap₂ (λ (a e : ℕ). take (e - a) (drop a bytes)) es ee
 
@@ -106,7 +106,7 @@ module _ (ends bytes : List ℕ) where
   unfolding stageNames
   stage-name n k h = getD-tabulate (nameIn ends bytes) 0 n k [] h ∙ ap (nameIn ends bytes) (zero-add k)
 
-  stage-more : (n : ℕ) → stageNames ends bytes (n + 1) ≡ stageNames ends bytes n ++ (nameIn ends bytes n ∷ [])
+  pub stage-more : (n : ℕ) → stageNames ends bytes (n + 1) ≡ stageNames ends bytes n ++ (nameIn ends bytes n ∷ [])
   unfolding stageNames
   stage-more n = tabulate-more (nameIn ends bytes) n
 

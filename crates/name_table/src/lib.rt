@@ -2,7 +2,7 @@
 // and the names as columns: "each for 1, 2, then its kind's number", "Two equal names in stage tables: 3".
 ghost use mathlib.Core.Path.{_≡_};
 ghost use Prim.Native.Nat.{_+_, _*_, _/_, _≤_, _<_};
-ghost use lib.ListN.{length, replicate};
+ghost use lib.ListN.{length};
 ghost use Rattle.obj.specs.Answers.{meaning};
 ghost use Rattle.tables.specs.Tables.{recordsCheck};
 ghost use Rattle.name_table.specs.NameTable.{startOf, endOf, nameFault, namesCheck};
@@ -10,13 +10,14 @@ ghost use Rattle.name_table.specs.Stored.{Room, Stored, Stores, Number, 
 use fields::get16;
 use names::bad_name;
 use names::bucket_of;
+use names::clear_heads;
 use names::enter;
 use names::find;
 use obj::Answer;
 use tables::table_size;
 
 // Where name k starts.
-fn start_of(ends: &[u8], k: usize) -> usize
+pub fn start_of(ends: &[u8], k: usize) -> usize
     requires { ⌜ 2 * k ≤ length (now ends) ⌝ }
     ensures { λ r. ⌜ Number (startOf (now (ends .entry)) k) r ⌝ }
 {
@@ -27,7 +28,7 @@ fn start_of(ends: &[u8], k: usize) -> usize
 }
 
 // Where name k ends.
-fn end_of(ends: &[u8], k: usize) -> usize
+pub fn end_of(ends: &[u8], k: usize) -> usize
     requires { ⌜ 2 * k + 2 ≤ length (now ends) ⌝ }
     ensures { λ r. ⌜ Number (endOf (now (ends .entry)) k) r ⌝ }
 {
@@ -140,17 +141,6 @@ fn take_names(
         i += 1;
     }
     Answer::Accepted
-}
-
-// No name is in any bucket.
-fn clear_heads(heads: &mut [u16])
-    ensures { λ _. ⌜ now (heads .exit) ≡ replicate (length (now (heads .entry))) 0 ⌝ }
-{
-    let mut i: usize = 0;
-    while i < heads.len() {
-        heads[i] = 0;
-        i += 1;
-    }
 }
 
 // The whole table: 1 and 2 of its length, then its names in order; the columns hold what they are. What they hold at first is of no matter.

@@ -10,7 +10,7 @@ ghost use Rattle.names.specs.GapName.{digit, decimal2, hex8, Written, Do
 use crate::table::put_bytes;
 
 // A digit, 0 to 9 and A to F.
-fn digit_of(d: u32) -> u8
+pub fn digit_of(d: u64) -> u8
     requires { ⌜ d < 16 ⌝ }
     ensures { λ r. ⌜ r ≡ digit d ⌝ }
 {
@@ -30,8 +30,8 @@ fn put_section(out: &mut [u8], section: u16)
     out[2] = b't';
     out[3] = b'o';
     out[4] = b'_';
-    out[5] = digit_of((section / 10 % 10) as u32);
-    out[6] = digit_of((section % 10) as u32);
+    out[5] = digit_of((section / 10 % 10) as u64);
+    out[6] = digit_of((section % 10) as u64);
     out[7] = b'_';
 }
 
@@ -40,14 +40,15 @@ fn put_address(out: &mut [u8], address: u32)
     requires { ⌜ 17 ≤ length (now out) ⌝ }
     ensures { λ _. ⌜ now (out .exit) ≡ sets (now (out .entry)) 8 (hex8 address ++ codes "_") ⌝ }
 {
-    out[8] = digit_of(address / 268435456 % 16);
-    out[9] = digit_of(address / 16777216 % 16);
-    out[10] = digit_of(address / 1048576 % 16);
-    out[11] = digit_of(address / 65536 % 16);
-    out[12] = digit_of(address / 4096 % 16);
-    out[13] = digit_of(address / 256 % 16);
-    out[14] = digit_of(address / 16 % 16);
-    out[15] = digit_of(address % 16);
+    let a = address as u64;
+    out[8] = digit_of(a / 268435456 % 16);
+    out[9] = digit_of(a / 16777216 % 16);
+    out[10] = digit_of(a / 1048576 % 16);
+    out[11] = digit_of(a / 65536 % 16);
+    out[12] = digit_of(a / 4096 % 16);
+    out[13] = digit_of(a / 256 % 16);
+    out[14] = digit_of(a / 16 % 16);
+    out[15] = digit_of(a % 16);
     out[16] = b'_';
 }
 

@@ -1,7 +1,7 @@
 // The index of the names: "Names number from 0 in file order; a repeated name adds none", so each name is looked up before it is added.
 ghost use mathlib.Core.Path.{_≡_};
 ghost use Prim.Native.Nat.{_+_, _≤_, _<_};
-ghost use lib.ListN.{length, getD, set};
+ghost use lib.ListN.{length, getD, set, replicate};
 ghost use Rattle.names.specs.Names.{nameAt, namesOf, Named, sameName};
 ghost use Rattle.names.specs.Index.{InBucket, Indexed, Found};
 use crate::name_at;
@@ -28,7 +28,7 @@ pub fn bucket_of(name: &[u8]) -> usize
 }
 
 // Element k of a column of 16-bit numbers.
-fn number_at(column: &[u16], k: usize) -> usize
+pub fn number_at(column: &[u16], k: usize) -> usize
     requires { ⌜ k < length (now column) ⌝ }
     ensures { λ r. ⌜ r ≡ getD (now (column .entry)) k 0 ⌝ }
 {
@@ -77,4 +77,15 @@ pub fn enter(heads: &mut [u16], chain: &mut [u16], bucket: usize, k: usize)
 {
     chain[k] = heads[bucket];
     heads[bucket] = (k + 1) as u16;
+}
+
+// No name is in any bucket.
+pub fn clear_heads(heads: &mut [u16])
+    ensures { λ _. ⌜ now (heads .exit) ≡ replicate (length (now (heads .entry))) 0 ⌝ }
+{
+    let mut i: usize = 0;
+    while i < heads.len() {
+        heads[i] = 0;
+        i += 1;
+    }
 }

@@ -12,6 +12,13 @@ use Rattle.obj.specs.declared.Reloc.{Reloc}
 use Rattle.obj.specs.declared.Split.{Split}
 use Rattle.obj.specs.declared.Unit as units
 
+-- the bytes of a partial split's record, in a file and in the merge's list, and of a split's record in a stage table
+abbrev pub partialWidth : ℕ
+partialWidth = 19
+
+abbrev pub splitWidth : ℕ
+splitWidth = 19
+
 -- "2 section: name 2, kind 1 (0 code, 1 data, 2 read-only, 3 bss), address 4, size 4, file offset 4"
 unfoldable pub sectionAt : List ℕ → ℕ → Section
 sectionAt b at = record {

@@ -4,7 +4,7 @@
 ghost use mathlib.Core.Path.{_≡_};
 ghost use Prim.Native.Nat.{_+_, _<_, _≤_};
 ghost use lib.ListN.{length, getD};
-ghost use Rattle.obj.specs.Records.{sectionAt, symbolAt, relocAt, splitAt, unitAt, Held};
+ghost use Rattle.obj.specs.Records.{sectionAt, symbolAt, relocAt, splitAt, unitAt, Held, splitWidth};
 ghost use Rattle.obj.specs.Answers.{word, place};
 ghost use Rattle.obj.specs.declared.Answer.the-variants.{Refused};
 use fields::get_i32;
@@ -69,16 +69,10 @@ pub enum Answer {
     },
 }
 
-// Bytes of a record's payload; a section's without its bytes.
-pub const SECTION_BYTES: usize = 15;
-
-pub const SYMBOL_BYTES: usize = 20;
-
-pub const RELOC_BYTES: usize = 23;
+// Bytes of a partial split's record, in a file and in the merge's list, and of a split's record in a stage table.
+pub const PARTIAL_BYTES: usize = 19;
 
 pub const SPLIT_BYTES: usize = 19;
-
-pub const UNIT_BYTES: usize = 8;
 
 pub fn read_section(b: &[u8], at: usize) -> Section
     requires { ⌜ at + 15 ≤ length (now b) ⌝ }
@@ -124,7 +118,7 @@ pub fn read_reloc(b: &[u8], at: usize) -> Reloc
 }
 
 pub fn read_split(b: &[u8], at: usize) -> Split
-    requires { ⌜ at + 19 ≤ length (now b) ⌝ }
+    requires { ⌜ at + splitWidth ≤ length (now b) ⌝ }
     ensures { λ r. ⌜ r ≡ splitAt (now (b .entry)) at ⌝ }
 {
     Split {
@@ -173,7 +167,7 @@ pub fn reloc_at(b: &[u8], places: &[u32], k: usize) -> Reloc
 }
 
 pub fn split_at(b: &[u8], places: &[u32], k: usize) -> Split
-    requires { ⌜ Held 19 (now b) (now places) k ⌝ }
+    requires { ⌜ Held splitWidth (now b) (now places) k ⌝ }
     ensures { λ r. ⌜ r ≡ splitAt (now (b .entry)) (getD (now (places .entry)) k 0) ⌝ }
 {
     read_split(b, places[k] as usize)

@@ -11,7 +11,8 @@ use Rattle.obj.specs.declared.Split.{Split}
 use Rattle.obj.specs.declared.Unit as units
 use Rattle.toposort.specs.Search.{all, cyclic, first, badEdge, moveOf, hops, climb, onSeen, onMove, onState, run}
 use Rattle.toposort.specs.Sorting.{sortOf}
-use Rattle.order_numbers.specs.Numbers.{rank, ordered, twice, orderTwice}
+use Rattle.order_numbers.specs.Numbers.{ordered, twice, orderTwice}
+use Rattle.symbol_order.specs.Keys.{rank}
 use Rattle.link_graph.specs.Graph.{Given, counted, nodes, isFirst, apart, splitEdges, chained, links, edges}
 use Rattle.order.specs.LinkOrder.{linkOrder, recordOf, recordsOf, madeUnit}
 

@@ -20,7 +20,7 @@ use Rattle.obj.specs.declared.Answer.{Answer}
 use Rattle.obj.specs.declared.Answer.the-variants.{Refused}
 use Rattle.toposort.specs.Search.{Graph, End, all, cyclic, lost, searched}
 use Rattle.toposort.specs.Sorting as sorting
-use Rattle.toposort.specs.Sorting.{sortOf, kept, Sorts, Within, Sound}
+use Rattle.toposort.specs.Sorting.{sortOf, kept, Sorts, Within, Sound, answerOf}
 use Rattle.toposort.specs.Answers.{Edge, Path, Closes, Right}
 use Rattle.toposort.specs.declared.Sorted.{Sorted}
 use Rattle.toposort.specs.declared.Sorted.the-variants.{Ordered, Cycle, NoNode, Short}
@@ -36,7 +36,7 @@ use Rattle.link_graph.proofs.Graph.{same-edges}
 use Rattle.order.specs.declared.Resolved.{Resolved}
 use Rattle.order.specs.LinkOrder.{linkOrder, nodesLeft, recordOf, recordsOf}
 use Rattle.order.specs.Bytes.{unitsBytes}
-use Rattle.order.specs.Columns.{answerOf, saidOf, Room, Resolves, Rows, Lent, SplitsTaken, UnitsTaken}
+use Rattle.order.specs.Columns.{saidOf, Room, Resolves, Rows, Lent, SplitsTaken, UnitsTaken}
 
 -- ---- what an answer leaves is what its outcome says
 said : (r : Sorted) (t : List ℕ) (o : Outcome End) → sorting.meaning r t ≡ o → meaning (answerOf r) ≡ saidOf o

@@ -12,15 +12,12 @@ use Rattle.lists.specs.Outcome.{Outcome, accepted, refused}
 use Rattle.obj.specs.Answers.{meaning}
 use Rattle.obj.specs.declared.Split.{Split}
 use Rattle.obj.specs.declared.Unit as units
-use Rattle.obj.specs.declared.Answer.{Answer}
-use Rattle.obj.specs.declared.Answer.the-variants.{Accepted, Refused}
 use Rattle.tables.specs.Records.{noUnit}
-use Rattle.order_numbers.specs.Numbers.{Whole, unitOf}
+use Rattle.order_numbers.specs.Numbers.{Whole}
+use Rattle.symbol_order.specs.Keys.{unitOf}
 use Rattle.splits.specs.Columns.{Columns, rows, rowAt, Long}
 use Rattle.toposort.specs.Search.{End, all, cyclic, lost}
 use Rattle.toposort.specs.Sorting.{Within}
-use Rattle.toposort.specs.declared.Sorted.{Sorted}
-use Rattle.toposort.specs.declared.Sorted.the-variants.{Ordered, Cycle, NoNode, Short}
 use Rattle.link_graph.specs.Graph.{nodes}
 use Rattle.link_graph.specs.Columns.{Splits, Units}
 use Rattle.order.specs.declared.Resolved.{Resolved}
@@ -28,13 +25,6 @@ use Rattle.order.specs.Bytes.{unitsBytes}
 use Rattle.order.specs.LinkOrder.{firstRecord, handOf, madeUnit, nodesLeft, recordsOf}
 
 -- ---- answers
-
--- document 01's number, section and address for each case of the sort's answer
-abbrev pub answerOf : Sorted → Answer
-answerOf (Ordered n) = Accepted
-answerOf (Cycle k) = Refused 61 0 0
-answerOf (NoNode e) = Refused 62 0 e
-answerOf Short = Refused 76 0 0
 
 -- what the stage says: an order is accepted, "61 cycle" is refused at (0, 0) (a search never ends lost: toposort's `searched-right`)
 abbrev pub saidOf : Outcome End → Outcome (Unit {0})

@@ -7,47 +7,23 @@ ghost use Prim.Native.Nat.{_/_, _≤_};
 ghost use lib.ListN.{length};
 ghost use Rattle.tables.specs.Records.{unitsIn};
 ghost use Rattle.splits.specs.Columns.{columns, rows};
-ghost use Rattle.toposort.specs.Sorting.{sortOf, carried, kept as keptBy};
+ghost use Rattle.toposort.specs.Sorting.{sortOf};
 ghost use Rattle.link_graph.specs.Columns.{givenOf, Splits};
 ghost use Rattle.order.specs.LinkOrder.{linkOrder};
-ghost use Rattle.order.specs.Columns.{answerOf, Room, Resolves, Sortable, Lent, SplitsTaken, UnitsTaken};
+ghost use Rattle.order.specs.Columns.{Room, Resolves, Sortable, Lent, SplitsTaken, UnitsTaken};
 use link_graph::make_graph;
 use obj::Answer;
 use obj::refusal;
 use order_numbers::order_twice;
 use order_numbers::order_units;
 use records::write_records;
-use toposort::Sorted;
+use toposort::answer_of;
+use toposort::kept;
 
 // The answer, and how many unit records stand at the front of the unit table.
 pub struct Resolved {
     pub answer: Answer,
     pub kept: usize,
-}
-
-// How many nodes the sort leaves in its table.
-fn kept(r: Sorted) -> usize
-    ensures { λ k. ⌜ k ≡ keptBy r ⌝ }
-{
-    match r {
-        Sorted::Ordered(n) => n,
-        Sorted::Cycle(k) => k,
-        Sorted::NoNode(_) => 0,
-        Sorted::Short => 0,
-    }
-}
-
-// Document 01's number, section and address for each case of the sort's answer.
-fn answer(r: Sorted) -> Answer
-    requires { ⌜ carried r ≤ 2048 ⌝ }
-    ensures { λ a. ⌜ a ≡ answerOf r ⌝ }
-{
-    match r {
-        Sorted::Ordered(_) => Answer::Accepted,
-        Sorted::Cycle(_) => refusal(61, 0, 0),
-        Sorted::NoNode(e) => refusal(62, 0, e as u32),
-        Sorted::Short => refusal(76, 0, 0),
-    }
 }
 
 // As many units as the unit table has room for; more than 1,024 are never asked.
@@ -98,7 +74,7 @@ fn sort_graph(
         out,
     );
     Resolved {
-        answer: answer(r),
+        answer: answer_of(r),
         kept: m,
     }
 }

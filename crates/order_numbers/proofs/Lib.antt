@@ -1,4 +1,3 @@
 pub mod Parts
-pub mod Ranks
 pub mod Twice
 pub mod Records

@@ -14,7 +14,8 @@ use Rattle.lists.proofs.Rows.{length-tabulate}
 use Rattle.lists.proofs.Sort.{map-sort, length-sort}
 use Rattle.obj.specs.Records.{unitAt}
 use Rattle.tables.specs.Records.{unitsIn}
-use Rattle.order_numbers.specs.Numbers.{rankOf, hasOrder, ordered, twice, orderTwice, unitOf, rankAt, unsorted, orderedNumbers, nextSame}
+use Rattle.symbol_order.specs.Keys.{rankOf, unitOf, rankAt}
+use Rattle.order_numbers.specs.Numbers.{hasOrder, ordered, twice, orderTwice, unsorted, orderedNumbers, nextSame}
 use Rattle.order_numbers.proofs.Twice.{sorted-twice}
 
 -- no more than all are kept

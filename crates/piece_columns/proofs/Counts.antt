@@ -17,7 +17,7 @@ use Rattle.pieces.specs.Questions.{countOf}
 use Rattle.pieces.proofs.Laws.{length-piecesIn}
 use Rattle.piece_columns.specs.Columns.{Counted}
 
-count-le : (unit : ℕ) (l : List Piece) → countOf unit l ≤ length l
+pub count-le : (unit : ℕ) (l : List Piece) → countOf unit l ≤ length l
 unfolding countOf
 count-le unit [] = omega arith
 count-le unit (p ∷ l) = go (eqb (p .unit) unit) (count-le unit l)

@@ -4,7 +4,7 @@ ghost use mathlib.Core.Path.{_≡_};
 ghost use mathlib.Core.List.{[], _∷_, _++_};
 ghost use Prim.Native.Nat.{_+_, _*_, _≤_, _<_};
 ghost use lib.ListN.{length};
-ghost use Rattle.pieces.specs.Pieces.{piecesIn, symbolsIn};
+ghost use Rattle.pieces.specs.Pieces.{piecesIn, symbolsIn, pieceWidth};
 ghost use Rattle.pieces.specs.Questions.{countOf, has};
 ghost use Rattle.piece_columns.specs.Columns.{Counted, Chained, PushedPiece, PushedSymbol};
 use pieces::Piece;
@@ -24,7 +24,7 @@ pub fn count_of(counts: &[u16], out: &[u8], k: usize, unit: usize) -> u16
 
 // One piece more, behind the k that are there.
 pub fn push_piece(counts: &mut [u16], out: &mut [u8], k: usize, p: Piece)
-    requires { ⌜ (p .unit < length (now counts)) × Counted (now counts) (now out) k × (28 * k + 28 ≤ length (now out)) × (k < 65535) ⌝ }
+    requires { ⌜ (p .unit < length (now counts)) × Counted (now counts) (now out) k × (pieceWidth * k + pieceWidth ≤ length (now out)) × (k < 65535) ⌝ }
     ensures { λ _. ⌜ PushedPiece (now (counts .exit)) (now (out .entry)) (now (out .exit)) k p ⌝ }
 {
     let unit = p.unit as usize;

@@ -40,7 +40,7 @@ module _ (w : ℕ) (b c : List ℕ) (i j : ℕ) (same : (k : ℕ) → k < w → 
   first16 h = le16-is b i ∙ numberAt-same little 2 b c i j (λ k q. same k (omega arith)) ∙ sym (le16-is c j)
 
 -- ---- a reader looks at its record's bytes only
-piece-same : (b c : List ℕ) (i j : ℕ) → ((k : ℕ) → k < 28 → getD b (i + k) 0 ≡ getD c (j + k) 0) → pieceAt b i ≡ pieceAt c j
+pub piece-same : (b c : List ℕ) (i j : ℕ) → ((k : ℕ) → k < 28 → getD b (i + k) 0 ≡ getD c (j + k) 0) → pieceAt b i ≡ pieceAt c j
 unfolding pieceAt
 piece-same b c i j same = λ z. record {
   unit = first16 28 b c i j same (omega arith) z;
@@ -53,7 +53,7 @@ piece-same b c i j same = λ z. record {
   offset = field64 28 b c i j same 20 (omega arith) z;
 }
 
-symbol-same : (b c : List ℕ) (i j : ℕ) → ((k : ℕ) → k < 12 → getD b (i + k) 0 ≡ getD c (j + k) 0) → symbolAt b i ≡ symbolAt c j
+pub symbol-same : (b c : List ℕ) (i j : ℕ) → ((k : ℕ) → k < 12 → getD b (i + k) 0 ≡ getD c (j + k) 0) → symbolAt b i ≡ symbolAt c j
 unfolding symbolAt
 symbol-same b c i j same = λ z. record {
   unit = first16 12 b c i j same (omega arith) z;
@@ -63,7 +63,7 @@ symbol-same b c i j same = λ z. record {
   address = field32 12 b c i j same 8 (omega arith) z;
 }
 
-reloc-same : (b c : List ℕ) (i j : ℕ) → ((k : ℕ) → k < 8 → getD b (i + k) 0 ≡ getD c (j + k) 0) → relocAt b i ≡ relocAt c j
+pub reloc-same : (b c : List ℕ) (i j : ℕ) → ((k : ℕ) → k < 8 → getD b (i + k) 0 ≡ getD c (j + k) 0) → relocAt b i ≡ relocAt c j
 unfolding relocAt
 reloc-same b c i j same = λ z. record {
   piece = first16 8 b c i j same (omega arith) z;
@@ -72,7 +72,7 @@ reloc-same b c i j same = λ z. record {
 }
 
 -- ---- a record's bytes give it back
-piece-back : (p : Piece) → FitsPiece p → pieceAt (pieceBytes p) 0 ≡ p
+pub piece-back : (p : Piece) → FitsPiece p → pieceAt (pieceBytes p) 0 ≡ p
 unfolding pieceAt pieceBytes
 piece-back p f = λ z. record {
   unit = round16 (p .unit) (f .unit) z;
@@ -85,7 +85,7 @@ piece-back p f = λ z. record {
   offset = round64 (p .offset) (f .offset) z;
 }
 
-symbol-back : (y : PieceSymbol) → FitsSymbol y → symbolAt (symbolBytes y) 0 ≡ y
+pub symbol-back : (y : PieceSymbol) → FitsSymbol y → symbolAt (symbolBytes y) 0 ≡ y
 unfolding symbolAt symbolBytes
 symbol-back y f = λ z. record {
   unit = round16 (y .unit) (f .unit) z;
@@ -95,7 +95,7 @@ symbol-back y f = λ z. record {
   address = round32 (y .address) (f .address) z;
 }
 
-reloc-back : (r : PieceReloc) → FitsReloc r → relocAt (relocBytes r) 0 ≡ r
+pub reloc-back : (r : PieceReloc) → FitsReloc r → relocAt (relocBytes r) 0 ≡ r
 unfolding relocAt relocBytes
 reloc-back r f = λ z. record {
   piece = round16 (r .piece) (f .piece) z;

@@ -10,6 +10,10 @@ use Rattle.pieces.specs.declared.Piece.{Piece}
 use Rattle.pieces.specs.declared.PieceSymbol.{PieceSymbol}
 use Rattle.pieces.specs.declared.PieceReloc.{PieceReloc}
 
+-- the bytes of a piece's record
+abbrev pub pieceWidth : ℕ
+pieceWidth = 28
+
 -- ---- a record at a place
 
 unfoldable pub pieceAt : List ℕ → ℕ → Piece
@@ -53,7 +57,7 @@ relocBytes r = enc16 (r .piece) ++ enc16 (r .relocation) ++ enc32 (r .offset)
 
 -- the first k records of a table
 unfoldable pub piecesIn : List ℕ → ℕ → List Piece
-piecesIn b k = tabulate (λ i. pieceAt b (28 * i)) 0 k
+piecesIn b k = tabulate (λ i. pieceAt b (pieceWidth * i)) 0 k
 
 unfoldable pub symbolsIn : List ℕ → ℕ → List PieceSymbol
 symbolsIn b k = tabulate (λ i. symbolAt b (12 * i)) 0 k

@@ -5,7 +5,7 @@ ghost use mathlib.Core.List.{[], _∷_, _++_};
 ghost use Prim.Native.Nat.{_+_, _*_, _-_, _≤_, min};
 ghost use lib.ListN.{length, take, drop};
 ghost use lib.Seq.{sets};
-ghost use Rattle.pieces.specs.Pieces.{pieceBytes, symbolBytes, relocBytes, pieceAt, symbolAt, relocAt, piecesIn, symbolsIn, relocsIn};
+ghost use Rattle.pieces.specs.Pieces.{pieceWidth, pieceBytes, symbolBytes, relocBytes, pieceAt, symbolAt, relocAt, piecesIn, symbolsIn, relocsIn};
 use fields::get16;
 use fields::get32;
 use fields::get64;
@@ -38,20 +38,16 @@ pub struct PieceReloc {
     pub offset: u32,
 }
 
-// Bytes of a record.
+// Bytes of a piece's record.
 pub const PIECE_BYTES: usize = 28;
-
-pub const PIECE_SYMBOL_BYTES: usize = 12;
-
-pub const PIECE_RELOC_BYTES: usize = 8;
 
 // ---- records read
 
 pub fn piece_at(b: &[u8], k: usize) -> Piece
-    requires { ⌜ 28 * k + 28 ≤ length (now b) ⌝ }
-    ensures { λ r. ⌜ r ≡ pieceAt (now (b .entry)) (28 * k) ⌝ }
+    requires { ⌜ pieceWidth * k + pieceWidth ≤ length (now b) ⌝ }
+    ensures { λ r. ⌜ r ≡ pieceAt (now (b .entry)) (pieceWidth * k) ⌝ }
 {
-    let at = 28 * k;
+    let at = PIECE_BYTES * k;
     Piece {
         unit: get16(b, at),
         number: get16(b, at + 2),
@@ -93,7 +89,7 @@ pub fn piece_reloc_at(b: &[u8], k: usize) -> PieceReloc
 // ---- records written
 
 fn put_piece(out: &mut [u8], at: usize, p: Piece)
-    requires { ⌜ at + 28 ≤ length (now out) ⌝ }
+    requires { ⌜ at + pieceWidth ≤ length (now out) ⌝ }
     ensures { λ _. ⌜ now (out .exit) ≡ sets (now (out .entry)) at (pieceBytes p) ⌝ }
 {
     put16(out, at, p.unit);
@@ -128,10 +124,10 @@ fn put_piece_reloc(out: &mut [u8], at: usize, r: PieceReloc)
 
 // One piece more, behind the k that are there.
 pub fn add_piece(out: &mut [u8], k: usize, p: Piece)
-    requires { ⌜ 28 * k + 28 ≤ length (now out) ⌝ }
+    requires { ⌜ pieceWidth * k + pieceWidth ≤ length (now out) ⌝ }
     ensures { λ _. ⌜ piecesIn (now (out .exit)) (k + 1) ≡ piecesIn (now (out .entry)) k ++ (p ∷ []) ⌝ }
 {
-    put_piece(out, 28 * k, p);
+    put_piece(out, PIECE_BYTES * k, p);
 }
 
 pub fn add_piece_symbol(out: &mut [u8], k: usize, y: PieceSymbol)

@@ -16,8 +16,9 @@ use Rattle.sections.specs.Alignment.{defaultAlignment, larger, alignmentOf}
 use Rattle.pieces.specs.Questions.{countOf, has}
 use Rattle.relocs.specs.Relocs.{relocsOf, hasRelocs}
 use Rattle.units.specs.Units.{lastNamed, unitOf}
-use Rattle.walk.specs.Walk.{Input, Output, halved, passedOver, entryOf, addSymbol, addSymbols, addRelocs, pieceOf, given, onAligned, onKept, onSplit, nextStart, walkSplits, walkSection, walkSections, walk}
+use Rattle.walk.specs.Walk.{Input, Output, halved, passedOver, entryOf, addSymbol, addSymbols, addRelocs, pieceOf, given, onAligned, onKept, onSplit, walkSplits, walkSection, walkSections, walk}
 use Rattle.walk.proofs.Cases.{inputOf, split, piece}
+use Rattle.splits.specs.Questions.{nextStart}
 use Rattle.restore.specs.Restoring.{parts, laidOn, laid, Plain, Checked, Restored}
 use Rattle.restore.proofs.Theorems.{restores}
 

@@ -18,9 +18,9 @@ use Rattle.lists.proofs.All.{all-map, all-keep, all-both}
 use Rattle.lists.proofs.Outcomes.{then-inv, bind-inv, same-accepted}
 use Rattle.obj.specs.declared.Split.{Split}
 use Rattle.sections.specs.Bytes.{zeroBetween}
-use Rattle.splits.specs.Questions.{within}
+use Rattle.splits.specs.Questions.{within, isCommon, isSkipped, nextStart}
 use Rattle.pieces.specs.declared.Piece.{Piece}
-use Rattle.walk.specs.Walk.{Input, Output, splittingEndIn, isCommon, isSkipped, pieceOf, onSplit, nextStart, walkSplits, walkSection}
+use Rattle.walk.specs.Walk.{Input, Output, splittingEndIn, pieceOf, onSplit, walkSplits, walkSection}
 use Rattle.restore.specs.Restoring.{Part, returned, partOf, parts, laidOn, laid}
 use Rattle.restore.proofs.Parts.{sets-right, part-agrees, zero-at, second}
 use Rattle.restore.proofs.Steps.{Reached, From, split-adds, split-gave}

@@ -1,6 +1,7 @@
 pub mod Parts
 pub mod Steps
 pub mod Walked
+pub mod Coming
 pub mod Refusals
 pub mod Laying
 pub mod Theorems

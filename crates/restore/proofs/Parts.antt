@@ -51,15 +51,6 @@ pub all-members : {A : Type 0} (l : List A) → All (λ x. List·Memᴰ x l) l
 all-members [] = none
 all-members (x ∷ l) = each (List·Memᴰ·head refl) (all-map (λ y m. List·Memᴰ·tail m) (all-members l))
 
--- what holds of each element holds of a member
-pub all-find : {A : Type 0} {P : A → Type 0} {l : List A} (x : A) → All P l → List·Memᴰ x l → P x
-all-find x none m = absurd (List·Memᴰ·not-nil m)
-all-find {P} x (each {x = y} {l} h a) m = go (List·Memᴰ·cases-cons m) (λ k. all-find x a k)
-  where
-    go : (x ≡ y) ⊎ List·Memᴰ x l → (List·Memᴰ x l → P x) → P x
-    go (inl e) ih = subst P (sym e) h
-    go (inr k) ih = ih k
-
 -- not both tests hold, and the second does
 pub and-false-left : (a b : Bool) → (a && b) ≡ false → b ≡ true → a ≡ false
 and-false-left true b e h = sym h ∙ e

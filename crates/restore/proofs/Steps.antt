@@ -18,7 +18,8 @@ use Rattle.pieces.specs.declared.Piece.{Piece}
 use Rattle.pieces.specs.Questions.{countOf}
 use Rattle.units.specs.Units.{unitOf}
 use Rattle.walk.specs.declared.Counts.{Counts}
-use Rattle.walk.specs.Walk.{Input, Output, startIn, isCommon, isSkipped, alignmentIn, fits, halved, pieceOf, given, over, onAligned, onKept, onSplit}
+use Rattle.walk.specs.Walk.{Input, Output, startIn, alignmentIn, fits, halved, pieceOf, given, over, onAligned, onKept, onSplit}
+use Rattle.splits.specs.Questions.{isCommon, isSkipped}
 use Rattle.restore.proofs.Parts.{and-false-left, second}
 
 -- a split of section n, from its start on

@@ -16,9 +16,10 @@ use Rattle.obj.specs.declared.Section.{Section}
 use Rattle.obj.specs.declared.Split.{Split}
 use Rattle.sections.proofs.Kept.{end-within}
 use Rattle.pieces.specs.declared.Piece.{Piece}
-use Rattle.walk.specs.Walk.{Input, Output, startIn, endIn, splittingEndIn, isCommon, isSkipped, onSplit, walkSection, walkSections, walk, nothing}
+use Rattle.walk.specs.Walk.{Input, Output, startIn, endIn, splittingEndIn, onSplit, walkSection, walkSections, walk, nothing}
+use Rattle.splits.specs.Questions.{isCommon, isSkipped}
+use Rattle.lists.proofs.Among.{all-find}
 use Rattle.restore.specs.Restoring.{Part, bytesIn, parts, laidOn, laid, byteAt, Plain, Checked, Inside, Restored, Alike}
-use Rattle.restore.proofs.Parts.{all-find}
 use Rattle.restore.proofs.Steps.{Reached, From}
 use Rattle.restore.proofs.Walked.{section-keeps, sections-keep, pieces-from}
 use Rattle.restore.proofs.Laying.{laid-length, other-keeps, Right, section-right}
@@ -76,7 +77,7 @@ own-bytes t out e n plain end is x low high =
     r .2 (x - startIn (t .sections) n) (omega arith) (inr (omega arith))
 
 -- a piece's write lies inside its section, and has as many bytes as its record says
-inside : (t : Input) → Checked t → (p : Piece) → p .section < t .sections .count → t .sections .head (p .section) .kind ≢ 3 → From t p
+pub inside : (t : Input) → Checked t → (p : Piece) → p .section < t .sections .count → t .sections .head (p .section) .kind ≢ 3 → From t p
     → Inside (t .sections) (p .section) p
 inside t checked p listed holds from = record { low = low; high = high; whole = whole }
   where

@@ -16,9 +16,9 @@ use Rattle.lists.proofs.Both.{both}
 use Rattle.lists.proofs.Filter.{keep-passes}
 use Rattle.lists.proofs.Outcomes.{then-inv, bind-inv, same-accepted}
 use Rattle.obj.specs.declared.Split.{Split}
-use Rattle.splits.specs.Questions.{within}
+use Rattle.splits.specs.Questions.{within, nextStart}
 use Rattle.pieces.specs.declared.Piece.{Piece}
-use Rattle.walk.specs.Walk.{Input, Output, startIn, onSplit, nextStart, walkSplits, walkSection, walkSections, walk, nothing}
+use Rattle.walk.specs.Walk.{Input, Output, startIn, onSplit, walkSplits, walkSection, walkSections, walk, nothing}
 use Rattle.restore.proofs.Parts.{all-members}
 use Rattle.restore.proofs.Steps.{Reached, From, split-room, split-adds}
 
@@ -41,7 +41,7 @@ module _ (t : Input) (P : Output → Type 0) where
   abbrev Keeps : ℕ → Type 0
   Keeps n = (s : Split) → Reached t n s → (current next : ℕ) (o o′ : Output) → onSplit t n current next s o ≡ accepted o′ → P o → P o′
 
-  splits-keep : (n : ℕ) → Keeps n → (end current : ℕ) (out out′ : Output) (l : List Split) → All (Reached t n) l
+  pub splits-keep : (n : ℕ) → Keeps n → (end current : ℕ) (out out′ : Output) (l : List Split) → All (Reached t n) l
       → walkSplits t n end current out l ≡ accepted out′ → P out → P out′
   unfolding walkSplits
   splits-keep n f end current out out′ [] r e p = subst P (same-accepted (then-inv _ _ _ _ _ _ e .1)) p

@@ -1,2 +1,4 @@
 pub mod Restoring
 pub mod Alignments
+pub mod Misfits
+pub mod Nobits

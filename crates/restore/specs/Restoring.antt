@@ -17,7 +17,8 @@ use Rattle.obj.specs.declared.Section.{Section}
 use Rattle.symbols.specs.Sound.{Sound}
 use Rattle.sections.specs.Sections.{Sections}
 use Rattle.pieces.specs.declared.Piece.{Piece}
-use Rattle.walk.specs.Walk.{Input, startIn, endIn, splittingEndIn, isCommon, isSkipped}
+use Rattle.walk.specs.Walk.{Input, startIn, endIn, splittingEndIn}
+use Rattle.splits.specs.Questions.{isCommon, isSkipped}
 
 -- ---- a piece with its bytes
 

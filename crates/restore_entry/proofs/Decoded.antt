@@ -21,7 +21,7 @@ use Rattle.restore_entry.specs.Tables.{Spot, spot}
 
 -- a number after these bytes
 module _ (vs b : List ℕ) where
-  after16 : (at off : ℕ) → le16 (vs ++ b) (length vs + at + off) ≡ le16 b (at + off)
+  pub after16 : (at off : ℕ) → le16 (vs ++ b) (length vs + at + off) ≡ le16 b (at + off)
   after16 at off =
       ap (le16 (vs ++ b)) (let e : length vs + at + off ≡ length vs + (at + off) = omega arith in e)
       ∙ (λ z. getD-append-add vs b (at + off) 0 z + 256 * next z)

@@ -3,7 +3,7 @@
 use Prim.Native.Nat.{ℕ, zero, suc, _-_, _/_, _≤_, _<_}
 use mathlib.Core.Path.{_≡_, refl, sym, ap, _∙_, subst}
 use mathlib.Core.List.{List, [], _∷_}
-use mathlib.Core.Logic.{_≢_}
+use mathlib.Core.Logic.{_↔_, _≢_}
 use mathlib.Core.Bool.{Bool, true, false, cond}
 use native.Mathlib.Omega.{arith}
 use lib.Dec.{ltb}
@@ -12,32 +12,39 @@ use borrow.Author.Tests.{ltb-true}
 use Rattle.lists.specs.Outcome.{Outcome, accepted, refused, _>>_}
 use Rattle.lists.specs.Sort.{All}
 use Rattle.lists.specs.Tables.{laid}
+use Rattle.lists.proofs.Binds.{after-goes}
 use Rattle.lists.proofs.Outcomes.{then-both}
 use Rattle.fields.specs.Fields.{le16}
 use Rattle.fields.proofs.Laws.{round16}
 use Rattle.outputs.specs.Outputs.{halves, countsOf}
 use Rattle.obj.specs.Records.{stagePlaces}
+use Rattle.obj.specs.declared.Split.{Split}
+use Rattle.obj.proofs.Laws.{length-stagePlaces}
 use Rattle.tables.specs.Records.{imagePlaces}
 use Rattle.name_table.specs.NameTable.{namesCheck}
 use Rattle.name_table.specs.Stored.{stageLengths}
 use Rattle.stage_tables.specs.StageTables.{stageSections, imageCheck, symbolsCheck, relocsCheck, splitsCheck, unitsCheck}
+use Rattle.sections.specs.Alignment.{Chosen}
 use Rattle.sections.proofs.Nobits.{nobits-bytes}
 use Rattle.pieces.specs.declared.Piece.{Piece}
 use Rattle.pieces.specs.Pieces.{piecesIn}
-use Rattle.walk.specs.Walk.{Output, startIn, endIn, splittingEndIn, walk}
-use Rattle.restore.specs.Restoring.{bytesIn, parts, byteAt, Plain, Restored}
+use Rattle.walk.specs.Walk.{Output, startIn, endIn, splittingEndIn, alignmentIn, halved, walk}
+use Rattle.restore.specs.Restoring.{bytesIn, parts, byteAt, Plain, Checked, Restored}
 use Rattle.restore.specs.Alignments.{Largest}
+use Rattle.restore.specs.Misfits.{Comes, Misfit}
+use Rattle.restore.specs.Nobits.{withSections, asData, Whole, Placed}
 use Rattle.restore.proofs.Steps.{From}
 use Rattle.restore.proofs.Walked.{pieces-room}
 use Rattle.restore.proofs.Refusals.{Says, says-of, walk-numbers}
 use Rattle.restore.proofs.Alignments as alignments
-use Rattle.restore.proofs.Alignments.{Misfit}
 use Rattle.restore.proofs.Nobits as nobits
 use Rattle.stage_walk.specs.Room.{roomFor}
 use Rattle.entry_split_obj.specs.Entry.{splitObjOf, outputOf}
-use Rattle.restore_entry.specs.Tables.{inputIn, Passed, Accepted, SameTables}
-use Rattle.restore_entry.specs.Entry.{Call, outcome, lent, Run, input, count, piecesOf}
+use Rattle.splits.specs.Questions.{isSkipped}
+use Rattle.restore_entry.specs.Tables.{inputIn, Accepted, SameTables}
+use Rattle.restore_entry.specs.Entry.{Call, outcome, lent, Checks, otherSections, SameBytes, AsData, Run, input, count, piecesOf}
 use Rattle.restore_entry.proofs.Tables.{input-checked}
+use Rattle.restore_entry.proofs.Images.{check-alike}
 use Rattle.restore_entry.proofs.Answers.{Table, says-map, says-after, names-say, sections-say, symbols-say, relocs-say, splits-say, units-say, accepted-of}
 use Rattle.restore_entry.proofs.Bytes as tables
 
@@ -75,7 +82,7 @@ numbers : (c : Call) → Says (λ number section address. 0 < number) (outcome c
 numbers c = says (λ number section address. 0 < number) (λ number section address q. q .least) c (walk-numbers (inputIn (lent c)))
 
 -- at most 1,024 pieces
-few : (ceiling width size : ℕ) → roomFor ceiling width size ≤ ceiling
+pub few : (ceiling width size : ℕ) → roomFor ceiling width size ≤ ceiling
 unfolding roomFor
 few ceiling width size = go (ltb (size / width) ceiling) refl
   where
@@ -115,7 +122,7 @@ module _ (r : Run) where
       ap (λ (l : List ℕ). le16 l 0) (r .leaves .left .counted)
       ∙ first-count (c .sizes .counts) (count r) _ h (omega (arith, pieces-room (input r) (outputOf o) (passed .walked), few 1024 28 (c .sizes .pieces)))
 
-  held-is : tables.held (lent c) (outputOf o) passed (c .sizes .pieces) ≡ piecesOf r
+  pub held-is : tables.held (lent c) (outputOf o) passed (c .sizes .pieces) ≡ piecesOf r
   held-is = ap (λ (l : List ℕ). piecesIn l (count r)) (sym (r .leaves .left .pieces-are))
 
   -- THEOREM T2: in every section that holds bytes and has no skipped and no common split anywhere in the lent table, the pieces that the output table holds, laid
@@ -126,6 +133,15 @@ module _ (r : Run) where
   -- THEOREM T5: each piece has the largest alignment that fits its address, of those reached by halving from its split's
   pub pieces-aligned : All (λ p. (f : From (input r) p) × Largest (f .chosen .value) (p .address) (p .alignment)) (piecesOf r)
   pieces-aligned = subst (All (λ p. (f : From (input r) p) × Largest (f .chosen .value) (p .address) (p .alignment))) held-is (tables.pieces-aligned (lent c) (outputOf o) passed (c .sizes .pieces))
+
+  -- THEOREM T5: for each split that the walk comes to and doesn't skip, common ones included, there is an alignment that fits, and the largest is taken
+  pub splits-aligned : (n : ℕ) → n < input r .sections .count → (s : Split) (current : ℕ) (out : Output) → Comes (input r) n current s out → isSkipped s ≡ false
+      → (a : Chosen) × (alignmentIn (input r .image) (input r .sections .head n) n current s ≡ accepted a) × Largest (a .value) current (halved 16 (a .value) current)
+  splits-aligned = alignments.splits-aligned (input r) (outputOf o) (input-checked (lent c) (passed .tables)) (passed .walked)
+
+  -- THEOREM T6: each piece's file offset is its section's, and as much more as its address lies behind the section's start, in sections of kind 3 as in all others
+  pub pieces-placed : All (Placed (input r .sections)) (outputOf o .pieces)
+  pieces-placed = nobits.pieces-placed (input r) (outputOf o) (passed .walked)
 
   -- THEOREM T6: a piece of a section of kind 3 has no bytes, and its size is its split's end less its start
   pub nobits-pieces : All (λ p. input r .sections .head (p .section) .kind ≡ 3
@@ -163,7 +179,7 @@ goes-on (refused k n a) o number section address s h e =
 
 -- a refusal above 8 is the walk's, and the tables passed
 pub walk-refused : (c : Call) (number section address : ℕ) → 8 < number → outcome c ≡ refused number section address
-    → Passed (lent c) × (walk (inputIn (lent c)) ≡ refused number section address)
+    → Checks c × (walk (inputIn (lent c)) ≡ refused number section address)
 unfolding splitObjOf
 walk-refused c number section address h e =
     let names = goes-on _ _ _ _ _ (names-say _ (c .ends) (c .bytes)) h e in
@@ -171,14 +187,33 @@ walk-refused c number section address h e =
     let symbols = goes-on _ _ _ _ _ (symbols-say _ (length (c .ends) / 2) (stageSections (c .sections)) (c .symbols)) h (sections .1) in
     let relocs = goes-on _ _ _ _ _ (relocs-say _ (stageSections (c .sections)) (length (c .symbols) / 20) (c .relocs)) h (symbols .1) in
     let splits = goes-on _ _ _ _ _ (splits-say _ (stageLengths (c .ends) (c .bytes)) (stageSections (c .sections)) (c .splits)) h (relocs .1) in
-    let units = goes-on _ _ _ _ _ (units-say _ (stageLengths (c .ends) (c .bytes)) (c .units)) h (splits .1) in
-    (record { of-sections = sections .0; of-symbols = symbols .0; of-splits = splits .0 }, units .1)
+    let units = goes-on _ _ _ _ _ (units-say _ (stageLengths (c .ends) (c .bytes)) (c .units)) h (splits .1) in (
+      record { of-names = names .0; of-sections = sections .0; of-symbols = symbols .0; of-relocs = relocs .0; of-splits = splits .0; of-units = units .0 },
+      units .1,
+    )
 
--- THEOREM T5: a call that is refused with 75 has a split at that place, for whose alignment none fits
-pub misfit-found : (c : Call) (n address : ℕ) → outcome c ≡ refused 75 n address → Misfit (inputIn (lent c)) n address
-misfit-found c n address e =
-    let r = walk-refused c 75 n address (omega arith) e in
-    alignments.misfit-found (inputIn (lent c)) (input-checked (lent c) (r .0)) n address (r .1)
+-- where the tables pass, the outcome is the walk's
+passed-walk : (c : Call) → Checks c → outcome c ≡ walk (inputIn (lent c))
+unfolding splitObjOf
+passed-walk c k =
+    after-goes _ _ (k .of-names) ∙ after-goes _ _ (k .of-sections) ∙ after-goes _ _ (k .of-symbols)
+    ∙ after-goes _ _ (k .of-relocs) ∙ after-goes _ _ (k .of-splits) ∙ after-goes _ _ (k .of-units)
+
+-- .. and give what the theorems over the walk ask
+checks-checked : (c : Call) → Checks c → Checked (inputIn (lent c))
+checks-checked c k = input-checked (lent c) (record { of-sections = k .of-sections; of-symbols = k .of-symbols; of-splits = k .of-splits })
+
+-- THEOREM T5: a call is refused with 75 at a place exactly if its tables pass and its walk comes to a split there, common ones included, for whose alignment none fits
+pub misfit-exactly : (c : Call) (n address : ℕ) → (outcome c ≡ refused 75 n address) ↔ (Checks c × Misfit (inputIn (lent c)) n address)
+misfit-exactly c n address = (found, given)
+  where
+    found : outcome c ≡ refused 75 n address → Checks c × Misfit (inputIn (lent c)) n address
+    found e =
+        let r = walk-refused c 75 n address (omega arith) e in
+        (r .0, alignments.misfit-exactly (inputIn (lent c)) (checks-checked c (r .0)) n address .0 (r .1))
+
+    given : Checks c × Misfit (inputIn (lent c)) n address → outcome c ≡ refused 75 n address
+    given m = passed-walk c (m .0) ∙ alignments.misfit-exactly (inputIn (lent c)) (checks-checked c (m .0)) n address .1 (m .1)
 
 -- ---- sections of kind 3
 
@@ -203,32 +238,41 @@ nobits-never c number n address e = says-of P (outcome c) number n address (says
     walked (refused k m a) q =
         nobits.nobits-never (inputIn (lent c)) (λ i h z. nobits-bytes i (inputIn (lent c) .sections .head i) z (c .image) (imagePlaces (c .places))) k m a q
 
--- the call with another image
-abbrev pub withImage : Call → List ℕ → Call
-withImage c image = record {
-  ends = c .ends;
-  bytes = c .bytes;
-  sections = c .sections;
-  places = c .places;
-  image = image;
-  symbols = c .symbols;
-  relocs = c .relocs;
-  splits = c .splits;
-  units = c .units;
-  sizes = c .sizes;
-}
-
--- THEOREM T6: two images that differ in no byte of sections of kinds 0 to 2 have equal outcomes
-pub images-alike : (c : Call) (other : List ℕ) → length (c .image) ≡ length other
-    → ((n : ℕ) → n < inputIn (lent c) .sections .count → inputIn (lent c) .sections .head n .kind ≢ 3
-    → inputIn (lent c) .sections .bytes n ≡ inputIn (lent (withImage c other)) .sections .bytes n)
-    → outcome c ≡ outcome (withImage c other)
+-- THEOREM T6: two images of any lengths, with the places of the sections' bytes in them: where the sections of kinds 0 to 2 lie in both or in neither, and have the same
+-- bytes in both, the outcomes are equal
+pub images-alike : (c : Call) (places image : List ℕ)
+    → ((n : ℕ) → n < inputIn (lent c) .sections .count → inputIn (lent c) .sections .head n .kind ≢ 3 → SameBytes c (otherSections c (c .sections) places image) n)
+    → outcome c ≡ outcome (otherSections c (c .sections) places image)
 unfolding splitObjOf
-images-alike c other long same = λ i.
+images-alike c places image same = λ i.
     namesCheck 4096 (c .ends) (c .bytes)
-    >> (imageCheck 64 (stageLengths (c .ends) (c .bytes)) (c .places) (long i) (c .sections)
+    >> (check i
     >> (symbolsCheck 4096 (length (c .ends) / 2) (stageSections (c .sections)) (c .symbols)
     >> (relocsCheck 4096 (stageSections (c .sections)) (length (c .symbols) / 20) (c .relocs)
     >> (splitsCheck 1024 (stageLengths (c .ends) (c .bytes)) (stageSections (c .sections)) (c .splits)
     >> (unitsCheck 1024 (stageLengths (c .ends) (c .bytes)) (c .units)
-    >> nobits.images-alike (inputIn (lent c)) (c .sections) (stagePlaces 15 (length (c .sections) / 15)) (c .image) other (imagePlaces (c .places)) same i)))))
+    >> walks i)))))
+  where
+    check : imageCheck 64 (stageLengths (c .ends) (c .bytes)) (c .places) (length (c .image)) (c .sections)
+        ≡ imageCheck 64 (stageLengths (c .ends) (c .bytes)) places (length image) (c .sections)
+    check =
+        check-alike (c .sections) (c .places) (c .image) places image
+        (λ k h d. same k (rw (length-stagePlaces 15 (length (c .sections) / 15)) h) d .lies) 64 (stageLengths (c .ends) (c .bytes))
+
+    walks : walk (inputIn (lent c)) ≡ walk (inputIn (lent (otherSections c (c .sections) places image)))
+    walks =
+        nobits.images-alike (inputIn (lent c)) (c .sections) (stagePlaces 15 (length (c .sections) / 15)) (c .image) (imagePlaces (c .places)) image (imagePlaces places)
+        (λ n h d. same n h d .bytes)
+
+-- THEOREM T6: two calls whose tables pass, the same but for a section that is of kind 3 in the first and data whose bytes are zeros in the second: where no reduction
+-- lowers the splitting end of the latter, the outcomes are equal
+pub resembles : (c : Call) (sections places image : List ℕ) → Checks c → Checks (otherSections c sections places image)
+    → (n : ℕ) → inputIn (lent c) .sections .head n .kind ≡ 3 → AsData c (otherSections c sections places image) n
+    → Whole (inputIn (lent c) .image) (asData (inputIn (lent c) .sections) n) n
+    → outcome c ≡ outcome (otherSections c sections places image)
+resembles c sections places image k j n is same whole =
+    passed-walk c k
+    ∙ nobits.resembles (inputIn (lent c)) n is (nobits-bytes n (inputIn (lent c) .sections .head n) is (c .image) (imagePlaces (c .places))) whole
+    ∙ nobits.walk-same (withSections (inputIn (lent c)) (asData (inputIn (lent c) .sections) n)) (inputIn (lent (otherSections c sections places image)) .sections)
+    (same .count) (λ m h. (same .heads m h, same .bytes m h))
+    ∙ sym (passed-walk (otherSections c sections places image) j)

@@ -31,7 +31,7 @@ use Rattle.load.proofs.Laws.{name-known, good-units}
 use Rattle.loaded.specs.Tables.{Usable}
 use Rattle.loaded.proofs.Laws.{few-names}
 use Rattle.toposort.specs.Search.{End}
-use Rattle.order_numbers.proofs.Ranks.{unit-fits}
+use Rattle.symbol_order.proofs.Ranks.{unit-fits}
 use Rattle.link_graph.specs.Graph.{unitsOf, counted, nodes}
 use Rattle.link_graph.proofs.Nodes.{in-counted}
 use Rattle.link_graph.proofs.Graph.{in-at}

@@ -30,8 +30,9 @@ use Rattle.run.specs.Run.{Rooms, Ended, linked, walked, onOrder, orderedAndWalk
 use Rattle.run.specs.Answers.{walkedAfter, Keeps, Units, Within, Names}
 use Rattle.run.specs.declared.Ran.{Ran}
 use Rattle.run.specs.declared.Ran.the-variants.{Done, Cycle, Refused}
-use Rattle.run_room.specs.Room.{lower, sum}
+use Rattle.run_room.specs.Room.{sum}
 use Rattle.run_room.proofs.Sums.{sum-turn, sum-none}
+use Rattle.lists.specs.Bounds.{lower}
 use Rattle.run_file.specs.RunFile.{roomsIn, Lent, Holds}
 
 -- ---- the lower of two

@@ -13,7 +13,6 @@ use Rattle.load.specs.Columns as columns
 use Rattle.load.specs.Columns.{tablesIn}
 use Rattle.load.specs.declared.Counts as load
 use Rattle.run_load.specs.Prepared.{Ordered}
-use Rattle.run_room.specs.Room.{lower}
 use Rattle.loaded.specs.Tables.{bytePlaces, tablesWith, Usable}
 use Rattle.symbol_order.specs.Order.{symbolOf, orderOf}
 use Rattle.splits.specs.Columns.{Columns}
@@ -24,6 +23,7 @@ use Rattle.run.specs.Run.{Rooms, Ended, runOf}
 use Rattle.run.specs.Answers.{ranIn, Names, Units, Within}
 use Rattle.run.specs.declared.Ran.{Ran}
 use Rattle.run.specs.declared.Ran.the-variants.{Done, Cycle, Refused}
+use Rattle.lists.specs.Bounds.{lower}
 use Rattle.run_file.specs.declared.RanFile.{RanFile}
 
 -- ---- the room

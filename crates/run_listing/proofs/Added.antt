@@ -116,7 +116,8 @@ module _ {file : List ℕ} {t : Loaded} (u : Usable file t) where
       let d = bind-inv _ _ _ (c .2) in
       subst (λ (f : Filled). Longer (namesIn file t) (f .names)) (same-accepted (d .2)) (gaps-longer room names (b .0) (c .0) (c .1))
 
-  names-count : length (namesIn file t) ≡ length (t .names)
+  -- as many as have a place
+  pub names-count : length (namesIn file t) ≡ length (t .names)
   unfolding namesIn
   names-count = length-names file (t .names) (t .lengths) (length (t .names))
 

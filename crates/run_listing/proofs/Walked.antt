@@ -21,10 +21,11 @@ use Rattle.sections.specs.Image.{Image}
 use Rattle.pieces.specs.declared.PieceSymbol.{PieceSymbol}
 use Rattle.pieces.specs.declared.PieceReloc.{PieceReloc}
 use Rattle.pieces.specs.Questions.{countOf, has}
-use Rattle.walk.specs.Walk.{Input, Output, isCommon, isSkipped, passedOver, entryOf, addSymbol, addSymbols, splitSymbols, addRelocs, splitRelocs, pieceOf, given, onKept, onSplit, walk, nothing}
-use Rattle.restore.proofs.Parts.{all-find}
+use Rattle.walk.specs.Walk.{Input, Output, passedOver, entryOf, addSymbol, addSymbols, splitSymbols, addRelocs, splitRelocs, pieceOf, given, onKept, onSplit, walk, nothing}
 use Rattle.restore.proofs.Steps.{Reached, split-inv, kept-inv}
 use Rattle.restore.proofs.Walked.{sections-keep}
+use Rattle.splits.specs.Questions.{isCommon, isSkipped}
+use Rattle.lists.proofs.Among.{all-find}
 
 -- names, symbols and relocations are below these counts
 pub record Below (names count most : ℕ) (o : Output) : Type 0 where

@@ -9,13 +9,14 @@ use Rattle.names.specs.Append.{Columns as Beside}
 use Rattle.splits.specs.Columns.{Columns, rows, Long}
 use Rattle.gap_splits.specs.Answers.{added}
 use Rattle.walk.specs.declared.Counts.{Counts}
-use Rattle.pieces.specs.Pieces.{pieceBytes, symbolBytes, relocBytes, packed}
+use Rattle.pieces.specs.Pieces.{pieceBytes, symbolBytes, relocBytes, packed, pieceWidth}
 use Rattle.walk.specs.Walk.{Output}
 use Rattle.walk.specs.Giving.{outputIn}
 use Rattle.run.specs.Run.{Result}
 use Rattle.run.specs.Answers.{unitsAt, Names, Units}
 use Rattle.run.specs.declared.Ran.{Ran}
 use Rattle.run.specs.declared.Ran.the-variants.{Done, Cycle, Refused}
+use Rattle.obj.specs.Records.{splitWidth}
 use Rattle.run_outputs.specs.declared.Kept.{Kept}
 use Rattle.run_outputs.specs.Laid.{Sizes}
 
@@ -45,7 +46,7 @@ leftIn c table units pieces entries offsets k = record {
 
 -- the walk's records are whole in tables of these sizes
 pub record OutputFits (made : Counts) (pieces symbols relocs : ℕ) : Type 0 where
-  pub pieces-fit : 28 * made .pieces ≤ pieces
+  pub pieces-fit : pieceWidth * made .pieces ≤ pieces
   pub symbols-fit : 12 * made .symbols ≤ symbols
   pub relocs-fit : 8 * made .relocs ≤ relocs
   pub few-pieces : made .pieces ≤ 1024
@@ -76,7 +77,7 @@ pub record Fits (c : Beside) (table : Columns) (units : List ℕ) (sizes : Sizes
   pub names : Names c (k .names) (k .used) (sizes .ends) (sizes .bytes)
   pub ends : 2 * k .names ≤ sizes .ends
   pub long : Long table (k .splits)
-  pub splits : 19 * k .splits ≤ sizes .splits
+  pub splits : splitWidth * k .splits ≤ sizes .splits
   pub few-splits : k .splits ≤ 1024
   pub units-there : Units units (k .units)
   pub output : OutputFits (k .made) (sizes .pieces) (sizes .symbols) (sizes .relocs)

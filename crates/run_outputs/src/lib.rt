@@ -16,6 +16,7 @@ use obj::Answer;
 use obj::word_of;
 use outputs::clear_from;
 use outputs::put_count;
+use pieces::PIECE_BYTES;
 use run::Ran;
 use stage_names::put_names;
 use stage_splits::put_splits;
@@ -130,7 +131,7 @@ fn lay_output(made: Counts, pieces: &mut [u8], entries: &mut [u8], offsets: &mut
         OutputLaid (outputIn (now (pieces .entry)) (now (entries .entry)) (now (offsets .entry)) made)
         (length (now (pieces .entry))) (length (now (entries .entry))) (length (now (offsets .entry))) (now (pieces .exit)) (now (entries .exit)) (now (offsets .exit)) ⌝ }
 {
-    clear_from(pieces, 28 * made.pieces);
+    clear_from(pieces, PIECE_BYTES * made.pieces);
     clear_from(entries, 12 * made.symbols);
     clear_from(offsets, 8 * made.relocs);
 }

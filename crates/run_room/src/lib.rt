@@ -2,7 +2,8 @@
 ghost use mathlib.Core.Path.{_≡_};
 ghost use Prim.Native.Nat.{_-_, _≤_};
 ghost use lib.ListN.{length};
-ghost use Rattle.run_room.specs.Room.{lower as lowerOf, sum};
+ghost use Rattle.lists.specs.Bounds.{lower as lowerOf};
+ghost use Rattle.run_room.specs.Room.{sum};
 
 fn lower(a: usize, b: usize) -> usize
     ensures { λ r. ⌜ r ≡ lowerOf a b ⌝ }

@@ -24,7 +24,7 @@ use Rattle.splits.specs.Updates.{withCommon}
 use Rattle.names.specs.Names.{numberOf}
 use Rattle.names.proofs.Laws.{length-names}
 use Rattle.trim.proofs.Ends.{trim-keeps, same-length, same-row}
-use Rattle.merge.specs.Merge.{Given, given, higher, jointOf, sectionEnd}
+use Rattle.merge.specs.Merge.{Given, given, jointOf, sectionEnd}
 use Rattle.merge.specs.Kept.{Inside, Keeps}
 use Rattle.merge.proofs.Keeping.{one-kept, all-kept}
 use Rattle.common.specs.Common.{From, nowhere, on, marked, markedFrom, firstCommon}
@@ -35,6 +35,7 @@ use Rattle.gaps.proofs.Inside.{found-lies}
 use Rattle.gap_splits.specs.Entering.{Filled, Ceilings, Named, full, named, gapSplit, unitName, entered, filled}
 use Rattle.create_gap_splits.specs.Create.{gapsFilled}
 use Rattle.loaded.proofs.Laws.{section-below}
+use Rattle.lists.specs.Bounds.{higher}
 use Rattle.run_splits.specs.Table as table
 use Rattle.run_splits.specs.Table.{Fine, Homed}
 

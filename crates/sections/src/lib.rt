@@ -1,16 +1,16 @@
 // Questions on a section: where it may be split at last, how a split in it is aligned, and its bytes.
 ghost use mathlib.Core.Path.{_≡_};
 ghost use mathlib.Core.List.{reverse};
-ghost use Prim.Native.Nat.{_-_, _<_, _≤_, min};
+ghost use Prim.Native.Nat.{_-_, _<_, _≤_};
 ghost use lib.ListN.{length, drop};
 ghost use Rattle.names.specs.Names.{nameAt, Named};
 ghost use Rattle.symbol_order.specs.Order.{symbolOf, Order};
+ghost use Rattle.lists.specs.Outcome.{accepted};
 ghost use Rattle.sections.specs.Image.{imageOf, Tables, Part, Whole, Lies};
-ghost use Rattle.sections.specs.Bytes.{bytesOf, allZero, zeroBetween};
+ghost use Rattle.sections.specs.Bytes.{bytesOf, allZero};
 ghost use Rattle.sections.specs.Ends.{objectBelow, lowered, lessFour, splittingEnd, endMeaning, Within, Four};
 ghost use Rattle.sections.specs.Sections.{headOf, Heads};
 ghost use Rattle.sections.specs.Alignment.{defaultAlignment, larger, alignmentOf, alignmentFrom, alignmentMeaning};
-ghost use Rattle.lists.specs.Outcome.{accepted};
 use names::is_four_aligned;
 use names::is_linker_generated_object;
 use names::is_pointer_list;
@@ -61,22 +61,12 @@ pub fn section_bytes<'a>(image: &'a [u8], places: &[u32], n: usize, head: Sectio
     &image[from..to]
 }
 
-fn lower_of(a: usize, b: usize) -> usize
-    ensures { λ r. ⌜ r ≡ min a b ⌝ }
+// Whether all of these bytes are zero.
+pub fn is_zero(bytes: &[u8]) -> bool
+    ensures { λ r. ⌜ r ≡ allZero (now (bytes .entry)) ⌝ }
 {
-    if a < b {
-        return a;
-    }
-    b
-}
-
-// Whether the bytes in from..to, as far as there are any, are zero.
-pub fn is_zero(bytes: &[u8], from: usize, to: usize) -> bool
-    ensures { λ r. ⌜ r ≡ zeroBetween (now (bytes .entry)) from to ⌝ }
-{
-    let end = lower_of(to, bytes.len());
-    let mut i = from;
-    while i < end {
+    let mut i: usize = 0;
+    while i < bytes.len() {
         if bytes[i] != 0 {
             return false;
         }

@@ -18,10 +18,10 @@ use Rattle.obj.specs.declared.Split.{Split}
 use Rattle.sections.specs.Sections.{Sections}
 use Rattle.sections.specs.Ends.{endMeaning}
 use Rattle.splits.specs.Columns.{Columns, rowOf, rowAt, rows}
-use Rattle.splits.specs.Questions.{within, fromHit}
+use Rattle.splits.specs.Questions.{within, fromHit, nextStart}
 use Rattle.walk.specs.declared.Step.{Step}
 use Rattle.walk.specs.declared.Step.the-variants.{Skip, Give, Fault}
-use Rattle.walk.specs.Walk.{Input, Output, startIn, splittingEndIn, fits, halved, onAligned, onSplit, nextStart, walkSplits, walkSection, walkSections}
+use Rattle.walk.specs.Walk.{Input, Output, startIn, splittingEndIn, fits, halved, onAligned, onSplit, walkSplits, walkSection, walkSections}
 use Rattle.walk.specs.Steps.{Decision, skip, give, decide, stepMeaning}
 use Rattle.walk.proofs.Deciding.{carried, decide-then-give}
 use Rattle.split_obj.specs.Loop.{Hits}

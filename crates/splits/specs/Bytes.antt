@@ -8,7 +8,7 @@ use mathlib.Core.List.{List, [], _∷_, _++_}
 use lib.ListN.{getD, length}
 use Rattle.fields.specs.Fields.{enc16, enc32}
 use Rattle.align.specs.Align.{badAlign}
-use Rattle.obj.specs.Records.{splitAt, Held}
+use Rattle.obj.specs.Records.{splitAt, Held, splitWidth}
 use Rattle.obj.specs.declared.Split.{Split}
 
 -- the 19 bytes of a split
@@ -33,5 +33,5 @@ pub record Fits (s : Split) : Type 0 where
 
 -- a table of splits that can be kept in columns: its records lie within the lent bytes, and no alignment is bad
 pub record Loadable (b places : List ℕ) : Type 0 where
-  pub held : (k : ℕ) → k < length places → Held 19 b places k
+  pub held : (k : ℕ) → k < length places → Held splitWidth b places k
   pub aligned : (k : ℕ) → k < length places → badAlign (splitAt b (getD places k 0) .alignment) ≡ false

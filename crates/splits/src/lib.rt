@@ -8,13 +8,14 @@ ghost use Prim.Native.Nat.{ℕ, _+_, _*_, _/_, _%_, _<_, _≤_};
 ghost use lib.ListN.{length, getD, set};
 ghost use lib.Seq.{sets};
 ghost use Rattle.lists.specs.Rows.{tabulate, some};
-ghost use Rattle.obj.specs.Records.{splitAt};
+ghost use Rattle.obj.specs.Records.{splitAt, splitWidth};
 ghost use Rattle.splits.specs.Columns.{alignmentOf, Good, columns, rowOf, rowAt, rows, Long};
 ghost use Rattle.splits.specs.Updates.{withEnd};
 ghost use Rattle.splits.specs.Questions.{within, ofUnit, Hit, Meets};
 ghost use Rattle.splits.specs.Bytes.{splitBytes, tableBytes, Loadable};
 use fields::put16;
 use fields::put32;
+use obj::SPLIT_BYTES;
 use obj::Split;
 use obj::split_at;
 
@@ -134,7 +135,7 @@ pub fn load(
 
 // One split as a record at `at`.
 fn put_split(out: &mut [u8], at: usize, s: Split)
-    requires { ⌜ at + 19 ≤ length (now out) ⌝ }
+    requires { ⌜ at + splitWidth ≤ length (now out) ⌝ }
     ensures { λ _. ⌜ now (out .exit) ≡ sets (now (out .entry)) at (splitBytes s) ⌝ }
 {
     put16(out, at, s.section);
@@ -148,13 +149,13 @@ fn put_split(out: &mut [u8], at: usize, s: Split)
 
 // The first n rows as records at the front of a lent table.
 pub fn store(starts: &[u32], ends: &[u32], units: &[u16], rest: &[u64], n: usize, out: &mut [u8])
-    requires { ⌜ Long (columns (now starts) (now ends) (now units) (now rest)) n × (19 * n ≤ length (now out)) ⌝ }
+    requires { ⌜ Long (columns (now starts) (now ends) (now units) (now rest)) n × (splitWidth * n ≤ length (now out)) ⌝ }
     ensures { λ _. ⌜ now (out .exit) ≡ sets (now (out .entry)) 0 (tableBytes (rows (columns (now (starts .entry)) (now (ends .entry)) (now (units .entry)) (now (rest .entry))) n)) ⌝ }
 {
     let mut i: usize = 0;
     while i < n {
         let s = row(starts, ends, units, rest, i);
-        put_split(out, 19 * i, s);
+        put_split(out, SPLIT_BYTES * i, s);
         i += 1;
     }
 }

@@ -15,9 +15,11 @@ ghost use Rattle.splits.specs.Columns.{columns, rows, Long};
 ghost use Rattle.merge.specs.Merge.{given};
 ghost use Rattle.gap_splits.specs.Answers.{beside, ceilings, meant, names, used, splits, Stand};
 ghost use Rattle.create_gap_splits.specs.Create.{gapsFilled};
+ghost use Rattle.obj.specs.Records.{splitWidth};
 ghost use Rattle.stage_gaps.specs.StageGaps.{fromSplits, Gives, Names, Headed, Space, Columns, Lent};
 use gap_splits::Entered;
 use obj::Answer;
+use obj::SPLIT_BYTES;
 use outputs::clear_from;
 use outputs::put_count;
 use stage_names::give_names;
@@ -63,7 +65,7 @@ fn give_filled(
         × Space (namesOf (now «name_bytes») (now «name_places») (now «name_lengths») (length (now «name_places»))) most «most_bytes» (length (now «out_ends»)) (length (now «out_bytes»))
         × Stand (beside (now «added_bytes») (now «added_places») (now «added_lengths»)) (names r) (used r) most «most_bytes»
         × Long (columns (now starts) (now ends) (now units) (now rest)) (splits r)
-        × (19 * splits r ≤ length (now out))
+        × (splitWidth * splits r ≤ length (now out))
         × (splits r ≤ 1024) ⌝ }
     ensures { λ a. ⌜
         Gives
@@ -150,7 +152,7 @@ fn fill_rows(
         × Lent (now «added_bytes») (now «added_places») (now «added_lengths») (now marks) (now keys) (now «gap_ends»)
         × (n ≤ cap)
         × (cap ≤ 1024)
-        × (19 * cap ≤ length (now out))
+        × (splitWidth * cap ≤ length (now out))
         × (length (now «symbol_places») ≤ 4096) ⌝ }
     ensures { λ r. ⌜
         Gives
@@ -270,7 +272,7 @@ fn from_splits(
     if let Answer::Refused { .. } = a {
         return a;
     }
-    let n = splits.len() / 19;
+    let n = splits.len() / SPLIT_BYTES;
     fill_rows(
         symbols,
         symbol_places,

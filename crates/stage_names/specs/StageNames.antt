@@ -1,6 +1,6 @@
 -- The name table of a stage that gives one back: whether the names that it is given fit, and the names laid into the lent outputs, their ends and their bytes.
 -- "A shorter lent output table has its own length as ceiling; more input splits or names: 2" (DECISIONS.md, 39): 2 at the first name that does not fit, by count or by
--- bytes, before anything else of the table but 1 (DECISIONS.md, 78).
+-- bytes, before anything else of the table but 1 of its length.
 use Prim.Native.Nat.{ℕ, _+_, _*_, _/_, _%_, _≤_, _<_}
 use mathlib.Core.Path.{_≡_}
 use mathlib.Core.List.{List, [], _∷_, _++_}

@@ -17,10 +17,11 @@ use Rattle.outputs.specs.Outputs.{countsOf}
 use Rattle.splits.specs.Columns.{Columns, rows}
 use Rattle.splits.specs.Bytes.{tableBytes}
 use Rattle.stage_tables.specs.StageTables.{stageSplits}
+use Rattle.obj.specs.Records.{splitWidth}
 
 -- how many splits a stage may hold and give back: "1,024 splits", or the whole records of a shorter output of `size` bytes
 unfoldable pub roomOf : (size : ℕ) → ℕ
-roomOf size = cond (ltb (size / 19) 1024) (size / 19) 1024
+roomOf size = cond (ltb (size / splitWidth) 1024) (size / splitWidth) 1024
 
 -- the rows that an outcome leaves: none after a refusal
 abbrev pub rowsOf : Outcome (List Split) → List Split
@@ -38,7 +39,7 @@ pub record Leaves (o : Outcome (List Split)) (size counts-size answer : ℕ) (ou
 -- what was answered of the table b, and the rows that the columns hold if it was accepted
 pub record Taken (answer want : Outcome (Unit {0})) (b : List ℕ) (c : Columns) : Type 0 where
   pub said : answer ≡ want
-  pub taken : want ≡ accepted tt → rows c (length b / 19) ≡ stageSplits b
+  pub taken : want ≡ accepted tt → rows c (length b / splitWidth) ≡ stageSplits b
 
 -- these rows are in the output, and their number is in the counts
 pub record Laid (l : List Split) (size counts-size : ℕ) (out counts : List ℕ) : Type 0 where

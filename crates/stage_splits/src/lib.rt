@@ -13,8 +13,10 @@ ghost use Rattle.tables.specs.Records.{sectionsIn};
 ghost use Rattle.stage_tables.specs.StageTables.{splitsCheck, Room};
 ghost use Rattle.splits.specs.Columns.{columns, rows, Long};
 ghost use Rattle.splits.specs.Bytes.{tableBytes};
+ghost use Rattle.obj.specs.Records.{splitWidth};
 ghost use Rattle.stage_splits.specs.StageSplits.{roomOf, Taken, Laid, Gives, Leaves};
 use obj::Answer;
+use obj::SPLIT_BYTES;
 use obj::word_of;
 use outputs::clear_from;
 use outputs::put_count;
@@ -26,7 +28,7 @@ use stage_tables::take_splits;
 pub fn room_of(size: usize) -> usize
     ensures { λ r. ⌜ r ≡ roomOf size ⌝ }
 {
-    let whole = size / 19;
+    let whole = size / SPLIT_BYTES;
     if whole < 1024 {
         return whole;
     }
@@ -55,7 +57,7 @@ pub fn take_split_columns(
     if let Answer::Refused { .. } = a {
         return a;
     }
-    let n = b.len() / 19;
+    let n = b.len() / SPLIT_BYTES;
     load(b, &places[..n], starts, ends, units, rest);
     a
 }
@@ -69,13 +71,13 @@ pub fn put_splits(
     n: usize,
     out: &mut [u8],
 )
-    requires { ⌜ Long (columns (now starts) (now ends) (now units) (now rest)) n × (19 * n ≤ length (now out)) ⌝ }
+    requires { ⌜ Long (columns (now starts) (now ends) (now units) (now rest)) n × (splitWidth * n ≤ length (now out)) ⌝ }
     ensures { λ _. ⌜
         now (out .exit)
         ≡ laid (length (now (out .entry))) (tableBytes (rows (columns (now (starts .entry)) (now (ends .entry)) (now (units .entry)) (now (rest .entry))) n)) ⌝ }
 {
     store(starts, ends, units, rest, n, out);
-    clear_from(out, 19 * n);
+    clear_from(out, SPLIT_BYTES * n);
 }
 
 // The same, and their number in the counts.
@@ -88,7 +90,7 @@ pub fn give_splits(
     out: &mut [u8],
     counts: &mut [u8],
 )
-    requires { ⌜ Long (columns (now starts) (now ends) (now units) (now rest)) n × (19 * n ≤ length (now out)) × (n ≤ 1024) ⌝ }
+    requires { ⌜ Long (columns (now starts) (now ends) (now units) (now rest)) n × (splitWidth * n ≤ length (now out)) × (n ≤ 1024) ⌝ }
     ensures { λ _. ⌜
         Laid (rows (columns (now (starts .entry)) (now (ends .entry)) (now (units .entry)) (now (rest .entry))) n)
         (length (now (out .entry))) (length (now (counts .entry))) (now (out .exit)) (now (counts .exit)) ⌝ }

@@ -7,7 +7,7 @@ use mathlib.Core.Path.{_≡_}
 use mathlib.Core.List.{List}
 use lib.ListN.{length, take}
 use Rattle.lists.specs.Outcome.{Outcome, accepted, _>>_}
-use Rattle.obj.specs.Records.{stagePlaces}
+use Rattle.obj.specs.Records.{stagePlaces, splitWidth, partialWidth}
 use Rattle.obj.specs.declared.Section.{Section}
 use Rattle.obj.specs.declared.Symbol.{Symbol}
 use Rattle.obj.specs.declared.Reloc.{Reloc}
@@ -27,7 +27,7 @@ abbrev pub stageRelocs : List ℕ → List Reloc
 stageRelocs b = relocsIn b (stagePlaces 23 (length b / 23))
 
 abbrev pub stageSplits : List ℕ → List Split
-stageSplits b = splitsIn b (stagePlaces 19 (length b / 19))
+stageSplits b = splitsIn b (stagePlaces splitWidth (length b / splitWidth))
 
 abbrev pub stageUnits : List ℕ → List units.Unit
 stageUnits b = unitsIn b (stagePlaces 8 (length b / 8))
@@ -54,11 +54,11 @@ relocsCheck ceiling sections symbols b = tableCheck 23 ceiling b (relocFault sec
 
 -- "7 split": "The merge's partial list is checked as records"
 abbrev pub partialsCheck : (ceiling : ℕ) → (lengths b : List ℕ) → Outcome (Unit {0})
-partialsCheck ceiling lengths b = tableCheck 19 ceiling b (partialFault lengths (stageSplits b))
+partialsCheck ceiling lengths b = tableCheck partialWidth ceiling b (partialFault lengths (stageSplits b))
 
 -- "7 split", "in stage tables also .."
 abbrev pub splitsCheck : (ceiling : ℕ) → (lengths : List ℕ) → (sections : List Section) → (b : List ℕ) → Outcome (Unit {0})
-splitsCheck ceiling lengths sections b = tableCheck 19 ceiling b (splitFault lengths sections (stageSplits b))
+splitsCheck ceiling lengths sections b = tableCheck splitWidth ceiling b (splitFault lengths sections (stageSplits b))
 
 -- "8 unit"
 abbrev pub unitsCheck : (ceiling : ℕ) → (lengths b : List ℕ) → Outcome (Unit {0})

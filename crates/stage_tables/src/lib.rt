@@ -5,8 +5,11 @@ ghost use lib.ListN.{length};
 ghost use Rattle.obj.specs.Answers.{meaning};
 ghost use Rattle.tables.specs.Tables.{sizeCheck, AllHeld};
 ghost use Rattle.tables.specs.Records.{sectionsIn};
+ghost use Rattle.obj.specs.Records.{splitWidth, partialWidth};
 ghost use Rattle.stage_tables.specs.StageTables.{sectionsCheck, imageCheck, symbolsCheck, relocsCheck, partialsCheck, splitsCheck, unitsCheck, Room, Filled};
 use obj::Answer;
+use obj::PARTIAL_BYTES;
+use obj::SPLIT_BYTES;
 use tables::fill_places;
 use tables::table_size;
 
@@ -100,13 +103,13 @@ pub fn take_relocs(
 // A partial list, "checked as records": "7 split: ..".
 pub fn take_partials(lengths: &[u8], b: &[u8], ceiling: usize, places: &mut [u32]) -> Answer
     requires { ⌜ Room ceiling (now places) ⌝ }
-    ensures { λ r. ⌜ Filled (meaning r) (partialsCheck ceiling (now (lengths .entry)) (now (b .entry))) 19 (length (now (b .entry))) (now (places .exit)) ⌝ }
+    ensures { λ r. ⌜ Filled (meaning r) (partialsCheck ceiling (now (lengths .entry)) (now (b .entry))) partialWidth (length (now (b .entry))) (now (places .exit)) ⌝ }
 {
-    let size = fill_table(b.len(), 19, ceiling, places);
+    let size = fill_table(b.len(), PARTIAL_BYTES, ceiling, places);
     if let Answer::Refused { .. } = size {
         return size;
     }
-    let n = b.len() / 19;
+    let n = b.len() / PARTIAL_BYTES;
     tables::check_partials(lengths, b, &places[..n])
 }
 
@@ -120,13 +123,13 @@ pub fn take_splits(
     places: &mut [u32],
 ) -> Answer
     requires { ⌜ AllHeld 15 (now heads) (now «head_places») × Room ceiling (now places) ⌝ }
-    ensures { λ r. ⌜ Filled (meaning r) (splitsCheck ceiling (now (lengths .entry)) (sectionsIn (now (heads .entry)) (now («head_places» .entry))) (now (b .entry))) 19 (length (now (b .entry))) (now (places .exit)) ⌝ }
+    ensures { λ r. ⌜ Filled (meaning r) (splitsCheck ceiling (now (lengths .entry)) (sectionsIn (now (heads .entry)) (now («head_places» .entry))) (now (b .entry))) splitWidth (length (now (b .entry))) (now (places .exit)) ⌝ }
 {
-    let size = fill_table(b.len(), 19, ceiling, places);
+    let size = fill_table(b.len(), SPLIT_BYTES, ceiling, places);
     if let Answer::Refused { .. } = size {
         return size;
     }
-    let n = b.len() / 19;
+    let n = b.len() / SPLIT_BYTES;
     tables::check_splits(lengths, heads, head_places, b, &places[..n])
 }
 

@@ -3,6 +3,7 @@ use Prim.Native.Nat.{ℕ, _/_}
 use mathlib.Core.Bool.{cond}
 use lib.Dec.{ltb}
 use Rattle.walk.specs.declared.Counts.{Counts}
+use Rattle.pieces.specs.Pieces.{pieceWidth}
 
 -- a table of `size` bytes for records of `width` bytes: "A shorter lent output table has its own length as ceiling"
 unfoldable pub roomFor : (ceiling width size : ℕ) → ℕ
@@ -10,4 +11,4 @@ roomFor ceiling width size = cond (ltb (size / width) ceiling) (size / width) ce
 
 -- "Outputs: 1,024 pieces, 4,096 piece symbols, 4,096 piece relocations"
 abbrev pub roomIn : (pieces symbols relocs : ℕ) → Counts
-roomIn pieces symbols relocs = record { pieces = roomFor 1024 28 pieces; symbols = roomFor 4096 12 symbols; relocs = roomFor 4096 8 relocs }
+roomIn pieces symbols relocs = record { pieces = roomFor 1024 pieceWidth pieces; symbols = roomFor 4096 12 symbols; relocs = roomFor 4096 8 relocs }

@@ -14,6 +14,8 @@ ghost use Rattle.split_obj.specs.Loop.{Ready};
 ghost use Rattle.stage_walk.specs.Room.{roomFor, roomIn};
 ghost use Rattle.stage_walk.specs.Lines.{walkOf, fromUnits, fromSplits, stoppedBy, Gives, Headed, Relocated, Rowed, Scratch, UnitScratch, Beside};
 use obj::Answer;
+use obj::SPLIT_BYTES;
+use pieces::PIECE_BYTES;
 use split_obj::Walked;
 use split_obj::walk_sections;
 use stage_splits::take_split_columns;
@@ -22,7 +24,7 @@ use units::number_units;
 use walk::Counts;
 
 // How many records of `width` bytes a lent table of `size` bytes may take: "A shorter lent output table has its own length as ceiling".
-fn room_for(ceiling: usize, width: usize, size: usize) -> usize
+pub fn room_for(ceiling: usize, width: usize, size: usize) -> usize
     requires { ⌜ 0 < width ⌝ }
     ensures { λ r. ⌜ r ≡ roomFor ceiling width size ⌝ }
 {
@@ -55,7 +57,7 @@ pub fn stopped(a: Answer) -> Walked
     }
 }
 
-fn clear(column: &mut [u16])
+pub fn clear(column: &mut [u16])
     ensures { λ _. ⌜ now (column .exit) ≡ replicate (length (now (column .entry))) 0 ⌝ }
 {
     let mut i: usize = 0;
@@ -109,7 +111,7 @@ pub fn walk_columns(
     clear(counts);
     clear(lasts);
     let room = Counts {
-        pieces: room_for(1024, 28, pieces.len()),
+        pieces: room_for(1024, PIECE_BYTES, pieces.len()),
         symbols: room_for(4096, 12, entries.len()),
         relocs: room_for(4096, 8, offsets.len()),
     };
@@ -365,7 +367,7 @@ fn from_splits(
     if let Answer::Refused { .. } = a {
         return stopped(a);
     }
-    let rows = splits.len() / 19;
+    let rows = splits.len() / SPLIT_BYTES;
     with_units(
         symbols,
         symbol_places,

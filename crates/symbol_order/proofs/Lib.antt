@@ -1,4 +1,5 @@
 pub mod Laws
+pub mod Ranks
 pub mod Unique
 pub mod Parts
 pub mod Sections

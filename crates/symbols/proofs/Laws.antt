@@ -13,7 +13,7 @@ use Rattle.lists.proofs.Filter.{keep-append}
 use Rattle.obj.specs.declared.Symbol.{Symbol}
 use Rattle.symbols.specs.declared.Found.{Found}
 use Rattle.symbols.specs.declared.Found.the-variants.{At, Nothing}
-use Rattle.symbols.specs.Ranges.{sized, lastOr, firstOf, highestOf, raise}
+use Rattle.symbols.specs.Ranges.{sized, lastOr, highestOf, raise}
 
 -- ---- the last that passes
 last-append : (best : Found) (s t : List ℕ) → lastOr best (s ++ t) ≡ lastOr (lastOr best s) t
@@ -85,14 +85,3 @@ raise-less most y e h = rw e (omega arith)
 
 pub raise-not : (most : ℕ) (y : Symbol) → sized y ≡ false → most ≡ raise most y
 raise-not most y e = rw e
-
--- ---- the first of a part
-pub first-none : (l : List ℕ) → length l ≡ 0 → Nothing ≡ firstOf l
-unfolding firstOf
-first-none [] h = refl
-first-none (i ∷ l) h = absurd (omega arith)
-
-pub first-some : (l : List ℕ) → (length l ≡ 0 → ⊥) → At (getD l 0 0) ≡ firstOf l
-unfolding firstOf
-first-some [] h = absurd (h refl)
-first-some (i ∷ l) h = refl

@@ -40,10 +40,6 @@ unfoldable pub lastOr : Found → List ℕ → Found
 lastOr best [] = best
 lastOr best (i ∷ l) = lastOr (At i) l
 
-unfoldable pub firstOf : List ℕ → Found
-firstOf [] = Nothing
-firstOf (i ∷ l) = At i
-
 -- the highest alignment; 0, "none", if there is no symbol
 unfoldable pub highestOf : (ℕ → Symbol) → List ℕ → ℕ
 highestOf symbol [] = 0
@@ -84,12 +80,6 @@ module _ (symbol : ℕ → Symbol) (count n : ℕ) where
   lastIn start end = do
     rangeRefusal start end
     accepted (lastOr Nothing (keepIf (λ i. sizedUnstripped false (symbol i)) (symbolsBetween start end)))
-
-  -- the first symbol in start..=end
-  unfoldable pub firstIn : (start end : ℕ) → Outcome Found
-  firstIn start end = do
-    rangeRefusal start end
-    accepted (firstOf (symbolsThrough start end))
 
   -- "the highest alignment of sized symbols in start..end, stripped ones included"
   unfoldable pub highestIn : (start end : ℕ) → Outcome ℕ

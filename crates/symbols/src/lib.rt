@@ -6,8 +6,8 @@ ghost use lib.ListN.{length};
 ghost use Rattle.lists.specs.Rows.{keepIf, firstIn as firstPlace};
 ghost use Rattle.lists.specs.Sort.{between, atLeast};
 ghost use Rattle.symbol_order.specs.Order.{symbolOf, keyAt, symbolsOf, Readable, Order};
-ghost use Rattle.symbols.specs.Ranges.{sized, sizedUnstripped, lastOr, firstOf, highestOf, symbolsBetween, symbolsThrough, hasSymbols};
-ghost use Rattle.symbols.specs.Ranges.{backwards as isBackwards, lastBelow, lastIn, firstIn, highestIn, foundMeaning, highestMeaning, Within, raise};
+ghost use Rattle.symbols.specs.Ranges.{sized, sizedUnstripped, lastOr, highestOf, symbolsBetween, symbolsThrough, hasSymbols};
+ghost use Rattle.symbols.specs.Ranges.{backwards as isBackwards, lastBelow, lastIn, highestIn, foundMeaning, highestMeaning, Within, raise};
 use obj::Symbol;
 use obj::symbol_at;
 use symbol_order::key_in;
@@ -235,34 +235,6 @@ pub fn last_in(
     }
     let part = for_section_range(b, places, order, section, start, end);
     FoundIn::Is(last_of(b, places, part, false))
-}
-
-// The first number of a part.
-fn first_of(part: &[u16]) -> Found
-    ensures { λ r. ⌜ r ≡ firstOf (now (part .entry)) ⌝ }
-{
-    if part.len() == 0 {
-        return Found::Nothing;
-    }
-    Found::At(number(part, 0))
-}
-
-// The first symbol in start..=end. The next ones are the numbers that follow in `for_section_through`.
-pub fn first_in(
-    b: &[u8],
-    places: &[u32],
-    order: &[u16],
-    section: u16,
-    start: u32,
-    end: u32,
-) -> FoundIn
-    requires { ⌜ Order (now b) (now places) (now order) ⌝ }
-    ensures { λ r. ⌜ foundMeaning section start r ≡ firstIn (symbolOf (now (b .entry)) (now (places .entry))) (length (now (places .entry))) section start end ⌝ }
-{
-    if backwards(b, places, order, section, start, end) {
-        return FoundIn::Backwards;
-    }
-    FoundIn::Is(first_of(for_section_through(b, places, order, section, start, end)))
 }
 
 // The symbol's alignment, if it is sized and that is more.

@@ -3,7 +3,7 @@
 ghost use mathlib.Core.Path.{_≡_};
 ghost use Prim.Native.Nat.{_*_, _<_, _≤_};
 ghost use lib.ListN.{length, getD, take, replicate};
-ghost use Rattle.obj.specs.Records.{stagePlaces, Held};
+ghost use Rattle.obj.specs.Records.{stagePlaces, Held, splitWidth, partialWidth};
 ghost use Rattle.obj.specs.Answers.{meaning};
 ghost use Rattle.tables.specs.Tables.{mainCeilings, sizeCheck, recordsCheck, AllHeld};
 ghost use Rattle.tables.specs.Records.{sectionsIn, symbolsIn, relocsIn, splitsIn, unitsIn, noSection, numbered, imagePlaces, bytesCut, splitBefore, relocFaultAbove, sectionFault, imageFault, symbolFault, relocFault, partialFault, splitFault, unitFault};
@@ -165,7 +165,7 @@ pub fn check_sections(lengths: &[u8], b: &[u8], places: &[u32]) -> Answer
 }
 
 // The place of section k's bytes in the image, 0 of one that has none.
-fn image_place(places: &[u8], k: usize) -> u32
+pub fn image_place(places: &[u8], k: usize) -> u32
     ensures { λ r. ⌜ r ≡ getD (imagePlaces (now (places .entry))) k 0 ⌝ }
 {
     if k < places.len() / 4 {
@@ -175,7 +175,7 @@ fn image_place(places: &[u8], k: usize) -> u32
 }
 
 // A section that has bytes, but no place for them in the image, or one from which they pass it.
-fn bytes_cut(places: &[u8], image: usize, k: usize, s: Section) -> bool
+pub fn bytes_cut(places: &[u8], image: usize, k: usize, s: Section) -> bool
     ensures { λ r. ⌜ r ≡ bytesCut (imagePlaces (now (places .entry))) image k s ⌝ }
 {
     let start = image_place(places, k);
@@ -329,7 +329,7 @@ pub fn check_relocs(
 
 // The fault of split k of a record file, or of the merge's partial list.
 fn partial_fault(lengths: &[u8], b: &[u8], places: &[u32], k: usize) -> u16
-    requires { ⌜ Held 19 (now b) (now places) k ⌝ }
+    requires { ⌜ Held partialWidth (now b) (now places) k ⌝ }
     ensures { λ r. ⌜ r ≡ partialFault (now (lengths .entry)) (splitsIn (now (b .entry)) (now (places .entry))) k ⌝ }
 {
     let s = split_at(b, places, k);
@@ -340,7 +340,7 @@ fn partial_fault(lengths: &[u8], b: &[u8], places: &[u32], k: usize) -> u16
 
 // Every split of a record file or a partial list, which "is checked as records": "7 split: ..".
 pub fn check_partials(lengths: &[u8], b: &[u8], places: &[u32]) -> Answer
-    requires { ⌜ AllHeld 19 (now b) (now places) ⌝ }
+    requires { ⌜ AllHeld partialWidth (now b) (now places) ⌝ }
     ensures { λ r. ⌜ meaning r ≡ recordsCheck (partialFault (now (lengths .entry)) (splitsIn (now (b .entry)) (now (places .entry)))) (length (now (places .entry))) ⌝ }
 {
     let mut i: usize = 0;
@@ -360,7 +360,7 @@ pub fn check_partials(lengths: &[u8], b: &[u8], places: &[u32]) -> Answer
 
 // The split before split k; before the first one that nothing falls below.
 pub fn split_before(b: &[u8], places: &[u32], k: usize) -> Split
-    requires { ⌜ AllHeld 19 (now b) (now places) × (k < length (now places)) ⌝ }
+    requires { ⌜ AllHeld splitWidth (now b) (now places) × (k < length (now places)) ⌝ }
     ensures { λ r. ⌜ r ≡ splitBefore (splitsIn (now (b .entry)) (now (places .entry))) k ⌝ }
 {
     if k != 0 {
@@ -386,7 +386,7 @@ fn split_fault(
     places: &[u32],
     k: usize,
 ) -> u16
-    requires { ⌜ AllHeld 15 (now heads) (now «head_places») × AllHeld 19 (now b) (now places) × (k < length (now places)) ⌝ }
+    requires { ⌜ AllHeld 15 (now heads) (now «head_places») × AllHeld splitWidth (now b) (now places) × (k < length (now places)) ⌝ }
     ensures { λ r. ⌜ r ≡ splitFault (now (lengths .entry)) (sectionsIn (now (heads .entry)) (now («head_places» .entry))) (splitsIn (now (b .entry)) (now (places .entry))) k ⌝ }
 {
     let s = split_at(b, places, k);
@@ -406,7 +406,7 @@ pub fn check_splits(
     b: &[u8],
     places: &[u32],
 ) -> Answer
-    requires { ⌜ AllHeld 15 (now heads) (now «head_places») × AllHeld 19 (now b) (now places) ⌝ }
+    requires { ⌜ AllHeld 15 (now heads) (now «head_places») × AllHeld splitWidth (now b) (now places) ⌝ }
     ensures { λ r. ⌜ meaning r ≡ recordsCheck (splitFault (now (lengths .entry)) (sectionsIn (now (heads .entry)) (now («head_places» .entry))) (splitsIn (now (b .entry)) (now (places .entry)))) (length (now (places .entry))) ⌝ }
 {
     let mut i: usize = 0;

@@ -8,6 +8,8 @@ use mathlib.Core.Logic.{_⊎_, _≢_}
 use lib.ListN.{length, getD, take}
 use lib.Dec.{ltb}
 use Rattle.lists.specs.Outcome.{Outcome, accepted, refused, refuse, _>>_}
+use Rattle.obj.specs.declared.Answer.{Answer}
+use Rattle.obj.specs.declared.Answer.the-variants.{Accepted, Refused}
 use Rattle.toposort.specs.declared.Sorted.{Sorted}
 use Rattle.toposort.specs.declared.Sorted.the-variants.{Ordered, Cycle, NoNode, Short}
 use Rattle.toposort.specs.Search.{Graph, End, all, cyclic, badEdge, searched, nextEdge}
@@ -42,6 +44,13 @@ carried (Ordered n) = n
 carried (Cycle k) = k
 carried (NoNode e) = e
 carried Short = 0
+
+-- document 01's number, section and address for each case of the answer
+abbrev pub answerOf : Sorted → Answer
+answerOf (Ordered n) = Accepted
+answerOf (Cycle k) = Refused 61 0 0
+answerOf (NoNode e) = Refused 62 0 e
+answerOf Short = Refused 76 0 0
 
 -- the answer and the table mean this outcome; the ranges that callers need
 pub record Sorts (o : Outcome End) (size : ℕ) (answer : Sorted) (table : List ℕ) : Type 0 where

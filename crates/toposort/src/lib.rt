@@ -5,8 +5,10 @@ ghost use Prim.Native.Nat.{ℕ, suc, _≤_, _<_};
 ghost use lib.ListN.{length, drop, replicate};
 ghost use Rattle.lists.specs.Outcome.{accepted};
 ghost use Rattle.toposort.specs.Search.{Graph, nextEdge, badEdge, moveOf, node, parentOf, hops, climb, stateAt, Reaches, searched, start};
-ghost use Rattle.toposort.specs.Sorting.{Sorts, Within, Chainable, Chained, Follows, Moves, Ready, sortOf};
+ghost use Rattle.toposort.specs.Sorting.{Sorts, Within, Chainable, Chained, Follows, Moves, Ready, sortOf, carried, kept as keptBy, answerOf};
 ghost use Rattle.toposort.specs.declared.State.the-variants.{Open, Closed};
+use obj::Answer;
+use obj::refusal;
 
 // The root's record: the last of the 1,025.
 const ROOT: usize = 1024;
@@ -262,4 +264,31 @@ pub fn toposort(n: usize, from: &[u16], to: &[u16], table: &mut [u16]) -> Sorted
     let mut chain = [0u16; 2048];
     chain_edges(from, &mut heads, &mut chain);
     search(n, from, to, &heads, &chain, table)
+}
+
+// ---- what an answer leaves and says
+
+// How many nodes the answer leaves in the table.
+pub fn kept(r: Sorted) -> usize
+    ensures { λ k. ⌜ k ≡ keptBy r ⌝ }
+{
+    match r {
+        Sorted::Ordered(n) => n,
+        Sorted::Cycle(k) => k,
+        Sorted::NoNode(_) => 0,
+        Sorted::Short => 0,
+    }
+}
+
+// Document 01's number, section and address for each case of the answer.
+pub fn answer_of(r: Sorted) -> Answer
+    requires { ⌜ carried r ≤ 2048 ⌝ }
+    ensures { λ a. ⌜ a ≡ answerOf r ⌝ }
+{
+    match r {
+        Sorted::Ordered(_) => Answer::Accepted,
+        Sorted::Cycle(_) => refusal(61, 0, 0),
+        Sorted::NoNode(e) => refusal(62, 0, e as u32),
+        Sorted::Short => refusal(76, 0, 0),
+    }
 }

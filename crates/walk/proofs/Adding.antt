@@ -15,7 +15,8 @@ use Rattle.sections.specs.Image.{Image}
 use Rattle.pieces.specs.declared.PieceSymbol.{PieceSymbol}
 use Rattle.pieces.specs.declared.PieceReloc.{PieceReloc}
 use Rattle.pieces.specs.Questions.{has}
-use Rattle.walk.specs.Walk.{isCommon, passedOver, entryOf, addSymbol, addSymbols, relocEntry, addRelocs}
+use Rattle.splits.specs.Questions.{isCommon}
+use Rattle.walk.specs.Walk.{passedOver, entryOf, addSymbol, addSymbols, relocEntry, addRelocs}
 
 -- an entry has its symbol's number
 either : (t : Bool) (a b : PieceSymbol) (i : ℕ) → a .symbol ≡ i → b .symbol ≡ i → cond t a b .symbol ≡ i

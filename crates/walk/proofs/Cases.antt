@@ -23,7 +23,8 @@ use Rattle.pieces.specs.declared.PieceReloc.{PieceReloc}
 use Rattle.pieces.specs.Questions.{countOf, has}
 use Rattle.relocs.specs.Relocs.{relocsOf, hasRelocs}
 use Rattle.units.specs.Units.{lastNamed, unitOf}
-use Rattle.walk.specs.Walk.{Input, Output, halved, passedOver, entryOf, addSymbol, addSymbols, addRelocs, pieceOf, given, onAligned, onKept, onSplit, nextStart, walkSplits, walkSection, walkSections, walk}
+use Rattle.splits.specs.Questions.{nextStart}
+use Rattle.walk.specs.Walk.{Input, Output, halved, passedOver, entryOf, addSymbol, addSymbols, addRelocs, pieceOf, given, onAligned, onKept, onSplit, walkSplits, walkSection, walkSections, walk}
 
 -- one section, `.data`, and no symbols but these
 pub record Case : Type 0 where

@@ -24,7 +24,8 @@ use Rattle.sections.specs.Alignment.{Chosen, Reason, alignmentMeaning}
 use Rattle.sections.specs.declared.Alignment.{Alignment}
 use Rattle.sections.specs.declared.Alignment.the-variants.{Given, FromSymbol, Default, Backwards}
 use Rattle.units.specs.Units.{unitOf}
-use Rattle.walk.specs.Walk.{Input, Output, isSkipped, outside, nonzero, alignmentIn, halved, onAligned, onKept, onSplit}
+use Rattle.splits.specs.Questions.{isSkipped}
+use Rattle.walk.specs.Walk.{Input, Output, outside, nonzero, alignmentIn, halved, onAligned, onKept, onSplit}
 use Rattle.walk.specs.Steps.{Decision, skip, give, decide, betweenOf, valueOf, AlignedAt}
 
 -- ---- the bytes between

@@ -28,10 +28,11 @@ use Rattle.pieces.specs.Questions.{countOf}
 use Rattle.pieces.proofs.Laws.{length-piecesIn, length-symbolsIn, length-relocsIn}
 use Rattle.relocs.specs.Relocs.{relocsOf, hasRelocs}
 use Rattle.relocs.proofs.Laws.{relocs-some}
+use Rattle.splits.specs.Questions.{isCommon}
 use Rattle.walk.specs.declared.Counts.{Counts}
 use Rattle.walk.specs.declared.Gave.{Gave}
 use Rattle.walk.specs.declared.Gave.the-variants.{Made, Fault}
-use Rattle.walk.specs.Walk.{Input, Output, isCommon, fits, addSymbols, addRelocs, splitSymbols, splitRelocs, pieceOf, given, over, onAligned}
+use Rattle.walk.specs.Walk.{Input, Output, fits, addSymbols, addRelocs, splitSymbols, splitRelocs, pieceOf, given, over, onAligned}
 use Rattle.walk.specs.Adding.{Entries}
 use Rattle.walk.specs.Giving.{inputOf, outputIn, gaveMeaning, piecesWith, relocsWith, PieceGives, PieceSide, Beside, Besides}
 

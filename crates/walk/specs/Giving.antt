@@ -15,7 +15,7 @@ use Rattle.sections.specs.Image.{Image}
 use Rattle.sections.specs.Sections.{Sections, headOf}
 use Rattle.pieces.specs.declared.Piece.{Piece}
 use Rattle.pieces.specs.declared.PieceReloc.{PieceReloc}
-use Rattle.pieces.specs.Pieces.{piecesIn, symbolsIn, relocsIn}
+use Rattle.pieces.specs.Pieces.{piecesIn, symbolsIn, relocsIn, pieceWidth}
 use Rattle.pieces.specs.Questions.{countOf}
 use Rattle.piece_columns.specs.Columns.{Counted}
 use Rattle.relocs.specs.Relocs.{relocOf, relocsOf, Whole, Rising}
@@ -71,7 +71,7 @@ pub record PieceSide (room made : Counts) (counts pieces offsets : List ℕ) : T
   pub counted : Counted counts pieces (made .pieces)
   pub few-pieces : made .pieces ≤ room .pieces
   pub few-relocs : made .relocs ≤ room .relocs
-  pub pieces-long : 28 * room .pieces ≤ length pieces
+  pub pieces-long : pieceWidth * room .pieces ≤ length pieces
   pub offsets-long : 8 * room .relocs ≤ length offsets
   pub most-pieces : room .pieces ≤ 1024
   pub most-relocs : room .relocs ≤ 4096

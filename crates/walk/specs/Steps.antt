@@ -21,10 +21,11 @@ use Rattle.sections.specs.Alignment.{Chosen}
 use Rattle.sections.specs.declared.Alignment.{Alignment}
 use Rattle.sections.specs.declared.Alignment.the-variants.{Given, FromSymbol, Default, Backwards}
 use Rattle.units.specs.Units.{unitOf}
+use Rattle.splits.specs.Questions.{isSkipped}
 use Rattle.walk.specs.declared.Counts.{Counts}
 use Rattle.walk.specs.declared.Step.{Step}
 use Rattle.walk.specs.declared.Step.the-variants.{Skip, Give, Fault}
-use Rattle.walk.specs.Walk.{Input, Output, isSkipped, outside, nonzero, alignmentIn}
+use Rattle.walk.specs.Walk.{Input, Output, outside, nonzero, alignmentIn}
 
 -- ---- deciding
 

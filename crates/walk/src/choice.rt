@@ -16,6 +16,7 @@ use names::name_at;
 use obj::Section;
 use obj::Split;
 use obj::section_at;
+use pieces::piece_bytes;
 use sections::Alignment;
 use sections::alignment_of;
 use sections::default_alignment;
@@ -51,7 +52,8 @@ fn between(
         if is_inside(head, from, to) {
             let bytes = section_bytes(image, image_places, n, head);
             let start = head.address;
-            if is_zero(bytes, (from - start) as usize, (to - start) as usize) {
+            let part = piece_bytes(bytes, (from - start) as usize, (to - start) as usize);
+            if is_zero(part) {
                 return 0;
             }
             return 73;

@@ -4,6 +4,7 @@ use Rattle.obj.specs.declared.Section.{Section}
 use Rattle.tables.specs.Records.{imagePlaces}
 use Rattle.entry_piece_bytes.specs.Entry.{within}
 use Rattle.entry_piece_bytes.proofs.Steps.{no-section, section-there}
+use lib.ListN.{length}
 use borrow.Author.Needs.{needs}
 use Rattle.entry_piece_bytes.proofs.find_in_section.Statement.{statement}
 use Rattle.entry_piece_bytes.proofs.find_in_section.Tie as tie
@@ -16,8 +17,8 @@ refused-requires c κs = search needs
 
 returns : tie.Need-returns
 returns c =
-    let a = c .before .before .before .before .before .args in
-    c .refused .ensures ∙ sym (no-section (a .sections .now) (imagePlaces (a .places .now)) (a .image) (a .p) (c .before .if1 .taken))
+    let a = c .before .before .before .before .before .before .args in
+    c .refused .ensures ∙ sym (no-section (a .sections .now) (imagePlaces (a .places .now)) (length (a .image .now)) (a .p) (c .before .if1 .taken))
 
 mul-read-section : tie.Need-mul-read-section
 mul-read-section c = search needs
@@ -30,10 +31,10 @@ find-within-requires c κs = search needs
 
 returns-2 : tie.Need-returns-2
 returns-2 c =
-    let a = c .before .before .before .before .before .before .args in
+    let a = c .before .before .before .before .before .before .before .args in
     c .find-within .ensures
-    ∙ ap (λ (s : Section). within (imagePlaces (a .places .now)) (a .image) s (a .p)) (c .before .read-section .ensures)
-    ∙ sym (section-there (a .sections .now) (imagePlaces (a .places .now)) (a .image) (a .p) (c .before .before .if1 .left))
+    ∙ ap (λ (s : Section). within (imagePlaces (a .places .now)) (length (a .image .now)) s (a .p)) (c .before .read-section .ensures)
+    ∙ sym (section-there (a .sections .now) (imagePlaces (a .places .now)) (length (a .image .now)) (a .p) (c .before .before .if1 .left))
 
 pub find-in-section-spec : {M : Type 1} → statement M
 find-in-section-spec =

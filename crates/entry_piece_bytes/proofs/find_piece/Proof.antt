@@ -3,6 +3,7 @@ use mathlib.Core.Path.{sym, ap, _∙_}
 use Rattle.tables.specs.Records.{imagePlaces}
 use Rattle.entry_piece_bytes.specs.Entry.{inSection}
 use Rattle.entry_piece_bytes.proofs.Steps.{no-piece, piece-there}
+use lib.ListN.{length}
 use borrow.Author.Needs.{needs}
 use Rattle.entry_piece_bytes.proofs.find_piece.Statement.{statement}
 use Rattle.entry_piece_bytes.proofs.find_piece.Tie as tie
@@ -12,8 +13,8 @@ refused-requires c κs = search needs
 
 returns : tie.Need-returns
 returns c =
-    let a = c .before .before .before .before .before .args in
-    c .refused .ensures ∙ sym (no-piece (a .sections .now) (imagePlaces (a .places .now)) (a .image) (a .pieces .now) (a .which) (c .before .if1 .taken))
+    let a = c .before .before .before .before .before .before .args in
+    c .refused .ensures ∙ sym (no-piece (a .sections .now) (imagePlaces (a .places .now)) (length (a .image .now)) (a .pieces .now) (a .which) (c .before .if1 .taken))
 
 piece-at-requires : tie.Need-piece-at-requires
 piece-at-requires c κs = search needs
@@ -23,10 +24,10 @@ find-in-section-requires c κs = search needs
 
 returns-2 : tie.Need-returns-2
 returns-2 c =
-    let a = c .before .before .before .before .before .before .args in
+    let a = c .before .before .before .before .before .before .before .args in
     c .find-in-section .ensures
-    ∙ ap (inSection (a .sections .now) (imagePlaces (a .places .now)) (a .image)) (c .before .piece-at .ensures)
-    ∙ sym (piece-there (a .sections .now) (imagePlaces (a .places .now)) (a .image) (a .pieces .now) (a .which) (c .before .before .if1 .left))
+    ∙ ap (inSection (a .sections .now) (imagePlaces (a .places .now)) (length (a .image .now))) (c .before .piece-at .ensures)
+    ∙ sym (piece-there (a .sections .now) (imagePlaces (a .places .now)) (length (a .image .now)) (a .pieces .now) (a .which) (c .before .before .if1 .left))
 
 pub find-piece-spec : {M : Type 1} → statement M
 find-piece-spec =

@@ -39,8 +39,8 @@ put-halves-requires c κs =
     let w = c .before .before .before .before .before .before .before .room-of .ensures in
     simp length-take (omega (arith, c .before .before .kept .ensures, s .room, w .fits))
 
-answer-requires : tie.Need-answer-requires
-answer-requires c κs = search needs
+answer-of-requires : tie.Need-answer-of-requires
+answer-of-requires c κs = search needs
 
 same-length : tie.Need-same-length
 same-length c = search needs
@@ -51,7 +51,7 @@ same-length-2 c = search needs
 returns : tie.Need-returns
 returns c =
     let s = sorts-in _ (c .before .before .before .before .before .before .before .before .before .before .before .room-of .result) (c .before .before .before .before .before .before .before .before .before .before .before .before .before .before .before .before .args .table .now) (omega (arith, c .before .before .before .before .before .before .before .before .before .before .before .room-of .ensures .low, c .before .before .before .before .before .before .before .before .before .before .before .before .before .before .before .before .pre .1)) (c .before .before .before .before .before .before .before .before .before .toposort .ensures) in
-    sorted-ends _ _ _ _ _ _ _ _ _ _ (c .before .before .before .before .before .before .before .before .before .before .before .before .before .before .before .before .pre .0 .nodes) (c .before .before .before .before .before .before .before .before .before .before .before .room-of .ensures) refl s (c .before .before .before .before .before .before .kept .ensures) (c .answer .ensures)
+    sorted-ends _ _ _ _ _ _ _ _ _ _ (c .before .before .before .before .before .before .before .before .before .before .before .before .before .before .before .before .pre .0 .nodes) (c .before .before .before .before .before .before .before .before .before .before .before .room-of .ensures) refl s (c .before .before .before .before .before .before .kept .ensures) (c .answer-of .ensures)
     (c .before .before .before .put-halves .ensures)
 
 pub sort-columns-spec : {M : Type 1} → statement M
@@ -66,7 +66,7 @@ sort-columns-spec =
     slice-reshare-prefix-put-halves
     slice-aggregate-put-halves
     put-halves-requires
-    answer-requires
+    answer-of-requires
     same-length
     same-length-2
     returns)

@@ -9,7 +9,7 @@ use lib.Dec.{eqb}
 use lib.ListN.{length, getD, take, drop, length-set}
 use Rattle.lists.specs.Rows.{keepIf}
 use Rattle.lists.specs.Sort.{All}
-use Rattle.order_numbers.specs.Numbers.{unitOf}
+use Rattle.symbol_order.specs.Keys.{unitOf}
 use Rattle.link_graph.proofs.Chain.{first-and-rest, number-kept, number-passed, rest-kept, numbers-end}
 use Rattle.link_graph.proofs.keep_nodes.Statement.{statement}
 use Rattle.link_graph.proofs.keep_nodes.Tie as tie

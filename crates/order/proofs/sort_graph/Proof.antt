@@ -75,8 +75,8 @@ write-records-requires c κs =
       },
     )
 
-answer-requires : tie.Need-answer-requires
-answer-requires c κs = search needs
+answer-of-requires : tie.Need-answer-of-requires
+answer-of-requires c κs = search needs
 
 same-length : tie.Need-same-length
 same-length c = search needs
@@ -98,7 +98,7 @@ returns c =
     let sorted = sorts-in g (c .before .before .before .before .before .before .before .before .before .before .before .before .before .before .room-of .result) (a .table .now) fits (t .ensures) in
     let col = columns (a .starts .now) (a .ends .now) (a .units .now) (a .rest .now) in
     sorted-resolves g size (c .before .before .before .before .before .before .before .before .before .before .before .before .before .before .room-of .result) (t .result) (t .last .1 .1 .1 .0) (drop (c .before .before .before .before .before .before .before .before .before .before .before .before .before .before .room-of .result) (a .table .now)) (c .before .before .before .before .before .before .before .before .before .kept .result) (s .pre .within .nodes) (c .before .before .before .before .before .before .before .before .before .before .before .before .before .before .room-of .ensures) sorted (c .before .before .before .before .before .before .before .before .before .kept .ensures)
-    (rows col (a .n)) (unitsIn (a .unit-bytes .now) (a .unit-places .now)) (c .answer .result) (a .out .now) _ refl (c .answer .ensures) (c .before .before .before .before .before .write-records .ensures)
+    (rows col (a .n)) (unitsIn (a .unit-bytes .now) (a .unit-places .now)) (c .answer-of .result) (a .out .now) _ refl (c .answer-of .ensures) (c .before .before .before .before .before .write-records .ensures)
 
 pub sort-graph-spec : {M : Type 1} → statement M
 sort-graph-spec =
@@ -112,7 +112,7 @@ sort-graph-spec =
     slice-reshare-prefix-write-records
     slice-aggregate-write-records
     write-records-requires
-    answer-requires
+    answer-of-requires
     same-length
     same-length-2
     same-length-3

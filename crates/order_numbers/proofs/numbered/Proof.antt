@@ -9,10 +9,10 @@ use Prim.Native.Nat.{ℕ, _≤_, _-_}
 use lib.ListN.{length, take, length-set}
 use Rattle.lists.specs.Rows.{keepIf, tabulate}
 use Rattle.lists.proofs.Keep.{keep-more}
-use Rattle.order_numbers.specs.Numbers.{unitOf}
+use Rattle.symbol_order.specs.Keys.{unitOf}
 use Rattle.order_numbers.specs.Numbers.{hasOrder, unsorted}
 use Rattle.symbol_order.proofs.Laws.{number-kept, number-passed, number-end}
-use Rattle.order_numbers.proofs.Parts.{held}
+use Rattle.symbol_order.proofs.Parts.{held}
 use Rattle.order_numbers.proofs.numbered.Statement.{statement}
 use Rattle.order_numbers.proofs.numbered.Tie as tie
 

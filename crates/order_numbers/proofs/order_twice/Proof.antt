@@ -9,9 +9,10 @@ use borrow.Author.Tests.{eq-eqb, ne-eqb}
 use lib.Dec.{eqb}
 use lib.ListN.{length, getD, drop, length-map}
 use Rattle.lists.proofs.Rows.{getD-map}
-use Rattle.order_numbers.specs.Numbers.{rankAt, nextSame}
+use Rattle.symbol_order.specs.Keys.{rankAt}
+use Rattle.order_numbers.specs.Numbers.{nextSame}
 use Rattle.order_numbers.proofs.Parts.{ordered-readable}
-use Rattle.order_numbers.proofs.Ranks.{unit-fits, word-same, word-other}
+use Rattle.symbol_order.proofs.Ranks.{unit-fits, word-same, word-other}
 use Rattle.order_numbers.proofs.Twice.{next-turn, next-none}
 use Rattle.order_numbers.proofs.Records.{twice-next}
 use Rattle.order_numbers.proofs.order_twice.Statement.{statement}

@@ -7,6 +7,7 @@ use lib.ListN.{length, take}
 use lib.Seq.{length-take-le, take-at}
 use Rattle.lists.specs.Sort.{sortBy, All}
 use Rattle.lists.proofs.All.{all-keep}
+use Rattle.symbol_order.specs.Keys.{keyBy, width}
 use Rattle.order_numbers.specs.Numbers.{orderedNumbers}
 use Rattle.lists.proofs.Rising.{numbers-below}
 use borrow.Author.Needs.{needs}
@@ -27,6 +28,7 @@ slice-aggregate-sort : tie.Need-slice-aggregate-sort
 slice-aggregate-sort c = sym (whole (c .before .before .before))
 
 sort-requires : tie.Need-sort-requires
+unfolding width
 sort-requires c κs =
     let n = c .before .before .before .before in
     let s = c .before .before .before .before .before .before .before .before .before .before in (
@@ -41,7 +43,7 @@ same-length-2 : tie.Need-same-length-2
 same-length-2 c = search needs
 
 returns : tie.Need-returns
-unfolding orderedNumbers
+unfolding orderedNumbers keyBy
 returns c =
     let n = c .before .before .before .before .before .before .before .before .before in
     let s = c .before .before .before .before .sort in

@@ -3,7 +3,7 @@
 use Prim.Native.Nat.{ℕ}
 use mathlib.Core.Path.{ap, _∙_}
 use borrow.Author.Needs.{needs}
-use Rattle.run_room.specs.Room.{lower}
+use Rattle.lists.specs.Bounds.{lower}
 use Rattle.run_room.proofs.names_room.Statement.{statement}
 use Rattle.run_room.proofs.names_room.Tie as tie
 

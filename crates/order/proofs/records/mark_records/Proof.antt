@@ -7,7 +7,7 @@ use Rattle.lists.proofs.Rows.{getD-map}
 use Rattle.obj.specs.Records.{unitAt}
 use Rattle.obj.specs.declared.Unit as units
 use Rattle.tables.specs.Records.{unitsIn, noUnit}
-use Rattle.order_numbers.proofs.Parts.{held}
+use Rattle.symbol_order.proofs.Parts.{held}
 use Rattle.order.proofs.Marks.{MarkedFrom, marked-none, marked-more, marked-all}
 use borrow.Author.Needs.{needs}
 use Rattle.order.proofs.records.mark_records.Statement.{statement}

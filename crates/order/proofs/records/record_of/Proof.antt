@@ -6,7 +6,7 @@ use native.Mathlib.Omega.{arith}
 use Rattle.lists.proofs.Rows.{getD-map}
 use Rattle.obj.specs.Records.{unitAt}
 use Rattle.tables.specs.Records.{noUnit}
-use Rattle.order_numbers.proofs.Parts.{held}
+use Rattle.symbol_order.proofs.Parts.{held}
 use Rattle.order.proofs.Marks.{by-auto, by-hand, by-record}
 use borrow.Author.Needs.{needs}
 use Rattle.order.proofs.records.record_of.Statement.{statement}

@@ -5,7 +5,7 @@ use mathlib.Core.Bool.{Bool, true, false, cond}
 use Prim.Native.Nat.{ℕ, _+_, _-_, _≤_}
 use native.Mathlib.Omega.{arith}
 use Rattle.obj.specs.declared.Section.{Section}
-use Rattle.sections.specs.Bytes.{bytesOf}
+use Rattle.sections.specs.Bytes.{bytesOf, allZero}
 use Rattle.sections.specs.Image.{Lies}
 use Rattle.sections.specs.Sections.{Sections, sectionsOf}
 use Rattle.walk.specs.Steps.{betweenOf}
@@ -43,31 +43,34 @@ section-bytes-requires c κs =
     let s = c .before .before .before .before .before .before .before .before in
     subst (λ (h : Section). Lies (s .args .image .now) (s .args .image-places .now) (s .args .n) h) (sym (c .before .before .section-at .ensures)) (s .pre .lies)
 
-sub-is-zero : tie.Need-sub-is-zero
-sub-is-zero c = omega (arith, starts c .0)
+sub-piece-bytes : tie.Need-sub-piece-bytes
+sub-piece-bytes c = omega (arith, starts c .0)
 
-cast-is-zero : tie.Need-cast-is-zero
-cast-is-zero c = search needs
+cast-piece-bytes : tie.Need-cast-piece-bytes
+cast-piece-bytes c = search needs
 
-sub-is-zero-2 : tie.Need-sub-is-zero-2
-sub-is-zero-2 c = omega (arith, starts c .1)
+sub-piece-bytes-2 : tie.Need-sub-piece-bytes-2
+sub-piece-bytes-2 c = omega (arith, starts c .1)
 
-cast-is-zero-2 : tie.Need-cast-is-zero-2
-cast-is-zero-2 c = search needs
+cast-piece-bytes-2 : tie.Need-cast-piece-bytes-2
+cast-piece-bytes-2 c = search needs
+
+piece-bytes-requires : tie.Need-piece-bytes-requires
+piece-bytes-requires c κs = search needs
 
 is-zero-requires : tie.Need-is-zero-requires
 is-zero-requires c κs = search needs
 
 -- 0 or 73, by what `is_zero` answered
-zeros : (c : tie.After-is-zero) (t : Bool) → c .is-zero .result ≡ t → let s = c .before .before .before .before .before .before .before .before .before .before in
+zeros : (c : tie.After-is-zero) (t : Bool) → c .is-zero .result ≡ t → let s = c .before .before .before .before .before .before .before .before .before .before .before in
     cond t 0 73 ≡ betweenOf (sections s) (s .args .n) (s .args .from) (s .args .to)
 zeros c t e =
-    let s = c .before .before .before .before .before .before .before .before .before .before in
-    let b = c .before in
+    let s = c .before .before .before .before .before .before .before .before .before .before .before in
+    let b = c .before .before in
     sym (between-inside (sections s) (s .args .n) (s .args .from) (s .args .to) (b .before .before .before .before .if1 .taken)
     (b .before .before .before .section-at .result) (b .before .before .before .section-at .ensures)
     (sym (b .before .before .is-inside .ensures) ∙ b .before .if2 .taken) (b .section-bytes .result .now) (bytes-are b)
-    ∙ ap (λ (u : Bool). cond u 0 73) (sym (c .is-zero .ensures) ∙ e))
+    ∙ ap (λ (u : Bool). cond u 0 73) (ap allZero (sym (c .before .piece-bytes .ensures)) ∙ sym (c .is-zero .ensures) ∙ e))
 
 returns : tie.Need-returns
 returns c = zeros (c .before) true (c .if3 .taken)
@@ -92,10 +95,11 @@ between-spec =
     section-at-requires
     is-inside-requires
     section-bytes-requires
-    sub-is-zero
-    cast-is-zero
-    sub-is-zero-2
-    cast-is-zero-2
+    sub-piece-bytes
+    cast-piece-bytes
+    sub-piece-bytes-2
+    cast-piece-bytes-2
+    piece-bytes-requires
     is-zero-requires
     returns
     returns-2

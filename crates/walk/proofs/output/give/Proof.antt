@@ -19,9 +19,10 @@ use Rattle.sections.specs.Sections.{headOf}
 use Rattle.pieces.specs.declared.PieceSymbol.{PieceSymbol}
 use Rattle.pieces.specs.Pieces.{symbolsIn}
 use Rattle.relocs.specs.Relocs.{relocOf}
+use Rattle.splits.specs.Questions.{isCommon}
 use Rattle.walk.specs.declared.Counts.{Counts}
 use Rattle.walk.specs.declared.Added.the-variants.{Now}
-use Rattle.walk.specs.Walk.{isCommon, addSymbols, splitSymbols}
+use Rattle.walk.specs.Walk.{addSymbols, splitSymbols}
 use Rattle.walk.specs.Adding.{Entries, Adds, AddsNow}
 use Rattle.walk.specs.Giving.{inputOf, outputIn, piecesWith, relocsWith}
 use Rattle.walk.proofs.Giving.{backwards, aligned-backwards, symbols-full, common-made, piece-given, piece-beside, kept-above, backwards-is, forwards-ends}

@@ -1,0 +1,10 @@
+pub mod Common
+pub mod Good
+pub mod Rows
+pub mod Rooms
+pub mod Tables
+pub mod Steps
+pub mod Theorem
+pub mod Numbers
+pub mod Walks
+pub mod Never

@@ -1,0 +1,4 @@
+pub mod Running
+pub mod Ended
+pub mod Order
+pub mod Restoring

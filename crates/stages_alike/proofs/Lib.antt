@@ -1,0 +1,9 @@
+pub mod Lists
+pub mod Symbols
+pub mod Sections
+pub mod Common
+pub mod Gaps
+pub mod Validate
+pub mod Trim
+pub mod Walk
+pub mod Order
