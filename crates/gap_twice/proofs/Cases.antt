@@ -1,5 +1,5 @@
--- Small lists filled once and twice: document 01's example, on which the theorem is not empty; two splits at one start; and a smallest list for each premise without which
--- filling twice is refused.
+-- Small lists filled once and twice: document 01's example, on which the theorem is not empty; two splits at one start; and for each other premise a smallest list without it, on
+-- which filling twice is refused.
 use Prim.Native.Nat.{ℕ}
 use Prim.Native.String.{String}
 use native.Mathlib.Omega.{arith}

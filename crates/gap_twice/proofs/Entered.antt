@@ -61,7 +61,7 @@ module _ (new y : Split) (h : Low new) (l : Low y) (apart : splitKey y ≡ split
       go true false p q = refl
       go false u p q = refl
 
-  -- and lies before another if its place is below
+  -- and lies before another if its key is below
   after-place : after new y ≡ leb (splitKey new) (splitKey y)
   after-place = go (same-or-other (new .section) (y .section)) (same-or-other (new .start) (y .start))
     where

@@ -1,5 +1,5 @@
--- Two lists by key made one, `mergeBy`: where the second list is cut, what is kept of the whole, and one element more. Keys of one key keep their order, so it is enough
--- that they never fall. Assumes nothing.
+-- Two lists by key made one, `mergeBy`: where the second list is cut, what is kept of the whole, and one element more. Elements of one key keep their order, so it is enough
+-- that keys never fall. Assumes nothing.
 use mathlib.Core.Path.{_≡_, refl, sym, ap, ap₂, _∙_}
 use mathlib.Core.List.{List, [], _∷_, _++_}
 use mathlib.Core.Bool.{Bool, true, false, cond}
