@@ -26,9 +26,10 @@ use Rattle.sections.specs.Ends.{lowered, splittingEnd}
 use Rattle.split_edits.specs.Edits.{grouped, pushed, renamed, joined}
 use Rattle.merge.specs.Merge.{given, unchangedIf, onJoint, onOld, onOwn, decide, jointOf, rounds, mergeOne}
 use Rattle.gap_columns.specs.Columns.{placed, inOrder}
-use Rattle.gaps.specs.Gaps.{nextStart, endAfter, endFrom, gapEnd, gapsUpTo, gapsBefore, gapsFrom, sectionGaps, gapsOf, into, foundGaps}
+use Rattle.gaps.specs.Gaps.{endAfter, endFrom, gapEnd, gapsUpTo, gapsBefore, gapsFrom, sectionGaps, gapsOf, into, foundGaps}
 use Rattle.gap_splits.specs.Entering.{Filled, bytesOf, named, entered, filled}
 use Rattle.create_gap_splits.specs.Create.{gapsFilled}
+use Rattle.splits.specs.Questions.{nextStart}
 use Rattle.gap_twice.specs.Twice.{beginsWith, Premises}
 
 -- ---- tables

@@ -22,8 +22,9 @@ use Rattle.obj.specs.declared.Split.{Split}
 use Rattle.symbols.specs.Ranges.{hasSymbols, highestIn}
 use Rattle.sections.specs.Alignment.{Chosen, given, larger, alignmentOf}
 use Rattle.gap_columns.specs.Columns.{Gap, gap, keyOf}
-use Rattle.gaps.specs.Gaps.{nextStart, endAfter, gapEnd, gapsUpTo, gapsTo, gapsBefore, gapsFrom}
+use Rattle.gaps.specs.Gaps.{endAfter, gapEnd, gapsUpTo, gapsTo, gapsBefore, gapsFrom}
 use Rattle.gaps.proofs.Rounds.{gap-ended}
+use Rattle.splits.specs.Questions.{nextStart}
 use Rattle.gap_twice.specs.Twice.{splitKey, gapRow, withGapSplits, Forward}
 use Rattle.gap_twice.proofs.MergedByKey.{merge-cut, rising-append}
 

@@ -33,10 +33,10 @@ use Rattle.gap_splits.specs.Entering.{Filled, Ceilings, filled}
 use Rattle.create_gap_splits.specs.Create.{nameIn, gapsFilled}
 use Rattle.gap_laws.specs.Good.{Faultless, Below}
 use Rattle.gap_laws.proofs.Tables.{low-of}
+use Rattle.stages_alike.proofs.Gaps.{found-alike}
 use Rattle.gap_twice.specs.Twice.{splitKey, withGapSplits, beginsWith, autoFront, Premises, Needed, Low, SameNames, withNames}
 use Rattle.gap_twice.proofs.MergedByKey.{sorted-placed}
 use Rattle.gap_twice.proofs.AllSections.{found-again}
-use Rattle.gap_twice.proofs.MoreNames.{found-same}
 use Rattle.gap_twice.proofs.Entered.{unitIn, Telling, Ready, entered-among}
 
 -- a name that is not empty has a number
@@ -124,11 +124,17 @@ module _ (g : Image) (sections : Sections) (heads : List Section) (most : ℕ) (
       record { gaps = p .0; found = p .1; rows = r; nothing = ap (foundGaps g sections) r ∙ a .nothing }
 
   module _ (name : ℕ → List ℕ) (same : SameNames g sections name) (limits : Given) (room′ : Ceilings) where
+    -- the search finds the same with names added: it asks only for those of sections and symbols
+    found-same : (rows : List Split) → foundGaps (withNames g name) sections rows ≡ foundGaps g sections rows
+    found-same =
+        found-alike (withNames g name) g (record { counts = refl; symbols = λ i h. refl; names = same .symbols }) sections sections
+        (record { counts = refl; heads = λ n h. refl; bytes = λ n h. refl; names = same .heads })
+
     -- THEOREM: filling it again is accepted and changes nothing, also where starts within a section are equal. The names may be those of the table to which names
     -- were added; no ceiling is met, so it may be any
     pub filled-again : Needed t → gapsFilled (withNames g name) sections limits room′ t′ ≡ accepted t′
     unfolding gapsFilled filled
-    filled-again needed = bind-goes (foundGaps (withNames g name) sections (t′ .rows)) _ [] (found-same g sections name same (t′ .rows) ∙ no-gap-left needed .nothing)
+    filled-again needed = bind-goes (foundGaps (withNames g name) sections (t′ .rows)) _ [] (found-same (t′ .rows) ∙ no-gap-left needed .nothing)
 
     -- THEOREM (document 02, (k)): so it is under document 02's premises
     pub filled-twice : Premises t → gapsFilled (withNames g name) sections limits room′ t′ ≡ accepted t′

@@ -1,29 +1,25 @@
 -- Filling twice over the definition of the entry: the name table and the split table that it left, handed to it again with the same sections, symbols and ceilings, pass its
 -- checks and come back as they are. Assumes nothing but what is needed of document 02's premises.
-use mathlib.Core.Path.{_≡_, refl, sym, ap, ap₂, _∙_}
+use mathlib.Core.Path.{_≡_, sym, ap, ap₂, _∙_}
 use mathlib.Core.List.{List, [], _++_, map, map-append}
-use mathlib.Core.Bool.{false}
-use Prim.Native.Nat.{ℕ, _+_, _-_, _/_, _≤_, _<_}
-use native.Mathlib.Nat.{zero-add}
+use Prim.Native.Nat.{ℕ, _+_, _/_, _≤_, _<_}
 use native.Mathlib.Omega.{arith}
-use lib.ListN.{length, length-map, length-append, getD, take, drop, List·getD-append, List·getD-map}
+use lib.ListN.{length, length-map, length-append, getD, List·getD-append, List·getD-map}
 use Rattle.lists.specs.Outcome.{accepted}
-use Rattle.lists.specs.Rows.{tabulate}
-use Rattle.lists.proofs.All.{all-map, all-at}
 use Rattle.lists.proofs.Binds.{after-goes}
-use Rattle.lists.proofs.Outcomes.{then-both, bind-inv}
-use Rattle.lists.proofs.Rows.{getD-map, getD-tabulate}
-use Rattle.obj.specs.Records.{sectionAt, symbolAt, stagePlaces}
+use Rattle.lists.proofs.Outcomes.{then-both}
+use Rattle.lists.proofs.Rows.{getD-map}
+use Rattle.obj.specs.Records.{sectionAt, symbolAt, stagePlaces, splitWidth}
 use Rattle.obj.specs.declared.Section.{Section}
 use Rattle.obj.specs.declared.Split.{Split}
 use Rattle.obj.proofs.Laws.{length-stagePlaces}
-use Rattle.names.specs.Names.{nameAt, nameBad}
+use Rattle.names.specs.Names.{nameAt}
 use Rattle.tables.specs.Tables.{recordsCheck}
 use Rattle.tables.specs.Records.{noSection, noSymbol, imagePlaces, sectionFault, splitFault}
 use Rattle.tables.proofs.Laws as table-laws
-use Rattle.name_table.specs.NameTable.{startOf, endOf, nameIn, stageNames, namesCheck}
+use Rattle.name_table.specs.NameTable.{stageNames, namesCheck}
 use Rattle.name_table.specs.Stored.{nameStarts, nameLengths, stageLengths}
-use Rattle.name_table.proofs.Laws.{length-stageNames, stage-name, length-name, passed-sound}
+use Rattle.name_table.proofs.Laws.{length-stageNames}
 use Rattle.stage_tables.specs.StageTables.{stageSections, stageSymbols, stageSplits, imageCheck, symbolsCheck, splitsCheck}
 use Rattle.stage_tables.proofs.Laws.{table-passed}
 use Rattle.stage_names.specs.StageNames.{namesRoom, bytesRoom, fitCheck, flat}
@@ -33,44 +29,22 @@ use Rattle.sections.specs.Sections.{Sections, sectionsOf}
 use Rattle.splits.specs.Bytes.{tableBytes}
 use Rattle.stage_splits.specs.StageSplits.{roomOf}
 use Rattle.merge.specs.Merge.{given}
-use Rattle.gap_columns.specs.Columns.{Gap}
-use Rattle.gaps.specs.Gaps.{foundGaps}
-use Rattle.gaps.proofs.Inside.{found-lies}
-use Rattle.gap_splits.specs.Entering.{Filled, Ceilings, bytesOf, unitName}
+use Rattle.gap_splits.specs.Entering.{Filled, Ceilings}
 use Rattle.create_gap_splits.specs.Create as create
 use Rattle.create_gap_splits.specs.Create.{gapsFilled}
 use Rattle.entry_create_gap_splits.specs.Entry.{gapSplitsOf}
 use Rattle.entry_create_gap_splits.proofs.Passed.{names-end, names-room, bytes-room, fit-few, fit-end}
 use Rattle.gap_laws.specs.Good.{Faultless, Below, Within}
 use Rattle.gap_laws.proofs.Tables as gap-tables
+use Rattle.file_tables.specs.Tables.{endsOf, Clean}
+use Rattle.file_tables.proofs.Names.{name-count, names-behind, lengths-behind, at-behind, fits-pass, name-stands, pass-behind}
+use Rattle.file_tables.proofs.Filled.{clean-filled}
+use Rattle.file_tables.proofs.Written.{split-table-back, split-table-passes}
 use Rattle.gap_twice.specs.Twice.{Needed, SameNames, withNames}
 use Rattle.gap_twice.proofs.Theorem.{name-there, filled-again}
-use Rattle.gap_twice_entry.specs.Calls.{Call, outcome, listOf, splitWidth, endsOf, NoSmaller}
-use Rattle.gap_twice_entry.proofs.NamesBack.{count-endsOf, all-back}
-use Rattle.gap_twice_entry.proofs.GoodNames.{GoodNames, gap-good, good-filled, good-passed, fits, names-pass}
-use Rattle.gap_twice_entry.proofs.Tables.{image-more, symbols-more, rows-back, rows-pass}
-
--- ---- a name table that passed, by its columns
-module _ (ends bytes : List ℕ) (passed : namesCheck 4096 ends bytes ≡ accepted tt) where
-  abbrev count : ℕ
-  count = length ends / 2
-
-  abbrev names : List (List ℕ)
-  names = stageNames ends bytes count
-
-  lengths-are : stageLengths ends bytes ≡ map length names
-  unfolding nameLengths
-  lengths-are = refl
-
-  -- name k, as the image asks for it
-  name-at : (k : ℕ) → k < count → nameAt bytes (nameStarts ends count) (stageLengths ends bytes) k ≡ getD names k []
-  unfolding nameAt nameIn nameStarts
-  name-at k h =
-      let s = passed-sound 4096 ends bytes passed k h in
-      let size : getD (stageLengths ends bytes) k 0 ≡ endOf ends k - startOf ends k =
-      ap (λ (l : List ℕ). getD l k 0) lengths-are ∙ List·getD-map length names k [] ∙ ap length (stage-name ends bytes count k h) ∙ length-name ends bytes k (s .within) in
-      let start : getD (tabulate (startOf ends) 0 count) k 0 ≡ startOf ends k = getD-tabulate (startOf ends) 0 count k 0 h ∙ ap (startOf ends) (zero-add k) in
-      ap₂ (λ (n m : ℕ). take n (drop m bytes)) size start ∙ sym (stage-name ends bytes count k h)
+use Rattle.gap_twice_entry.specs.Calls.{Call, outcome, listOf, NoSmaller}
+use Rattle.gap_twice_entry.proofs.Names.{name-at, clean-passed}
+use Rattle.gap_twice_entry.proofs.Tables.{image-more, symbols-more}
 
 -- ---- the entry
 module _ (c : Call) (t′ : Filled) (e : outcome c ≡ accepted t′) where
@@ -219,27 +193,25 @@ module _ (c : Call) (t′ : Filled) (e : outcome c ≡ accepted t′) where
   section-name : (n : ℕ) → n < sections-of .count → create.nameIn image-of sections-of n ≡ getD old (sections-of .head n .name) []
   section-name n h = name-at ends bytes (lines .named) (sections-of .head n .name) (head-named n h .0)
 
-  names-good : GoodNames (t′ .names)
-  unfolding gapsFilled
-  names-good =
-      let p = bind-inv (foundGaps image-of sections-of (stageSplits splits)) _ t′ (lines .filled-first) in
-      let before = good-passed 4096 ends bytes (lines .named) in
-      good-filled (create.nameIn image-of sections-of) (given heads most-splits) room (listOf c) t′ (p .0)
-      (all-map (λ x w. good x (w .there) before) (found-lies image-of sections-of (stageSplits splits) (p .0) (p .1))) before (p .2)
-    where
-      good : (x : Gap) → x .section < sections-of .count → GoodNames old → nameBad (unitName (create.nameIn image-of sections-of) (given heads most-splits) room x) ≡ false
-      good x h before =
-          let q = head-named (x .section) h in
-          let i = section-name (x .section) h in
-          gap-good (x .section) (x .start) (create.nameIn image-of sections-of (x .section)) (rw i (all-at (sections-of .head (x .section) .name) [] (before .good) (omega (arith, q .0, many)))) (rw i (q .1))
+  -- its names are such as a table may hold
+  pub names-clean : Clean (t′ .names)
+  names-clean =
+      let before = clean-passed ends bytes (lines .named) (omega (arith, within .short, bytes-room (c .bytes-size) .0)) in
+      clean-filled room (names-room (c .ends-size) .0) (bytes-room (c .bytes-size) .0) image-of sections-of (given heads most-splits) (listOf c) t′
+      (λ n h. rw (section-name n h) (before .good _ (name-stands old (sections-of .head n .name) (omega (arith, head-named n h .0, many)))))
+      (λ n h. rw (section-name n h) (head-named n h .1))
+      before (lines .filled-first)
 
   -- ---- the tables that it left, handed to it again
 
-  pub names-small : bytesOf (t′ .names) < 65536
-  names-small = omega (arith, within-after .short, bytes-room (c .bytes-size) .0)
+  few-lengths : length (map length (t′ .names)) ≤ 65536
+  few-lengths = omega (arith, length-map (t′ .names) length, names-clean .few)
 
-  pub short-names : length (t′ .names) ≤ 4096
-  short-names = omega (arith, within-after .few, names-room (c .ends-size) .0)
+  few-heads : length heads ≤ 65536
+  few-heads = omega (arith, heads-count, sections-few)
+
+  rows-back : stageSplits (tableBytes (t′ .rows)) ≡ t′ .rows
+  rows-back = split-table-back (map length (t′ .names)) heads (t′ .rows) few-lengths few-heads (leaves .good)
 
   module _ (extra : List ℕ) where
     abbrev ends′ : List ℕ
@@ -249,17 +221,13 @@ module _ (c : Call) (t′ : Filled) (e : outcome c ≡ accepted t′) where
     bytes′ = flat (t′ .names) ++ extra
 
     count-is : length ends′ / 2 ≡ length (t′ .names)
-    count-is = count-endsOf (t′ .names)
+    count-is = name-count (t′ .names)
 
     back : stageNames ends′ bytes′ (length ends′ / 2) ≡ t′ .names
-    back = all-back (t′ .names) names-small extra
-
-    named-again : namesCheck 4096 ends′ bytes′ ≡ accepted tt
-    named-again = names-pass (t′ .names) names-small extra names-good 4096 short-names
+    back = names-behind (t′ .names) (names-clean .short) extra
 
     lengths-back : stageLengths ends′ bytes′ ≡ map length (t′ .names)
-    unfolding nameLengths
-    lengths-back = ap (map length) back
+    lengths-back = lengths-behind (t′ .names) (names-clean .short) extra
 
     lengths-more : stageLengths ends′ bytes′ ≡ stageLengths ends bytes ++ map length (leaves .added .0)
     unfolding nameLengths
@@ -268,8 +236,7 @@ module _ (c : Call) (t′ : Filled) (e : outcome c ≡ accepted t′) where
     -- a name that was there is asked for as before
     same-name : (k : ℕ) → k < length ends / 2 → nameAt bytes′ (nameStarts ends′ (length ends′ / 2)) (stageLengths ends′ bytes′) k ≡ image-of .name k
     same-name k h =
-        name-at ends′ bytes′ named-again k (omega (arith, count-is, more-names))
-        ∙ ap (λ (l : List (List ℕ)). getD l k []) back
+        at-behind (t′ .names) (names-clean .short) extra k (omega (arith, more-names))
         ∙ name-kept k h
         ∙ sym (name-at ends bytes (lines .named) k h)
 
@@ -278,8 +245,7 @@ module _ (c : Call) (t′ : Filled) (e : outcome c ≡ accepted t′) where
 
     tables-back : _≡_ {A = Filled} (record { names = stageNames ends′ bytes′ (length ends′ / 2); rows = stageSplits (tableBytes (t′ .rows)) }) t′
     tables-back =
-        ap₂ (λ (n : List (List ℕ)) (r : List Split). record { names = n; rows = r }) back
-        (rows-back heads t′ (leaves .good) (omega (arith, heads-count, sections-few)) short-names)
+        ap₂ (λ (n : List (List ℕ)) (r : List Split). record { names = n; rows = r }) back rows-back
 
     -- THEOREM (document 02, (k), over the entry's definition): the tables that the entry left, handed to it again with the same sections and symbols and outputs of no
     -- smaller ceilings, are accepted and come back as they are
@@ -287,15 +253,15 @@ module _ (c : Call) (t′ : Filled) (e : outcome c ≡ accepted t′) where
         → gapSplitsOf (endsOf (t′ .names)) (flat (t′ .names) ++ extra) sections places image symbols (tableBytes (t′ .rows)) ends-size′ bytes-size′ size′ ≡ accepted t′
     unfolding gapSplitsOf
     entry-again needed ends-size′ bytes-size′ size′ w =
-        after-goes _ _ (fits (t′ .names) names-small (namesRoom ends-size′) (bytesRoom bytes-size′) (omega (arith, within-after .few, w .names)) (omega (arith, within-after .short, w .bytes)))
-        ∙ after-goes _ _ named-again
+        after-goes _ _ (fits-pass (t′ .names) (names-clean .short) (namesRoom ends-size′) (bytesRoom bytes-size′) (omega (arith, within-after .few, w .names)) (omega (arith, within-after .short, w .bytes)))
+        ∙ after-goes _ _ (pass-behind (t′ .names) names-clean extra 4096 (names-clean .few))
         ∙ after-goes _ _
         (ap (λ (l : List ℕ). imageCheck 64 l places (length image) sections) lengths-more
         ∙ image-more 64 (stageLengths ends bytes) (map length (leaves .added .0)) places (length image) sections (lines .headed))
         ∙ after-goes _ _ (symbols-more 4096 (length ends / 2) (length ends′ / 2) heads symbols (omega (arith, count-is, more-names)) (lines .marked))
         ∙ after-goes _ _
         (ap (λ (l : List ℕ). splitsCheck (roomOf size′) l heads (tableBytes (t′ .rows))) lengths-back
-        ∙ rows-pass heads t′ (leaves .good) (omega (arith, heads-count, sections-few)) short-names (roomOf size′) (omega (arith, rows-few, w .splits)))
+        ∙ split-table-passes (map length (t′ .names)) heads (t′ .rows) few-lengths few-heads (leaves .good) (roomOf size′) (omega (arith, rows-few, w .splits)))
         ∙ ap (gapsFilled (withNames image-of (nameAt bytes′ (nameStarts ends′ (length ends′ / 2)) (stageLengths ends′ bytes′))) sections-of (given heads (roomOf size′)) (record { names = namesRoom ends-size′; bytes = bytesRoom bytes-size′ }))
         tables-back
         ∙ filled-again image-of sections-of heads most-splits room few below (listOf c) t′ faultless (lines .filled-first) _ same-names (given heads (roomOf size′))

@@ -1,5 +1,4 @@
-pub mod NamesBack
-pub mod GoodNames
+pub mod Names
 pub mod Tables
 pub mod Entry
 pub mod Answers

@@ -19,10 +19,12 @@ use Rattle.stage_gaps.proofs.Laws.{flat-bytes}
 use Rattle.stage_gaps.specs.StageGaps.{filledOf, Laid}
 use Rattle.gap_splits.specs.Entering.{Filled}
 use Rattle.entry_create_gap_splits.specs.Entry.{gapSplitsOf}
+use Rattle.file_tables.specs.Tables.{endsOf}
+use Rattle.file_tables.proofs.Names.{length-endsOf}
 use Rattle.gap_twice.specs.Twice.{Premises, Needed}
-use Rattle.gap_twice_entry.specs.Calls.{Call, outcome, listOf, Left, splitWidth, endsOf, endsCounted, splitsCounted, again, Unchanged}
-use Rattle.gap_twice_entry.proofs.NamesBack.{length-endsOf}
-use Rattle.gap_twice_entry.proofs.Entry.{names-small, short-names, rows-few, entry-again}
+use Rattle.obj.specs.Records.{splitWidth}
+use Rattle.gap_twice_entry.specs.Calls.{Call, outcome, listOf, Left, endsCounted, splitsCounted, again, Unchanged}
+use Rattle.gap_twice_entry.proofs.Entry.{names-clean, rows-few, entry-again}
 use Rattle.gap_twice_entry.proofs.Answers.{accepts}
 
 -- the first call left these tables, and its counts are whole
@@ -43,8 +45,8 @@ module _ (c : Call) (r : Left c) (whole : 6 ≤ c .counts-size) (t : Filled) (e 
   pub counts-read : (le16 (r .counts) 0 ≡ length (t .names)) × (le16 (r .counts) 2 ≡ length (flat (t .names))) × (le16 (r .counts) 4 ≡ length (t .rows))
   unfolding halves
   counts-read =
-      let names-few = short-names c t e in
-      let bytes-few : length (flat (t .names)) < 65536 = omega (arith, flat-bytes (t .names), names-small c t e) in
+      let names-few = names-clean c t e .few in
+      let bytes-few : length (flat (t .names)) < 65536 = omega (arith, flat-bytes (t .names), names-clean c t e .short) in
       let splits-few : length (t .rows) ≤ 1024 = omega (arith, rows-few c t e, room-low (c .size)) in
       rw counts-whole (omega arith, omega arith, omega arith)
 

@@ -7,13 +7,13 @@ use mathlib.Core.List.{List}
 use lib.ListN.{length, take}
 use Rattle.lists.specs.Outcome.{Outcome}
 use Rattle.fields.specs.Fields.{le16}
-use Rattle.outputs.specs.Outputs.{halves}
 use Rattle.name_table.specs.NameTable.{stageNames}
 use Rattle.stage_tables.specs.StageTables.{stageSplits}
-use Rattle.stage_names.specs.StageNames.{namesRoom, bytesRoom, endsFrom}
+use Rattle.stage_names.specs.StageNames.{namesRoom, bytesRoom}
 use Rattle.stage_splits.specs.StageSplits.{roomOf}
 use Rattle.gap_splits.specs.Entering.{Filled}
 use Rattle.entry_create_gap_splits.specs.Entry.{gapSplitsOf, Leaves}
+use Rattle.obj.specs.Records.{splitWidth}
 
 -- ---- a call
 
@@ -49,14 +49,6 @@ pub record Left (c : Call) : Type 0 where
   pub leaves : Leaves (outcome c) (c .ends-size) (c .bytes-size) (c .size) (c .counts-size) answer ends bytes splits counts
 
 -- ---- the call after it
-
--- how many bytes a split record has
-abbrev pub splitWidth : ℕ
-splitWidth = 19
-
--- the ends of names that lie one after another
-abbrev pub endsOf : (names : List (List ℕ)) → List ℕ
-endsOf names = halves (endsFrom 0 names)
 
 -- the name ends and the splits that were counted: count 0 is that of the names, count 1 that of their bytes, count 2 that of the splits
 abbrev pub endsCounted : (counts ends : List ℕ) → List ℕ
