@@ -79,6 +79,7 @@ const USAGE: &str = "\
 host [check [SEED]]   compares beside the Rust and document 01, with stored answers, and from C
 host replay [FILE]    compares with the stored answers, or with the cases of a file
 host some ENTRY COUNT [SEED]   compares so many random cases of one stage entry
+host twice [SEED]     fills lists twice by `create_gap_splits`
 host store [SEED]     stores the right answers in stored/
 host restore          restores the images of the stored cases from their pieces
 host bench [ROUNDS]   times whole runs and stages, the Rust's and the linked entries'
@@ -104,6 +105,7 @@ fn main() -> ExitCode {
         (["replay", file], _) => compare(|tally| stored::replay_file(Path::new(file), &[], tally)),
         (["some", name, count], _) => some(name, count, SEED),
         (["some", name, count, _], Ok(seed)) => some(name, count, seed),
+        (["twice"] | ["twice", _], Ok(seed)) => compare(|tally| stage::twice::run(seed, tally)),
         (["endless"], _) => stage::merge::endless(),
         (["store"] | ["store", _], Ok(seed)) => store(seed),
         (["restore"], _) => compare(stage::restore::run),

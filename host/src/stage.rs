@@ -16,6 +16,7 @@ pub mod run;
 mod rust;
 pub mod timed;
 pub mod trim;
+pub mod twice;
 pub mod validate;
 pub mod walk;
 

@@ -82,6 +82,15 @@ impl Tally {
         }
     }
 
+    /// The same of those with this note.
+    pub fn want_often_noted(&mut self, number: u16, note: &str, least: u64) {
+        let count = self.outcomes.get(&(number, note.to_string())).copied().unwrap_or(0);
+        if count < least {
+            let few = format!("{count} cases are {}{note}, wanted {least}", name(number));
+            self.difference("-", &[few]);
+        }
+    }
+
     /// Prints the counts. An outcome of `wanted` that never came up is a
     /// difference too: its rule wasn't tried.
     pub fn end(&mut self, wanted: &[u16]) {

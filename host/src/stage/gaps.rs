@@ -4,7 +4,7 @@ use oracle::answers::Question;
 use super::{
     Beside, Case, Stage,
     make::{Maker, Place, counts_room, room},
-    rust,
+    rust, twice,
 };
 use crate::{
     document::{
@@ -17,6 +17,7 @@ use crate::{
     },
     entries::stages::{CREATE_GAP_SPLITS, StageEntry},
     random::Random,
+    tally::Tally,
 };
 
 pub struct CreateGapSplits;
@@ -52,6 +53,10 @@ impl Stage for CreateGapSplits {
 
     fn right(case: &Case) -> Answer {
         gaps::answer(&case.tables(), &case.lent)
+    }
+
+    fn more(seed: u64, tally: &mut Tally) {
+        twice::run(seed, tally);
     }
 
     fn beside(case: &Case) -> Beside {
@@ -158,7 +163,7 @@ fn fill_a_table(maker: &mut Maker, r: &mut Random) {
 }
 
 /// Outputs that hold just what the filling gives, more, or less.
-fn with_room(mut case: Case, r: &mut Random) -> Case {
+pub fn with_room(mut case: Case, r: &mut Random) -> Case {
     let t = case.tables();
     let splits = splits_in(t.splits);
     let (mut names, mut bytes, mut count) =

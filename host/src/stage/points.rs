@@ -38,7 +38,7 @@ pub fn run<S: Stage>(tally: &mut Tally) {
 
 /// A refusal as number, section and address; else what the first output, or for gaps the
 /// last but one, holds.
-fn shown(entry: &str, answer: &Answer, names: &[String]) -> String {
+pub fn shown(entry: &str, answer: &Answer, names: &[String]) -> String {
     let word = answer.word;
     if word != 0 && word >> 48 != 61 {
         return format!("refused {} {} {:X}", word >> 48, word >> 32 & 0xFFFF, word as u32);
@@ -69,8 +69,8 @@ fn shown(entry: &str, answer: &Answer, names: &[String]) -> String {
 
 /// Tables record by record.
 #[derive(Clone, Default)]
-struct Given {
-    names: Vec<String>,
+pub struct Given {
+    pub names: Vec<String>,
     case: Case,
 }
 
@@ -97,7 +97,7 @@ impl Given {
         self
     }
 
-    fn data(self, address: u32, size: u32) -> Self {
+    pub fn data(self, address: u32, size: u32) -> Self {
         self.section(".data", 1, address, size)
     }
 
@@ -108,7 +108,7 @@ impl Given {
     }
 
     /// An object in section 0, its size known.
-    fn symbol(mut self, name: &str, address: u32, size: u32, alignment: u32) -> Self {
+    pub fn symbol(mut self, name: &str, address: u32, size: u32, alignment: u32) -> Self {
         let name = self.name(name);
         let head = [(name, 2), (0, 2), (address as u64, 4), (size as u64, 4)];
         let tail = [(1, 1), (2, 1), (0, 2), (alignment as u64, 4)];
@@ -128,7 +128,7 @@ impl Given {
         Split { section, start, end, unit, alignment, flags, rename: 0xFFFF }.bytes()
     }
 
-    fn split(mut self, unit: &str, range: Range, alignment: u32, flags: u8) -> Self {
+    pub fn split(mut self, unit: &str, range: Range, alignment: u32, flags: u8) -> Self {
         let record = self.record(unit, range, alignment, flags);
         self.case.set[SPLIT_TABLE].extend(record);
         self
@@ -153,12 +153,12 @@ impl Given {
         self
     }
 
-    fn lent(mut self, lent: &[usize]) -> Self {
+    pub fn lent(mut self, lent: &[usize]) -> Self {
         self.case.lent = lent.to_vec();
         self
     }
 
-    fn case(&self) -> Case {
+    pub fn case(&self) -> Case {
         let mut case = self.case.clone();
         for name in &self.names {
             case.set[NAME_BYTES].extend(name.as_bytes());
@@ -170,11 +170,11 @@ impl Given {
 }
 
 /// Section, start, end.
-type Range = (u16, u32, u32);
+pub type Range = (u16, u32, u32);
 
 const AUTO: u8 = 2;
 
-fn given() -> Given {
+pub fn given() -> Given {
     Given::default()
 }
 
