@@ -1,7 +1,7 @@
 -- The joiner over lent bytes: the section that a piece names, and where its bytes stand. Assumes nothing.
 use mathlib.Core.Path.{_≡_, refl, sym, ap, ap₂, _∙_}
 use mathlib.Core.List.{List}
-use mathlib.Core.Bool.{Bool, true, false, _||_}
+use mathlib.Core.Bool.{Bool, true, false, not, _||_, _&&_}
 use Prim.Native.Nat.{ℕ, _+_, _*_, _-_, _≤_, _<_, _/_}
 use native.Mathlib.Omega.{arith}
 use native.Mathlib.Numerals.{add-one}
@@ -16,6 +16,7 @@ use Rattle.obj.proofs.Laws.{length-stagePlaces, stage-place}
 use Rattle.join.specs.Join.{Part, nowhere, homeOf, outside, heldBy, held}
 use Rattle.join.proofs.Sizes.{held-suc, inside, listed}
 use Rattle.names.specs.Names.{sameName}
+use Rattle.names.proofs.Laws.{same-turn, same-ended}
 use Rattle.join.specs.Laying.{spotOf, laidOver}
 use Rattle.stage_tables.specs.StageTables.{stageSections}
 use Rattle.piece_records.specs.Records.{partAt, nextAt, partsAt}
@@ -85,3 +86,25 @@ pub part-same : (out : List ℕ) {bytes own : List ℕ} {from at : ℕ} → byte
 part-same out {bytes} {own} {from} {at} e f =
     ap (λ (k : ℕ). sameName bytes (take k (drop from out))) (let z : from + length bytes - from ≡ length bytes = omega arith in z)
     ∙ ap₂ (λ (l : List ℕ) (k : ℕ). sameName l (take (length l) (drop k out))) e f
+
+-- ---- bytes compared without an early exit
+
+or-turn : (any same later : Bool) → ((any || not same) || not later) ≡ (any || not (same && later))
+or-turn true same later = refl
+or-turn false true later = refl
+or-turn false false later = refl
+
+or-none : (any : Bool) → any ≡ (any || not true)
+or-none true = refl
+or-none false = refl
+
+module _ (x y : List ℕ) (any : Bool) (i : ℕ) where
+  -- byte i, and those from i + 1 on
+  pub unequal-turn : i < length x → i < length y
+      → ((any || not (eqb (getD x i 0) (getD y i 0))) || not (sameName (drop (i + 1) x) (drop (i + 1) y))) ≡ (any || not (sameName (drop i x) (drop i y)))
+  unequal-turn h k =
+      or-turn any (eqb (getD x i 0) (getD y i 0)) (sameName (drop (i + 1) x) (drop (i + 1) y)) ∙ ap (λ (s : Bool). any || not s) (sym (same-turn x y i h k))
+
+  -- no byte is left
+  pub unequal-ended : length x ≤ i → length y ≤ i → any ≡ (any || not (sameName (drop i x) (drop i y)))
+  unequal-ended h k = or-none any ∙ ap (λ (s : Bool). any || not s) (sym (same-ended x y i h k))

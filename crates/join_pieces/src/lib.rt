@@ -1,18 +1,18 @@
 // Putting an image back: document 02, (e). The pieces are laid over zeros, each in its place among the sections' bytes, and then each is compared with what lies
 // there: that finds 83 in time proportional to the bytes.
 ghost use mathlib.Core.Path.{_≡_};
-ghost use mathlib.Core.Bool.{false};
+ghost use mathlib.Core.Bool.{false, not};
 ghost use Prim.Native.Nat.{_≤_, _<_, _/_};
 ghost use lib.ListN.{length, getD};
 ghost use lib.Seq.{sets};
 ghost use Rattle.lists.specs.Rows.{some};
+ghost use Rattle.names.specs.Names.{sameName};
 ghost use Rattle.join.specs.Join.{nowhere, outside, heldBy, held, joinOf};
 ghost use Rattle.join.specs.Laying.{spotOf, laidOver, unlike, someUnlike};
 ghost use Rattle.stage_tables.specs.StageTables.{stageSections};
 ghost use Rattle.piece_records.specs.Records.{partAt, partsAt, Lying, Whole};
 ghost use Rattle.join_pieces.specs.Joins.{Base, Good, Joins, zeroed};
 use names::put_bytes;
-use names::same;
 use obj::Answer;
 use obj::read_section;
 use obj::refusal;
@@ -127,6 +127,22 @@ fn lay_pieces(sections: &[u8], b: &[u8], n: u32, out: &mut [u8])
 
 // ---- 83
 
+// The bytes aren't the same. No early exit, so that the compiler compares many at a time.
+fn unequal(x: &[u8], y: &[u8]) -> bool
+    ensures { λ r. ⌜ r ≡ not (sameName (now (x .entry)) (now (y .entry))) ⌝ }
+{
+    if x.len() != y.len() {
+        return true;
+    }
+    let mut any = false;
+    let mut i = 0;
+    while i < x.len() {
+        any = any | (x[i] != y[i]);
+        i += 1;
+    }
+    any
+}
+
 // The piece has other bytes than those that lie in its place.
 fn is_unlike(sections: &[u8], b: &[u8], at: usize, out: &[u8]) -> bool
     requires { ⌜ Good (now sections) (now b) at × (held (stageSections (now sections)) ≤ length (now out)) ⌝ }
@@ -135,7 +151,7 @@ fn is_unlike(sections: &[u8], b: &[u8], at: usize, out: &[u8]) -> bool
     let spot = spot_of(sections, b, at);
     let bytes = bytes_at(b, at);
     let end = spot + bytes.len();
-    !same(bytes, &out[spot..end])
+    unequal(bytes, &out[spot..end])
 }
 
 // Some of the n pieces has.

@@ -27,26 +27,26 @@ add-end c =
     let f = spot-fits (stageSections (a .sections .now)) p (inside (stageSections (a .sections .now)) p (s .pre .0 .home)) in
     omega (arith, f, c .before .spot-of .ensures, ap length (c .bytes-at .ensures), s .pre .1)
 
-sub-same : tie.Need-sub-same
-sub-same c = search needs
+sub-unequal : tie.Need-sub-unequal
+sub-unequal c = search needs
 
-part-same-start : tie.Need-part-same-start
-part-same-start c = search needs
+part-unequal-start : tie.Need-part-unequal-start
+part-unequal-start c = search needs
 
-part-same-end : tie.Need-part-same-end
-part-same-end c =
+part-unequal-end : tie.Need-part-unequal-end
+part-unequal-end c =
     let s = c .before .before .before .before .before in
     let a = s .args in
     let p = partAt (a .b .now) (a .at) in
     let f = spot-fits (stageSections (a .sections .now)) p (inside (stageSections (a .sections .now)) p (s .pre .0 .home)) in
     omega (arith, f, c .before .spot-of .ensures, ap length (c .bytes-at .ensures), s .pre .1)
 
-same-requires : tie.Need-same-requires
-same-requires c κs = search needs
+unequal-requires : tie.Need-unequal-requires
+unequal-requires c κs = search needs
 
 returns : tie.Need-returns
 unfolding unlike
-returns c = ap not (c .same .ensures ∙ part-same (c .before .before .before .before .before .before .before .args .out .now) (c .before .before .bytes-at .ensures) (c .before .before .before .spot-of .ensures))
+returns c = c .unequal .ensures ∙ ap not (part-same (c .before .before .before .before .before .before .before .args .out .now) (c .before .before .bytes-at .ensures) (c .before .before .before .spot-of .ensures))
 
 pub is-unlike-spec : {M : Type 1} → statement M
 is-unlike-spec =
@@ -55,8 +55,8 @@ is-unlike-spec =
     spot-of-requires
     bytes-at-requires
     add-end
-    sub-same
-    part-same-start
-    part-same-end
-    same-requires
+    sub-unequal
+    part-unequal-start
+    part-unequal-end
+    unequal-requires
     returns)
