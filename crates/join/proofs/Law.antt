@@ -16,9 +16,9 @@ use Rattle.lists.proofs.Stores.{getD-sets-other, getD-sets-at}
 use Rattle.names.specs.Names.{sameName}
 use Rattle.names.proofs.Laws.{same-self, same-equal}
 use Rattle.obj.specs.declared.Section.{Section}
+use Rattle.lists.proofs.Among.{same-test, none-member, none-by}
 use Rattle.join.specs.Join.{Part, nowhere, homeOf, outside, byteOf, differ, joined, held}
 use Rattle.join.specs.Laying.{spotOf, laidOver, unlike, someUnlike}
-use Rattle.join.proofs.Lists.{same-test, none-member, none-by}
 use Rattle.join.proofs.Members.{Lies, apart, meets, joined-is, joined-empty}
 use Rattle.join.proofs.Sizes.{Inside, inside, Place, between, one-section, place-of, joined-reads, length-joined, spot-fits}
 

@@ -1,5 +1,4 @@
 pub mod Cases
-pub mod Lists
 pub mod Members
 pub mod Order
 pub mod Sizes

@@ -8,8 +8,8 @@ use lib.ListN.{length}
 use borrow.Author.Tests.{eq-eqb, eqb-true, eqb-false, ltb-true, leb-true, lt-ltb, le-leb, not-true}
 use Rattle.lists.proofs.Both.{both}
 use Rattle.lists.proofs.Compare.{never}
+use Rattle.lists.proofs.Among.{and-true, some-by, some-member, range-member, member-range}
 use Rattle.join.specs.Join.{Part, covers, byteOf, addresses, differAt, differ, joinedAt}
-use Rattle.join.proofs.Lists.{and-true, some-by, some-member, range-member, member-range}
 
 -- ---- where a piece lies
 

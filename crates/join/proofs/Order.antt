@@ -9,8 +9,8 @@ use Rattle.lists.specs.Outcome.{Outcome, accepted, refuse, _>>_}
 use Rattle.lists.proofs.Outcomes.{fails, passes}
 use Rattle.lists.proofs.Parts.{tabulate-same}
 use Rattle.obj.specs.declared.Section.{Section}
+use Rattle.lists.proofs.Among.{Among, some-members, same-test, perm-among}
 use Rattle.join.specs.Join.{Part, outside, differ, joinedAt, joinedSection, joinedFrom, joined, held, joinOf}
-use Rattle.join.proofs.Lists.{Among, some-same, same-test, perm-among}
 use Rattle.join.proofs.Members.{Apart, apart, apart-differ, Byte, of, empty, joined-byte, joined-is, joined-empty}
 
 module _ (s t : List Part) (sub : Among s t) (sup : Among t s) where
@@ -53,7 +53,7 @@ module _ (s t : List Part) (sub : Among s t) (sup : Among t s) where
   unfolding joinOf
   members-only heads room =
       ap (λ (m : Outcome (List ℕ)). refuse 80 0 0 (ltb room (held heads)) >> m)
-      (ap₂ (λ (b : Bool) (m : Outcome (List ℕ)). refuse 82 0 0 b >> m) (some-same (outside heads) s t sub sup) (go (differ s) refl))
+      (ap₂ (λ (b : Bool) (m : Outcome (List ℕ)). refuse 82 0 0 b >> m) (some-members (outside heads) s t sub sup) (go (differ s) refl))
     where
       go : (b : Bool) → differ s ≡ b → (refuse 83 0 0 (differ s) >> accepted (joined heads s)) ≡ (refuse 83 0 0 (differ t) >> accepted (joined heads t))
       go true e = fails _ _ _ _ _ e ∙ sym (fails _ _ _ _ _ (sym differ-same ∙ e))

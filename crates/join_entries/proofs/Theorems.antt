@@ -36,7 +36,7 @@ use Rattle.restore_entry.proofs.Tables.{input-checked, head-is, sections-few}
 use Rattle.restore_entry.proofs.Entry.{accepts, passed, few, held-is}
 use Rattle.restore_entry.proofs.Bytes.{pieces-read}
 use Rattle.join.specs.Join.{Part, joined, held, joinOf}
-use Rattle.join.proofs.Lists.{perm-among}
+use Rattle.lists.proofs.Among.{perm-among}
 use Rattle.join.proofs.Order.{order-free}
 use Rattle.join.proofs.Sizes.{length-joined}
 use Rattle.piece_records.specs.Records.{partsOf, recordsOf, Fits}

@@ -17,13 +17,14 @@ use Rattle.pieces.specs.declared.Piece.{Piece}
 use Rattle.walk.specs.Walk.{Input, Output, walk, startIn, splittingEndIn}
 use Rattle.restore.specs.Restoring as restoring
 use Rattle.restore.specs.Restoring.{bytesIn, partOf, byteAt, Plain, Checked, Inside, Restored}
-use Rattle.restore.proofs.Parts.{part-agrees, all-find}
+use Rattle.restore.proofs.Parts.{part-agrees}
 use Rattle.restore.proofs.Walked.{pieces-from}
 use Rattle.restore.proofs.Theorems.{restores, inside}
 use Rattle.join.specs.Join.{Part, nowhere, outside, byteOf, differ, joinedAt, held, joinOf}
-use Rattle.join.proofs.Lists.{fails-by, none-by, perm-among}
+use Rattle.lists.proofs.Among.{fails-by, none-by, perm-among}
 use Rattle.join.proofs.Members.{Lies, apart, Byte, of, empty, joined-byte}
 use Rattle.join.proofs.Sizes.{Place, below-held, joined-reads}
+use Rattle.lists.proofs.Among.{all-find}
 use Rattle.join_restores.specs.Restoring.{headsOf, ofBytes, partIn, partsOfWalk, JoinsBack}
 use Rattle.join_restores.proofs.Laid.{laid-uncovered, map-member, member-map, keep-member, member-keep}
 
