@@ -59,6 +59,7 @@ sample() {
     printf '\nMeasured on %s at commit %s, on a machine with %s processors (%s).\n' "$(date -u +%Y-%m-%d)" \
         "$(git describe --always --dirty --exclude '*' --abbrev=12)" "$(nproc)" "$(uname -m)"
     part 'Speed' "$measure" bench 200
+    part 'Joining pieces' "$measure" bench join 200
     part 'Instructions' growth/whole_run.sh
     part 'Stages within a run' growth/stages.sh
     part 'Memory' "$measure" memory

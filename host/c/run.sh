@@ -9,7 +9,7 @@ trap 'rm -rf "$out"' EXIT
 cd "$here"
 flags="-Wall -Wextra -Werror -pedantic -I ../../include"
 
-for program in toposort split_file; do
+for program in toposort split_file join_pieces; do
     cc -std=c99 $flags $program.c "$lib" -o "$out/as_c"
     printf '   as C99: '
     "$out/as_c"

@@ -1,6 +1,7 @@
 //! The benchmark: the same inputs through the Rust and through the entries that are linked,
 //! the whole run and each stage. Not part of a check.
 mod goals;
+pub mod join;
 
 use std::{
     process::ExitCode,

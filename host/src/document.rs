@@ -1,4 +1,4 @@
-//! Document 01's rules read a second time, plainly and apart from the entries'
+//! Document 01's rules, and document 02's, read a second time, plainly and apart from the entries'
 //! own definitions: a module for each entry, and what they share about records,
 //! decoded tables and outputs.
 pub mod check_file;
@@ -7,6 +7,7 @@ pub mod common;
 pub mod ends;
 pub mod gaps;
 pub mod image;
+pub mod join;
 pub mod listing;
 pub mod load;
 pub mod merge;

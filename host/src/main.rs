@@ -54,7 +54,7 @@ struct Entry {
     store: fn(u64) -> String,
 }
 
-const ENTRIES: [Entry; 14] = [
+const ENTRIES: [Entry; 15] = [
     toposort::ENTRY,
     check_file::ENTRY,
     check_tables::ENTRY,
@@ -68,6 +68,7 @@ const ENTRIES: [Entry; 14] = [
     stage::entry::<stage::gaps::CreateGapSplits>(),
     stage::entry::<stage::order::ResolveLinkOrder>(),
     stage::entry::<stage::walk::SplitObj>(),
+    stage::entry::<stage::join::JoinPieces>(),
     stage::entry::<stage::run::SplitFile>(),
 ];
 
@@ -83,6 +84,7 @@ host twice [SEED]     fills lists twice by `create_gap_splits`
 host store [SEED]     stores the right answers in stored/
 host restore          restores the images of the stored cases from their pieces
 host bench [ROUNDS]   times whole runs and stages, the Rust's and the linked entries'
+host bench join [ROUNDS]   times joining many pieces that overlap, beside reading their bytes once
 host inputs           names the inputs of the benchmark
 host once NAME [rust] runs one of these inputs once, by the entry or by the Rust
 host memory           measures the Rust's heap, and what is lent to the entry and its stack
@@ -110,6 +112,8 @@ fn main() -> ExitCode {
         (["store"] | ["store", _], Ok(seed)) => store(seed),
         (["restore"], _) => compare(stage::restore::run),
         (["bench"], _) => bench::run(bench::ROUNDS),
+        (["bench", "join"], _) => bench::join::run(bench::ROUNDS),
+        (["bench", "join", _], Ok(rounds)) => bench::join::run(rounds),
         (["bench", _], Ok(rounds)) => bench::run(rounds),
         (["once", name], _) => bench::once(name, false),
         (["once", name, "rust"], _) => bench::once(name, true),

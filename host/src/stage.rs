@@ -5,6 +5,7 @@ pub mod common;
 pub mod ends;
 pub mod gaps;
 pub mod held;
+pub mod join;
 pub mod large;
 mod line;
 mod make;
@@ -39,6 +40,8 @@ pub struct Case {
     /// Tables that the entry doesn't take are empty.
     set: Set,
     partials: Vec<u8>,
+    /// Records of kind 7.
+    pieces: Vec<u8>,
     /// The record file of a whole run.
     file: Vec<u8>,
     numbers: Vec<u32>,
@@ -55,6 +58,7 @@ impl Case {
         match TABLES.iter().position(|(table, _)| *table == name) {
             Some(at) => &self.set[at],
             None if name == "file" => &self.file,
+            None if name == "pieces" => &self.pieces,
             None => &self.partials,
         }
     }
@@ -63,6 +67,7 @@ impl Case {
         match TABLES.iter().position(|(table, _)| *table == name) {
             Some(at) => &mut self.set[at],
             None if name == "file" => &mut self.file,
+            None if name == "pieces" => &mut self.pieces,
             None => &mut self.partials,
         }
     }
@@ -176,6 +181,7 @@ fn called(entry: &StageEntry, call: Call, case: &Case, right: &Answer) -> Vec<St
     let inputs: Vec<Lent> = entry.inputs.iter().map(&mut input).collect();
     let output = |len: &usize| Lent::output(*len, shifts.below(16));
     let mut outputs: Vec<Lent> = case.lent.iter().map(output).collect();
+    let before: Vec<Vec<u8>> = outputs.iter().map(|output| output.slice().to_vec()).collect();
     let word = {
         let inputs: Vec<&[u8]> = inputs.iter().map(Lent::slice).collect();
         let mut outputs: Vec<&mut [u8]> = outputs.iter_mut().map(Lent::slice_mut).collect();
@@ -186,8 +192,9 @@ fn called(entry: &StageEntry, call: Call, case: &Case, right: &Answer) -> Vec<St
         let (right, given) = (document::describe(right.word), document::describe(word));
         lines.push(format!("answer: {right} is right, given {given}"));
     }
-    for (name, (right, output)) in entry.outputs.iter().zip(right.outputs.iter().zip(&outputs)) {
-        lines.extend(differing(name, right, output.slice()));
+    for (i, name) in entry.outputs.iter().enumerate() {
+        let right = [&right.outputs[i], &before[i][right.outputs[i].len()..]].concat();
+        lines.extend(differing(name, &right, outputs[i].slice()));
     }
     for (name, input) in entry.inputs.iter().zip(&inputs) {
         lines.extend(differing(&format!("{name}, lent as input"), case.table(name), input.slice()));
@@ -222,7 +229,8 @@ fn given<S: Stage>(case: &Case) -> Answer {
 
 /// Where the slices start; fixed by the case, so that a replay repeats it.
 fn shifts(case: &Case) -> Random {
-    let bytes = case.set.iter().flatten().chain(&case.partials).chain(&case.file);
+    let bytes = case.set.iter().flatten().chain(&case.partials).chain(&case.pieces);
+    let bytes = bytes.chain(&case.file);
     let sum: u64 = bytes.map(|b| *b as u64).sum();
     Random::new(sum ^ (case.lent.iter().sum::<usize>() as u64) << 32)
 }

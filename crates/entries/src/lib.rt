@@ -23,6 +23,8 @@ ghost use Rattle.stage_walk.specs.Room.{roomIn};
 ghost use Rattle.entry_split_obj.specs.Entry.{splitObjOf, Leaves as LeavesPieces};
 ghost use Rattle.entry_split_obj.specs.Lines.{sizesOf};
 ghost use Rattle.entry_piece_bytes.specs.Entry.{placeOf, Leaves as LeavesPlace};
+ghost use Rattle.kept_output.specs.Kept.{Leaves as LeavesJoined};
+ghost use Rattle.entry_join_pieces.specs.Entry.{joinPieces};
 ghost use Rattle.entry_split_file.specs.Entry.{splitFileOf, Leaves as LeavesRun};
 ghost use Rattle.run_outputs.specs.Kept.{sizesOf as sizesOfRun};
 use obj::Split;
@@ -299,6 +301,20 @@ pub extern "C" fn piece_bytes(
     ensures { λ r. ⌜ LeavesPlace (placeOf (now (sections .entry)) (now («section_places» .entry)) (now (image .entry)) (now (pieces .entry)) which) (length (now (place .entry))) r (now (place .exit)) ⌝ }
 {
     entry_piece_bytes::piece_bytes(sections, section_places, image, pieces, which, place)
+}
+
+#[no_mangle]
+pub extern "C" fn join_pieces(
+    name_ends: &[u8],
+    name_bytes: &[u8],
+    sections: &[u8],
+    pieces: &[u8],
+    joined: &mut [u8],
+    size: &mut [u8],
+) -> u64
+    ensures { λ r. ⌜ LeavesJoined (joinPieces (now («name_ends» .entry)) (now («name_bytes» .entry)) (now (sections .entry)) (now (pieces .entry)) (length (now (joined .entry)))) (now (joined .entry)) (now (size .entry)) r (now (joined .exit)) (now (size .exit)) ⌝ }
+{
+    entry_join_pieces::join_pieces(name_ends, name_bytes, sections, pieces, joined, size)
 }
 
 #[no_mangle]

@@ -2,7 +2,8 @@
 use super::{Refusal, word};
 use crate::bytes::put_half;
 
-/// An entry's answer word, and every byte of its outputs in the order of the parameters.
+/// An entry's answer word, and every byte of its outputs in the order of the parameters. An
+/// output that is shorter than what is lent: the lent bytes past it stay as they were.
 #[derive(Clone, Debug, Eq, PartialEq)]
 pub struct Answer {
     pub word: u64,

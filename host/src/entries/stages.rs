@@ -123,6 +123,10 @@ pub const SPLIT_OBJ: StageEntry = stage_entry!(linked split_obj
 pub const PIECE_BYTES: StageEntry = stage_entry!(linked piece_bytes
     (sections, section_places, image, pieces) (which: u32) (place));
 
+/// Document 02, (e).
+pub const JOIN_PIECES: StageEntry = stage_entry!(linked join_pieces
+    (name_ends, name_bytes, sections, pieces) () (joined, size));
+
 /// The whole run; the names are those that are added to the file's.
 pub const SPLIT_FILE: StageEntry = stage_entry!(linked split_file
     (file) ()

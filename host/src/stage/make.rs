@@ -303,6 +303,11 @@ fn alignment(r: &mut Random) -> u32 {
     }
 }
 
+/// The highest that this address fits, up to 65,536.
+pub fn alignment_of(address: u32) -> u32 {
+    1 << address.trailing_zeros().min(16)
+}
+
 /// All zeros, none, or a few other bytes; some that end in zeros.
 fn section_bytes(size: usize, r: &mut Random) -> Vec<u8> {
     let density = r.pick(&[0, 0, 2, 16]);

@@ -24,13 +24,13 @@ use crate::{
 };
 
 /// A piece as its output record says it.
-struct Piece {
-    section: u16,
-    address: u32,
-    size: u32,
+pub struct Piece {
+    pub section: u16,
+    pub address: u32,
+    pub size: u32,
 }
 
-fn pieces(table: &[u8], count: usize) -> Vec<Piece> {
+pub fn pieces(table: &[u8], count: usize) -> Vec<Piece> {
     let piece =
         |r: &[u8]| Piece { section: half_at(r, 4), address: word_at(r, 8), size: word_at(r, 12) };
     table.chunks_exact(28).take(count).map(piece).collect()
@@ -126,7 +126,7 @@ fn ran(case: &Case, counts: &mut Counts, tally: &mut Tally) {
 
 /// The pieces of an accepted answer whose output `at` they are; none where their count
 /// wasn't lent.
-fn accepted(answer: &Answer, at: usize) -> Option<Vec<Piece>> {
+pub fn accepted(answer: &Answer, at: usize) -> Option<Vec<Piece>> {
     let counts = answer.outputs.last()?;
     if answer.word != 0 || counts.len() < 2 * at + 2 {
         return None;

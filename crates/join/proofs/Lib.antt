@@ -1,0 +1,5 @@
+pub mod Cases
+pub mod Members
+pub mod Order
+pub mod Sizes
+pub mod Law
