@@ -1,0 +1,3 @@
+pub mod Counts
+pub mod Laws
+pub mod Bytes
