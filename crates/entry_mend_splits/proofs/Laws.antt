@@ -1,79 +1,57 @@
--- The way of an outcome through the entry: a refused line of its definition is the answer, one that passed is passed over; what the tables before leave is what the
--- definition asks; and at the end the outputs hold what was written, or zeros. Assumes nothing.
+-- What the tables before leave is what the definition asks: the lengths of the names, the sections with their ends, and the columns that were mended.
+-- Assumes nothing.
 use Prim.Native.Nat.{ℕ, _+_, _*_, _/_, _≤_, _<_}
-use mathlib.Core.Path.{_≡_, refl, sym, ap, ap₂, subst, _∙_}
-use mathlib.Core.List.{List, [], _∷_}
+use mathlib.Core.Path.{_≡_, sym, ap, ap₂, _∙_}
+use mathlib.Core.List.{List}
 use native.Mathlib.Omega.{arith}
-use lib.ListN.{length, getD, take, replicate}
-use lib.Seq.{sets, length-take-le, length-sets}
+use lib.ListN.{length, getD, take}
 use Rattle.lists.specs.Outcome.{Outcome, accepted, refused, _>>_}
-use Rattle.lists.specs.Rows.{clearFrom}
-use Rattle.lists.proofs.Clear.{clear-all}
-use Rattle.lists.proofs.Outcomes.{not-both, same-accepted, then-goes}
+use Rattle.lists.proofs.Outcomes.{not-both, then-goes}
 use Rattle.lists.proofs.Rows.{getD-map, length-tabulate}
-use Rattle.obj.specs.Answers.{word, meaning, outcomeWord}
 use Rattle.obj.specs.Records.{sectionAt, stagePlaces}
 use Rattle.obj.specs.declared.Answer.{Answer}
-use Rattle.obj.specs.declared.Answer.the-variants.{Accepted, Refused}
 use Rattle.obj.specs.declared.Section.{Section}
 use Rattle.obj.specs.declared.Split.{Split}
 use Rattle.obj.proofs.Laws.{length-stagePlaces}
-use Rattle.tables.specs.Tables.{recordsCheck, AllHeld}
+use Rattle.tables.specs.Tables.{mainCeilings, recordsCheck, AllHeld}
 use Rattle.tables.specs.Records.{sectionsIn, noSection, sectionFault}
 use Rattle.tables.proofs.Lookups.{held}
 use Rattle.tables.proofs.Laws.{sections-end}
-use Rattle.stage_tables.specs.StageTables.{stageSections, stageSplits, splitsCheck, Room}
+use Rattle.name_table.specs.NameTable.{namesCheck}
+use Rattle.name_table.specs.Stored as names
+use Rattle.stage_tables.specs.StageTables.{stageSections, stageSplits, sectionsCheck, splitsCheck, Room, Filled}
+use Rattle.stage_tables.proofs.Laws.{table-passed, taken-few, taken-places, taken-count, taken-held}
 use Rattle.splits.specs.Columns.{Columns, columns, rowAt, rows, Long}
-use Rattle.splits.specs.Bytes.{tableBytes}
-use Rattle.splits.proofs.Bytes.{length-tableBytes}
-use Rattle.outputs.specs.Outputs.{storeCounts}
-use Rattle.kept_output.specs.Kept.{keptOf}
-use Rattle.mend.specs.Mend.{sectionEnds, Mended, mend}
-use Rattle.mend.specs.Steps as steps
-use Rattle.mend.specs.Steps.{mending, LowHeads}
+use Rattle.mend.specs.Mend.{sectionEnds, mend}
+use Rattle.mend.specs.Steps.{LowHeads, Mends, lineBytes}
 use Rattle.mend.specs.declared.Mending.{Mending}
-use Rattle.mend.specs.declared.Mending.the-variants.{Accepted as Kept, Refused as Rejected}
-use Rattle.entry_mend_splits.specs.Entry.{fromSplits, fromSections, Scratch, Mends, Laid, Gives, Finishes, Leaves}
-use Rattle.entry_mend_splits.proofs.Counts.{at-front, counts-kept}
+use Rattle.mend_outputs.specs.Outputs.{Laid, Gives, Stores}
+use Rattle.mend_outputs.proofs.Laws.{stored-gives}
+use Rattle.entry_mend_splits.specs.Entry.{fromSplits, fromSections, NamesTaken, HeadsTaken}
 
--- ---- an outcome on its way
-module _ {A : Type 0} {P : A → Type 0} where
-  -- a refusal, and an accepted value of which it holds
-  pub gives-refused : {o : Outcome A} {number section address : ℕ} → refused number section address ≡ o → Gives o (Refused number section address) P
-  gives-refused e = rw (sym e) (record { answered = refl; given = λ x z. absurd (not-both z) })
-
-  pub gives-value : {o : Outcome A} {x : A} → accepted x ≡ o → P x → Gives o Accepted P
-  gives-value e p = rw (sym e) (record { answered = refl; given = λ y z. subst P (same-accepted z) p })
-
-  module _ {a : Answer} where
-    -- the same outcome, said otherwise
-    pub gives-as : {o p : Outcome A} → o ≡ p → Gives o a P → Gives p a P
-    gives-as e w = subst (λ (x : Outcome A). Gives x a P) e w
-
-    -- a refused line is the answer
-    pub gives-stops : {m : Outcome (Unit {0})} (n : Outcome A) {number section address : ℕ} → meaning a ≡ m → meaning a ≡ refused number section address → Gives (m >> n) a P
-    unfolding _>>_
-    gives-stops n e f = let q = sym e ∙ f in rw q (record { answered = f; given = λ x z. absurd (not-both z) })
-
-    -- a line that passed is passed over
-    pub gives-goes : {m : Outcome (Unit {0})} {n : Outcome A} → m ≡ accepted tt → Gives n a P → Gives (m >> n) a P
-    unfolding _>>_
-    gives-goes e w = rw e w
-
--- ---- what the tables before leave
-
--- the sections at their places are those of the table
-pub heads-as : (lengths b : List ℕ) {p q : List ℕ} (splits : List ℕ) (room line-room : ℕ) → p ≡ q
-    → fromSplits lengths (sectionsIn b p) splits room line-room ≡ fromSplits lengths (sectionsIn b q) splits room line-room
-heads-as lengths b splits room line-room e = ap (λ (l : List ℕ). fromSplits lengths (sectionsIn b l) splits room line-room) e
+-- ---- names
+pub names-taken : {answer : Outcome (Unit {0})} (ends bytes lengths : List ℕ) {places heads chain : List ℕ}
+    → names.Stores answer (namesCheck (mainCeilings .names) ends bytes) ends bytes places lengths heads chain (length ends / 2) → NamesTaken answer ends bytes lengths
+names-taken ends bytes lengths s = record {
+  said = s .said;
+  few = λ e. s .stored (sym (s .said) ∙ e) .named .measured;
+  sizes = λ e. s .stored (sym (s .said) ∙ e) .sizes;
+}
 
 -- the lengths in the column are those of the names
 pub lengths-as : {l m : List ℕ} (sections splits : List ℕ) (room line-room : ℕ) → l ≡ m
     → fromSections l sections splits room line-room ≡ fromSections m sections splits room line-room
 lengths-as sections splits room line-room e = ap (λ (x : List ℕ). fromSections x sections splits room line-room) e
 
+-- ---- sections
+
+-- the sections at their places are those of the table
+pub heads-as : (lengths b : List ℕ) {p q : List ℕ} (splits : List ℕ) (room line-room : ℕ) → p ≡ q
+    → fromSplits lengths (sectionsIn b p) splits room line-room ≡ fromSplits lengths (sectionsIn b q) splits room line-room
+heads-as lengths b splits room line-room e = ap (λ (l : List ℕ). fromSplits lengths (sectionsIn b l) splits room line-room) e
+
 -- no section that passed its check ends above 32 bits
-pub low-heads : (lengths b : List ℕ) {places : List ℕ} → recordsCheck (sectionFault lengths (stageSections b)) (length b / 15) ≡ accepted tt
+low-heads : (lengths b : List ℕ) {places : List ℕ} → recordsCheck (sectionFault lengths (stageSections b)) (length b / 15) ≡ accepted tt
     → places ≡ stagePlaces 15 (length b / 15) → AllHeld 15 b places → LowHeads b places
 low-heads lengths b {places} passed e all = record { held = held all; low = low }
   where
@@ -86,97 +64,61 @@ low-heads lengths b {places} passed e all = record { held = held all; low = low 
         let end = ap (λ (s : Section). s .address + s .size) same in
         omega (arith, top, end)
 
--- ---- the columns
-module _ {places starts ends units rest : List ℕ} (room : ℕ) (few : room ≤ 1024) (s : Scratch places starts ends units rest) where
-  -- there is a place for each record
-  pub places-room : Room room places
-  places-room = record { few = omega arith; long = omega (arith, s .places-long) }
+module _ (lengths b places : List ℕ) {answer : Outcome (Unit {0})} (f : Filled answer (sectionsCheck (mainCeilings .sections) lengths b) 15 (length b) places) where
+  -- they were refused
+  pub heads-refused : {number section address : ℕ} (section-ends : List ℕ) → answer ≡ refused number section address → HeadsTaken answer lengths b places section-ends
+  heads-refused section-ends e = record { said = f .said; heads = λ q. absurd (not-both (sym e ∙ q)) }
 
-  -- they hold as many rows as the output
-  pub rows-long : (n : ℕ) → n ≤ room → Long (columns starts ends units rest) n
-  rows-long n h = record {
-    starts = omega (arith, s .starts-long);
-    ends = omega (arith, s .ends-long);
-    units = omega (arith, s .units-long);
-    rest = omega (arith, s .rest-long);
-  }
+  module _ (e : answer ≡ accepted tt) where
+    -- what the column of their ends asks
+    pub heads-low : LowHeads b (take (length b / 15) places)
+    heads-low =
+        low-heads lengths b (table-passed 15 (mainCeilings .sections) b (sectionFault lengths (stageSections b)) (sym (f .said) ∙ e) .2) (taken-places 15 _ b places _ f e)
+        (taken-held 15 _ b places _ f e (omega arith))
 
-module _ (lengths : List ℕ) (heads : List Section) (splits : List ℕ) (room : ℕ) {answer : Outcome (Unit {0})} (said : answer ≡ splitsCheck room lengths heads splits) where
-  -- the table was refused
-  pub mends-refused : {number section address : ℕ} (c : Columns) (lines : List ℕ) → answer ≡ refused number section address
-      → Mends (fromSplits lengths heads splits room (length lines)) room (Rejected number section address) c (length splits / 19) lines lines
-  unfolding fromSplits _>>_
-  mends-refused c lines e = record {
-    is = let q = sym said ∙ e in rw q;
-    stays = λ size z. absurd (let z : _≡_ {A = ℕ} 0 1 = cc in omega arith);
-    few = omega arith;
-    fits = λ size z. absurd (let z : _≡_ {A = ℕ} 0 1 = cc in omega arith);
-  }
+    pub heads-few : length b / 15 ≤ 64
+    heads-few = taken-few 15 _ b places _ f e
 
-  -- it passed, and the columns held its splits before they were mended
-  pub mends-done : {section-ends before after : List ℕ} {r : Mending} (old c : Columns) → answer ≡ accepted tt → room ≤ 1024 → length splits / 19 ≤ room
-      → section-ends ≡ sectionEnds heads → rows old (length splits / 19) ≡ stageSplits splits
-      → steps.Mends section-ends (rows old (length splits / 19)) (rows c (length splits / 19)) before after r
-      → Mends (fromSplits lengths heads splits room (length before)) room r c (length splits / 19) before after
-  unfolding fromSplits
-  mends-done {before = before} old c e low h s l w = record {
-    is = w .is ∙ ap₂ (λ (x : List ℕ) (y : List Split). mend x (length before) y) s l ∙ then-goes said _ e;
-    stays = w .stays;
-    few = omega (arith, w .few, length-tabulate (rowAt old) 0 (length splits / 19));
-    fits = λ size z. h;
-  }
+    pub heads-count : length (take (length b / 15) places) ≡ length b / 15
+    heads-count = taken-count 15 _ b places _ f e
 
--- ---- the outputs
-
--- what was mended is laid into them
-pub laid-of : {o : Outcome Mended} {room n size : ℕ} {r : Mending} (c : Columns) {out lines counts out′ lines′ counts′ : List ℕ} → Mends o room r c n lines lines′ → r ≡ Kept size
-    → 19 * room ≤ length out → out′ ≡ sets out 0 (tableBytes (rows c n)) → counts′ ≡ storeCounts 0 (n ∷ size ∷ []) counts
-    → Gives o Accepted (Laid out lines counts out′ lines′ counts′)
-laid-of {room = room} {n} {size} c {out} {lines} {counts} {lines′ = lines′} w e h p q =
-    let there = w .stays size e in
-    let long = length-tabulate (rowAt c) 0 n in
-    let bytes = length-tableBytes (rows c n) in
-    let same : length lines′ ≡ length lines = ap length (there .0) ∙ length-sets lines 0 (take size lines′) in
-    let text = length-take-le size lines′ (omega (arith, same, there .1)) in
-    gives-value (ap (λ (x : Mending). mending x (rows c n) lines′) (sym e) ∙ w .is)
-    (record {
-      splits = p ∙ at-front out (tableBytes (rows c n)) (omega (arith, h, bytes, long, w .fits size e));
-      lined = there .0 ∙ at-front lines (take size lines′) (omega (arith, text, there .1));
-      counted = q ∙ ap₂ (λ (x y : ℕ). storeCounts 0 (x ∷ y ∷ []) counts) (sym long) (sym text) ∙ counts-kept counts _;
-    })
-
--- a mending that was refused
-pub mended-as : {o : Outcome Mended} {room n number section address : ℕ} {r : Mending} {c : Columns} {lines lines′ : List ℕ} → Mends o room r c n lines lines′
-    → r ≡ Rejected number section address → refused number section address ≡ o
-mended-as {n = n} {c = c} {lines′ = lines′} w e = sym (ap (λ (x : Mending). mending x (rows c n) lines′) e) ∙ w .is
-
--- what is left at the end
-module _ {a : Answer} {out lines counts : List ℕ} {answer : ℕ} (said : answer ≡ word a) where
-  pub finishes-refused : {number section address : ℕ} {out′ lines′ counts′ : List ℕ} → a ≡ Refused number section address → out′ ≡ clearFrom 0 0 out → lines′ ≡ clearFrom 0 0 lines
-      → counts′ ≡ clearFrom 0 0 counts → Finishes a out lines counts answer out′ lines′ counts′
-  finishes-refused e p q r = record {
-    said = said;
-    splits = p ∙ clear-all 0 out ∙ sym (ap (keptOf out) e);
-    lined = q ∙ clear-all 0 lines ∙ sym (ap (keptOf lines) e);
-    counted = r ∙ clear-all 0 counts ∙ sym (ap (keptOf counts) e);
-  }
-
-  pub finishes-accepted : a ≡ Accepted → Finishes a out lines counts answer out lines counts
-  finishes-accepted e = record { said = said; splits = sym (ap (keptOf out) e); lined = sym (ap (keptOf lines) e); counted = sym (ap (keptOf counts) e) }
-
--- at the end: an accepted outcome stays as it was laid, a refused one leaves zeros
-pub leaves : (o : Outcome Mended) (a : Answer) {out lines counts out₁ lines₁ counts₁ out′ lines′ counts′ : List ℕ} {answer : ℕ} → length out₁ ≡ length out → length lines₁ ≡ length lines
-    → length counts₁ ≡ length counts → Gives o a (Laid out lines counts out₁ lines₁ counts₁) → Finishes a out₁ lines₁ counts₁ answer out′ lines′ counts′
-    → Leaves o out lines counts answer out′ lines′ counts′
-leaves (accepted m) Accepted p q r w f =
-    let d = w .given m refl in
-    record { said = f .said; splits = f .splits ∙ d .splits; lined = f .lined ∙ d .lined; counted = f .counted ∙ d .counted }
-leaves (accepted m) (Refused number section address) p q r w f = absurd (not-both (w .answered))
-leaves (refused number section address) Accepted p q r w f = absurd (not-both (sym (w .answered)))
-leaves (refused number section address) (Refused n s d) p q r w f =
-    record {
-      said = f .said ∙ ap outcomeWord (w .answered);
-      splits = f .splits ∙ ap (λ (k : ℕ). replicate k 0) p;
-      lined = f .lined ∙ ap (λ (k : ℕ). replicate k 0) q;
-      counted = f .counted ∙ ap (λ (k : ℕ). replicate k 0) r;
+    -- they were accepted, and the column is filled
+    pub heads-filled : (section-ends : List ℕ)
+        → take (length (take (length b / 15) places)) section-ends ≡ sectionEnds (sectionsIn b (take (length b / 15) places)) → HeadsTaken answer lengths b places section-ends
+    heads-filled section-ends q = record {
+      said = f .said;
+      heads = λ _. record {
+        few = heads-few;
+        places-are = taken-places 15 _ b places _ f e;
+        held = taken-held 15 _ b places _ f e (omega arith);
+        ends-are = ap (λ (n : ℕ). take n section-ends) (sym heads-count) ∙ q;
+      };
     }
+
+-- ---- the split table
+
+-- the column has a place for each record
+pub places-room : {places : List ℕ} (room : ℕ) → room ≤ 1024 → length places ≡ 1024 → Room room places
+places-room room h l = record { few = omega arith; long = omega arith }
+
+-- the columns hold so many rows
+pub rows-long : {starts ends units rest : List ℕ} (n : ℕ) → n ≤ 1024 → length starts ≡ 1024 → length ends ≡ 1024 → length units ≡ 1024 → length rest ≡ 1024
+    → Long (columns starts ends units rest) n
+rows-long n h p q r s = record { starts = omega arith; ends = omega arith; units = omega arith; rest = omega arith }
+
+-- it passed, the columns held its splits before they were mended, and what was mended is stored
+pub mended-gives : (lengths : List ℕ) (heads : List Section) (splits : List ℕ) (room : ℕ) {answer : Outcome (Unit {0})} {section-ends : List ℕ} (old c : Columns) (r : Mending) {a : Answer}
+    {out lines counts out′ lines′ counts′ : List ℕ} → answer ≡ splitsCheck room lengths heads splits → answer ≡ accepted tt → 19 * room ≤ length out
+    → section-ends ≡ sectionEnds heads → rows old (length splits / 19) ≡ stageSplits splits
+    → Mends section-ends (rows old (length splits / 19)) (rows c (length splits / 19)) lines lines′ r
+    → Stores r (rows c (length splits / 19)) (length splits / 19) a out counts out′ counts′
+    → Gives (fromSplits lengths heads splits room (length lines)) a (Laid out lines counts out′ lines′ counts′)
+unfolding fromSplits
+mended-gives lengths heads splits room old c r {lines = lines} said told h s l w t =
+    let n = table-passed 19 room splits _ (sym said ∙ told) .1 in
+    stored-gives r c (w .is ∙ ap₂ (λ (x : List ℕ) (y : List Split). mend x (length lines) y) s l ∙ then-goes said _ told) (w .stays) (omega (arith, n, h)) t
+
+-- the lines of at most 1,024 rows have at most 49,152 bytes
+pub lines-low : {section-ends : List ℕ} (old : Columns) (n : ℕ) {new : List Split} {before after : List ℕ} {r : Mending} → n ≤ 1024 → Mends section-ends (rows old n) new before after r
+    → lineBytes r ≤ 49152
+lines-low old n h w = omega (arith, h, w .few, length-tabulate (rowAt old) 0 n)

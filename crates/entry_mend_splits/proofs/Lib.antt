@@ -1,3 +1,3 @@
-pub mod Counts
 pub mod Laws
 pub mod Bytes
+pub mod Theorems

@@ -1,27 +1,19 @@
--- The entry `mend_splits` on its lent bytes: the tables that it takes, each for 1, 2, then its kind's number, and then the mending; what it answers and leaves for
--- every input. Document 02: "Here and later, lent bytes past an accepted output stay"; document 01: after a refusal every output is zeros over its whole lent length.
+-- The entry `mend_splits` on its lent bytes: the tables that it takes, each for 1, 2, then its kind's number, and then the mending. What it answers and leaves for
+-- every input is `Leaves` of mend_outputs of this outcome.
 use Prim.Native.Nat.{ℕ, _/_, _≤_}
 use mathlib.Core.Path.{_≡_}
-use mathlib.Core.List.{List, [], _∷_}
+use mathlib.Core.List.{List}
 use lib.ListN.{length, take}
-use lib.Seq.{sets}
-use Rattle.lists.specs.Outcome.{Outcome, accepted, refused, _>>_}
-use Rattle.obj.specs.Answers.{word, meaning, outcomeWord}
-use Rattle.obj.specs.declared.Answer.{Answer}
+use Rattle.lists.specs.Outcome.{Outcome, accepted, _>>_}
+use Rattle.obj.specs.Records.{stagePlaces}
 use Rattle.obj.specs.declared.Section.{Section}
-use Rattle.tables.specs.Tables.{mainCeilings}
+use Rattle.tables.specs.Tables.{mainCeilings, AllHeld}
+use Rattle.tables.specs.Records.{sectionsIn}
 use Rattle.name_table.specs.NameTable.{namesCheck}
 use Rattle.name_table.specs.Stored.{stageLengths}
 use Rattle.stage_tables.specs.StageTables.{stageSections, stageSplits, sectionsCheck, splitsCheck}
-use Rattle.outputs.specs.Outputs.{halves}
-use Rattle.splits.specs.Columns.{Columns, rows}
-use Rattle.splits.specs.Bytes.{tableBytes}
-use Rattle.stage_splits.specs.StageSplits.{roomOf, said}
-use Rattle.kept_output.specs.Kept.{outputOf, keptOf}
+use Rattle.stage_splits.specs.StageSplits.{roomOf}
 use Rattle.mend.specs.Mend.{sectionEnds, Mended, mend}
-use Rattle.mend.specs.Steps.{mending, lineBytes}
-use Rattle.mend.specs.declared.Mending.{Mending}
-use Rattle.mend.specs.declared.Mending.the-variants.{Accepted}
 
 -- bytes of a split record in a stage table
 abbrev pub splitWidth : ℕ
@@ -39,28 +31,6 @@ mendSplitsOf ends bytes sections splits size room = do
   -- "86, a new end would be 0 or below its start; 80, the lines don't fit, last"
   mend (sectionEnds (stageSections sections)) room (stageSplits splits)
 
--- ---- the lent outputs
-
--- the mended table's records
-abbrev pub splitBytes : Mended → List ℕ
-splitBytes m = tableBytes (m .splits)
-
--- "counts": splits, bytes of lines; as many as fit whole into `size` bytes
-abbrev pub countBytes : (size : ℕ) → Mended → List ℕ
-countBytes size m = halves (take (size / 2) (length (m .splits) ∷ length (m .lines) ∷ []))
-
--- what an outcome writes, if it was accepted
-abbrev pub written : (Mended → List ℕ) → Outcome Mended → Outcome (List ℕ)
-written f (accepted m) = accepted (f m)
-written f (refused number section address) = refused number section address
-
--- the answer of the entry, and every byte of its outputs, before and after: what was written, and behind it what was lent; zeros after a refusal
-pub record Leaves (o : Outcome Mended) (out lines counts : List ℕ) (answer : ℕ) (out′ lines′ counts′ : List ℕ) : Type 0 where
-  pub said : answer ≡ outcomeWord o
-  pub splits : out′ ≡ outputOf out (written splitBytes o)
-  pub lined : lines′ ≡ outputOf lines (written (λ (m : Mended). m .lines) o)
-  pub counted : counts′ ≡ outputOf counts (written (countBytes (length counts)) o)
-
 -- ---- inside the entry: what is left of the definition over what the tables before leave
 
 -- from the split table on
@@ -75,35 +45,20 @@ fromSections lengths sections splits room line-room = do
   sectionsCheck (mainCeilings .sections) lengths sections
   fromSplits lengths (stageSections sections) splits room line-room
 
--- the lent columns are long enough: for the places of splits, and for the rows
-pub record Scratch (places starts ends units rest : List ℕ) : Type 0 where
-  pub places-long : length places ≡ 1024
-  pub starts-long : length starts ≡ 1024
-  pub ends-long : length ends ≡ 1024
-  pub units-long : length units ≡ 1024
-  pub rest-long : length rest ≡ 1024
+-- what was answered of the names, and their lengths at the front of the column if they were accepted
+pub record NamesTaken (answer : Outcome (Unit {0})) (ends bytes lengths : List ℕ) : Type 0 where
+  pub said : answer ≡ namesCheck (mainCeilings .names) ends bytes
+  pub few : answer ≡ accepted tt → length ends / 2 ≤ length lengths
+  pub sizes : answer ≡ accepted tt → take (length ends / 2) lengths ≡ stageLengths ends bytes
 
--- what the mending over the columns answers: n rows stand in them and the lines at the front of their room, if it was accepted
-pub record Mends (o : Outcome Mended) (room : ℕ) (r : Mending) (c : Columns) (n : ℕ) (before after : List ℕ) : Type 0 where
-  pub is : mending r (rows c n) after ≡ o
-  pub stays : (size : ℕ) → r ≡ Accepted size → (after ≡ sets before 0 (take size after)) × (size ≤ length before)
-  pub few : lineBytes r ≤ 49152
-  pub fits : (size : ℕ) → r ≡ Accepted size → n ≤ room
+-- the places of the n sections, and where each ends, at the front of the columns
+pub record HeadsHeld (b places section-ends : List ℕ) (n : ℕ) : Type 0 where
+  pub few : n ≤ 64
+  pub places-are : take n places ≡ stagePlaces 15 n
+  pub held : AllHeld 15 b (take n places)
+  pub ends-are : take n section-ends ≡ sectionEnds (sectionsIn b (take n places))
 
--- these stand in the outputs, and what was lent behind them
-pub record Laid (out lines counts out′ lines′ counts′ : List ℕ) (m : Mended) : Type 0 where
-  pub splits : out′ ≡ outputOf out (accepted (splitBytes m))
-  pub lined : lines′ ≡ outputOf lines (accepted (m .lines))
-  pub counted : counts′ ≡ outputOf counts (accepted (countBytes (length counts) m))
-
--- what was answered, and what holds of an accepted value; after a refusal the outputs are still to be cleared
-pub record Gives {A : Type 0} (o : Outcome A) (a : Answer) (P : A → Type 0) : Type 0 where
-  pub answered : meaning a ≡ said o
-  pub given : (x : A) → o ≡ accepted x → P x
-
--- the answer's word, and the outputs zeros if it is a refusal
-pub record Finishes (a : Answer) (out lines counts : List ℕ) (answer : ℕ) (out′ lines′ counts′ : List ℕ) : Type 0 where
-  pub said : answer ≡ word a
-  pub splits : out′ ≡ keptOf out a
-  pub lined : lines′ ≡ keptOf lines a
-  pub counted : counts′ ≡ keptOf counts a
+-- what was answered of the sections, and the columns if they were accepted
+pub record HeadsTaken (answer : Outcome (Unit {0})) (lengths b places section-ends : List ℕ) : Type 0 where
+  pub said : answer ≡ sectionsCheck (mainCeilings .sections) lengths b
+  pub heads : answer ≡ accepted tt → HeadsHeld b places section-ends (length b / 15)

@@ -1,6 +1,6 @@
 -- `entry_mend_splits::mend_splits` meets its contract: what the tables and the mending gave, with the outputs as they are then left.
 -- Assumes nothing.
-use Rattle.entry_mend_splits.proofs.Laws.{leaves}
+use Rattle.mend_outputs.proofs.Laws.{leaves}
 use borrow.Author.Needs.{needs}
 use Rattle.entry_mend_splits.proofs.mend_splits.Statement.{statement}
 use Rattle.entry_mend_splits.proofs.mend_splits.Tie as tie
@@ -28,4 +28,10 @@ returns c =
 pub mend-splits-spec : {M : Type 1} → statement M
 mend-splits-spec =
     tie.close
-    (tie.spec checked-requires finish-requires same-length same-length-2 same-length-3 returns)
+    (tie.spec
+    checked-requires
+    finish-requires
+    same-length
+    same-length-2
+    same-length-3
+    returns)

@@ -1,9 +1,9 @@
--- `entry_mend_splits::finish` meets its contract: all outputs become zeros after a refusal, and stay else.
+-- `mend_outputs::finish` meets its contract: all outputs become zeros after a refusal, and stay else.
 -- Assumes nothing.
-use Rattle.entry_mend_splits.proofs.Laws.{finishes-refused, finishes-accepted}
+use Rattle.mend_outputs.proofs.Laws.{finishes-refused, finishes-accepted}
 use borrow.Author.Needs.{needs}
-use Rattle.entry_mend_splits.proofs.finish.Statement.{statement}
-use Rattle.entry_mend_splits.proofs.finish.Tie as tie
+use Rattle.mend_outputs.proofs.finish.Statement.{statement}
+use Rattle.mend_outputs.proofs.finish.Tie as tie
 
 enum-told : tie.Need-enum-told
 enum-told c = search needs
