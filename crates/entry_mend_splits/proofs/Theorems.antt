@@ -26,7 +26,8 @@ use Rattle.mend_laws.proofs.Laws.{mend-passes, mend-twice, mend-fields, mend-ke
 use Rattle.mend_laws.proofs.Tables.{mend-table, length-mended}
 use Rattle.mend_outputs.specs.Outputs.{splitBytes, written, Leaves}
 use Rattle.mend_outputs.proofs.Counts.{at-front}
-use Rattle.entry_mend_splits.specs.Entry.{splitWidth, mendSplitsOf}
+use Rattle.obj.specs.Records.{splitWidth}
+use Rattle.entry_mend_splits.specs.Entry.{mendSplitsOf}
 use Rattle.entry_mend_splits.proofs.Bytes.{bytes-back, bytes-pass}
 
 -- bytes laid over themselves

@@ -5,7 +5,7 @@ use mathlib.Core.Path.{_≡_}
 use mathlib.Core.List.{List}
 use lib.ListN.{length, take}
 use Rattle.lists.specs.Outcome.{Outcome, accepted, _>>_}
-use Rattle.obj.specs.Records.{stagePlaces}
+use Rattle.obj.specs.Records.{stagePlaces, splitWidth}
 use Rattle.obj.specs.declared.Section.{Section}
 use Rattle.tables.specs.Tables.{mainCeilings, AllHeld}
 use Rattle.tables.specs.Records.{sectionsIn}
@@ -14,10 +14,6 @@ use Rattle.name_table.specs.Stored.{stageLengths}
 use Rattle.stage_tables.specs.StageTables.{stageSections, stageSplits, sectionsCheck, splitsCheck}
 use Rattle.stage_splits.specs.StageSplits.{roomOf}
 use Rattle.mend.specs.Mend.{sectionEnds, Mended, mend}
-
--- bytes of a split record in a stage table
-abbrev pub splitWidth : ℕ
-splitWidth = 19
 
 -- what the entry gives for an output of `size` bytes and `room` bytes for lines
 unfoldable pub mendSplitsOf : (ends bytes sections splits : List ℕ) → (size room : ℕ) → Outcome Mended

@@ -16,6 +16,7 @@ use mend_outputs::finish;
 use mend_outputs::give_mended;
 use name_table::check_names;
 use obj::Answer;
+use obj::SPLIT_BYTES;
 use stage_splits::room_of;
 use stage_splits::take_split_columns;
 use stage_tables::take_sections;
@@ -96,7 +97,7 @@ fn from_splits(
     if let Answer::Refused { .. } = a {
         return a;
     }
-    let n = splits.len() / 19;
+    let n = splits.len() / SPLIT_BYTES;
     let r = mend_table(&starts, &mut ends, &units, &rest, n, section_ends, lines);
     give_mended(r, &starts, &ends, &units, &rest, n, out, counts)
 }

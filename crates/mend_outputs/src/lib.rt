@@ -3,6 +3,7 @@ ghost use Prim.Native.Nat.{_*_, _≤_};
 ghost use lib.ListN.{length};
 ghost use Rattle.splits.specs.Columns.{columns, rows, Long};
 ghost use Rattle.mend.specs.Steps.{lineBytes};
+ghost use Rattle.obj.specs.Records.{splitWidth};
 ghost use Rattle.mend_outputs.specs.Outputs.{Stores, Finishes};
 use mend::Mending;
 use obj::Answer;
@@ -22,7 +23,7 @@ pub fn give_mended(
     out: &mut [u8],
     counts: &mut [u8],
 ) -> Answer
-    requires { ⌜ Long (columns (now starts) (now ends) (now units) (now rest)) n × (19 * n ≤ length (now out)) × (n ≤ 1024) × (lineBytes r ≤ 49152) ⌝ }
+    requires { ⌜ Long (columns (now starts) (now ends) (now units) (now rest)) n × (splitWidth * n ≤ length (now out)) × (n ≤ 1024) × (lineBytes r ≤ 49152) ⌝ }
     ensures { λ a. ⌜
         Stores r (rows (columns (now (starts .entry)) (now (ends .entry)) (now (units .entry)) (now (rest .entry))) n) n a
         (now (out .entry)) (now (counts .entry)) (now (out .exit)) (now (counts .exit)) ⌝ }
