@@ -54,7 +54,7 @@ struct Entry {
     store: fn(u64) -> String,
 }
 
-const ENTRIES: [Entry; 15] = [
+const ENTRIES: [Entry; 16] = [
     toposort::ENTRY,
     check_file::ENTRY,
     check_tables::ENTRY,
