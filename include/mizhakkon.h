@@ -10,8 +10,8 @@
  * content and every length has an answer.
  *
  * Inputs are never written. An accepted output holds its records, and then zeros to the end of the lent bytes; in join_pieces
- * lent bytes past an accepted output stay as they were. After a refusal every output is zeros throughout, unless the refusal
- * says otherwise (61).
+ * and mend_splits lent bytes past an accepted output, and past its size or counts, stay as they were. After a refusal every
+ * output is zeros throughout, unless the refusal says otherwise (61).
  *
  * Counts. Each entry whose outputs hold records is lent `counts` last: for each output before it, in order, how many records
  * it holds, a number of two bytes. `counts` is cut to what is lent: a number for which fewer than two bytes are left is not
@@ -95,9 +95,10 @@ static inline uint32_t mizhakkon_address(uint64_t answer)
 #define MIZHAKKON_NOT_LISTED 74 /* the split's unit isn't in the unit table */
 #define MIZHAKKON_MISFIT 75    /* the split's alignment doesn't fit its start */
 #define MIZHAKKON_NO_ROOM 76   /* an output table has fewer places than are needed */
-#define MIZHAKKON_SHORT_OUTPUT 80 /* the lent output is too short; at (0, 0), as 82 and 83 */
+#define MIZHAKKON_SHORT_OUTPUT 80 /* the lent output is too short; at (0, 0), as 82, 83 and 86 */
 #define MIZHAKKON_NO_BYTES 82  /* a piece names no section that holds bytes, or reaches outside it */
 #define MIZHAKKON_DIFFER 83    /* two pieces of one section differ at an address */
+#define MIZHAKKON_NO_MEND 86   /* a mended end would be 0 or below its start */
 
 /* Ceilings. */
 #define MIZHAKKON_MAX_NAMES 4096
@@ -389,6 +390,30 @@ uint64_t add_splits(const uint8_t *name_ends, size_t name_ends_len,
                     const uint8_t *partials, size_t partials_len,
                     uint8_t *out_splits, size_t out_splits_len,
                     uint8_t *counts, size_t counts_len);
+
+/*
+ * Mends a split list that overlaps. In each section an end that is 0, below its start or above the next split's start is replaced by that start, or by the section's
+ * end for the section's last split; nothing else changes. The list given back has no overlap and no end that is 0 or below its start (50 and 51 of
+ * validate_splits), and passes every table check; a list that has neither comes back as it was, with no line.
+ *
+ *   name_ends, name_bytes, sections, splits   as for check_tables; the sections' bytes aren't asked
+ *   out_splits   out: the mended split table
+ *   lines        out: a line for each end that was replaced, in table order: the section's number in decimal, then start, old end and new end in eight
+ *                upper-case hexadecimal digits each, one blank between, a line feed at the end; at most 30 bytes each
+ *   counts       out: the number of records in out_splits, and the number of bytes in lines
+ *
+ * Refused, the first that holds:
+ *   1 to 4, 7   as check_tables refuses these tables; 2 of the splits where out_splits holds fewer
+ *   86  at (0, 0)   a new end would be 0 or below its start
+ *   80  at (0, 0)   the lines don't fit
+ */
+uint64_t mend_splits(const uint8_t *name_ends, size_t name_ends_len,
+                     const uint8_t *name_bytes, size_t name_bytes_len,
+                     const uint8_t *sections, size_t sections_len,
+                     const uint8_t *splits, size_t splits_len,
+                     uint8_t *out_splits, size_t out_splits_len,
+                     uint8_t *lines, size_t lines_len,
+                     uint8_t *counts, size_t counts_len);
 
 /*
  * Gives the units that have splits in an order in which they can be linked, or shows a cycle of them.

@@ -10,6 +10,7 @@ pub mod image;
 pub mod join;
 pub mod listing;
 pub mod load;
+pub mod mend;
 pub mod merge;
 pub mod order;
 pub mod outputs;

@@ -54,7 +54,7 @@ struct Entry {
     store: fn(u64) -> String,
 }
 
-const ENTRIES: [Entry; 15] = [
+const ENTRIES: [Entry; 16] = [
     toposort::ENTRY,
     check_file::ENTRY,
     check_tables::ENTRY,
@@ -65,6 +65,7 @@ const ENTRIES: [Entry; 15] = [
     stage::entry::<stage::common::MarkCommonSplits>(),
     stage::entry::<stage::trim::TrimSplits>(),
     stage::entry::<stage::merge::AddSplits>(),
+    stage::entry::<stage::mend::MendSplits>(),
     stage::entry::<stage::gaps::CreateGapSplits>(),
     stage::entry::<stage::order::ResolveLinkOrder>(),
     stage::entry::<stage::walk::SplitObj>(),

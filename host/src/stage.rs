@@ -9,6 +9,7 @@ pub mod join;
 pub mod large;
 mod line;
 mod make;
+pub mod mend;
 pub mod merge;
 pub mod order;
 mod points;

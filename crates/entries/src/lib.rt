@@ -15,6 +15,8 @@ ghost use Rattle.common.specs.Common.{marked};
 ghost use Rattle.entry_update_common_splits.specs.Entry.{updateOf};
 ghost use Rattle.entry_validate_splits.specs.Entry.{validateOf};
 ghost use Rattle.entry_add_splits.specs.Entry.{addSplitsOf};
+ghost use Rattle.entry_mend_splits.specs.Entry.{mendSplitsOf};
+ghost use Rattle.mend_outputs.specs.Outputs.{Leaves as LeavesMended};
 ghost use Rattle.entry_trim_splits.specs.Entry.{trimOf};
 ghost use Rattle.entry_create_gap_splits.specs.Entry.{gapSplitsOf, Leaves as LeavesGaps};
 ghost use Rattle.stage_tables.specs.StageTables.{stageSplits, stageUnits};
@@ -259,6 +261,31 @@ pub extern "C" fn add_splits(
         splits,
         partials,
         out_splits,
+        counts,
+    )
+}
+
+#[no_mangle]
+pub extern "C" fn mend_splits(
+    name_ends: &[u8],
+    name_bytes: &[u8],
+    sections: &[u8],
+    splits: &[u8],
+    out_splits: &mut [u8],
+    lines: &mut [u8],
+    counts: &mut [u8],
+) -> u64
+    ensures { λ r. ⌜
+        LeavesMended (mendSplitsOf (now («name_ends» .entry)) (now («name_bytes» .entry)) (now (sections .entry)) (now (splits .entry)) (length (now («out_splits» .entry))) (length (now (lines .entry))))
+        (now («out_splits» .entry)) (now (lines .entry)) (now (counts .entry)) r (now («out_splits» .exit)) (now (lines .exit)) (now (counts .exit)) ⌝ }
+{
+    entry_mend_splits::mend_splits(
+        name_ends,
+        name_bytes,
+        sections,
+        splits,
+        out_splits,
+        lines,
         counts,
     )
 }

@@ -107,6 +107,10 @@ pub const TRIM_SPLITS: StageEntry = stage_entry!(linked trim_splits
 pub const ADD_SPLITS: StageEntry = stage_entry!(linked add_splits
     (name_ends, name_bytes, sections, splits, partials) () (out_splits, counts));
 
+/// Document 02, (m).
+pub const MEND_SPLITS: StageEntry = stage_entry!(linked mend_splits
+    (name_ends, name_bytes, sections, splits) () (out_splits, lines, counts));
+
 pub const CREATE_GAP_SPLITS: StageEntry = stage_entry!(linked create_gap_splits
     (name_ends, name_bytes, sections, section_places, image, symbols, splits) ()
     (out_name_ends, out_name_bytes, out_splits, counts));

@@ -58,6 +58,11 @@ pub fn shown(entry: &str, answer: &Answer, names: &[String]) -> String {
         "end_for_section" | "split_alignment" => format!("{:X}", word_at(&answer.outputs[0], 0)),
         "resolve_link_order" if word != 0 => format!("cycle of {}", answer.outputs[1][0]),
         "resolve_link_order" => records(8, &|r| name(half_at(r, 0))).join(", "),
+        // The lines too.
+        "mend_splits" => {
+            let lines = String::from_utf8_lossy(&answer.outputs[1]).replace('\n', "; ");
+            format!("{lines}{}", records(19, &split).join(", "))
+        }
         "split_obj" => {
             let piece =
                 |r: &[u8]| format!("{:X} {:X} {}", word_at(r, 8), word_at(r, 12), word_at(r, 16));
@@ -187,6 +192,8 @@ fn points() -> Vec<Point> {
         trims(),
         merges(),
         merge_ceilings(),
+        mends(),
+        mend_refusals(),
         gaps(),
         gap_names(),
         orders(),
@@ -336,6 +343,77 @@ fn merge_ceilings() -> Vec<Point> {
         ),
         // The table is checked before the list.
         ("add_splits", bad.lent(&[38, 2]), "refused 7 0 1"),
+    ]
+}
+
+fn mends() -> Vec<Point> {
+    let image = || given().data(0x1000, 0x40);
+    let point = |g: Given, right| ("mend_splits", g.lent(&[57, 87, 4]), right);
+    let two = |first: u32, second: u32| {
+        image().split("a", (0, 0x1000, first), 0, 0).split("b", (0, 0x1010, second), 0, 0)
+    };
+    vec![
+        point(image(), ""),
+        // A hole stays, and so does a last end below the section's.
+        point(two(0x1008, 0x1020), "1000..1008 a, 1010..1020 b"),
+        point(two(0x1010, 0x1040), "1000..1010 a, 1010..1040 b"),
+        point(two(0x1011, 0x1020), "0 00001000 00001011 00001010; 1000..1010 a, 1010..1020 b"),
+        point(two(0, 0x1020), "0 00001000 00000000 00001010; 1000..1010 a, 1010..1020 b"),
+        point(two(0xFFF, 0x1020), "0 00001000 00000FFF 00001010; 1000..1010 a, 1010..1020 b"),
+        point(two(0x1010, 0), "0 00001010 00000000 00001040; 1000..1010 a, 1010..1040 b"),
+        // "the next start" is that of the section's next split.
+        point(
+            image().data(0x1008, 0x40).split("a", (0, 0x1000, 0x1010), 0, 0).split(
+                "b",
+                (1, 0x1008, 0x100F),
+                0,
+                0,
+            ),
+            "1000..1010 a, 1008..100F b",
+        ),
+        // Two at one start: the first gets no bytes.
+        point(
+            image().split("a", (0, 0x1008, 0x1009), 0, 0).split("b", (0, 0x1008, 0x1010), 0, 0),
+            "0 00001008 00001009 00001008; 1008..1008 a, 1008..1010 b",
+        ),
+        point(
+            image().split("a", (0, 0x1008, 0x1008), 0, 0).split("b", (0, 0x1008, 0x1010), 0, 0),
+            "1008..1008 a, 1008..1010 b",
+        ),
+    ]
+}
+
+/// The order of the checks, and the edge of each.
+fn mend_refusals() -> Vec<Point> {
+    let image = || given().data(0x1000, 0x40);
+    let lent = |g: Given, splits, lines, right| ("mend_splits", g.lent(&[splits, lines, 4]), right);
+    let open = || image().split("a", (0, 0x1000, 0), 0, 0);
+    let above = || image().split("a", (0, 0x1041, 0), 0, 0);
+    let line = "0 00001000 00000000 00001040; 1000..1040 a";
+    vec![
+        lent(open(), 19, 29, line),
+        lent(open(), 19, 28, "refused 80 0 0"),
+        lent(open(), 18, 29, "refused 2 0 0"),
+        lent(above(), 19, 29, "refused 86 0 0"),
+        // "80 .. last": also where no line fits.
+        lent(above(), 19, 0, "refused 86 0 0"),
+        lent(
+            image().split("a", (0, 0x1040, 0), 0, 0),
+            19,
+            29,
+            "0 00001040 00000000 00001040; 1040..1040 a",
+        ),
+        lent(given().data(0, 0).split("a", (0, 0, 0), 0, 0), 19, 29, "refused 86 0 0"),
+        lent(
+            given().data(0, 8).split("a", (0, 0, 4), 0, 0).split("b", (0, 0, 4), 0, 0),
+            38,
+            58,
+            "refused 86 0 0",
+        ),
+        // 7 is asked of all records before: an end above the section's, and one out of order.
+        lent(image().split("a", (0, 0x1000, 0x1041), 0, 0), 19, 29, "refused 7 0 0"),
+        lent(above().split("b", (0, 0x1000, 0x1010), 0, 0), 38, 58, "refused 7 0 1"),
+        lent(above().split("b", (0, 0x1042, 0x1010), 3, 0), 38, 58, "refused 7 0 1"),
     ]
 }
 
