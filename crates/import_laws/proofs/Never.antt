@@ -14,10 +14,13 @@ use Rattle.lists.proofs.Outcomes.{bind-inv}
 use Rattle.lists.proofs.Rows.{length-tabulate}
 use Rattle.lists.proofs.Tests.{none-of}
 use Rattle.fields.specs.Fields.{le32}
+use Rattle.obj.specs.Answers.{place}
 use Rattle.obj.specs.declared.Section.{Section}
+use Rattle.obj.specs.declared.Symbol.{Symbol}
+use Rattle.faults.specs.Faults.{sectionBad, symbolBad}
 use Rattle.names.specs.Names.{numberOf}
-use Rattle.tables.specs.Tables.{sizeCheck, firstFault, recordsCheck, place}
-use Rattle.tables.specs.Records.{noSection, imagePlaces, bytesCut, sectionFault, imageFault, symbolFault}
+use Rattle.tables.specs.Tables.{sizeCheck, firstFault, recordsCheck}
+use Rattle.tables.specs.Records.{noSection, noSymbol, imagePlaces, bytesCut, sectionFault, imageFault, symbolFault}
 use Rattle.name_table.specs.NameTable.{startOf, endOf, nameCut, nameWrong, nameFault, namesCheck}
 use Rattle.name_table.proofs.Laws.{names-passed}
 use Rattle.stage_names.specs.StageNames.{flat}
@@ -87,6 +90,15 @@ not-table width ceiling b fault e f = not-then _ _ (not-size width ceiling (leng
 other : (number : ℕ) (t : Bool) → (number ≡ 1 → ⊥) → cond t number 0 ≡ 1 → ⊥
 other number true p e = p e
 other number false p e = omega arith
+
+other-section : (lengths : List ℕ) (sections : List Section) (k : ℕ) → sectionFault lengths sections k ≡ 1 → ⊥
+unfolding sectionFault
+other-section lengths sections k = other 4 (sectionBad (getD lengths (getD sections k noSection .name) 0) (getD sections k noSection)) (λ z. omega arith)
+
+other-symbol : (names : ℕ) (sections : List Section) (symbols : List Symbol) (k : ℕ) → symbolFault names sections symbols k ≡ 1 → ⊥
+unfolding symbolFault
+other-symbol names sections symbols k =
+    other 5 (symbolBad names (length sections) (getD sections (getD symbols k noSymbol .section) noSection) (getD symbols k noSymbol)) (λ z. omega arith)
 
 -- ---- the file
 
@@ -195,20 +207,19 @@ module _ (file : List ℕ) (names : List (List ℕ)) (p : Passed file) (few : le
       go there true q = bss-not-cut places (length file) k (headOf names (sectionStrings file) (madeOf file k)) (rw q)
       go there false q =
           let place : getD places k 0 ≡ madeOf file k .offset = places-read file names few bytes k (omega (arith, there, places-count file names)) ∙ place-is file names k there ∙ rw q in
-          neither _ (lt-leb (length places) k (omega (arith, there, many-places)))
+          neither (not (eqb (headOf names (sectionStrings file) (madeOf file k) .kind) 3)) (lt-leb (length places) k (omega (arith, there, many-places)))
           (le-ltb (length file) (getD places k 0 + madeOf file k .size) (omega (arith, place, taken-inside file p k there q)))
 
   not-image : (lengths : List ℕ) → NotOne (imageCheck 64 lengths (placesTable (tablesOf file names .places)) (length file) (sectionsTable sections))
-  unfolding imageFault sectionFault
+  unfolding imageFault
   not-image lengths =
       not-table 15 64 (sectionsTable sections) _ (omega (arith, long-sections sections))
-      (λ k h e. other 4 _ (λ z. omega arith) (rw (not-cut k (omega (arith, h, long-sections sections))) at e))
+      (λ k h e. other-section lengths (stageSections (sectionsTable sections)) k (rw (not-cut k (omega (arith, h, long-sections sections))) at e))
 
   not-symbols : (count : ℕ) (known : List Section) → NotOne (symbolsCheck 4096 count known (symbolsTable (tablesOf file names .symbols)))
-  unfolding symbolFault
   not-symbols count known =
       not-table 20 4096 (symbolsTable (tablesOf file names .symbols)) _ (omega (arith, long-symbols (tablesOf file names .symbols)))
-      (λ k h e. other 5 _ (λ z. omega arith) e)
+      (λ k h e. other-symbol count known (stageSymbols (symbolsTable (tablesOf file names .symbols))) k e)
 
 not-tables : (file : List ℕ) (names : List (List ℕ)) (room : Rooms) → Passed file → length (flat names) < 65536 → Bytes file → NotOne (tablesCheck (length file) room (tablesOf file names))
 unfolding tablesCheck tablesOf
