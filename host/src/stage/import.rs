@@ -194,7 +194,15 @@ fn wrong_member(written: &mut Written, r: &mut Random) {
     let near = |value: u32, r: &mut Random| {
         let any = r.next() as u32;
         let small = r.below(80) as u32;
-        r.pick(&[value.wrapping_add(1), value.wrapping_sub(1), value + 16, 0, small, any, u32::MAX])
+        r.pick(&[
+            value.wrapping_add(1),
+            value.wrapping_sub(1),
+            value.wrapping_add(16),
+            0,
+            small,
+            any,
+            u32::MAX,
+        ])
     };
     match r.below(10) {
         0 => written.file.truncate(r.below(written.file.len() + 1)),
