@@ -31,7 +31,7 @@ impl Stage for ImportElf {
     const COUNT: usize = 200_000;
     const OUTCOMES: &'static [u16] = &[0, 2, 3, 4, 5, 88, 89];
     const OFTEN: &'static [(u16, u64)] =
-        &[(0, 50_000), (2, 10_000), (3, 2000), (4, 2000), (5, 10_000), (88, 10_000), (89, 10_000)];
+        &[(0, 50_000), (2, 10_000), (3, 2000), (4, 2000), (5, 2000), (88, 10_000), (89, 10_000)];
     /// A damaged file is made here.
     const CHECKED: bool = false;
 

@@ -30,8 +30,8 @@ const LIBRARIES: &str = "/usr/powerpc-linux-gnu/lib";
 const FILES: [(&[&str], &[&str]); 20] = [
     (&["libm.a"], &["sin", "cos", "exp", "log", "pow"]),
     (&["libm.a"], &["tgamma", "lgamma", "j0"]),
-    (&["libm.a"], &["cbrt", "hypot", "fma", "floor"]),
-    (&["libm.a"], &["sinf", "cosf", "expf"]),
+    (&["libm.a"], &["cbrt", "hypot", "fma", "floor", "log2"]),
+    (&["libm.a"], &["sinf", "cosf", "expf", "lgammaf", "j0f"]),
     (&["libm.a"], &["sinh", "cosh", "tanh", "asin"]),
     (&["libc.a"], &["strlen", "memcpy", "qsort"]),
     (&["libc.a"], &["regcomp", "regexec"]),
