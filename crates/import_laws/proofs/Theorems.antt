@@ -13,6 +13,7 @@ use Rattle.lists.specs.Outcome.{accepted, refuse, _>>_}
 use Rattle.lists.proofs.Binds.{after-goes}
 use Rattle.lists.proofs.Outcomes.{then-both, then-inv, bind-inv, same-accepted}
 use Rattle.obj.specs.declared.Section.{Section}
+use Rattle.obj.specs.Records.{splitWidth}
 use Rattle.tables.specs.Tables.{sizeCheck, firstFault, recordsCheck}
 use Rattle.tables.specs.Records.{noSection, bytesCut}
 use Rattle.name_table.specs.NameTable.{namesCheck}
@@ -67,7 +68,7 @@ import-passes file room t e =
     ∙ after-goes _ _ (sections .0)
     ∙ after-goes _ _ (many .1)
     ∙ after-goes _ _ (empty-table 23 4096 _ (omega arith))
-    ∙ after-goes _ _ (empty-table 19 1024 _ (omega arith))
+    ∙ after-goes _ _ (empty-table splitWidth 1024 _ (omega arith))
     ∙ empty-table 8 1024 _ (omega arith)
 
 -- ---- the sections' bytes
