@@ -9,9 +9,9 @@
  * OVERLAP, and nothing else may write to them during the call: an entry can't see either. There is no other duty: every
  * content and every length has an answer.
  *
- * Inputs are never written. An accepted output holds its records, and then zeros to the end of the lent bytes; in join_pieces
- * and mend_splits lent bytes past an accepted output, and past its size or counts, stay as they were. After a refusal every
- * output is zeros throughout, unless the refusal says otherwise (61).
+ * Inputs are never written. An accepted output holds its records, and then zeros to the end of the lent bytes; in join_pieces,
+ * mend_splits and import_elf lent bytes past an accepted output, and past its size or counts, stay as they were. After a
+ * refusal every output is zeros throughout, unless the refusal says otherwise (61).
  *
  * Counts. Each entry whose outputs hold records is lent `counts` last: for each output before it, in order, how many records
  * it holds, a number of two bytes. `counts` is cut to what is lent: a number for which fewer than two bytes are left is not
@@ -99,6 +99,8 @@ static inline uint32_t mizhakkon_address(uint64_t answer)
 #define MIZHAKKON_NO_BYTES 82  /* a piece names no section that holds bytes, or reaches outside it */
 #define MIZHAKKON_DIFFER 83    /* two pieces of one section differ at an address */
 #define MIZHAKKON_NO_MEND 86   /* a mended end would be 0 or below its start */
+#define MIZHAKKON_NOT_ELF 88   /* no ELF32 executable for PowerPC, or its header is cut; at (0, 0), as 89 */
+#define MIZHAKKON_ELF_CUT 89   /* a table, section or name that is needed reaches outside the ELF file or its string table */
 
 /* Ceilings. */
 #define MIZHAKKON_MAX_NAMES 4096
@@ -543,6 +545,44 @@ uint64_t join_pieces(const uint8_t *name_ends, size_t name_ends_len,
                      const uint8_t *pieces, size_t pieces_len,
                      uint8_t *joined, size_t joined_len,
                      uint8_t *size, size_t size_len);
+
+/*
+ * Reads a linked file: an ELF32 executable for PowerPC (machine 20), most significant byte first. Its allocated sections and its symbols become the tables that the other
+ * entries take, and the file itself is the image: lend it for `image`, and the outputs cut to their counts.
+ *
+ *   file             the whole ELF file, of any length
+ *   name_ends        out: records of 2 bytes: where each name ends in name_bytes. Names are numbered by first use, those of sections first
+ *   name_bytes       out: their bytes
+ *   sections         out: records of 15 bytes as check_tables takes them: the sections with SHF_ALLOC, in order. Kind 3 for SHT_NOBITS, else 0 with SHF_EXECINSTR, else 1 with
+ *                    SHF_WRITE, else 2; sh_addr, sh_size, sh_offset
+ *   section_places   out: records of 4 bytes: sh_offset, 0 for kind 3
+ *   symbols          out: records of 20 bytes: the entries of the first SHT_SYMTAB section past the null one, in order. The section is that of st_shndx if it was taken over, else
+ *                    0xFFFF (for 0 and from 0xFF00 on too); st_value, st_size, known if above 0; kind 1 for STT_FUNC, 2 for STT_OBJECT, 3 for STT_SECTION, else 0; flags 1
+ *                    (Local) for STB_LOCAL, else 0; alignment 0
+ *   counts           out: the numbers of names, of name bytes, of sections, of places (the same) and of symbols
+ *
+ * Lent bytes past the records, and past the whole counts, stay. At document 01's ceilings the outputs have 8,192, 65,535, 960, 256, 81,920 and 10 bytes.
+ *
+ * Refused, the first that holds:
+ *   88  at (0, 0)      fewer than 52 bytes, or e_ident doesn't begin with 7F 45 4C 46, class 1, byte order 2, or e_type isn't 2, e_machine 20, e_shentsize 40
+ *   89  at (0, 0)      the section headers (where e_shnum isn't 0), an allocated section's bytes (but of SHT_NOBITS) or the symbol table reach outside the file; the symbol
+ *                      table isn't whole entries of 16 bytes; the name of an allocated section or of a symbol past the null one isn't ended in its string table, which is no
+ *                      section, reaches outside the file or is too short
+ *   2   at (0, name)   the first name that has no place, by count or by bytes: 4,096 names of 65,535 bytes, or as many as are lent
+ *   3   at (0, name)   as check_tables
+ *   2   at (0, section) more sections than 64, or than the shorter of both outputs holds
+ *   4   at (0, section) as check_tables
+ *   2   at (0, symbol) more symbols than 4,096, or than are lent
+ *   5   at (0, symbol) as check_tables: linkers define symbols that lie outside the section that they name (docs/REFUSALS.md)
+ * The tables of an accepted file pass check_tables.
+ */
+uint64_t import_elf(const uint8_t *file, size_t file_len,
+                    uint8_t *name_ends, size_t name_ends_len,
+                    uint8_t *name_bytes, size_t name_bytes_len,
+                    uint8_t *sections, size_t sections_len,
+                    uint8_t *section_places, size_t section_places_len,
+                    uint8_t *symbols, size_t symbols_len,
+                    uint8_t *counts, size_t counts_len);
 
 /*
  * Finds the gaps between the splits of each section and fills them with autogenerated splits, each of a unit of its own.

@@ -7,6 +7,7 @@ pub mod common;
 pub mod ends;
 pub mod gaps;
 pub mod image;
+pub mod import;
 pub mod join;
 pub mod listing;
 pub mod load;

@@ -54,7 +54,7 @@ struct Entry {
     store: fn(u64) -> String,
 }
 
-const ENTRIES: [Entry; 16] = [
+const ENTRIES: [Entry; 17] = [
     toposort::ENTRY,
     check_file::ENTRY,
     check_tables::ENTRY,
@@ -70,6 +70,7 @@ const ENTRIES: [Entry; 16] = [
     stage::entry::<stage::order::ResolveLinkOrder>(),
     stage::entry::<stage::walk::SplitObj>(),
     stage::entry::<stage::join::JoinPieces>(),
+    stage::entry::<stage::import::ImportElf>(),
     stage::entry::<stage::run::SplitFile>(),
 ];
 
@@ -93,6 +94,7 @@ host soak [SMALL] [LARGE] [SECONDS] [SEED]   compares so many small and large ra
                       all entries, as far as the time allows
 host sample [COUNT] [SEED]   compares cases with short and empty tables, each a block of the heap
                       of its own: for valgrind
+host sample of ENTRY COUNT [SEED]   the same, of one entry
 host records pack     turns readable text (standard input) into a record file (standard output)
 host records show     turns a record file into text
 host records list     prints a record file's listing, as document 01 read a second time gives it
@@ -124,9 +126,11 @@ fn main() -> ExitCode {
             Some(plan) => compare(|tally| soak::run(&plan, tally)),
             None => not_done(USAGE),
         },
-        (["sample"], _) => compare(|tally| soak::sample(soak::SAMPLE, SEED, tally)),
-        (["sample", count], _) => sample(count, SEED),
-        (["sample", count, _], Ok(seed)) => sample(count, seed),
+        (["sample"], _) => compare(|tally| soak::sample(&ENTRIES, soak::SAMPLE, SEED, tally)),
+        (["sample", "of", name, count], _) => sample(Some(name), count, SEED),
+        (["sample", "of", name, count, _], Ok(seed)) => sample(Some(name), count, seed),
+        (["sample", count], _) => sample(None, count, SEED),
+        (["sample", count, _], Ok(seed)) => sample(None, count, seed),
         (["records", name @ ("pack" | "show" | "list")], _) => record_text::command(name),
         _ => not_done(USAGE),
     }
@@ -162,10 +166,16 @@ fn check(seed: u64, tally: &mut Tally) {
     c_programs::run(tally);
 }
 
-fn sample(count: &str, seed: u64) -> ExitCode {
-    match count.parse() {
-        Ok(count) => compare(|tally| soak::sample(count, seed, tally)),
-        Err(_) => not_done(USAGE),
+/// Of all entries, or of one.
+fn sample(name: Option<&str>, count: &str, seed: u64) -> ExitCode {
+    let all: &[Entry] = &ENTRIES;
+    let entries = match name {
+        Some(name) => all.iter().position(|entry| entry.name == name).map(|i| &all[i..=i]),
+        None => Some(all),
+    };
+    match (entries, count.parse()) {
+        (Some(entries), Ok(count)) => compare(|tally| soak::sample(entries, count, seed, tally)),
+        _ => not_done(USAGE),
     }
 }
 

@@ -158,11 +158,11 @@ const LARGE_ONE_IN: usize = 100;
 
 /// Cases whose tables are blocks of the heap of their own, so that valgrind sees an access
 /// outside them.
-pub fn sample(count: usize, seed: u64, tally: &mut Tally) {
+pub fn sample(entries: &[Entry], count: usize, seed: u64, tally: &mut Tally) {
     lent::lend_exactly();
     let mut seeds = Random::new(seed);
-    for (i, entry) in ENTRIES.iter().enumerate() {
-        let count = share(count, i, ENTRIES.len());
+    for (i, entry) in entries.iter().enumerate() {
+        let count = share(count, i, entries.len());
         tally.begin(&format!("{}, {count} with short tables, seed {seed}", entry.name));
         parts::random(seeds.next(), count, tally, |r, tally| {
             let size = if r.one_in(LARGE_ONE_IN) { Size::Large } else { Size::Short };

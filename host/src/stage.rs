@@ -5,6 +5,7 @@ pub mod common;
 pub mod ends;
 pub mod gaps;
 pub mod held;
+pub mod import;
 pub mod join;
 pub mod large;
 mod line;

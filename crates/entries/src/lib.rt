@@ -27,6 +27,8 @@ ghost use Rattle.entry_split_obj.specs.Lines.{sizesOf};
 ghost use Rattle.entry_piece_bytes.specs.Entry.{placeOf, Leaves as LeavesPlace};
 ghost use Rattle.kept_output.specs.Kept.{Leaves as LeavesJoined};
 ghost use Rattle.entry_join_pieces.specs.Entry.{joinPieces};
+ghost use Rattle.import.specs.Import.{importOf};
+ghost use Rattle.entry_import_elf.specs.Entry.{roomsOf, Leaves as LeavesImported};
 ghost use Rattle.entry_split_file.specs.Entry.{splitFileOf, Leaves as LeavesRun};
 ghost use Rattle.run_outputs.specs.Kept.{sizesOf as sizesOfRun};
 use obj::Split;
@@ -374,6 +376,32 @@ pub extern "C" fn create_gap_splits(
         out_name_ends,
         out_name_bytes,
         out_splits,
+        counts,
+    )
+}
+
+#[no_mangle]
+pub extern "C" fn import_elf(
+    file: &[u8],
+    name_ends: &mut [u8],
+    name_bytes: &mut [u8],
+    sections: &mut [u8],
+    section_places: &mut [u8],
+    symbols: &mut [u8],
+    counts: &mut [u8],
+) -> u64
+    ensures { λ r. ⌜
+        LeavesImported (importOf (now (file .entry)) (roomsOf (length (now («name_ends» .entry))) (length (now («name_bytes» .entry))) (length (now (sections .entry))) (length (now («section_places» .entry))) (length (now (symbols .entry))))) r
+        (now («name_ends» .entry)) (now («name_bytes» .entry)) (now (sections .entry)) (now («section_places» .entry)) (now (symbols .entry)) (now (counts .entry))
+        (now («name_ends» .exit)) (now («name_bytes» .exit)) (now (sections .exit)) (now («section_places» .exit)) (now (symbols .exit)) (now (counts .exit)) ⌝ }
+{
+    entry_import_elf::import_elf(
+        file,
+        name_ends,
+        name_bytes,
+        sections,
+        section_places,
+        symbols,
         counts,
     )
 }
