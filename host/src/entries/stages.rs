@@ -131,6 +131,10 @@ pub const PIECE_BYTES: StageEntry = stage_entry!(linked piece_bytes
 pub const JOIN_PIECES: StageEntry = stage_entry!(linked join_pieces
     (name_ends, name_bytes, sections, pieces) () (joined, size));
 
+/// Document 02, (n).
+pub const WRITE_SRECORDS: StageEntry = stage_entry!(linked write_srecords
+    (name_ends, name_bytes, sections, pieces) () (lines, size));
+
 /// The whole run; the names are those that are added to the file's.
 pub const SPLIT_FILE: StageEntry = stage_entry!(linked split_file
     (file) ()
