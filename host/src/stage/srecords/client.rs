@@ -31,11 +31,11 @@ pub fn run(seed: u64, tally: &mut Tally) {
     if let Err(why) = fs::create_dir_all(&folder).map_err(|e| e.to_string()).and_then(|()| {
         let client = Client { file: folder.join("lines.s3") };
         for case in back::example_cases()? {
-            client.reads(&Case { lent: vec![1 << 20, 8], ..case }, tally)?;
+            client.reads(case, tally)?;
         }
         let (mut left, mut r) = (INPUTS, Random::new(seed));
         while left > 0 {
-            left -= client.reads(&lined_case(5, 10, usize::MAX, &mut r), tally)? as usize;
+            left -= client.reads(lined_case(5, 10, usize::MAX, &mut r), tally)? as usize;
         }
         Ok(())
     }) {
@@ -51,8 +51,10 @@ struct Client {
 }
 
 impl Client {
-    /// Whether the lines are written and have data; what isn't right of them is said.
-    fn reads(&self, case: &Case, tally: &mut Tally) -> Result<bool, String> {
+    /// Whether the lines are written and have data, where there is room for them and for `size`;
+    /// what isn't right of them is said.
+    fn reads(&self, case: Case, tally: &mut Tally) -> Result<bool, String> {
+        let case = &Case { lent: vec![1 << 20, 8], ..case };
         let answer = given::<WriteSrecords>(case);
         let tables = case.tables();
         let sections: Vec<_> =
@@ -63,7 +65,7 @@ impl Client {
         let size = u64::from_le_bytes(answer.outputs[1][..8].try_into().expect("eight bytes"));
         let text = &answer.outputs[0][..size as usize];
         fs::write(&self.file, text).map_err(|e| e.to_string())?;
-        let joined = given::<JoinPieces>(&Case { lent: vec![1 << 20, 8], ..case.clone() });
+        let joined = given::<JoinPieces>(case);
         let mut lines = vec![];
         if joined.word != 0 {
             lines.push(format!("join_pieces is {}", document::describe(joined.word)));
