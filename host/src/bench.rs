@@ -83,9 +83,8 @@ fn measured(name: &'static str, file: &[u8], rounds: usize) -> Measured {
         lap.iter().filter(|(name, _)| belongs(name, step)).map(|(_, time)| *time).sum()
     };
     let there = |step: &str| laps[0].iter().any(|(name, _)| belongs(name, step));
-    let rust = |step: &&str| {
-        there(step).then(|| spread(laps.iter().map(|lap| of(lap, step)).collect()))
-    };
+    let rust =
+        |step: &&str| there(step).then(|| spread(laps.iter().map(|lap| of(lap, step)).collect()));
     let loading = |step: &&str| {
         let from_records = |lap| of(lap, LOAD) + of(lap, step);
         (there(step) && *step != WHOLE).then(|| spread(laps.iter().map(from_records).collect()))

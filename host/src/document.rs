@@ -17,6 +17,7 @@ pub mod order;
 pub mod outputs;
 pub mod records;
 pub mod run;
+pub mod srecords;
 pub mod toposort;
 pub mod trim;
 pub mod validate;

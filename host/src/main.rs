@@ -54,7 +54,7 @@ struct Entry {
     store: fn(u64) -> String,
 }
 
-const ENTRIES: [Entry; 17] = [
+const ENTRIES: [Entry; 18] = [
     toposort::ENTRY,
     check_file::ENTRY,
     check_tables::ENTRY,
@@ -71,6 +71,7 @@ const ENTRIES: [Entry; 17] = [
     stage::entry::<stage::walk::SplitObj>(),
     stage::entry::<stage::join::JoinPieces>(),
     stage::entry::<stage::import::ImportElf>(),
+    stage::entry::<stage::srecords::WriteSrecords>(),
     stage::entry::<stage::run::SplitFile>(),
 ];
 
@@ -82,11 +83,13 @@ const USAGE: &str = "\
 host [check [SEED]]   compares beside the Rust and document 01, with stored answers, and from C
 host replay [FILE]    compares with the stored answers, or with the cases of a file
 host some ENTRY COUNT [SEED]   compares so many random cases of one stage entry
+host srec [SEED]      gives lines of `write_srecords` to srec_cat and srec_info
 host twice [SEED]     fills lists twice by `create_gap_splits`
 host store [SEED]     stores the right answers in stored/
 host restore          restores the images of the stored cases from their pieces
 host bench [ROUNDS]   times whole runs and stages, the Rust's and the linked entries'
-host bench join [ROUNDS]   times joining many pieces that overlap, beside reading their bytes once
+host bench join [ROUNDS]   times joining many pieces that overlap, beside reading their bytes once,
+                      and writing them as S-records
 host inputs           names the inputs of the benchmark
 host once NAME [rust] runs one of these inputs once, by the entry or by the Rust
 host memory           measures the Rust's heap, and what is lent to the entry and its stack
@@ -110,6 +113,9 @@ fn main() -> ExitCode {
         (["replay", file], _) => compare(|tally| stored::replay_file(Path::new(file), &[], tally)),
         (["some", name, count], _) => some(name, count, SEED),
         (["some", name, count, _], Ok(seed)) => some(name, count, seed),
+        (["srec"] | ["srec", _], Ok(seed)) => {
+            compare(|tally| stage::srecords::client::run(seed, tally))
+        }
         (["twice"] | ["twice", _], Ok(seed)) => compare(|tally| stage::twice::run(seed, tally)),
         (["endless"], _) => stage::merge::endless(),
         (["store"] | ["store", _], Ok(seed)) => store(seed),

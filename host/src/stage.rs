@@ -17,6 +17,7 @@ mod points;
 pub mod restore;
 pub mod run;
 mod rust;
+pub mod srecords;
 pub mod timed;
 pub mod trim;
 pub mod twice;

@@ -29,6 +29,7 @@ ghost use Rattle.kept_output.specs.Kept.{Leaves as LeavesJoined};
 ghost use Rattle.entry_join_pieces.specs.Entry.{joinPieces};
 ghost use Rattle.import.specs.Import.{importOf};
 ghost use Rattle.entry_import_elf.specs.Entry.{roomsOf, Leaves as LeavesImported};
+ghost use Rattle.entry_write_srecords.specs.Entry.{Called as CalledLines};
 ghost use Rattle.entry_split_file.specs.Entry.{splitFileOf, Leaves as LeavesRun};
 ghost use Rattle.run_outputs.specs.Kept.{sizesOf as sizesOfRun};
 use obj::Split;
@@ -344,6 +345,20 @@ pub extern "C" fn join_pieces(
     ensures { λ r. ⌜ LeavesJoined (joinPieces (now («name_ends» .entry)) (now («name_bytes» .entry)) (now (sections .entry)) (now (pieces .entry)) (length (now (joined .entry)))) (now (joined .entry)) (now (size .entry)) r (now (joined .exit)) (now (size .exit)) ⌝ }
 {
     entry_join_pieces::join_pieces(name_ends, name_bytes, sections, pieces, joined, size)
+}
+
+#[no_mangle]
+pub extern "C" fn write_srecords(
+    name_ends: &[u8],
+    name_bytes: &[u8],
+    sections: &[u8],
+    pieces: &[u8],
+    lines: &mut [u8],
+    size: &mut [u8],
+) -> u64
+    ensures { λ r. ⌜ CalledLines (now («name_ends» .entry)) (now («name_bytes» .entry)) (now (sections .entry)) (now (pieces .entry)) (now (lines .entry)) (now (size .entry)) r (now (lines .exit)) (now (size .exit)) ⌝ }
+{
+    entry_write_srecords::write_srecords(name_ends, name_bytes, sections, pieces, lines, size)
 }
 
 #[no_mangle]

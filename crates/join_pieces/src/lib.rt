@@ -128,7 +128,7 @@ fn lay_pieces(sections: &[u8], b: &[u8], n: u32, out: &mut [u8])
 // ---- 83
 
 // The bytes aren't the same. No early exit, so that the compiler compares many at a time.
-fn unequal(x: &[u8], y: &[u8]) -> bool
+pub fn unequal(x: &[u8], y: &[u8]) -> bool
     ensures { λ r. ⌜ r ≡ not (sameName (now (x .entry)) (now (y .entry))) ⌝ }
 {
     if x.len() != y.len() {

@@ -57,10 +57,9 @@ fn first(rest: &[u8]) -> Option<(&[u8], &[u8])> {
     (half_at(head, 4) == PIECE && payload.len() >= 6).then_some((payload, rest))
 }
 
-/// A section that holds bytes: its addresses, and what the pieces have there.
+/// A section that holds bytes: where it starts, and what the pieces have there.
 struct Held {
     start: u64,
-    end: u64,
     bytes: Vec<Option<u8>>,
 }
 
@@ -86,15 +85,8 @@ fn join(t: &Tables, pieces: &[u8], room: usize) -> Result<Vec<u8>, Refusal> {
     if (room as u64) < holding(t).map(|(start, end)| end - start).sum() {
         return refused(80);
     }
-    // "82, a piece names no section that holds bytes or reaches outside it"
+    inside(t, &parts)?;
     let mut sections = sections(t);
-    for part in &parts {
-        let (start, end) = (part.address as u64, part.address as u64 + part.bytes.len() as u64);
-        match sections.get(part.section as usize) {
-            Some(Some(held)) if held.start <= start && end <= held.end => {}
-            _ => return refused(82),
-        }
-    }
     // "83, two pieces of one section differ at an address"
     for part in &parts {
         let held = sections[part.section as usize].as_mut().expect("no 82");
@@ -110,8 +102,21 @@ fn join(t: &Tables, pieces: &[u8], room: usize) -> Result<Vec<u8>, Refusal> {
     Ok(bytes.map(|byte| byte.unwrap_or(0)).collect())
 }
 
+/// "82, a piece names no section that holds bytes or reaches outside it"
+pub fn inside(t: &Tables, parts: &[Part]) -> Result<(), Refusal> {
+    let ranges: Vec<_> = ranges(t).collect();
+    for part in parts {
+        let (from, to) = (part.address as u64, part.address as u64 + part.bytes.len() as u64);
+        match ranges.get(part.section as usize) {
+            Some(Some((start, end))) if *start <= from && to <= *end => {}
+            _ => return Err(Refusal { number: 82, section: 0, address: 0 }),
+        }
+    }
+    Ok(())
+}
+
 /// The section heads: the addresses of each that holds bytes, none for another.
-fn ranges(t: &Tables) -> impl Iterator<Item = Option<(u64, u64)>> {
+pub fn ranges(t: &Tables) -> impl Iterator<Item = Option<(u64, u64)>> {
     t.sections.chunks_exact(SECTIONS.width).map(|head| {
         let (start, size) = (word_at(head, 3) as u64, word_at(head, 7) as u64);
         (head[2] != NO_BYTES).then_some((start, start + size))
@@ -124,6 +129,6 @@ fn holding(t: &Tables) -> impl Iterator<Item = (u64, u64)> {
 
 /// No byte is there yet.
 fn sections(t: &Tables) -> Vec<Option<Held>> {
-    let held = |(start, end)| Held { start, end, bytes: vec![None; (end - start) as usize] };
+    let held = |(start, end)| Held { start, bytes: vec![None; (end - start) as usize] };
     ranges(t).map(|range| range.map(held)).collect()
 }

@@ -135,6 +135,10 @@ pub const JOIN_PIECES: StageEntry = stage_entry!(linked join_pieces
 pub const IMPORT_ELF: StageEntry = stage_entry!(linked import_elf
     (file) () (name_ends, name_bytes, sections, section_places, symbols, counts));
 
+/// Document 02, (n).
+pub const WRITE_SRECORDS: StageEntry = stage_entry!(linked write_srecords
+    (name_ends, name_bytes, sections, pieces) () (lines, size));
+
 /// The whole run; the names are those that are added to the file's.
 pub const SPLIT_FILE: StageEntry = stage_entry!(linked split_file
     (file) ()

@@ -1,5 +1,5 @@
 //! The entry `join_pieces`, held to document 02's second reading. The Rust joins nothing.
-mod back;
+pub mod back;
 mod linked;
 mod points;
 
@@ -62,22 +62,28 @@ impl Stage for JoinPieces {
 fn joined_case(sections: usize, most: usize, faulty: usize, r: &mut Random) -> Case {
     let mut maker = Maker::new(3, r);
     maker.sections(sections, r);
-    let count = if most < MOST { r.below(most) } else { most - r.below(5) };
-    let faulty = if r.one_in(2) { faulty } else { usize::MAX };
-    let mut pieces = vec![];
-    for _ in 0..count {
-        pieces.extend(piece(&maker, faulty, r));
-    }
-    if r.one_in(24) {
-        damage(&mut pieces, r);
-    }
+    let pieces = pieces_of(&maker, most, faulty, r);
     let held = holding(&maker).map(|(_, _, bytes)| bytes.len()).sum();
     let lent = vec![room(1, held, r), if r.one_in(2) { 8 } else { r.below(12) }];
     Case { pieces, ..maker.case(vec![], lent) }
 }
 
+/// At most `most` records of its sections' pieces, seldom damaged.
+pub fn pieces_of(maker: &Maker, most: usize, faulty: usize, r: &mut Random) -> Vec<u8> {
+    let count = if most < MOST { r.below(most) } else { most - r.below(5) };
+    let faulty = if r.one_in(2) { faulty } else { usize::MAX };
+    let mut pieces = vec![];
+    for _ in 0..count {
+        pieces.extend(piece(maker, faulty, r));
+    }
+    if r.one_in(24) {
+        damage(&mut pieces, r);
+    }
+    pieces
+}
+
 /// The sections that hold bytes: number, start, bytes.
-fn holding(maker: &Maker) -> impl Iterator<Item = (usize, u32, &[u8])> {
+pub fn holding(maker: &Maker) -> impl Iterator<Item = (usize, u32, &[u8])> {
     let places = maker.set[PLACES].chunks_exact(4).map(|place| word_at(place, 0) as usize);
     let heads = maker.set[HEADS].chunks_exact(15).zip(places).enumerate();
     heads.filter(|(_, (head, _))| head[2] != NO_BYTES).map(|(number, (head, place))| {

@@ -93,6 +93,19 @@ fn ran(file: &[u8], counts: &mut Counts, r: &mut Random, tally: &mut Tally) -> b
     true
 }
 
+/// The pieces of each example whose run is accepted, as a case of `join_pieces`.
+pub fn example_cases() -> Result<Vec<Case>, String> {
+    let mut cases = vec![];
+    for file in examples()? {
+        let answer = given::<SplitFile>(&store::whole(&file));
+        if let (Some(pieces), Ok(loaded)) = (accepted(&answer, 4), load(&file)) {
+            let t = loaded.tables();
+            cases.push(case(&t, &parts(&Image::of(&t), &pieces), 0));
+        }
+    }
+    Ok(cases)
+}
+
 /// Joins the pieces of a walk over these tables.
 pub fn image(
     t: &Tables,
