@@ -76,8 +76,8 @@ module _ (ends bytes sections : List ℕ) where
     count-sections : length (stageSections sections) ≡ length sections / 15
     count-sections = simp length-map (length-stagePlaces 15 (length sections / 15))
 
-    count-splits : length (stageSplits splits) ≡ length splits / 19
-    count-splits = simp length-map (length-stagePlaces 19 (length splits / 19))
+    count-splits : length (stageSplits splits) ≡ length splits / splitWidth
+    count-splits = simp length-map (length-stagePlaces splitWidth (length splits / splitWidth))
 
     heads-passed : recordsCheck (sectionFault (stageLengths ends bytes) (stageSections sections)) (length (stageSections sections)) ≡ accepted tt
     heads-passed =
@@ -87,7 +87,7 @@ module _ (ends bytes sections : List ℕ) where
     splits-passed : recordsCheck (splitFault (stageLengths ends bytes) (stageSections sections) (stageSplits splits)) (length (stageSplits splits)) ≡ accepted tt
     splits-passed =
         ap (recordsCheck (splitFault (stageLengths ends bytes) (stageSections sections) (stageSplits splits))) count-splits
-        ∙ table-passed 19 (roomOf size) splits (splitFault (stageLengths ends bytes) (stageSections sections) (stageSplits splits)) (parts .2) .2
+        ∙ table-passed splitWidth (roomOf size) splits (splitFault (stageLengths ends bytes) (stageSections sections) (stageSplits splits)) (parts .2) .2
 
     few-sections : length (stageSections sections) ≤ 65535
     few-sections =
@@ -97,7 +97,7 @@ module _ (ends bytes sections : List ℕ) where
     -- as many as were handed in
     pub few-given : length (m .splits) ≤ roomOf size
     few-given =
-        let n = table-passed 19 (roomOf size) splits (splitFault (stageLengths ends bytes) (stageSections sections) (stageSplits splits)) (parts .2) .1 in
+        let n = table-passed splitWidth (roomOf size) splits (splitFault (stageLengths ends bytes) (stageSections sections) (stageSplits splits)) (parts .2) .1 in
         let k = length-mended (sectionEnds (stageSections sections)) (stageSplits splits) in
         let same = ap (λ (x : Mended). length (x .splits)) (mend-inv (sectionEnds (stageSections sections)) room (stageSplits splits) m (parts .3) .2) in
         omega (arith, n, k, same, count-splits)

@@ -14,7 +14,7 @@ use Rattle.lists.specs.Outcome.{accepted}
 use Rattle.lists.specs.Rows.{anyOf, anyFrom}
 use Rattle.lists.proofs.Binds.{after-goes}
 use Rattle.lists.proofs.Rows.{getD-map}
-use Rattle.obj.specs.Records.{sectionAt, relocAt}
+use Rattle.obj.specs.Records.{sectionAt, relocAt, partialWidth}
 use Rattle.obj.specs.declared.Section.{Section}
 use Rattle.obj.specs.declared.Symbol.{Symbol}
 use Rattle.obj.specs.declared.Reloc.{Reloc}
@@ -253,8 +253,8 @@ module _ {file : List ℕ} {t : Loaded} (u : Usable file t) (names more : List (
   -- THEOREM: the partial splits pass
   pub partials-pass : partialsCheck 1024 (map length names) (tablesOf file t .partials) ≡ accepted tt
   partials-pass =
-      ap (λ (l : List Split). tableCheck 19 1024 (tablesOf file t .partials) (partialFault (map length names) l)) (partials-back u)
-      ∙ table-passes 19 1024 (tablesOf file t .partials) (partialFault (map length names) (splitsIn file (t .splits))) (length (t .splits))
+      ap (λ (l : List Split). tableCheck partialWidth 1024 (tablesOf file t .partials) (partialFault (map length names) l)) (partials-back u)
+      ∙ table-passes partialWidth 1024 (tablesOf file t .partials) (partialFault (map length names) (splitsIn file (t .splits))) (length (t .splits))
       (partials-whole u) (partials-count u) (few-splits u) partial-none
 
   -- ---- units

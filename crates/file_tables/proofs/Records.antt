@@ -12,7 +12,7 @@ use Rattle.lists.proofs.Rows.{getD-map}
 use Rattle.lists.proofs.Parts.{tabulate-map, tabulate-list}
 use Rattle.fields.specs.Fields.{le16, le32, le64, signed32, signed64, enc32, little}
 use Rattle.fields.proofs.Laws.{le16-is, le32-is, le64-is, numberAt-same, round32}
-use Rattle.obj.specs.Records.{sectionAt, symbolAt, relocAt, splitAt, unitAt, stagePlaces}
+use Rattle.obj.specs.Records.{sectionAt, symbolAt, relocAt, splitAt, unitAt, stagePlaces, partialWidth}
 use Rattle.obj.proofs.Laws.{stage-place}
 use Rattle.obj.specs.declared.Unit as units
 use Rattle.tables.specs.Records.{sectionsIn, symbolsIn, relocsIn, splitsIn, unitsIn, imagePlaces}
@@ -90,17 +90,17 @@ reads-reloc = record {
   };
 }
 
-pub reads-split : Reads 19 splitAt
+pub reads-split : Reads partialWidth splitAt
 unfolding splitAt
 reads-split = record {
   same = λ b c i j same z. record {
-    section = first 19 b c i j same (omega arith) z;
-    start = field32 19 b c i j same 2 (omega arith) z;
-    end = field32 19 b c i j same 6 (omega arith) z;
-    unit = field16 19 b c i j same 10 (omega arith) z;
-    alignment = field32 19 b c i j same 12 (omega arith) z;
+    section = first partialWidth b c i j same (omega arith) z;
+    start = field32 partialWidth b c i j same 2 (omega arith) z;
+    end = field32 partialWidth b c i j same 6 (omega arith) z;
+    unit = field16 partialWidth b c i j same 10 (omega arith) z;
+    alignment = field32 partialWidth b c i j same 12 (omega arith) z;
     flags = same 16 (omega arith) z;
-    rename = field16 19 b c i j same 17 (omega arith) z;
+    rename = field16 partialWidth b c i j same 17 (omega arith) z;
   };
 }
 
@@ -253,17 +253,17 @@ module _ {file : List ℕ} {t : Loaded} (u : Usable file t) where
   relocs-back = records-back 23 relocAt reads-reloc file (t .relocations) (omega arith) (u .good .relocations .held)
 
   -- partial splits
-  pub partials-long : length (tablesOf file t .partials) ≡ 19 * length (t .splits)
-  partials-long = length-recordsAt 19 file (t .splits) (u .good .splits .held)
+  pub partials-long : length (tablesOf file t .partials) ≡ partialWidth * length (t .splits)
+  partials-long = length-recordsAt partialWidth file (t .splits) (u .good .splits .held)
 
-  pub partials-count : length (tablesOf file t .partials) / 19 ≡ length (t .splits)
-  partials-count = table-count 19 splitAt reads-split file (t .splits) (omega arith) (u .good .splits .held)
+  pub partials-count : length (tablesOf file t .partials) / partialWidth ≡ length (t .splits)
+  partials-count = table-count partialWidth splitAt reads-split file (t .splits) (omega arith) (u .good .splits .held)
 
-  pub partials-whole : length (tablesOf file t .partials) % 19 ≡ 0
-  partials-whole = table-whole 19 splitAt reads-split file (t .splits) (omega arith) (u .good .splits .held)
+  pub partials-whole : length (tablesOf file t .partials) % partialWidth ≡ 0
+  partials-whole = table-whole partialWidth splitAt reads-split file (t .splits) (omega arith) (u .good .splits .held)
 
   pub partials-back : stageSplits (tablesOf file t .partials) ≡ splitsIn file (t .splits)
-  partials-back = records-back 19 splitAt reads-split file (t .splits) (omega arith) (u .good .splits .held)
+  partials-back = records-back partialWidth splitAt reads-split file (t .splits) (omega arith) (u .good .splits .held)
 
   -- units
   pub units-long : length (tablesOf file t .units) ≡ 8 * length (t .units)

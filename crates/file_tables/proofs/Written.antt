@@ -17,7 +17,7 @@ use Rattle.lists.proofs.Compare.{lt-or-ge}
 use Rattle.lists.proofs.Parts.{tabulate-map, tabulate-list}
 use Rattle.align.specs.Align.{badAlign}
 use Rattle.align.proofs.Laws.{good-parts, not-bad}
-use Rattle.obj.specs.Records.{unitAt, stagePlaces}
+use Rattle.obj.specs.Records.{unitAt, stagePlaces, splitWidth}
 use Rattle.obj.specs.declared.Section.{Section}
 use Rattle.obj.specs.declared.Split.{Split}
 use Rattle.obj.specs.declared.Unit as units
@@ -44,8 +44,8 @@ stored-over b =
 -- THEOREM: the rows that were written are read back
 pub rows-read : (rows : List Split) → ((k : ℕ) → k < length rows → Fits (getD rows k noSplit)) → stageSplits (tableBytes rows) ≡ rows
 rows-read rows fits =
-    ap (λ (n : ℕ). splitsIn (tableBytes rows) (stagePlaces 19 n)) (let e : length (tableBytes rows) / 19 ≡ length rows = omega (arith, length-tableBytes rows) in e)
-    ∙ ap (λ (b : List ℕ). splitsIn b (stagePlaces 19 (length rows))) (sym (stored-over (tableBytes rows)))
+    ap (λ (n : ℕ). splitsIn (tableBytes rows) (stagePlaces splitWidth n)) (let e : length (tableBytes rows) / splitWidth ≡ length rows = omega (arith, length-tableBytes rows) in e)
+    ∙ ap (λ (b : List ℕ). splitsIn b (stagePlaces splitWidth (length rows))) (sym (stored-over (tableBytes rows)))
     ∙ splits-back (tableBytes rows) rows (omega (arith, length-tableBytes rows)) noSplit fits
 
 low-align : (a : ℕ) → badAlign a ≡ false → a < 4294967296
@@ -93,8 +93,8 @@ module _ (lengths : List ℕ) (sections : List Section) (rows : List Split) (few
   -- THEOREM: .. and pass, under any ceiling that they are within
   pub split-table-passes : (ceiling : ℕ) → length rows ≤ ceiling → splitsCheck ceiling lengths sections (tableBytes rows) ≡ accepted tt
   split-table-passes ceiling few =
-      ap (λ (l : List Split). tableCheck 19 ceiling (tableBytes rows) (splitFault lengths sections l)) split-table-back
-      ∙ table-passes 19 ceiling (tableBytes rows) (splitFault lengths sections rows) (length rows) (omega (arith, length-tableBytes rows))
+      ap (λ (l : List Split). tableCheck splitWidth ceiling (tableBytes rows) (splitFault lengths sections l)) split-table-back
+      ∙ table-passes splitWidth ceiling (tableBytes rows) (splitFault lengths sections rows) (length rows) (omega (arith, length-tableBytes rows))
       (omega (arith, length-tableBytes rows)) few faultless
 
 -- a table without splits
@@ -103,7 +103,7 @@ unfolding stagePlaces tabulate
 no-splits-back = refl
 
 pub no-splits-pass : (ceiling : ℕ) (lengths : List ℕ) (sections : List Section) → splitsCheck ceiling lengths sections [] ≡ accepted tt
-no-splits-pass ceiling lengths sections = table-passes 19 ceiling [] (splitFault lengths sections (stageSplits [])) 0 refl refl (omega arith) (λ k h. absurd (not-suc-le-zero h))
+no-splits-pass ceiling lengths sections = table-passes splitWidth ceiling [] (splitFault lengths sections (stageSplits [])) 0 refl refl (omega arith) (λ k h. absurd (not-suc-le-zero h))
 
 -- ---- units
 

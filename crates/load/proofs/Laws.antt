@@ -13,7 +13,7 @@ use Rattle.lists.specs.Outcome.{accepted, refused}
 use Rattle.lists.proofs.Outcomes.{not-both, same-accepted, then-inv}
 use Rattle.lists.proofs.Rows.{getD-map}
 use Rattle.fields.specs.Fields.{le16, le32}
-use Rattle.obj.specs.Records.{sectionAt, symbolAt, relocAt, splitAt, unitAt}
+use Rattle.obj.specs.Records.{sectionAt, symbolAt, relocAt, splitAt, unitAt, partialWidth}
 use Rattle.lists.proofs.Tests.{none-of}
 use Rattle.names.specs.Names.{nameAt, namesOf, numberOf, nameBad, Named}
 use Rattle.names.specs.Index.{Different}
@@ -301,7 +301,7 @@ module _ {c : Ceilings} {file : List ℕ} {t : Loaded} (g : Good c file t) where
   pub held-relocs : c .relocations ≤ 4294967295 → AllHeld 23 file (t .relocations)
   held-relocs h = record { few = omega (arith, g .within .relocations); each = g .relocations .held }
 
-  pub held-splits : c .splits ≤ 4294967295 → AllHeld 19 file (t .splits)
+  pub held-splits : c .splits ≤ 4294967295 → AllHeld partialWidth file (t .splits)
   held-splits h = record { few = omega (arith, g .within .splits); each = g .splits .held }
 
   pub held-units : c .units ≤ 4294967295 → AllHeld 8 file (t .units)

@@ -18,7 +18,7 @@ use Rattle.lists.proofs.Outcomes.{bind-inv}
 use Rattle.fields.specs.Fields.{le16, enc16}
 use Rattle.fields.proofs.Laws.{round16}
 use Rattle.obj.specs.Answers.{refusalWord}
-use Rattle.obj.specs.Records.{sectionAt, unitAt, stagePlaces}
+use Rattle.obj.specs.Records.{sectionAt, unitAt, stagePlaces, splitWidth}
 use Rattle.obj.specs.declared.Split.{Split}
 use Rattle.obj.specs.declared.Unit as units
 use Rattle.outputs.specs.Outputs.{halves, countsOf}
@@ -163,7 +163,7 @@ module _ (c : Call) where
     -- THEOREM: the rows that the split output holds are those of the run's split table
     pub splits-read : splitsOf c ≡ f .full .rows
     splits-read =
-        ap (λ (b : List ℕ). splitsIn b (stagePlaces 19 (splitCount c))) (c .leaves .left .splits-are ∙ sym front)
+        ap (λ (b : List ℕ). splitsIn b (stagePlaces splitWidth (splitCount c))) (c .leaves .left .splits-are ∙ sym front)
         ∙ splits-back out rows (omega (arith, length-tableBytes rows, length-append (tableBytes rows) rest)) noSplit
         (λ k h. subst (λ (l : List Split). split-bytes.Fits (getD l k noSplit)) (sym (f .splits)) (rows-fit (came-done e .loaded) (f .full) (f .tabled) k (subst (λ (l : List Split). k < length l) (f .splits) h)))
         ∙ f .splits

@@ -6,7 +6,7 @@ use native.Mathlib.Nat.{sub-zero}
 use native.Mathlib.Omega.{arith}
 use lib.ListN.{length, replicate, length-replicate, getD-replicate}
 use Rattle.lists.specs.Rows.{tabulate}
-use Rattle.pieces.specs.Pieces.{piecesIn, symbolsIn, relocsIn}
+use Rattle.pieces.specs.Pieces.{piecesIn, symbolsIn, relocsIn, pieceWidth}
 use Rattle.pieces.specs.Questions.{countOf}
 use Rattle.piece_columns.specs.Columns.{Counted, Chained, lastOf}
 use Rattle.walk.specs.declared.Counts.{Counts}
@@ -21,7 +21,7 @@ use Rattle.split_obj.specs.declared.Walked.the-variants.{Accepted, Refused}
 use Rattle.split_obj.specs.Loop.{seen, Left, Tabled}
 use Rattle.stage_walk.specs.Room.{roomIn}
 use Rattle.stage_walk.specs.Lines.{walkOf, none, Within, Gives}
-use Rattle.stage_walk.proofs.Room.{room-low, room-28, room-12, room-8}
+use Rattle.stage_walk.proofs.Room.{room-low, room-pieces, room-12, room-8}
 
 -- ---- nothing is made yet
 none-counted : (m : ℕ) (pieces : List ℕ) → Counted (replicate m 0) pieces 0
@@ -46,9 +46,9 @@ tabled-none symbols relocs units a b counts lasts prevs part pieces entries offs
           counted = subst (λ (l : List ℕ). Counted l pieces 0) (sym no-counts) (none-counted a pieces);
           few-pieces = omega arith;
           few-relocs = omega arith;
-          pieces-long = room-28 1024 (length pieces);
+          pieces-long = room-pieces 1024 (length pieces);
           offsets-long = room-8 4096 (length offsets);
-          most-pieces = room-low 1024 (length pieces) 28;
+          most-pieces = room-low 1024 (length pieces) pieceWidth;
           most-relocs = room-low 4096 (length offsets) 8;
         };
         entered = record {
