@@ -24,7 +24,7 @@ use Rattle.names.specs.Names.{nameAt}
 use Rattle.names.proofs.Laws.{length-names, name-there}
 use Rattle.faults.specs.Faults.{sectionBad, symbolBad, relocBad, splitBad, unitBad}
 use Rattle.tables.specs.Tables.{sizeCheck}
-use Rattle.tables.specs.Records.{sectionsIn, symbolsIn, relocsIn, splitsIn, unitsIn, noSection, noSymbol, noReloc, noSplit, noUnit, bytesCut, floorFrom, sectionFault, imageFault, symbolFault, relocFaultAbove, relocFault, partialFault, unitFault}
+use Rattle.tables.specs.Records.{sectionsIn, symbolsIn, relocsIn, partialsIn, unitsIn, noSection, noSymbol, noReloc, noSplit, noUnit, bytesCut, floorFrom, sectionFault, imageFault, symbolFault, relocFaultAbove, relocFault, partialFault, unitFault}
 use Rattle.tables.proofs.Loops.{size-good}
 use Rattle.tables.proofs.Laws.{records-pass}
 use Rattle.tables.proofs.Floors.{floor-more}
@@ -246,15 +246,15 @@ module _ {file : List ℕ} {t : Loaded} (u : Usable file t) (names more : List (
     end = g .end;
   }
 
-  partial-none : (k : ℕ) → k < length (t .splits) → partialFault (map length names) (splitsIn file (t .splits)) k ≡ 0
+  partial-none : (k : ℕ) → k < length (t .splits) → partialFault (map length names) (partialsIn file (t .splits)) k ≡ 0
   unfolding partialFault
-  partial-none k h = rw (split-faultless (map length names) (getD (splitsIn file (t .splits)) k noSplit) (split-still _ (good-splits (u .good) k h)))
+  partial-none k h = rw (split-faultless (map length names) (getD (partialsIn file (t .splits)) k noSplit) (split-still _ (good-splits (u .good) k h)))
 
   -- THEOREM: the partial splits pass
   pub partials-pass : partialsCheck 1024 (map length names) (tablesOf file t .partials) ≡ accepted tt
   partials-pass =
       ap (λ (l : List Split). tableCheck partialWidth 1024 (tablesOf file t .partials) (partialFault (map length names) l)) (partials-back u)
-      ∙ table-passes partialWidth 1024 (tablesOf file t .partials) (partialFault (map length names) (splitsIn file (t .splits))) (length (t .splits))
+      ∙ table-passes partialWidth 1024 (tablesOf file t .partials) (partialFault (map length names) (partialsIn file (t .splits))) (length (t .splits))
       (partials-whole u) (partials-count u) (few-splits u) partial-none
 
   -- ---- units

@@ -13,6 +13,8 @@ use lib.ListN.{length, getD, drop, List·getD-eq-default}
 use lib.Seq.{sets, sets-eq, drop-length}
 use Rattle.lists.specs.Outcome.{accepted}
 use Rattle.lists.specs.Rows.{tabulate}
+use Rattle.lists.specs.Sort.{All}
+use Rattle.lists.proofs.All.{all-at}
 use Rattle.lists.proofs.Compare.{lt-or-ge}
 use Rattle.lists.proofs.Parts.{tabulate-map, tabulate-list}
 use Rattle.align.specs.Align.{badAlign}
@@ -64,7 +66,7 @@ known lengths k h = go (lt-or-ge k (length lengths))
     go (inr q) = absurd (omega (arith, List·getD-eq-default lengths 0 q))
 
 module _ (lengths : List ℕ) (sections : List Section) (rows : List Split) (few-names : length lengths ≤ 65536) (few-sections : length sections ≤ 65536)
-    (faultless : (k : ℕ) → k < length rows → splitFault lengths sections rows k ≡ 0) where
+    (faultless : (k : ℕ) → k < length rows → splitFault lengths sections rows k ≡ 0) (origins : All (λ s. s .origin < 65536) rows) where
   -- the fields of a split without a fault have their widths
   pub rows-fit : (k : ℕ) → k < length rows → Fits (getD rows k noSplit)
   rows-fit k h =
@@ -78,6 +80,7 @@ module _ (lengths : List ℕ) (sections : List Section) (rows : List Split) (few
         alignment = low-align _ (partials-aligned lengths rows (length rows) p k h);
         flags = omega (arith, partials-flags lengths rows (length rows) p k h);
         rename = rename (eqb (getD rows k noSplit .rename) 65535) refl;
+        origin = all-at k noSplit origins h;
       }
     where
       rename : (t : Bool) → eqb (getD rows k noSplit .rename) 65535 ≡ t → getD rows k noSplit .rename < 65536

@@ -40,7 +40,7 @@ mapped f (x ∷ l) zero h = refl
 mapped f (x ∷ l) (suc k) h = mapped f l k (omega arith)
 
 -- what is left falls with each line
-pub rest-shorter : (t : Run) (c : Cursor) {before after : List ℕ} {r : Line} → Next t c before after r → 192 ≤ length before → goesOn c ≡ true
+pub rest-shorter : (t : Run) (c : Cursor) {before after : List ℕ} {r : Line} → Next t c before after r → 208 ≤ length before → goesOn c ≡ true
     → length (rest t (r .next)) < length (rest t c)
 rest-shorter t c {before} {after} {r} n h g =
     let e = ap length (n .is) in

@@ -13,7 +13,7 @@ use Rattle.lists.specs.Rows.{tabulate}
 use Rattle.lists.proofs.Rows.{length-tabulate}
 use Rattle.fields.specs.Fields.{le16, le32, le64, enc16, enc32, enc64, little}
 use Rattle.fields.proofs.Laws.{le16-is, le32-is, le64-is, numberAt-same, round16, round32, round64}
-use Rattle.pieces.specs.Pieces.{pieceAt, symbolAt, relocAt, pieceBytes, symbolBytes, relocBytes, piecesIn, symbolsIn, relocsIn, packed, FitsPiece, FitsSymbol, FitsReloc, pieceWidth}
+use Rattle.pieces.specs.Pieces.{pieceAt, symbolAt, relocAt, pieceHead, pieceBytes, symbolBytes, relocBytes, piecesIn, symbolsIn, relocsIn, packed, FitsPiece, FitsSymbol, FitsReloc, pieceWidth}
 use Rattle.pieces.specs.declared.Piece.{Piece}
 use Rattle.pieces.specs.declared.PieceSymbol.{PieceSymbol}
 use Rattle.pieces.specs.declared.PieceReloc.{PieceReloc}
@@ -51,6 +51,7 @@ piece-same b c i j same = λ z. record {
   size = field32 pieceWidth b c i j same 12 (omega arith) z;
   alignment = field32 pieceWidth b c i j same 16 (omega arith) z;
   offset = field64 pieceWidth b c i j same 20 (omega arith) z;
+  origin = field16 pieceWidth b c i j same 28 (omega arith) z;
 }
 
 pub symbol-same : (b c : List ℕ) (i j : ℕ) → ((k : ℕ) → k < 12 → getD b (i + k) 0 ≡ getD c (j + k) 0) → symbolAt b i ≡ symbolAt c j
@@ -73,7 +74,7 @@ reloc-same b c i j same = λ z. record {
 
 -- ---- a record's bytes give it back
 pub piece-back : (p : Piece) → FitsPiece p → pieceAt (pieceBytes p) 0 ≡ p
-unfolding pieceAt pieceBytes
+unfolding pieceAt pieceBytes pieceHead
 piece-back p f = λ z. record {
   unit = round16 (p .unit) (f .unit) z;
   number = round16 (p .number) (f .number) z;
@@ -83,6 +84,7 @@ piece-back p f = λ z. record {
   size = round32 (p .size) (f .size) z;
   alignment = round32 (p .alignment) (f .alignment) z;
   offset = round64 (p .offset) (f .offset) z;
+  origin = round16 (p .origin) (f .origin) z;
 }
 
 pub symbol-back : (y : PieceSymbol) → FitsSymbol y → symbolAt (symbolBytes y) 0 ≡ y
@@ -105,7 +107,7 @@ reloc-back r f = λ z. record {
 
 -- ---- a record's length
 pub length-pieceBytes : (p : Piece) → length (pieceBytes p) ≡ pieceWidth
-unfolding pieceBytes
+unfolding pieceBytes pieceHead
 length-pieceBytes p = refl
 
 pub length-symbolBytes : (y : PieceSymbol) → length (symbolBytes y) ≡ 12
@@ -145,16 +147,18 @@ module _ (b : List ℕ) (k : ℕ) where
 -- ---- the bytes of a table
 module _ (b : List ℕ) (small : (i : ℕ) → getD b i 0 < 256) where
   piece-bytes : (at : ℕ) → at + pieceWidth ≤ length b → pieceBytes (pieceAt b at) ≡ take pieceWidth (drop at b)
-  unfolding pieceAt pieceBytes
+  unfolding pieceAt pieceBytes pieceHead
   piece-bytes at h =
       let names = parts-join b at 6 2
       (parts-join b at 4 2 (parts-join b at 2 2 (bytes16 b small at (omega arith)) (bytes16 b small (at + 2) (omega arith))) (bytes16 b small (at + 4) (omega arith)))
       (bytes16 b small (at + 6) (omega arith)) in
-      parts-join b at 20 8
+      parts-join b at 28 2
+      (parts-join b at 20 8
       (parts-join b at 16 4
       (parts-join b at 12 4 (parts-join b at 8 4 names (bytes32 b small (at + 8) (omega arith))) (bytes32 b small (at + 12) (omega arith)))
       (bytes32 b small (at + 16) (omega arith)))
-      (bytes64 b small (at + 20) (omega arith))
+      (bytes64 b small (at + 20) (omega arith)))
+      (bytes16 b small (at + 28) (omega arith))
 
   symbol-bytes : (at : ℕ) → at + 12 ≤ length b → symbolBytes (symbolAt b at) ≡ take 12 (drop at b)
   unfolding symbolAt symbolBytes

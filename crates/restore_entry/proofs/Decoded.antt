@@ -12,7 +12,7 @@ use Rattle.fields.specs.Fields.{le16, le32}
 use Rattle.fields.proofs.Laws.{round16, round32}
 use Rattle.sections.specs.Sections.{Sections}
 use Rattle.pieces.specs.declared.Piece.{Piece}
-use Rattle.pieces.specs.Pieces.{pieceAt, pieceBytes, piecesIn, packed, pieceWidth}
+use Rattle.pieces.specs.Pieces.{pieceAt, pieceHead, pieceBytes, piecesIn, packed, pieceWidth}
 use Rattle.walk.specs.Walk.{Input, startIn}
 use Rattle.restore.specs.Restoring.{Part, partOf, parts, returned, laid, Inside, Restored}
 use Rattle.restore_entry.specs.Tables.{Spot, spot}
@@ -51,10 +51,10 @@ pub record Small (p : Piece) : Type 0 where
   pub alignment : p .alignment < 4294967296
 
 abbrev no-piece : Piece
-no-piece = record { unit = 0; number = 0; section = 0; name = 0; address = 0; size = 0; alignment = 0; offset = 0 }
+no-piece = record { unit = 0; number = 0; section = 0; name = 0; address = 0; size = 0; alignment = 0; offset = 0; origin = 0 }
 
 first : (p : Piece) (rest : List ℕ) → Small p → spot (pieceAt (pieceBytes p ++ rest) 0) ≡ spot p
-unfolding pieceAt pieceBytes
+unfolding pieceAt pieceBytes pieceHead
 first p rest f = λ z. record {
   section = round16 (p .section) (f .section) z;
   address = round32 (p .address) (f .address) z;
@@ -63,7 +63,7 @@ first p rest f = λ z. record {
 }
 
 length-record : (p : Piece) → length (pieceBytes p) ≡ pieceWidth
-unfolding pieceBytes
+unfolding pieceBytes pieceHead
 length-record p = refl
 
 read : (ps : List Piece) (rest : List ℕ) → All Small ps → (k : ℕ) → k < length ps
@@ -111,7 +111,7 @@ spots-all Q (p ∷ ps) (each h a) = each h (spots-all Q ps a)
 
 -- a piece of which this is so
 abbrev pub piece-there : Spot → Piece
-piece-there s = record { unit = 0; number = 0; section = s .section; name = 0; address = s .address; size = s .size; alignment = s .alignment; offset = 0 }
+piece-there s = record { unit = 0; number = 0; section = s .section; name = 0; address = s .address; size = s .size; alignment = s .alignment; offset = 0; origin = 0 }
 
 -- what rests on this alone holds of pieces that are alike in it
 pub all-same : (P : Piece → Type 0) → ((p : Piece) → P p → P (piece-there (spot p))) → ((p : Piece) → P (piece-there (spot p)) → P p)

@@ -49,6 +49,7 @@ use Rattle.run_listing.proofs.Ended.{Finished, finished}
 use Rattle.entry_resolve_link_order.proofs.Theorems.{node-split, own-fits}
 use Rattle.entry_split_file.specs.Entry.{splitFileOf, leftBy}
 use Rattle.run_theorems.specs.Run.{Call, loadedBy, tables, sectionHeads, unitRecords, roomsFor, rooms, result, splitCount, splitsOf, givenBy, Bytes}
+use Rattle.split_origins.proofs.Originated.{origin-fits}
 use Rattle.run_entries.proofs.Good.{Good}
 use Rattle.run_entries.proofs.Rows as rows-laws
 use Rattle.run_entries.proofs.Rows.{Staged, staged}
@@ -124,7 +125,7 @@ module _ (c : Call) where
       pub rows-fit : (k : ℕ) → k < length (full .rows) → split-bytes.Fits (getD (full .rows) k noSplit)
       rows-fit =
           written.rows-fit (map length (full .names)) (sectionHeads c) (full .rows) (omega (arith, length-map (full .names) (length {A = ℕ}), many-names))
-          (omega (arith, length-map (tables c .sections) (sectionAt (c .file)), few-sections usable)) (good-table .faultless)
+          (omega (arith, length-map (tables c .sections) (sectionAt (c .file)), few-sections usable)) (good-table .faultless) (all-map origin-fits (good-table .origins))
 
       -- a unit record of the file has its widths
       file-fits : (k : ℕ) → k < length (unitRecords c) → Fits (getD (unitRecords c) k noUnit)

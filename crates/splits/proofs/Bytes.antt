@@ -1,4 +1,4 @@
--- A split table as packed records: a record's reader looks at 19 bytes, so it reads what was written, wherever the records stand; and a turn of the loop that
+-- A split table as packed records: a record's reader looks at its bytes, so it reads what was written, wherever the records stand; and a turn of the loop that
 -- writes them. Assumes nothing.
 use mathlib.Core.Path.{_≡_, refl, sym, ap, _∙_}
 use mathlib.Core.List.{List, [], _∷_, _++_, map, map-id}
@@ -13,14 +13,14 @@ use Rattle.lists.proofs.Parts.{tabulate-map, tabulate-list}
 use Rattle.lists.proofs.Stores.{sets-sets, getD-sets-at}
 use Rattle.fields.specs.Fields.{le16, le32, little}
 use Rattle.fields.proofs.Laws.{le16-is, le32-is, numberAt-same, round16, round32}
-use Rattle.obj.specs.Records.{splitAt, stagePlaces, splitWidth}
+use Rattle.obj.specs.Records.{partialAt, splitAt, stagePlaces, partialWidth, splitWidth}
 use Rattle.obj.specs.declared.Split.{Split}
 use Rattle.splits.specs.Columns.{rowOf}
-use Rattle.splits.specs.Bytes.{splitBytes, tableBytes, Fits}
+use Rattle.splits.specs.Bytes.{partialBytes, splitBytes, tableBytes, Fits}
 use Rattle.splits.proofs.Alignment.{alignment-small}
 
 pub length-splitBytes : (s : Split) → length (splitBytes s) ≡ splitWidth
-unfolding splitBytes
+unfolding splitBytes partialBytes
 length-splitBytes s = refl
 
 pub length-tableBytes : (l : List Split) → length (tableBytes l) ≡ splitWidth * length l
@@ -28,7 +28,7 @@ unfolding tableBytes
 length-tableBytes [] = refl
 length-tableBytes (s ∷ l) = length-append (splitBytes s) (tableBytes l) ∙ omega (arith, length-splitBytes s, length-tableBytes l)
 
--- ---- the same 19 bytes are the same split
+-- ---- the same bytes are the same split
 module _ (b c : List ℕ) (i j : ℕ) (same : (k : ℕ) → k < splitWidth → getD b (i + k) 0 ≡ getD c (j + k) 0) where
   field : (at width k : ℕ) → at + width ≤ splitWidth → k < width → getD b (i + at + k) 0 ≡ getD c (j + at + k) 0
   field at width k h q =
@@ -46,7 +46,7 @@ module _ (b c : List ℕ) (i j : ℕ) (same : (k : ℕ) → k < splitWidth → g
   first = le16-is b i ∙ numberAt-same little 2 b c i j (λ k q. same k (omega arith)) ∙ sym (le16-is c j)
 
   splitAt-same : splitAt b i ≡ splitAt c j
-  unfolding splitAt
+  unfolding splitAt partialAt
   splitAt-same = λ z. record {
     section = first z;
     start = field32 2 (omega arith) z;
@@ -55,13 +55,14 @@ module _ (b c : List ℕ) (i j : ℕ) (same : (k : ℕ) → k < splitWidth → g
     alignment = field32 12 (omega arith) z;
     flags = same 16 (omega arith) z;
     rename = field16 17 (omega arith) z;
+    origin = field16 partialWidth (omega arith) z;
   }
 
 -- ---- what was written is read back
 
 -- a split's bytes give it back
 split-back : (s : Split) → Fits s → splitAt (splitBytes s) 0 ≡ s
-unfolding splitAt splitBytes
+unfolding splitAt partialAt splitBytes partialBytes
 split-back s f = λ z. record {
   section = round16 (s .section) (f .section) z;
   start = round32 (s .start) (f .start) z;
@@ -70,6 +71,7 @@ split-back s f = λ z. record {
   alignment = round32 (s .alignment) (f .alignment) z;
   flags = s .flags;
   rename = round16 (s .rename) (f .rename) z;
+  origin = round16 (s .origin) (f .origin) z;
 }
 
 -- the first of several records, and those after it
@@ -123,6 +125,7 @@ row-fits start end unit rest a b c = record {
   alignment = omega (arith, alignment-small (rest / 1099511627776 % 256));
   flags = omega arith;
   rename = omega arith;
+  origin = omega arith;
 }
 
 -- ---- a turn of the loop that writes the rows: one is written, and the rest follows it

@@ -24,15 +24,15 @@ use Rattle.obj.specs.declared.Split.{Split}
 use Rattle.obj.specs.Records.{splitAt, stagePlaces, splitWidth, partialWidth}
 use Rattle.obj.proofs.Laws.{length-stagePlaces}
 use Rattle.tables.specs.Tables.{recordsCheck, AllHeld}
-use Rattle.tables.specs.Records.{splitsIn, noSplit, partialFault}
-use Rattle.tables.proofs.Lookups.{held}
+use Rattle.tables.specs.Records.{partialsIn, splitsIn, noSplit, partialFault}
+use Rattle.tables.proofs.Lookups.{held, partial-is}
 use Rattle.tables.proofs.Laws.{partials-aligned, splits-partials}
 use Rattle.stage_tables.specs.StageTables.{partialsCheck, splitsCheck, Filled}
 use Rattle.stage_tables.proofs.Laws.{table-passed, taken-places, taken-held}
 use Rattle.outputs.specs.Outputs.{halves, countsOf, storeCount, storeCounts}
 use Rattle.outputs.proofs.Laws.{counts-stored}
 use Rattle.splits.specs.Columns.{Columns, rows}
-use Rattle.splits.specs.Bytes.{tableBytes, Loadable}
+use Rattle.splits.specs.Bytes.{tableBytes, Loadable, Partials}
 use Rattle.stage_splits.specs.StageSplits.{roomOf, Leaves, Taken, Laid, said, Gives}
 
 -- ---- the room
@@ -54,6 +54,16 @@ room-fits size = go (ltb (size / splitWidth) 1024) refl
 
 -- ---- a table that was taken
 
+-- partial splits without a fault, of which there are not too many, can be merged
+partials-of : (lengths b places : List ℕ) → AllHeld partialWidth b places → length places ≤ 65535
+    → recordsCheck (partialFault lengths (partialsIn b places)) (length places) ≡ accepted tt → Partials b places
+partials-of lengths b places all few e = record {
+  few = few;
+  held = held all;
+  aligned = λ k h.
+      ap (λ (s : Split). badAlign (s .alignment)) (sym (partial-is b places k h)) ∙ partials-aligned lengths (partialsIn b places) (length places) e k h;
+}
+
 -- splits without a fault can be kept in columns
 loadable-of : (lengths b places : List ℕ) → AllHeld splitWidth b places → recordsCheck (partialFault lengths (splitsIn b places)) (length places) ≡ accepted tt
     → Loadable b places
@@ -66,15 +76,17 @@ loadable-of lengths b places all e = record {
 
 module _ (ceiling : ℕ) (lengths b places : List ℕ) (few : ceiling ≤ 4096) {answer : Outcome (Unit {0})} (e : answer ≡ accepted tt) where
   -- a partial list
-  pub partials-loadable : Filled answer (partialsCheck ceiling lengths b) partialWidth (length b) places → Loadable b (take (length b / partialWidth) places)
-  partials-loadable f =
+  pub partials-mergeable : Filled answer (partialsCheck ceiling lengths b) partialWidth (length b) places → Partials b (take (length b / partialWidth) places)
+  partials-mergeable f =
       let n = length b / partialWidth in
       let passed = table-passed partialWidth ceiling b _ (sym (f .said) ∙ e) .2 in
       let there = taken-held partialWidth ceiling b places _ f e few in
       let at = taken-places partialWidth ceiling b places _ f e in
-      loadable-of lengths b (take n places) there
-      (ap (λ (l : List ℕ). recordsCheck (partialFault lengths (splitsIn b l)) (length l)) at
-      ∙ ap (recordsCheck (partialFault lengths (splitsIn b (stagePlaces partialWidth n)))) (length-stagePlaces partialWidth n)
+      let low = table-passed partialWidth ceiling b _ (sym (f .said) ∙ e) .1 in
+      let count = ap length at ∙ length-stagePlaces partialWidth n in
+      partials-of lengths b (take n places) there (omega (arith, low, count))
+      (ap (λ (l : List ℕ). recordsCheck (partialFault lengths (partialsIn b l)) (length l)) at
+      ∙ ap (recordsCheck (partialFault lengths (partialsIn b (stagePlaces partialWidth n)))) (length-stagePlaces partialWidth n)
       ∙ passed)
 
   -- a split table

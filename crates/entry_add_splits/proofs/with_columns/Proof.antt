@@ -10,7 +10,7 @@ use Rattle.tables.specs.Records.{sectionsIn}
 use Rattle.stage_tables.specs.StageTables.{stageSplits}
 use Rattle.stage_tables.proofs.Laws.{table-passed, taken-few, taken-places, taken-count}
 use Rattle.splits.specs.Columns.{columns}
-use Rattle.stage_splits.proofs.Laws.{partials-loadable}
+use Rattle.stage_splits.proofs.Laws.{partials-mergeable}
 use Rattle.entry_add_splits.specs.Entry.{fromSplits}
 use Rattle.obj.specs.Records.{splitWidth, partialWidth}
 use Rattle.entry_add_splits.proofs.Laws.{rows-long, column-room, merged-as, refused-as}
@@ -113,7 +113,7 @@ add-splits-requires c κs =
       },
       table-passed splitWidth _ (s .args .splits .now) _ (sym (t .ensures .said) ∙ ap meaning (c .before .before .before .before .before .before .before .before .before .before .before .enum-told2 .given .1)) .1,
       s .pre .0,
-      partials-loadable _ _ (s .args .partials .now) _ (omega arith) (ap meaning (c .before .before .before .before .before .enum-told4 .given .1)) (c .before .before .before .before .before .before .before .before .before .take-partials .ensures),
+      partials-mergeable _ _ (s .args .partials .now) _ (omega arith) (ap meaning (c .before .before .before .before .before .enum-told4 .given .1)) (c .before .before .before .before .before .before .before .before .before .take-partials .ensures),
     )
 
 same-length-11 : tie.Need-same-length-11
@@ -141,7 +141,7 @@ returns-3 c =
     let told = ap meaning (c .before .before .before .before .before .before .before .before .before .before .before .before .before .before .before .before .before .before .before .before .enum-told2 .given .1) in
     let told-too = ap meaning (c .before .before .before .before .before .before .before .before .before .before .before .before .before .before .enum-told4 .given .1) in (
       o .ensures .0
-          ∙ merged-as (sectionsIn (a .heads .now) (a .head-places .now)) (a .room) (columns (t .last .1 .1 .1 .1 .1 .1 .0) (t .last .1 .1 .1 .1 .1 .1 .1 .0) (t .last .1 .1 .1 .1 .1 .1 .1 .1 .0) (t .last .1 .1 .1 .1 .1 .1 .1 .1 .1 .0)) (length (a .splits .now) / partialWidth) (stageSplits (a .splits .now)) (a .partials .now)
+          ∙ merged-as (sectionsIn (a .heads .now) (a .head-places .now)) (a .room) (columns (t .last .1 .1 .1 .1 .1 .1 .0) (t .last .1 .1 .1 .1 .1 .1 .1 .0) (t .last .1 .1 .1 .1 .1 .1 .1 .1 .0) (t .last .1 .1 .1 .1 .1 .1 .1 .1 .1 .0)) (length (a .splits .now) / splitWidth) (stageSplits (a .splits .now)) (a .partials .now)
           (t .ensures .taken (sym (t .ensures .said) ∙ told)) (taken-places partialWidth _ (a .partials .now) _ _ (u .ensures) told-too)
           ∙ then-goes (u .ensures .said) _ told-too
           ∙ then-goes (t .ensures .said) _ told,

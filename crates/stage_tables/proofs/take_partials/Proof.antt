@@ -7,7 +7,7 @@ use native.Mathlib.Omega.{arith}
 use lib.ListN.{length}
 use Rattle.obj.specs.Answers.{meaning}
 use Rattle.obj.specs.Records.{stagePlaces, partialWidth}
-use Rattle.tables.specs.Records.{splitsIn, partialFault}
+use Rattle.tables.specs.Records.{partialsIn, partialFault}
 use Rattle.stage_tables.proofs.Laws.{size-refused, size-few, size-places, size-held, records-said}
 use borrow.Author.Needs.{needs}
 use Rattle.stage_tables.proofs.take_partials.Statement.{statement}
@@ -15,7 +15,7 @@ use Rattle.stage_tables.proofs.take_partials.Tie as tie
 
 -- the fault of a record, by the places of the records
 unfoldable fault : tie.Start → List ℕ → ℕ → ℕ
-fault s p = let a = s .args in partialFault (a .lengths .now) (splitsIn (a .b .now) p)
+fault s p = let a = s .args in partialFault (a .lengths .now) (partialsIn (a .b .now) p)
 
 fill-table-requires : tie.Need-fill-table-requires
 fill-table-requires c κs = search needs
