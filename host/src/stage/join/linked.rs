@@ -239,7 +239,8 @@ fn cut<'a>(
         let zeros = own.iter().rev().take_while(|byte| **byte == 0).count() as u32;
         let to = if zeros < next - from { next - zeros / 4 * 4 } else { next };
         let (unit, alignment) = (names.number(starts[i].1), alignment_of(from));
-        Split { section, start: from, end: to, unit, alignment, flags: 0, rename: 0xFFFF }
+        let (start, end, flags, rename, origin) = (from, to, 0, 0xFFFF, 0xFFFF);
+        Split { section, start, end, unit, alignment, flags, rename, origin }
     };
     (0..starts.len()).map(split).collect()
 }

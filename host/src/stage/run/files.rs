@@ -184,7 +184,8 @@ pub fn one_section(name: &[u8], kind: u8, size: u32, r: &mut Random) -> Maker {
 /// A split of unit n.
 pub fn numbered(maker: &mut Maker, n: usize, start: u32, end: u32) -> Split {
     let unit = maker.name(&numbered_name(n));
-    Split { section: 0, start, end, unit, alignment: 4, flags: 0, rename: 0xFFFF }
+    let (rename, origin) = (0xFFFF, 0xFFFF);
+    Split { section: 0, start, end, unit, alignment: 4, flags: 0, rename, origin }
 }
 
 /// Splits of four bytes, so many to a stride.
