@@ -6,7 +6,7 @@ use mathlib.Core.Path.{_≡_}
 use mathlib.Core.List.{List, [], _∷_, _++_}
 use mathlib.Core.Bool.{cond}
 use lib.Dec.{eqb}
-use lib.ListN.{length, getD}
+use lib.ListN.{length, getD, take, drop}
 use Rattle.pieces.specs.declared.Piece.{Piece}
 use Rattle.pieces.specs.declared.PieceSymbol.{PieceSymbol}
 use Rattle.pieces.specs.Pieces.{piecesIn, symbolAt, symbolsIn}
@@ -24,6 +24,13 @@ entryAt out i = symbolAt out (12 * i)
 unfoldable pub lastOf : (ℕ → PieceSymbol) → (symbol k : ℕ) → ℕ
 lastOf entry symbol zero = 0
 lastOf entry symbol (suc k) = cond (eqb (entry k .symbol) symbol) (suc k) (lastOf entry symbol k)
+
+-- two columns in one: the heads of 4,096 symbols, then the rest
+unfoldable pub lastsIn : List ℕ → List ℕ
+lastsIn chains = take 4096 chains
+
+unfoldable pub prevsIn : List ℕ → List ℕ
+prevsIn chains = drop 4096 chains
 
 -- the first k piece symbols are chained
 pub record Chained (heads prevs out : List ℕ) (k : ℕ) : Type 0 where

@@ -11,7 +11,7 @@ ghost use Rattle.loaded.specs.Tables.{tablesWith, imageFrom, sectionsFrom};
 ghost use Rattle.splits.specs.Columns.{columns, rows as rowsOf};
 ghost use Rattle.gap_splits.specs.Answers as entering;
 ghost use Rattle.stage_walk.specs.Room.{roomIn};
-ghost use Rattle.stage_walk.specs.Lines.{Gives, UnitScratch, Beside as BesideOutputs};
+ghost use Rattle.stage_walk.specs.Lines.{Gives, UnitScratch};
 ghost use Rattle.run.specs.Run.{walked, orderedAndWalked};
 ghost use Rattle.run.specs.Answers.{unitsAt, ranIn, walkedAfter, Prepared, Tabled, Units, Keeps, ranBy, unlinkedBy};
 use gap_splits::Entered;
@@ -61,10 +61,6 @@ fn walk_units(
     k: usize,
     places: &mut [u32],
     unit_numbers: &mut [u16],
-    counts: &mut [u16],
-    lasts: &mut [u16],
-    prevs: &mut [u16],
-    part: &mut [u16],
     pieces: &mut [u8],
     entries: &mut [u8],
     offsets: &mut [u8],
@@ -75,7 +71,6 @@ fn walk_units(
         × Units (now «unit_table») k
         × All (λ (u : unit_records.Unit). u .name < 4096) (unitsAt (now «unit_table») k)
         × UnitScratch (now places) (now «unit_numbers»)
-        × BesideOutputs (now counts) (now lasts) (now prevs) (now part)
         ⌝ }
     ensures { λ r. ⌜
         Gives
@@ -108,17 +103,13 @@ fn walk_units(
         unit_table,
         &places[..k],
         unit_numbers,
-        counts,
-        lasts,
-        prevs,
-        part,
         pieces,
         entries,
         offsets,
     )
 }
 
-// The same, with columns of its own for the units and beside the outputs.
+// The same, with columns of its own for the units.
 fn walk_with_columns(
     file: &[u8],
     names: &[u32],
@@ -156,10 +147,6 @@ fn walk_with_columns(
 {
     let mut places = [0u32; 1024];
     let mut unit_numbers = [0u16; 4096];
-    let mut counts = [0u16; 1024];
-    let mut lasts = [0u16; 4096];
-    let mut prevs = [0u16; 4096];
-    let mut part = [0u16; 4096];
     walk_units(
         file,
         names,
@@ -179,10 +166,6 @@ fn walk_with_columns(
         k,
         &mut places,
         &mut unit_numbers,
-        &mut counts,
-        &mut lasts,
-        &mut prevs,
-        &mut part,
         pieces,
         entries,
         offsets,

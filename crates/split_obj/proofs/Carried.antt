@@ -38,20 +38,18 @@ tablesInput symbols symbol-places name-bytes name-places name-lengths heads head
 -- ---- the state
 
 -- lent columns keep their lengths
-pub record Lengths (counts₀ lasts₀ prevs₀ part₀ pieces₀ entries₀ offsets₀ counts lasts prevs part pieces entries offsets : List ℕ) : Type 0 where
-  pub of-counts : length counts ≡ length counts₀
-  pub of-lasts : length lasts ≡ length lasts₀
-  pub of-prevs : length prevs ≡ length prevs₀
+pub record Lengths (scratch₀ part₀ pieces₀ entries₀ offsets₀ scratch part pieces entries offsets : List ℕ) : Type 0 where
+  pub of-scratch : length scratch ≡ length scratch₀
   pub of-part : length part ≡ length part₀
   pub of-pieces : length pieces ≡ length pieces₀
   pub of-entries : length entries ≡ length entries₀
   pub of-offsets : length offsets ≡ length offsets₀
 
 -- what is left from section n on
-pub record AtSection (t : Input) (whole : Outcome Output) (symbols relocs units last n : ℕ) (done : Counts) (counts lasts prevs part pieces entries offsets : List ℕ) : Type 0 where
+pub record AtSection (t : Input) (whole : Outcome Output) (symbols relocs units last n : ℕ) (done : Counts) (scratch part pieces entries offsets : List ℕ) : Type 0 where
   pub up : n ≤ last
   pub same : walkSections t n (last - n) (outputIn pieces entries offsets done) ≡ whole
-  pub tabled : Tabled symbols relocs units (t .room) done counts lasts prevs part pieces entries offsets
+  pub tabled : Tabled symbols relocs units (t .room) done scratch part pieces entries offsets
 
 -- what follows section n
 abbrev pub after : Input → (last n : ℕ) → Output → Outcome Output
@@ -61,18 +59,18 @@ after t last n o = walkSections t (n + 1) (last - (n + 1)) o
 abbrev pub splitsLeft : Input → (last n low end : ℕ) → Columns → (rows current i : ℕ) → Output → Outcome Output
 splitsLeft t last n low end c rows current i out = walkSplits t n end current out (fromHit (within n low end) c rows i) >>= after t last n
 
-pub record AtSplit (t : Input) (whole : Outcome Output) (symbols relocs units last n low end : ℕ) (c : Columns) (rows current i : ℕ) (done : Counts) (counts lasts prevs part pieces entries offsets : List ℕ) : Type 0 where
+pub record AtSplit (t : Input) (whole : Outcome Output) (symbols relocs units last n low end : ℕ) (c : Columns) (rows current i : ℕ) (done : Counts) (scratch part pieces entries offsets : List ℕ) : Type 0 where
   pub small : i ≤ rows
   pub passes : i < rows → within n low end (rowAt c i) ≡ true
   pub same : splitsLeft t last n low end c rows current i (outputIn pieces entries offsets done) ≡ whole
-  pub tabled : Tabled symbols relocs units (t .room) done counts lasts prevs part pieces entries offsets
+  pub tabled : Tabled symbols relocs units (t .room) done scratch part pieces entries offsets
 
 -- ---- an answer
-pub refused-at : (symbols : ℕ) (room : Counts) (counts lasts prevs pieces entries offsets : List ℕ) (r : Walked) (number n current : ℕ) (whole : Outcome Output)
+pub refused-at : (symbols : ℕ) (room : Counts) (scratch pieces entries offsets : List ℕ) (r : Walked) (number n current : ℕ) (whole : Outcome Output)
     → r ≡ Refused number n current → refused number n current ≡ whole
-    → (seen pieces entries offsets r ≡ whole) × Left symbols room counts lasts prevs pieces entries offsets r
-refused-at symbols room counts lasts prevs pieces entries offsets r number n current whole e q =
-    subst (λ (x : Walked). (seen pieces entries offsets x ≡ whole) × Left symbols room counts lasts prevs pieces entries offsets x) (sym e) (q, tt)
+    → (seen pieces entries offsets r ≡ whole) × Left symbols room scratch pieces entries offsets r
+refused-at symbols room scratch pieces entries offsets r number n current whole e q =
+    subst (λ (x : Walked). (seen pieces entries offsets x ≡ whole) × Left symbols room scratch pieces entries offsets x) (sym e) (q, tt)
 
 -- ---- a section
 module _ (t : Input) (n last : ℕ) (out : Output) (whole : Outcome Output) (same : walkSections t n (last - n) out ≡ whole) where

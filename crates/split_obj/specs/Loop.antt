@@ -51,9 +51,9 @@ pub record Ready (symbols symbol-places order name-bytes name-places name-length
   pub within : last ≤ length head-places
 
 -- the output tables with the columns beside them, and a column for the relocations of a section
-pub record Tabled (symbols relocs units : ℕ) (room made : Counts) (counts lasts prevs part pieces entries offsets : List ℕ) : Type 0 where
-  pub beside : Beside symbols room made counts lasts prevs pieces entries offsets
-  pub counts-long : units ≤ length counts
+pub record Tabled (symbols relocs units : ℕ) (room made : Counts) (scratch part pieces entries offsets : List ℕ) : Type 0 where
+  pub beside : Beside symbols room made scratch pieces entries offsets
+  pub counts-long : 8192 + units ≤ length scratch
   pub part-long : relocs ≤ length part
 
 -- what an answer means
@@ -62,6 +62,6 @@ seen pieces entries offsets (Accepted made) = accepted (outputIn pieces entries 
 seen pieces entries offsets (Refused number section address) = refused number section address
 
 -- what is known of the tables after an answer
-abbrev pub Left : (symbols : ℕ) → (room : Counts) → (counts lasts prevs pieces entries offsets : List ℕ) → Walked → Type 0
-Left symbols room counts lasts prevs pieces entries offsets (Accepted made) = Beside symbols room made counts lasts prevs pieces entries offsets
-Left symbols room counts lasts prevs pieces entries offsets (Refused number section address) = Unit {0}
+abbrev pub Left : (symbols : ℕ) → (room : Counts) → (scratch pieces entries offsets : List ℕ) → Walked → Type 0
+Left symbols room scratch pieces entries offsets (Accepted made) = Beside symbols room made scratch pieces entries offsets
+Left symbols room scratch pieces entries offsets (Refused number section address) = Unit {0}

@@ -133,9 +133,7 @@ fn refused(number: u16, n: usize, address: u32) -> Walked
 
 // The walk of the sections first..last, behind what is made already. What is carried from one section to the next is the output and how many there are.
 pub fn walk_sections(
-    counts: &mut [u16],
-    lasts: &mut [u16],
-    prevs: &mut [u16],
+    scratch: &mut [u16],
     part: &mut [u16],
     pieces: &mut [u8],
     entries: &mut [u8],
@@ -167,13 +165,13 @@ pub fn walk_sections(
 ) -> Walked
     requires { ⌜
         Ready (now symbols) (now «symbol_places») (now order) (now «name_bytes») (now «name_places») (now «name_lengths») (now heads) (now «head_places») (now image) (now «image_places») (now relocs) (now «reloc_places») (now «unit_table») (now «unit_places») (now «unit_numbers») (columns (now starts) (now ends) (now units) (now rest)) rows last
-        × Tabled (length (now «symbol_places»)) (length (now «reloc_places»)) (length (now «unit_places»)) room made (now counts) (now lasts) (now prevs) (now part) (now pieces) (now entries) (now offsets)
+        × Tabled (length (now «symbol_places»)) (length (now «reloc_places»)) (length (now «unit_places»)) room made (now scratch) (now part) (now pieces) (now entries) (now offsets)
         × (first ≤ last)
         ⌝ }
     ensures { λ r. ⌜
         (seen (now (pieces .exit)) (now (entries .exit)) (now (offsets .exit)) r
         ≡ walkSections (inputOf (imageOf (now (symbols .entry)) (now («symbol_places» .entry)) (now («name_bytes» .entry)) (now («name_places» .entry)) (now («name_lengths» .entry))) (sectionsOf (now (heads .entry)) (now («head_places» .entry)) (now (image .entry)) (now («image_places» .entry))) (relocOf (now (relocs .entry)) (now («reloc_places» .entry))) (length (now («reloc_places» .entry))) (rowsOf (columns (now (starts .entry)) (now (ends .entry)) (now (units .entry)) (now (rest .entry))) rows) (unitNames (now («unit_table» .entry)) (now («unit_places» .entry))) room) first (last - first) (outputIn (now (pieces .entry)) (now (entries .entry)) (now (offsets .entry)) made))
-        × Left (length (now («symbol_places» .entry))) room (now (counts .exit)) (now (lasts .exit)) (now (prevs .exit)) (now (pieces .exit)) (now (entries .exit)) (now (offsets .exit)) r
+        × Left (length (now («symbol_places» .entry))) room (now (scratch .exit)) (now (pieces .exit)) (now (entries .exit)) (now (offsets .exit)) r
         ⌝ }
 {
     let mut done = made;
@@ -245,9 +243,7 @@ pub fn walk_sections(
                         a = a / 2;
                     };
                     let gave = give(
-                        counts,
-                        lasts,
-                        prevs,
+                        scratch,
                         pieces,
                         entries,
                         offsets,

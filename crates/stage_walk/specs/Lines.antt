@@ -91,10 +91,3 @@ pub record Scratch (places starts ends units rest : List ℕ) : Type 0 where
 pub record UnitScratch (places numbers : List ℕ) : Type 0 where
   pub places-long : length places ≡ 1024
   pub numbers-long : length numbers ≡ 4096
-
--- lent columns beside the outputs: pieces of each unit, last entries of each symbol, entries before, and a section's relocations
-pub record Beside (counts lasts prevs part : List ℕ) : Type 0 where
-  pub counts-long : length counts ≡ 1024
-  pub lasts-long : length lasts ≡ 4096
-  pub prevs-long : length prevs ≡ 4096
-  pub part-long : length part ≡ 4096

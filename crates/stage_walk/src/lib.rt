@@ -2,7 +2,7 @@
 // after its other tables, a run with columns that it has already.
 ghost use mathlib.Core.Path.{_≡_};
 ghost use Prim.Native.Nat.{_≤_, _<_};
-ghost use lib.ListN.{length, replicate};
+ghost use lib.ListN.{length};
 ghost use Rattle.tables.specs.Records.{sectionsIn};
 ghost use Rattle.sections.specs.Image.{imageOf};
 ghost use Rattle.sections.specs.Sections.{sectionsOf};
@@ -12,7 +12,7 @@ ghost use Rattle.units.specs.Units.{unitNames};
 ghost use Rattle.walk.specs.Steps.{Asked};
 ghost use Rattle.split_obj.specs.Loop.{Ready};
 ghost use Rattle.stage_walk.specs.Room.{roomFor, roomIn};
-ghost use Rattle.stage_walk.specs.Lines.{walkOf, fromUnits, fromSplits, stoppedBy, Gives, Headed, Relocated, Rowed, Scratch, UnitScratch, Beside};
+ghost use Rattle.stage_walk.specs.Lines.{walkOf, fromUnits, fromSplits, stoppedBy, Gives, Headed, Relocated, Rowed, Scratch, UnitScratch};
 use obj::Answer;
 use obj::SPLIT_BYTES;
 use pieces::PIECE_BYTES;
@@ -57,17 +57,7 @@ pub fn stopped(a: Answer) -> Walked
     }
 }
 
-pub fn clear(column: &mut [u16])
-    ensures { λ _. ⌜ now (column .exit) ≡ replicate (length (now (column .entry))) 0 ⌝ }
-{
-    let mut i: usize = 0;
-    while i < column.len() {
-        column[i] = 0;
-        i += 1;
-    }
-}
-
-// The walk of all sections, over columns of zeros beside the outputs.
+// The walk of all sections, with columns of its own beside the outputs.
 pub fn walk_columns(
     symbols: &[u8],
     symbol_places: &[u32],
@@ -89,17 +79,12 @@ pub fn walk_columns(
     unit_table: &[u8],
     unit_places: &[u32],
     unit_numbers: &[u16],
-    counts: &mut [u16],
-    lasts: &mut [u16],
-    prevs: &mut [u16],
-    part: &mut [u16],
     pieces: &mut [u8],
     entries: &mut [u8],
     offsets: &mut [u8],
 ) -> Walked
     requires { ⌜
         Ready (now symbols) (now «symbol_places») (now order) (now «name_bytes») (now «name_places») (now «name_lengths») (now heads) (now «head_places») (now image) (now «image_places») (now relocs) (now «reloc_places») (now «unit_table») (now «unit_places») (now «unit_numbers») (columns (now starts) (now ends) (now units) (now rest)) rows (length (now «head_places»))
-        × Beside (now counts) (now lasts) (now prevs) (now part)
         × (length (now «symbol_places») ≤ 4096)
         ⌝ }
     ensures { λ r. ⌜
@@ -108,8 +93,8 @@ pub fn walk_columns(
         (roomIn (length (now (pieces .entry))) (length (now (entries .entry))) (length (now (offsets .entry)))) r (now (pieces .exit)) (now (entries .exit)) (now (offsets .exit))
         ⌝ }
 {
-    clear(counts);
-    clear(lasts);
+    let mut scratch = [0u16; 9216];
+    let mut part = [0u16; 4096];
     let room = Counts {
         pieces: room_for(1024, PIECE_BYTES, pieces.len()),
         symbols: room_for(4096, 12, entries.len()),
@@ -121,10 +106,8 @@ pub fn walk_columns(
         relocs: 0,
     };
     walk_sections(
-        counts,
-        lasts,
-        prevs,
-        part,
+        &mut scratch,
+        &mut part,
         pieces,
         entries,
         offsets,
@@ -177,10 +160,6 @@ fn from_units(
     unit_table: &[u8],
     places: &mut [u32],
     unit_numbers: &mut [u16],
-    counts: &mut [u16],
-    lasts: &mut [u16],
-    prevs: &mut [u16],
-    part: &mut [u16],
     pieces: &mut [u8],
     entries: &mut [u8],
     offsets: &mut [u8],
@@ -193,7 +172,6 @@ fn from_units(
         × (length (now «name_lengths») ≤ 4096)
         × (length (now «symbol_places») ≤ 4096)
         × UnitScratch (now places) (now «unit_numbers»)
-        × Beside (now counts) (now lasts) (now prevs) (now part)
         ⌝ }
     ensures { λ r. ⌜
         Gives
@@ -228,17 +206,13 @@ fn from_units(
         unit_table,
         &places[..n],
         unit_numbers,
-        counts,
-        lasts,
-        prevs,
-        part,
         pieces,
         entries,
         offsets,
     )
 }
 
-// The same, with columns of its own for the units and beside the outputs.
+// The same, with columns of its own for the units.
 fn with_units(
     symbols: &[u8],
     symbol_places: &[u32],
@@ -278,10 +252,6 @@ fn with_units(
 {
     let mut places = [0u32; 1024];
     let mut unit_numbers = [0u16; 4096];
-    let mut counts = [0u16; 1024];
-    let mut lasts = [0u16; 4096];
-    let mut prevs = [0u16; 4096];
-    let mut part = [0u16; 4096];
     from_units(
         symbols,
         symbol_places,
@@ -303,10 +273,6 @@ fn with_units(
         unit_table,
         &mut places,
         &mut unit_numbers,
-        &mut counts,
-        &mut lasts,
-        &mut prevs,
-        &mut part,
         pieces,
         entries,
         offsets,

@@ -34,7 +34,7 @@ use Rattle.walk.specs.declared.Gave.{Gave}
 use Rattle.walk.specs.declared.Gave.the-variants.{Made, Fault}
 use Rattle.walk.specs.Walk.{Input, Output, fits, addSymbols, addRelocs, splitSymbols, splitRelocs, pieceOf, given, over, onAligned}
 use Rattle.walk.specs.Adding.{Entries}
-use Rattle.walk.specs.Giving.{inputOf, outputIn, gaveMeaning, piecesWith, relocsWith, PieceGives, PieceSide, Beside, Besides}
+use Rattle.walk.specs.Giving.{inputOf, outputIn, gaveMeaning, piecesWith, relocsWith, PieceGives, PieceSide, chainsIn, countsIn, Beside, Besides}
 
 -- ---- tests
 
@@ -188,12 +188,16 @@ module _ (image : Image) (head : ℕ → Section) (reloc : ℕ → Reloc) (reloc
               ∙ ap (λ (f : ℕ). refused f n (s .start)) (sym (g .0))
 
 -- the tables after the piece
-pub piece-beside : (symbols : ℕ) (room now : Counts) (lasts prevs entries counts pieces offsets : List ℕ) (wanted : List Piece) (wanted-relocs : List PieceReloc) (r : Gave)
-    → Entries symbols (room .symbols) lasts prevs entries (now .symbols) → PieceGives wanted wanted-relocs room now counts pieces offsets r
-    → Besides symbols room counts lasts prevs pieces entries offsets r
-piece-beside symbols room now lasts prevs entries counts pieces offsets wanted wanted-relocs (Made m) e g =
-    record { side = g .side; entered = subst (Entries symbols (room .symbols) lasts prevs entries) (sym (g .symbols-are)) e }
-piece-beside symbols room now lasts prevs entries counts pieces offsets wanted wanted-relocs (Fault number) e g = tt
+pub piece-beside : (symbols : ℕ) (room now : Counts) (scratch chains entries counts pieces offsets : List ℕ) (wanted : List Piece) (wanted-relocs : List PieceReloc) (r : Gave)
+    → chainsIn scratch ≡ chains → countsIn scratch ≡ counts → 8192 ≤ length scratch
+    → Entries symbols (room .symbols) chains entries (now .symbols) → PieceGives wanted wanted-relocs room now counts pieces offsets r
+    → Besides symbols room scratch pieces entries offsets r
+piece-beside symbols room now scratch chains entries counts pieces offsets wanted wanted-relocs (Made m) e f h q g = record {
+  side = subst (λ (l : List ℕ). PieceSide room m l pieces offsets) (sym f) (g .side);
+  entered = subst (λ (l : List ℕ). Entries symbols (room .symbols) l entries (m .symbols)) (sym e) (subst (Entries symbols (room .symbols) chains entries) (sym (g .symbols-are)) q);
+  long = h;
+}
+piece-beside symbols room now scratch chains entries counts pieces offsets wanted wanted-relocs (Fault number) e f h q g = tt
 
 -- ---- no room for the piece or its relocations
 le-below : (a b : ℕ) → leb a b ≡ ltb a (b + 1)

@@ -9,16 +9,15 @@ use Rattle.symbol_order.specs.Order as symbol-order
 use Rattle.relocs.specs.Relocs as reloc-tables
 use Rattle.pieces.specs.declared.PieceSymbol.{PieceSymbol}
 use Rattle.pieces.specs.Pieces.{symbolsIn}
-use Rattle.piece_columns.specs.Columns.{Chained}
+use Rattle.piece_columns.specs.Columns.{Chained, lastsIn, prevsIn}
 use Rattle.walk.specs.declared.Added.{Added}
 use Rattle.walk.specs.declared.Added.the-variants.{Now, Full}
 
 -- room for entries of so many symbols, of which the first k are there, with their chains
-pub record Entries (symbols room : ℕ) (heads prevs out : List ℕ) (k : ℕ) : Type 0 where
-  pub chained : Chained heads prevs out k
+pub record Entries (symbols room : ℕ) (chains out : List ℕ) (k : ℕ) : Type 0 where
+  pub chained : Chained (lastsIn chains) (prevsIn chains) out k
   pub few : k ≤ room
-  pub heads-long : symbols ≤ length heads
-  pub prevs-long : room ≤ length prevs
+  pub long : 4096 + room ≤ length chains
   pub out-long : 12 * room ≤ length out
   pub most : room ≤ 4096
   pub most-symbols : symbols ≤ 4096
@@ -29,15 +28,15 @@ pub record Lying (symbols symbol-places part : List ℕ) (start : ℕ) : Type 0 
   pub above : All (λ i. start ≤ symbolOf symbols symbol-places i .address) part
 
 -- the entries that are wanted are the first k
-pub record AddsNow (wanted : List PieceSymbol) (room : ℕ) (heads prevs out : List ℕ) (k : ℕ) : Type 0 where
+pub record AddsNow (wanted : List PieceSymbol) (room : ℕ) (chains out : List ℕ) (k : ℕ) : Type 0 where
   pub is : symbolsIn out k ≡ wanted
   pub few : k ≤ room
-  pub chained : Chained heads prevs out k
+  pub chained : Chained (lastsIn chains) (prevsIn chains) out k
 
 -- they are there, or they are more than there is room for
-abbrev pub Adds : (wanted : List PieceSymbol) → (room : ℕ) → (heads prevs out : List ℕ) → Added → Type 0
-Adds wanted room heads prevs out (Now k) = AddsNow wanted room heads prevs out k
-Adds wanted room heads prevs out Full = room < length wanted
+abbrev pub Adds : (wanted : List PieceSymbol) → (room : ℕ) → (chains out : List ℕ) → Added → Type 0
+Adds wanted room chains out (Now k) = AddsNow wanted room chains out k
+Adds wanted room chains out Full = room < length wanted
 
 -- numbers of relocations that can be read, none below `start`; their numbers have 16 bits
 pub record Above (relocs reloc-places part : List ℕ) (start : ℕ) : Type 0 where

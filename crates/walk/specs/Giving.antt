@@ -5,7 +5,7 @@ use mathlib.Core.Path.{_≡_}
 use mathlib.Core.List.{List, [], _∷_, _++_}
 use mathlib.Core.Bool.{Bool, true, _||_}
 use lib.Dec.{ltb}
-use lib.ListN.{length}
+use lib.ListN.{length, take, drop}
 use Rattle.lists.specs.Outcome.{Outcome, accepted, refused}
 use Rattle.obj.specs.Records.{Held}
 use Rattle.obj.specs.declared.Section.{Section}
@@ -76,10 +76,18 @@ pub record PieceSide (room made : Counts) (counts pieces offsets : List ℕ) : T
   pub most-pieces : room .pieces ≤ 1024
   pub most-relocs : room .relocs ≤ 4096
 
+-- the columns beside the output tables in one: the chains of the entries, then the counts of the units
+unfoldable pub chainsIn : List ℕ → List ℕ
+chainsIn scratch = take 8192 scratch
+
+unfoldable pub countsIn : List ℕ → List ℕ
+countsIn scratch = drop 8192 scratch
+
 -- all output tables, with the columns beside them
-pub record Beside (symbols : ℕ) (room made : Counts) (counts lasts prevs pieces entries offsets : List ℕ) : Type 0 where
-  pub side : PieceSide room made counts pieces offsets
-  pub entered : Entries symbols (room .symbols) lasts prevs entries (made .symbols)
+pub record Beside (symbols : ℕ) (room made : Counts) (scratch pieces entries offsets : List ℕ) : Type 0 where
+  pub side : PieceSide room made (countsIn scratch) pieces offsets
+  pub entered : Entries symbols (room .symbols) (chainsIn scratch) entries (made .symbols)
+  pub long : 8192 ≤ length scratch
 
 -- ---- what is given
 
@@ -103,14 +111,14 @@ PieceGives wanted wanted-relocs room made counts pieces offsets (Fault number) =
     (number ≡ 76) × ((ltb (room .relocs) (length wanted-relocs) || ltb (room .pieces) (length wanted)) ≡ true)
 
 -- what is known of the tables after an answer
-abbrev pub Besides : (symbols : ℕ) → (room : Counts) → (counts lasts prevs pieces entries offsets : List ℕ) → Gave → Type 0
-Besides symbols room counts lasts prevs pieces entries offsets (Made made) = Beside symbols room made counts lasts prevs pieces entries offsets
-Besides symbols room counts lasts prevs pieces entries offsets (Fault number) = Unit {0}
+abbrev pub Besides : (symbols : ℕ) → (room : Counts) → (scratch pieces entries offsets : List ℕ) → Gave → Type 0
+Besides symbols room scratch pieces entries offsets (Made made) = Beside symbols room made scratch pieces entries offsets
+Besides symbols room scratch pieces entries offsets (Fault number) = Unit {0}
 
 -- the split has given what the definition says, whatever the other splits, the units and the sections' bytes are
 pub record GivesOut (image : Image) (head : ℕ → Section) (reloc : ℕ → Reloc) (relocs n unit alignment : ℕ) (s : Split) (room made : Counts)
-    (pieces₀ entries₀ offsets₀ counts lasts prevs pieces entries offsets : List ℕ) (r : Gave) : Type 0 where
+    (pieces₀ entries₀ offsets₀ scratch pieces entries offsets : List ℕ) (r : Gave) : Type 0 where
   pub is : (count : ℕ) (bytes : ℕ → List ℕ) (splits : List Split) (units : List ℕ)
       → onAligned (inputOf image (record { count = count; head = head; bytes = bytes }) reloc relocs splits units room) n (s .start) unit alignment s (outputIn pieces₀ entries₀ offsets₀ made)
       ≡ gaveMeaning n (s .start) pieces entries offsets r
-  pub beside : Besides (image .count) room counts lasts prevs pieces entries offsets r
+  pub beside : Besides (image .count) room scratch pieces entries offsets r

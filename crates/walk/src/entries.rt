@@ -91,27 +91,26 @@ fn add_symbol(
     i: usize,
     room: usize,
     k: usize,
-    heads: &mut [u16],
-    prevs: &mut [u16],
+    chains: &mut [u16],
     out: &mut [u8],
 ) -> Added
     requires { ⌜
         Held 20 (now symbols) (now «symbol_places») i
         × SymbolNames (now symbols) (now «symbol_places») (now «name_bytes») (now «name_places») (now «name_lengths»)
         × (s .start ≤ symbolOf (now symbols) (now «symbol_places») i .address)
-        × Entries (length (now «symbol_places»)) room (now heads) (now prevs) (now out) k
+        × Entries (length (now «symbol_places»)) room (now chains) (now out) k
         ⌝ }
-    ensures { λ r. ⌜ Adds (addSymbol (imageOf (now (symbols .entry)) (now («symbol_places» .entry)) (now («name_bytes» .entry)) (now («name_places» .entry)) (now («name_lengths» .entry))) unit place s (symbolsIn (now (out .entry)) k) i) room (now (heads .exit)) (now (prevs .exit)) (now (out .exit)) r ⌝ }
+    ensures { λ r. ⌜ Adds (addSymbol (imageOf (now (symbols .entry)) (now («symbol_places» .entry)) (now («name_bytes» .entry)) (now («name_places» .entry)) (now («name_lengths» .entry))) unit place s (symbolsIn (now (out .entry)) k) i) room (now (chains .exit)) (now (out .exit)) r ⌝ }
 {
     let y = symbol_at(symbols, symbol_places, i);
     let name = name_at(name_bytes, name_places, name_lengths, index(y.name));
-    if is_passed_over(name, s, y) | has_symbol(heads, prevs, out, k, unit, i) {
+    if is_passed_over(name, s, y) | has_symbol(chains, out, k, unit, i) {
         return Added::Now(k);
     }
     if k == room {
         return Added::Full;
     }
-    push_symbol(heads, prevs, out, k, entry_of(unit, place, s, i as u16, y));
+    push_symbol(chains, out, k, entry_of(unit, place, s, i as u16, y));
     Added::Now(k + 1)
 }
 
@@ -128,16 +127,15 @@ pub fn add_symbols(
     place: u16,
     room: usize,
     made: usize,
-    heads: &mut [u16],
-    prevs: &mut [u16],
+    chains: &mut [u16],
     out: &mut [u8],
 ) -> Added
     requires { ⌜
         Lying (now symbols) (now «symbol_places») (now part) (s .start)
         × SymbolNames (now symbols) (now «symbol_places») (now «name_bytes») (now «name_places») (now «name_lengths»)
-        × Entries (length (now «symbol_places»)) room (now heads) (now prevs) (now out) made
+        × Entries (length (now «symbol_places»)) room (now chains) (now out) made
         ⌝ }
-    ensures { λ r. ⌜ Adds (addSymbols (imageOf (now (symbols .entry)) (now («symbol_places» .entry)) (now («name_bytes» .entry)) (now («name_places» .entry)) (now («name_lengths» .entry))) unit place s (symbolsIn (now (out .entry)) made) (now (part .entry))) room (now (heads .exit)) (now (prevs .exit)) (now (out .exit)) r ⌝ }
+    ensures { λ r. ⌜ Adds (addSymbols (imageOf (now (symbols .entry)) (now («symbol_places» .entry)) (now («name_bytes» .entry)) (now («name_places» .entry)) (now («name_lengths» .entry))) unit place s (symbolsIn (now (out .entry)) made) (now (part .entry))) room (now (chains .exit)) (now (out .exit)) r ⌝ }
 {
     let mut k = made;
     let mut i: usize = 0;
@@ -154,8 +152,7 @@ pub fn add_symbols(
             number(part, i),
             room,
             k,
-            heads,
-            prevs,
+            chains,
             out,
         );
         let Added::Now(m) = added else {

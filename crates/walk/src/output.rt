@@ -11,7 +11,7 @@ ghost use Rattle.sections.specs.Sections.{headOf};
 ghost use Rattle.relocs.specs.Relocs.{relocOf};
 ghost use Rattle.splits.specs.Questions.{isCommon};
 ghost use Rattle.walk.specs.Walk.{fits, pieceOf};
-ghost use Rattle.walk.specs.Giving.{Beside, PieceSide, PieceGives, piecesWith, relocsWith, Sided, SectionRelocs, GivesOut};
+ghost use Rattle.walk.specs.Giving.{countsIn, Beside, PieceSide, PieceGives, piecesWith, relocsWith, Sided, SectionRelocs, GivesOut};
 use crate::Added;
 use crate::Counts;
 use crate::Gave;
@@ -131,9 +131,7 @@ fn give_piece(
 
 // The split s of section n gives to the unit, with an alignment that fits; `part` are the section's relocations.
 pub fn give(
-    counts: &mut [u16],
-    lasts: &mut [u16],
-    prevs: &mut [u16],
+    scratch: &mut [u16],
     pieces: &mut [u8],
     entries: &mut [u8],
     offsets: &mut [u8],
@@ -156,11 +154,11 @@ pub fn give(
     made: Counts,
 ) -> Gave
     requires { ⌜
-        Beside (length (now «symbol_places»)) room made (now counts) (now lasts) (now prevs) (now pieces) (now entries) (now offsets)
+        Beside (length (now «symbol_places»)) room made (now scratch) (now pieces) (now entries) (now offsets)
         × Tables (now symbols) (now «symbol_places») (now order) (now «name_bytes») (now «name_places») (now «name_lengths»)
         × SectionRelocs (now relocs) (now «reloc_places») (now part) n
         × Sided (now heads) (now «head_places») n s
-        × (unit < length (now counts)) × (unit < 65536) × (fits alignment (s .start) ≡ true)
+        × (unit < length (countsIn (now scratch))) × (unit < 65536) × (fits alignment (s .start) ≡ true)
         ⌝ }
     ensures { λ r. ⌜
         GivesOut
@@ -170,7 +168,7 @@ pub fn give(
         (length (now («reloc_places» .entry)))
         n unit alignment s room made
         (now (pieces .entry)) (now (entries .entry)) (now (offsets .entry))
-        (now (counts .exit)) (now (lasts .exit)) (now (prevs .exit)) (now (pieces .exit)) (now (entries .exit)) (now (offsets .exit))
+        (now (scratch .exit)) (now (pieces .exit)) (now (entries .exit)) (now (offsets .exit))
         r
         ⌝ }
 {
@@ -190,8 +188,7 @@ pub fn give(
         made.pieces as u16,
         room.symbols,
         made.symbols,
-        lasts,
-        prevs,
+        &mut scratch[..8192],
         entries,
     );
     let Added::Now(k) = added else {
@@ -206,7 +203,7 @@ pub fn give(
         return Gave::Made(now);
     }
     give_piece(
-        counts,
+        &mut scratch[8192..],
         pieces,
         offsets,
         heads,

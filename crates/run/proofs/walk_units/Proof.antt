@@ -14,9 +14,9 @@ use Rattle.run.proofs.walk_units.Statement.{statement}
 use Rattle.run.proofs.walk_units.Tie as tie
 
 -- there is a place for each unit
-placed : (c : tie.After-fill-places) → c .before .before .before .before .before .before .before .before .before .before .before .before .before .before .before .before .before .before .before .before .before .before .before .before .before .args .k ≤ length (c .fill-places .last .0)
+placed : (c : tie.After-fill-places) → c .before .before .before .before .before .before .before .before .before .before .before .before .before .before .before .before .before .before .before .before .before .args .k ≤ length (c .fill-places .last .0)
 placed c =
-    let q = c .before .before .before .before .before .before .before .before .before .before .before .before .before .before .before .before .before .before .before .before .before .before .before .before .before .pre in
+    let q = c .before .before .before .before .before .before .before .before .before .before .before .before .before .before .before .before .before .before .before .before .before .pre in
     omega (arith, q .2 .few, q .4 .places-long, c .fill-places .kept .0)
 
 fill-places-requires : tie.Need-fill-places-requires
@@ -30,7 +30,7 @@ slice-aggregate-number-units c = sym (length-take-le _ _ (placed (c .before .bef
 
 number-units-requires : tie.Need-number-units-requires
 number-units-requires c κs =
-    let s = c .before .before .before .before .before .before .before .before .before .before .before .before .before .before .before .before .before .before .before .before .before .before .before .before .before .before .before .before .before in
+    let s = c .before .before .before .before .before .before .before .before .before .before .before .before .before .before .before .before .before .before .before .before .before .before .before .before .before in
     units-listed (s .args .unit-table .now) _ _ (s .args .k) (c .before .before .before .before .fill-places .ensures) (s .pre .2) (s .pre .3) (omega (arith, s .pre .4 .numbers-long))
 
 slice-reshare-prefix-walk-columns : tie.Need-slice-reshare-prefix-walk-columns
@@ -41,14 +41,13 @@ slice-aggregate-walk-columns c = sym (length-take-le _ _ (placed (c .before .bef
 
 walk-columns-requires : tie.Need-walk-columns-requires
 walk-columns-requires c κs =
-    let s = c .before .before .before .before .before .before .before .before .before .before .before .before .before .before .before .before .before .before .before .before .before .before .before .before .before .before .before .before .before .before .before .before .before .before .before .before .before .before .before .before .before in
-    let f = c .before .before .before .before .before .before .before .before .before .before .before .before .before .before .before .before in
-    let n = c .before .before .before .before .before .before .before .before .before .before .before .number-units in
+    let s = c .before .before .before .before .before .before .before .before .before .before .before .before .before .before .before .before .before .before .before .before .before .before .before .before .before .before .before .before .before .before .before .before .before in
+    let f = c .before .before .before .before .before .before .before .before .before .before .before .before in
+    let n = c .before .before .before .before .before .before .before .number-units in
     let count = length-take-le (s .args .k) (f .fill-places .last .0) (placed f) in (
       ready (s .pre .0) (s .args .unit-table .now) (take (s .args .k) (f .fill-places .last .0)) (n .last .1 .1 .0)
           (columns (s .args .starts .now) (s .args .ends .now) (s .args .units .now) (s .args .rest .now)) (s .args .n) (s .pre .1) (n .ensures)
           (omega (arith, count, s .pre .2 .few)) (omega (arith, n .kept .1 .1 .0, s .pre .4 .numbers-long)),
-      s .pre .5,
       few-symbols (s .pre .0 .usable),
     )
 
@@ -67,24 +66,12 @@ same-length-4 c = search needs
 same-length-5 : tie.Need-same-length-5
 same-length-5 c = search needs
 
-same-length-6 : tie.Need-same-length-6
-same-length-6 c = search needs
-
-same-length-7 : tie.Need-same-length-7
-same-length-7 c = search needs
-
-same-length-8 : tie.Need-same-length-8
-same-length-8 c = search needs
-
-same-length-9 : tie.Need-same-length-9
-same-length-9 c = search needs
-
 returns : tie.Need-returns
 returns c =
-    let s = c .before .before .before .before .before .before .before .before .before .before .before .before .before .before .before .before .before .before .before .before .before .before .before .before .before .before .before .before .before .before .before .before .before .before .before .before .before .before .before .before .before .before .before .before .before .before .before .before .before .before .before .before .before .before .before .before in
+    let s = c .before .before .before .before .before .before .before .before .before .before .before .before .before .before .before .before .before .before .before .before .before .before .before .before .before .before .before .before .before .before .before .before .before .before .before .before .before .before .before .before in
     let a = s .args in
     walked-as (s .pre .0) (rows (columns (a .starts .now) (a .ends .now) (a .units .now) (a .rest .now)) (a .n)) (a .unit-table .now) _ (a .k)
-    (roomIn (length (a .pieces .now)) (length (a .entries .now)) (length (a .offsets .now))) (c .before .before .before .before .before .before .before .before .before .before .before .before .before .before .before .before .before .before .before .before .before .before .before .before .before .before .before .before .before .before .before .fill-places .ensures) (c .before .before .before .before .before .before .before .before .before .before .before .before .before .before .walk-columns .ensures)
+    (roomIn (length (a .pieces .now)) (length (a .entries .now)) (length (a .offsets .now))) (c .before .before .before .before .before .before .before .before .before .before .before .before .before .before .before .before .before .before .before .fill-places .ensures) (c .before .before .before .before .before .before .walk-columns .ensures)
 
 pub walk-units-spec : {M : Type 1} → statement M
 walk-units-spec =
@@ -102,8 +89,4 @@ walk-units-spec =
     same-length-3
     same-length-4
     same-length-5
-    same-length-6
-    same-length-7
-    same-length-8
-    same-length-9
     returns)

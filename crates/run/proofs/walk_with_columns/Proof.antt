@@ -10,27 +10,14 @@ slice-aggregate-walk-units c = search needs
 slice-aggregate-walk-units-2 : tie.Need-slice-aggregate-walk-units-2
 slice-aggregate-walk-units-2 c = search needs
 
-slice-aggregate-walk-units-3 : tie.Need-slice-aggregate-walk-units-3
-slice-aggregate-walk-units-3 c = search needs
-
-slice-aggregate-walk-units-4 : tie.Need-slice-aggregate-walk-units-4
-slice-aggregate-walk-units-4 c = search needs
-
-slice-aggregate-walk-units-5 : tie.Need-slice-aggregate-walk-units-5
-slice-aggregate-walk-units-5 c = search needs
-
-slice-aggregate-walk-units-6 : tie.Need-slice-aggregate-walk-units-6
-slice-aggregate-walk-units-6 c = search needs
-
 walk-units-requires : tie.Need-walk-units-requires
 walk-units-requires c κs =
-    let p = c .before .before .before .before .before .before .before .before .before .before .before .before .before .before .before .before .before .before .before .before .before .before .before .before .before .before .pre in (
+    let p = c .before .before .before .before .before .before .before .before .before .before .before .before .before .before .before .before .before .before .before .before .before .before .pre in (
       p .0,
       p .1,
       p .2,
       p .3,
       record { places-long = search needs; numbers-long = search needs },
-      record { counts-long = search needs; lasts-long = search needs; prevs-long = search needs; part-long = search needs },
     )
 
 same-length : tie.Need-same-length
@@ -51,10 +38,6 @@ walk-with-columns-spec =
     (tie.spec
     slice-aggregate-walk-units
     slice-aggregate-walk-units-2
-    slice-aggregate-walk-units-3
-    slice-aggregate-walk-units-4
-    slice-aggregate-walk-units-5
-    slice-aggregate-walk-units-6
     walk-units-requires
     same-length
     same-length-2

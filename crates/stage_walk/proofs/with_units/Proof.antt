@@ -10,21 +10,9 @@ slice-aggregate-from-units c = search needs
 slice-aggregate-from-units-2 : tie.Need-slice-aggregate-from-units-2
 slice-aggregate-from-units-2 c = search needs
 
-slice-aggregate-from-units-3 : tie.Need-slice-aggregate-from-units-3
-slice-aggregate-from-units-3 c = search needs
-
-slice-aggregate-from-units-4 : tie.Need-slice-aggregate-from-units-4
-slice-aggregate-from-units-4 c = search needs
-
-slice-aggregate-from-units-5 : tie.Need-slice-aggregate-from-units-5
-slice-aggregate-from-units-5 c = search needs
-
-slice-aggregate-from-units-6 : tie.Need-slice-aggregate-from-units-6
-slice-aggregate-from-units-6 c = search needs
-
 from-units-requires : tie.Need-from-units-requires
 from-units-requires c κs =
-    let p = c .before .before .before .before .before .before .before .before .before .before .before .before .before .before .before .before .before .before .before .before .before .before .before .before .before .before .before .before .before .pre in (
+    let p = c .before .before .before .before .before .before .before .before .before .before .before .before .before .before .before .before .before .before .before .before .before .before .before .before .before .pre in (
       p .0,
       p .1,
       p .2,
@@ -32,20 +20,19 @@ from-units-requires c κs =
       p .4,
       p .5,
       record { places-long = search needs; numbers-long = search needs },
-      record { counts-long = search needs; lasts-long = search needs; prevs-long = search needs; part-long = search needs },
     )
 
 same-length : tie.Need-same-length
-same-length c = c .before .before .before .before .before .before .before .before .before .before .before .before .from-units .kept .1 .1 .1 .1 .1 .1 .1 .1 .1 .1 .1 .1 .1 .1 .1 .1 .1 .1 .1 .1 .1 .1 .1 .1 .0
+same-length c = c .before .before .before .before .before .before .before .before .from-units .kept .1 .1 .1 .1 .1 .1 .1 .1 .1 .1 .1 .1 .1 .1 .1 .1 .1 .1 .1 .1 .0
 
 same-length-2 : tie.Need-same-length-2
-same-length-2 c = c .before .before .before .before .before .before .before .before .before .before .before .before .from-units .kept .1 .1 .1 .1 .1 .1 .1 .1 .1 .1 .1 .1 .1 .1 .1 .1 .1 .1 .1 .1 .1 .1 .1 .1 .1 .0
+same-length-2 c = c .before .before .before .before .before .before .before .before .from-units .kept .1 .1 .1 .1 .1 .1 .1 .1 .1 .1 .1 .1 .1 .1 .1 .1 .1 .1 .1 .1 .1 .0
 
 same-length-3 : tie.Need-same-length-3
-same-length-3 c = c .before .before .before .before .before .before .before .before .before .before .before .before .from-units .kept .1 .1 .1 .1 .1 .1 .1 .1 .1 .1 .1 .1 .1 .1 .1 .1 .1 .1 .1 .1 .1 .1 .1 .1 .1 .1 .0
+same-length-3 c = c .before .before .before .before .before .before .before .before .from-units .kept .1 .1 .1 .1 .1 .1 .1 .1 .1 .1 .1 .1 .1 .1 .1 .1 .1 .1 .1 .1 .1 .1 .0
 
 returns : tie.Need-returns
-returns c = c .before .before .before .before .before .before .before .before .before .before .before .before .from-units .ensures
+returns c = c .before .before .before .before .before .before .before .before .from-units .ensures
 
 pub with-units-spec : {M : Type 1} → statement M
 with-units-spec =
@@ -53,10 +40,6 @@ with-units-spec =
     (tie.spec
     slice-aggregate-from-units
     slice-aggregate-from-units-2
-    slice-aggregate-from-units-3
-    slice-aggregate-from-units-4
-    slice-aggregate-from-units-5
-    slice-aggregate-from-units-6
     from-units-requires
     same-length
     same-length-2
