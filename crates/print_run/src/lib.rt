@@ -319,7 +319,7 @@ pub fn print_run(file: &[u8]) {
     let mut added_places = [0u32; 4096];
     let mut added_lengths = [0u8; 4096];
     let mut out_units = [0u8; 8192];
-    let mut pieces = [0u8; 28672];
+    let mut pieces = [0u8; 30720];
     let mut entries = [0u8; 49152];
     let mut offsets = [0u8; 32768];
     print_in(
