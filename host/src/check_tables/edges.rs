@@ -238,7 +238,7 @@ fn splits(each: Each) {
         set[SPLIT_TABLE].clear();
         for n in [code % 21, code / 21] {
             let (section, (start, end)) = (n as u64 / 7, places[n % 7]);
-            let rest = [(0, 2), (0, 4), (0, 1), (0xFFFF, 2)];
+            let rest = [(0, 2), (0, 4), (0, 1), (0xFFFF, 2), (n as u64, 2)];
             let fields = [&[(section, 2), (start, 4), (end, 4)], &rest[..]].concat();
             set[SPLIT_TABLE].extend(packed(&fields));
         }

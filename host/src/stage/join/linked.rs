@@ -151,7 +151,7 @@ struct Loaded {
 /// split for each object of the libraries in `.text`, one for each other section.
 fn tables(elf: &[u8], map: &str) -> Case {
     let mut names = Names::default();
-    let mut case = Case { lent: vec![28_672, 49_152, 32_768, 6], ..Case::default() };
+    let mut case = Case { lent: vec![30_720, 49_152, 32_768, 6], ..Case::default() };
     let headers: Vec<&[u8]> =
         (0..half(elf, 48)).map(|i| &elf[word(elf, 32) + 40 * i..][..40]).collect();
     let strings = word(headers[half(elf, 50)], 16);

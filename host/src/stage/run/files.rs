@@ -138,7 +138,7 @@ pub fn file(maker: Maker, partials: &[Split], r: &mut Random) -> Vec<u8> {
 
 /// The records by kind.
 pub fn in_order(maker: Maker, partials: &[Split]) -> Vec<u8> {
-    let partials = partials.iter().flat_map(Split::bytes).collect();
+    let partials = partials.iter().flat_map(Split::partial_bytes).collect();
     rust::file(&Case { partials, ..maker.case(vec![], vec![]) })
 }
 
