@@ -15,8 +15,8 @@ static const uint8_t file[] = {
 static const char right[] =
     "unit 2 auto_00_00001000_data\n"
     "unit 1\n"
-    "piece 0 of unit 0: 00001000 8\n"
-    "piece 0 of unit 1: 00001008 8\n"
+    "piece 0 of unit 0: 00001000 8 from 65535\n"
+    "piece 0 of unit 1: 00001008 8 from 0\n"
     "refused 1 0 00000003\n";
 
 static unsigned number(const uint8_t *at, int bytes)
@@ -31,7 +31,7 @@ static unsigned number(const uint8_t *at, int bytes)
 /* Lends one unit's, one gap's and two pieces' worth of bytes, and more than enough for the rest. */
 static uint64_t split(size_t file_len, char *out)
 {
-    uint8_t ends[8], bytes[128], splits[19 * 4], units[8 * 4], pieces[28 * 4], symbols[12], relocations[8], counts[14];
+    uint8_t ends[8], bytes[128], splits[21 * 4], units[8 * 4], pieces[30 * 4], symbols[12], relocations[8], counts[14];
     uint64_t answer = split_file(file, file_len, ends, sizeof ends, bytes, sizeof bytes, splits, sizeof splits,
                                  units, sizeof units, pieces, sizeof pieces, symbols, sizeof symbols,
                                  relocations, sizeof relocations, counts, sizeof counts);
@@ -52,10 +52,10 @@ static uint64_t split(size_t file_len, char *out)
             out += sprintf(out, "unit %u\n", name);
     }
     for (i = 0; i < number(counts + 8, 2); i++) {
-        const uint8_t *piece = pieces + 28 * i;
+        const uint8_t *piece = pieces + 30 * i;
 
-        out += sprintf(out, "piece %u of unit %u: %08X %u\n", number(piece + 2, 2), number(piece, 2),
-                       number(piece + 8, 4), number(piece + 12, 4));
+        out += sprintf(out, "piece %u of unit %u: %08X %u from %u\n", number(piece + 2, 2), number(piece, 2),
+                       number(piece + 8, 4), number(piece + 12, 4), number(piece + 28, 2));
     }
     return answer;
 }

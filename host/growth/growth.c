@@ -8,7 +8,7 @@
 
 enum { SPLITS = 1024, BASE = 0x1000 };
 
-static uint8_t symbols[4096 * 20], splits[SPLITS * 19];
+static uint8_t symbols[4096 * 20], splits[SPLITS * 21];
 
 static void put(uint8_t *at, uint32_t value, int width) {
     for (int i = 0; i < width; i++)
@@ -35,7 +35,7 @@ int main(int argc, char **argv) {
         put(at + 13, 1, 1);
     }
     for (uint32_t i = 0; i < SPLITS; i++) {
-        uint8_t *at = splits + 19 * i;
+        uint8_t *at = splits + 21 * i;
         uint32_t from = (uint32_t)((uint64_t)size * i / SPLITS / 16 * 16);
         uint32_t to = (uint32_t)((uint64_t)size * (i + 1) / SPLITS / 16 * 16);
         put(at + 2, BASE + from, 4);

@@ -7,7 +7,7 @@ mod sets;
 use crate::{
     Entry,
     bytes::differing,
-    document::{self, check_tables::*, records::*},
+    document::{self, check_tables::*, image::SPLIT_BYTES, records::*},
     entries,
     lent::Lent,
     parts,
@@ -48,7 +48,7 @@ pub const TABLES: [(&str, usize); 9] = [
     ("image", 1),
     ("symbols", 20),
     ("relocations", 23),
-    ("splits", 19),
+    ("splits", SPLIT_BYTES),
     ("units", 8),
 ];
 
@@ -147,7 +147,7 @@ fn groups() -> Vec<(u16, String)> {
     let mut add = |number, kind: Kind, words: &[&str]| {
         groups.extend(words.iter().map(|word| (number, format!("{}: {word}", kind.plural))));
     };
-    for kind in KINDS {
+    for kind in STAGE_KINDS {
         add(1, kind, &[LENGTH]);
         add(2, kind, &[COUNT]);
     }

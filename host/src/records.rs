@@ -25,6 +25,13 @@ pub const FIELDS: [&[(usize, usize)]; 6] = [
     &[(0, 2), (2, 1), (3, 1), (4, 4)],
 ];
 
+/// Those of stage tables, by kind: there a split ends with its origin.
+pub fn stage_fields(kind: usize) -> &'static [(usize, usize)] {
+    const SPLIT_FIELDS: &[(usize, usize)] =
+        &[(0, 2), (2, 4), (6, 4), (10, 2), (12, 4), (16, 1), (17, 2), (19, 2)];
+    if kind == 4 { SPLIT_FIELDS } else { FIELDS[kind] }
+}
+
 /// Fields one after another, each a value and its width in bytes.
 pub fn packed(fields: &[(u64, usize)]) -> Vec<u8> {
     fields.iter().flat_map(|(value, width)| value.to_le_bytes()[..*width].to_vec()).collect()
@@ -240,7 +247,7 @@ impl Maker {
             true => self.stage_place(r)?,
             false => self.file_place(r),
         };
-        Some(packed(&[
+        let mut record = packed(&[
             (section as u64, 2),
             (start as u64, 4),
             (end as u64, 4),
@@ -248,7 +255,11 @@ impl Maker {
             (good_alignment(r), 4),
             (r.next() % 8, 1),
             (rename, 2),
-        ]))
+        ]);
+        if self.stage {
+            record.extend(packed(&[(r.next(), 2)]));
+        }
+        Some(record)
     }
 
     /// Any section, there or not.

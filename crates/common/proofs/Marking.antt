@@ -9,7 +9,7 @@ use lib.ListN.{length, getD, set, length-set}
 use lib.Seq.{getD-set-same, getD-set-other}
 use borrow.Author.Count.{below-more}
 use Rattle.lists.proofs.Parts.{tabulate-map}
-use Rattle.splits.specs.Columns.{alignmentOf, sectionIn, renameIn, flagsIn, columns, rowOf, rowAt, rows}
+use Rattle.splits.specs.Columns.{alignmentOf, sectionIn, renameIn, flagsIn, originIn, columns, rowOf, rowAt, rows}
 use Rattle.splits.specs.Updates.{withCommon}
 use Rattle.common.specs.Common.{marked}
 
@@ -35,6 +35,12 @@ odd-byte q =
 odd-above : (q : ℕ) → (q / 2 * 2 + 1) / 256 ≡ q / 256
 odd-above q = omega arith
 
+odd-top : (q : ℕ) → (q / 2 * 2 + 1) / 65536 ≡ q / 65536
+odd-top q = omega arith
+
+above-half : (rest : ℕ) → rest / 4294967296 / 65536 ≡ rest / 281474976710656
+above-half rest = omega arith
+
 above-byte : (rest : ℕ) → rest / 4294967296 / 256 ≡ rest / 1099511627776
 above-byte rest = omega arith
 
@@ -54,6 +60,9 @@ module _ (low high : ℕ) (h : low < 4294967296) where
   bits-of : joined / 1099511627776 ≡ high / 256
   bits-of = omega arith
 
+  origin-of : joined / 281474976710656 ≡ high / 65536
+  origin-of = omega arith
+
 -- a row with its rest so changed is common
 pub row-common : (start end unit rest : ℕ) → rowOf start end unit (flagged rest) ≡ withCommon (rowOf start end unit rest)
 unfolding rowOf
@@ -66,6 +75,7 @@ row-common start end unit rest =
     let rename-is : renameIn (flagged rest) ≡ renameIn rest = ap (λ (r : ℕ). r / 65536 % 65536) whole ∙ rename-of low high small ∙ (let e : low / 65536 % 65536 ≡ rest / 65536 % 65536 = omega arith in e) in
     let flags-is : flagsIn (flagged rest) ≡ flagsIn rest / 2 * 2 + 1 = ap (λ (r : ℕ). r / 4294967296 % 256) whole ∙ flags-of low high small ∙ odd-byte (rest / 4294967296) in
     let bits-is : flagged rest / 1099511627776 % 256 ≡ rest / 1099511627776 % 256 = ap (λ (r : ℕ). r / 1099511627776 % 256) whole ∙ ap (λ (r : ℕ). r % 256) (bits-of low high small) ∙ ap (λ (r : ℕ). r % 256) (odd-above (rest / 4294967296) ∙ above-byte rest) in
+    let origin-is : originIn (flagged rest) ≡ originIn rest = ap (λ (r : ℕ). r / 281474976710656 % 65536) whole ∙ ap (λ (r : ℕ). r % 65536) (origin-of low high small) ∙ ap (λ (r : ℕ). r % 65536) (odd-top (rest / 4294967296) ∙ above-half rest) in
     λ i. record {
       section = section-is i;
       start = start;
@@ -74,6 +84,7 @@ row-common start end unit rest =
       alignment = alignmentOf (bits-is i);
       flags = flags-is i;
       rename = rename-is i;
+      origin = origin-is i;
     }
 
 module _ (section address start end unit rest : ℕ) where

@@ -9,7 +9,7 @@ use Rattle.splits.specs.Columns.{Good, Columns}
 
 -- what a table holds past its rows
 abbrev pub noSplit : Split
-noSplit = record { section = 0; start = 0; end = 0; unit = 0; alignment = 0; flags = 0; rename = 0 }
+noSplit = record { section = 0; start = 0; end = 0; unit = 0; alignment = 0; flags = 0; rename = 0; origin = 0 }
 
 -- the first n records have the start, end and unit that the columns have, and an alignment that is none or good
 pub record Kept (c : Columns) (table : List Split) (n : ℕ) : Type 0 where

@@ -305,6 +305,7 @@ fn records(starts: &[u32], ends: &[u32], units: &[u16], rest: &[u64], n: usize) 
         alignment: 0,
         flags: 0,
         rename: 0,
+        origin: 0,
     };
     let mut table = [none; 1024];
     let mut i: usize = 0;

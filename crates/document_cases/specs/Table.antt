@@ -88,7 +88,7 @@ abbrev pub sectionOf : (address size : ℕ) → (bytes : List ℕ) → Sections
 sectionOf address size bytes = record { count = 1; head = λ (n : ℕ). headOf address size; bytes = λ (n : ℕ). bytes }
 
 abbrev pub splitOf : (start end alignment : ℕ) → Split
-splitOf start end alignment = record { section = 0; start = start; end = end; unit = 1; alignment = alignment; flags = 0; rename = 65535 }
+splitOf start end alignment = record { section = 0; start = start; end = end; unit = 1; alignment = alignment; flags = 0; rename = 65535; origin = 65535 }
 
 abbrev pub gapNumbers : List Gap → List ℕ
 gapNumbers [] = []
@@ -108,7 +108,7 @@ answered (aligned alignment address) =
       sections = sectionOf address 4 (1 ∷ 2 ∷ 3 ∷ 4 ∷ []);
       reloc = relocAt [];
       relocs = 0;
-      splits = record { section = 0; start = address; end = address + 4; unit = 1; alignment = alignment; flags = 0; rename = 65535 } ∷ [];
+      splits = record { section = 0; start = address; end = address + 4; unit = 1; alignment = alignment; flags = 0; rename = 65535; origin = 65535 } ∷ [];
       units = 1 ∷ [];
       room = record { pieces = 1024; symbols = 4096; relocs = 4096 };
     }))

@@ -11,7 +11,7 @@ use Rattle.obj.specs.declared.Answer.{Answer}
 use Rattle.obj.specs.declared.Answer.the-variants.{Refused}
 use Rattle.obj.specs.declared.Section.{Section}
 use Rattle.obj.specs.declared.Split.{Split}
-use Rattle.tables.specs.Records.{sectionsIn, splitsIn}
+use Rattle.tables.specs.Records.{sectionsIn, partialsIn}
 use Rattle.stage_tables.specs.StageTables.{Room}
 use Rattle.splits.specs.Columns.{Columns, columns, rows, Long}
 use Rattle.merge.specs.Merge.{given, mergeAll}
@@ -34,8 +34,8 @@ rows-long room h s = record {
 
 -- the merge over the columns is that of the tables
 pub merged-as : (heads : List Section) (room : ℕ) (c : Columns) (n : ℕ) (l : List Split) (b : List ℕ) {p q : List ℕ} → rows c n ≡ l → p ≡ q
-    → mergeAll (given heads room) (rows c n) (splitsIn b p) ≡ mergeAll (given heads room) l (splitsIn b q)
-merged-as heads room c n l b f h = λ i. mergeAll (given heads room) (f i) (splitsIn b (h i))
+    → mergeAll (given heads room) (rows c n) (partialsIn b p) ≡ mergeAll (given heads room) l (partialsIn b q)
+merged-as heads room c n l b f h = λ i. mergeAll (given heads room) (f i) (partialsIn b (h i))
 
 -- the sections at their places are those of the table
 pub heads-as : (lengths b : List ℕ) {p q : List ℕ} (splits partials : List ℕ) (room : ℕ) → p ≡ q

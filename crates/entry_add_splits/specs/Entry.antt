@@ -13,7 +13,7 @@ use Rattle.obj.specs.declared.Split.{Split}
 use Rattle.tables.specs.Tables.{mainCeilings}
 use Rattle.name_table.specs.NameTable.{namesCheck}
 use Rattle.name_table.specs.Stored.{stageLengths}
-use Rattle.stage_tables.specs.StageTables.{stageSections, stageSplits, sectionsCheck, splitsCheck, partialsCheck}
+use Rattle.stage_tables.specs.StageTables.{stageSections, stagePartials, stageSplits, sectionsCheck, splitsCheck, partialsCheck}
 use Rattle.stage_splits.specs.StageSplits.{roomOf}
 use Rattle.merge.specs.Merge.{given, mergeAll}
 use Rattle.merge.specs.declared.Merged.{Merged}
@@ -31,7 +31,7 @@ addSplitsOf ends bytes sections splits partials size = do
   -- the partial list
   partialsCheck (mainCeilings .splits) (stageLengths ends bytes) partials
   -- "It merges the partial splits in file order", into a table with that room
-  mergeAll (given (stageSections sections) (roomOf size)) (stageSplits splits) (stageSplits partials)
+  mergeAll (given (stageSections sections) (roomOf size)) (stageSplits splits) (stagePartials partials)
 
 -- ---- inside the entry: what is left of the definition over what the tables before leave
 
@@ -40,7 +40,7 @@ unfoldable pub fromSplits : (lengths : List ℕ) → (heads : List Section) → 
 fromSplits lengths heads splits partials room = do
   splitsCheck room lengths heads splits
   partialsCheck (mainCeilings .splits) lengths partials
-  mergeAll (given heads room) (stageSplits splits) (stageSplits partials)
+  mergeAll (given heads room) (stageSplits splits) (stagePartials partials)
 
 -- from the sections on
 unfoldable pub fromSections : (lengths sections splits partials : List ℕ) → (room : ℕ) → Outcome (List Split)

@@ -8,7 +8,7 @@ use lib.ListN.{length, getD, take}
 use Rattle.lists.specs.Outcome.{Outcome, accepted, refused, _>>_}
 use Rattle.lists.proofs.Outcomes.{not-both, then-goes}
 use Rattle.lists.proofs.Rows.{getD-map, length-tabulate}
-use Rattle.obj.specs.Records.{sectionAt, stagePlaces}
+use Rattle.obj.specs.Records.{sectionAt, stagePlaces, splitWidth}
 use Rattle.obj.specs.declared.Answer.{Answer}
 use Rattle.obj.specs.declared.Section.{Section}
 use Rattle.obj.specs.declared.Split.{Split}
@@ -108,14 +108,14 @@ rows-long n h p q r s = record { starts = omega arith; ends = omega arith; units
 
 -- it passed, the columns held its splits before they were mended, and what was mended is stored
 pub mended-gives : (lengths : List ℕ) (heads : List Section) (splits : List ℕ) (room : ℕ) {answer : Outcome (Unit {0})} {section-ends : List ℕ} (old c : Columns) (r : Mending) {a : Answer}
-    {out lines counts out′ lines′ counts′ : List ℕ} → answer ≡ splitsCheck room lengths heads splits → answer ≡ accepted tt → 19 * room ≤ length out
-    → section-ends ≡ sectionEnds heads → rows old (length splits / 19) ≡ stageSplits splits
-    → Mends section-ends (rows old (length splits / 19)) (rows c (length splits / 19)) lines lines′ r
-    → Stores r (rows c (length splits / 19)) (length splits / 19) a out counts out′ counts′
+    {out lines counts out′ lines′ counts′ : List ℕ} → answer ≡ splitsCheck room lengths heads splits → answer ≡ accepted tt → splitWidth * room ≤ length out
+    → section-ends ≡ sectionEnds heads → rows old (length splits / splitWidth) ≡ stageSplits splits
+    → Mends section-ends (rows old (length splits / splitWidth)) (rows c (length splits / splitWidth)) lines lines′ r
+    → Stores r (rows c (length splits / splitWidth)) (length splits / splitWidth) a out counts out′ counts′
     → Gives (fromSplits lengths heads splits room (length lines)) a (Laid out lines counts out′ lines′ counts′)
 unfolding fromSplits
 mended-gives lengths heads splits room old c r {lines = lines} said told h s l w t =
-    let n = table-passed 19 room splits _ (sym said ∙ told) .1 in
+    let n = table-passed splitWidth room splits _ (sym said ∙ told) .1 in
     stored-gives r c (w .is ∙ ap₂ (λ (x : List ℕ) (y : List Split). mend x (length lines) y) s l ∙ then-goes said _ told) (w .stays) (omega (arith, n, h)) t
 
 -- the lines of at most 1,024 rows have at most 49,152 bytes

@@ -2,15 +2,17 @@
 -- splits answers neither 50 nor 51 of it, and mending it again gives it back. A list that passes both rules comes back unchanged. Assumes nothing.
 use mathlib.Core.Path.{_≡_, sym, ap, ap₂, subst, _∙_}
 use mathlib.Core.List.{List, [], _++_, map, append-nil}
-use Prim.Native.Nat.{ℕ, _*_, _/_, _≤_}
+use Prim.Native.Nat.{ℕ, _*_, _/_, _≤_, _<_}
 use native.Mathlib.Omega.{arith}
-use lib.ListN.{length, take, drop, length-map, drop-of-length-le}
+use lib.ListN.{length, getD, take, drop, length-map, drop-of-length-le}
 use lib.Seq.{sets, take-append-seam}
 use Rattle.lists.specs.Outcome.{Outcome, accepted, _>>_}
+use Rattle.lists.specs.Sort.{All}
 use Rattle.lists.proofs.Outcomes.{then-both}
 use Rattle.obj.proofs.Laws.{length-stagePlaces}
 use Rattle.tables.specs.Tables.{mainCeilings, recordsCheck}
 use Rattle.tables.specs.Records.{sectionFault, splitFault}
+use Rattle.tables.proofs.Lookups.{split-origins}
 use Rattle.name_table.specs.NameTable.{namesCheck}
 use Rattle.name_table.specs.Stored.{nameLengths, stageLengths}
 use Rattle.name_table.proofs.Laws.{length-stageNames, names-passed}
@@ -26,9 +28,9 @@ use Rattle.mend_laws.proofs.Laws.{mend-passes, mend-twice, mend-fields, mend-ke
 use Rattle.mend_laws.proofs.Tables.{mend-table, length-mended}
 use Rattle.mend_outputs.specs.Outputs.{splitBytes, written, Leaves}
 use Rattle.mend_outputs.proofs.Counts.{at-front}
-use Rattle.obj.specs.Records.{splitWidth}
+use Rattle.obj.specs.Records.{stagePlaces, splitWidth}
 use Rattle.entry_mend_splits.specs.Entry.{mendSplitsOf}
-use Rattle.entry_mend_splits.proofs.Bytes.{bytes-back, bytes-pass}
+use Rattle.entry_mend_splits.proofs.Bytes.{bytes-back, bytes-pass, mended-origins}
 
 -- bytes laid over themselves
 over-itself : (b : List ℕ) → sets b 0 b ≡ b
@@ -76,8 +78,8 @@ module _ (ends bytes sections : List ℕ) where
     count-sections : length (stageSections sections) ≡ length sections / 15
     count-sections = simp length-map (length-stagePlaces 15 (length sections / 15))
 
-    count-splits : length (stageSplits splits) ≡ length splits / 19
-    count-splits = simp length-map (length-stagePlaces 19 (length splits / 19))
+    count-splits : length (stageSplits splits) ≡ length splits / splitWidth
+    count-splits = simp length-map (length-stagePlaces splitWidth (length splits / splitWidth))
 
     heads-passed : recordsCheck (sectionFault (stageLengths ends bytes) (stageSections sections)) (length (stageSections sections)) ≡ accepted tt
     heads-passed =
@@ -87,7 +89,7 @@ module _ (ends bytes sections : List ℕ) where
     splits-passed : recordsCheck (splitFault (stageLengths ends bytes) (stageSections sections) (stageSplits splits)) (length (stageSplits splits)) ≡ accepted tt
     splits-passed =
         ap (recordsCheck (splitFault (stageLengths ends bytes) (stageSections sections) (stageSplits splits))) count-splits
-        ∙ table-passed 19 (roomOf size) splits (splitFault (stageLengths ends bytes) (stageSections sections) (stageSplits splits)) (parts .2) .2
+        ∙ table-passed splitWidth (roomOf size) splits (splitFault (stageLengths ends bytes) (stageSections sections) (stageSplits splits)) (parts .2) .2
 
     few-sections : length (stageSections sections) ≤ 65535
     few-sections =
@@ -97,7 +99,7 @@ module _ (ends bytes sections : List ℕ) where
     -- as many as were handed in
     pub few-given : length (m .splits) ≤ roomOf size
     few-given =
-        let n = table-passed 19 (roomOf size) splits (splitFault (stageLengths ends bytes) (stageSections sections) (stageSplits splits)) (parts .2) .1 in
+        let n = table-passed splitWidth (roomOf size) splits (splitFault (stageLengths ends bytes) (stageSections sections) (stageSplits splits)) (parts .2) .1 in
         let k = length-mended (sectionEnds (stageSections sections)) (stageSplits splits) in
         let same = ap (λ (x : Mended). length (x .splits)) (mend-inv (sectionEnds (stageSections sections)) room (stageSplits splits) m (parts .3) .2) in
         omega (arith, n, k, same, count-splits)
@@ -105,16 +107,24 @@ module _ (ends bytes sections : List ℕ) where
     table-good : recordsCheck (splitFault (stageLengths ends bytes) (stageSections sections) (m .splits)) (length (m .splits)) ≡ accepted tt
     table-good = mend-table (stageLengths ends bytes) (stageSections sections) heads-passed (stageSplits splits) splits-passed room m (parts .3)
 
-    -- the mended table's records, taken again
-    records-pass : (ceiling : ℕ) → length (m .splits) ≤ ceiling → splitsCheck ceiling (stageLengths ends bytes) (stageSections sections) (splitBytes m) ≡ accepted tt
-    records-pass ceiling h =
-        ap (splitsCheck ceiling (stageLengths ends bytes) (stageSections sections)) (sym (over-itself (splitBytes m)))
-        ∙ bytes-pass (stageLengths ends bytes) few-names (stageSections sections) few-sections (m .splits) table-good (splitBytes m) ceiling (length-tableBytes (m .splits)) h
+    -- the lent table is of bytes, as every table is, so that its origins have 16 bits
+    abbrev OfBytes : Type 0
+    OfBytes = (i : ℕ) → getD splits i 0 < 256
 
-    records-back : stageSplits (splitBytes m) ≡ m .splits
-    records-back =
+    origins : OfBytes → All (λ s. s .origin < 65536) (m .splits)
+    origins small =
+        mended-origins (sectionEnds (stageSections sections)) room (stageSplits splits) m (parts .3) (split-origins splits (stagePlaces splitWidth (length splits / splitWidth)) small)
+
+    -- the mended table's records, taken again
+    records-pass : OfBytes → (ceiling : ℕ) → length (m .splits) ≤ ceiling → splitsCheck ceiling (stageLengths ends bytes) (stageSections sections) (splitBytes m) ≡ accepted tt
+    records-pass small ceiling h =
+        ap (splitsCheck ceiling (stageLengths ends bytes) (stageSections sections)) (sym (over-itself (splitBytes m)))
+        ∙ bytes-pass (stageLengths ends bytes) few-names (stageSections sections) few-sections (m .splits) table-good (origins small) (splitBytes m) ceiling (length-tableBytes (m .splits)) h
+
+    records-back : OfBytes → stageSplits (splitBytes m) ≡ m .splits
+    records-back small =
         ap stageSplits (sym (over-itself (splitBytes m)))
-        ∙ bytes-back (stageLengths ends bytes) few-names (stageSections sections) few-sections (m .splits) table-good (splitBytes m) (length-tableBytes (m .splits))
+        ∙ bytes-back (stageLengths ends bytes) few-names (stageSections sections) few-sections (m .splits) table-good (origins small) (splitBytes m) (length-tableBytes (m .splits))
 
     -- THEOREM: "touches no other field"
     pub fields : map (withEnd 0) (m .splits) ≡ map (withEnd 0) (stageSplits splits)
@@ -128,22 +138,22 @@ module _ (ends bytes sections : List ℕ) where
           ∙ take-append-seam (splitBytes m) (drop (length (splitBytes m)) out)
 
       -- THEOREM: it passes the checks of a split table, with the output's room or more as ceiling
-      pub goes-on : (ceiling : ℕ) → roomOf size ≤ ceiling
+      pub goes-on : OfBytes → (ceiling : ℕ) → roomOf size ≤ ceiling
           → splitsCheck ceiling (stageLengths ends bytes) (stageSections sections) (take (splitWidth * length (m .splits)) out′) ≡ accepted tt
-      goes-on ceiling h =
-          ap (splitsCheck ceiling (stageLengths ends bytes) (stageSections sections)) given-back ∙ records-pass ceiling (omega (arith, h, few-given))
+      goes-on small ceiling h =
+          ap (splitsCheck ceiling (stageLengths ends bytes) (stageSections sections)) given-back ∙ records-pass small ceiling (omega (arith, h, few-given))
 
       -- THEOREM: "The list that it gives back passes rules 50 and 51", whatever the symbols
-      pub passes-both : PassesBoth (stageSplits (take (splitWidth * length (m .splits)) out′))
-      passes-both =
-          subst PassesBoth (sym (ap stageSplits given-back ∙ records-back)) (mend-passes (sectionEnds (stageSections sections)) room (stageSplits splits) m (parts .3))
+      pub passes-both : OfBytes → PassesBoth (stageSplits (take (splitWidth * length (m .splits)) out′))
+      passes-both small =
+          subst PassesBoth (sym (ap stageSplits given-back ∙ records-back small)) (mend-passes (sectionEnds (stageSections sections)) room (stageSplits splits) m (parts .3))
 
       -- THEOREM: mending twice is mending once, whatever room there is for lines the second time, and no line is written then
-      pub twice : (again : ℕ)
+      pub twice : OfBytes → (again : ℕ)
           → mendSplitsOf ends bytes sections (take (splitWidth * length (m .splits)) out′) size again ≡ accepted (record { splits = m .splits; lines = [] })
       unfolding mendSplitsOf
-      twice again =
+      twice small again =
           after-heads (parts .0) (parts .1)
-          ∙ after-table (goes-on (roomOf size) (omega arith))
-          ∙ ap (mend (sectionEnds (stageSections sections)) again) (ap stageSplits given-back ∙ records-back)
+          ∙ after-table (goes-on small (roomOf size) (omega arith))
+          ∙ ap (mend (sectionEnds (stageSections sections)) again) (ap stageSplits given-back ∙ records-back small)
           ∙ mend-twice (sectionEnds (stageSections sections)) room (stageSplits splits) m (parts .3) again

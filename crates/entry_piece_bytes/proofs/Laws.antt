@@ -18,7 +18,7 @@ use Rattle.obj.proofs.Laws.{stage-place}
 use Rattle.tables.specs.Records.{imagePlaces, bytesCut}
 use Rattle.sections.specs.Bytes.{bytesOf}
 use Rattle.sections.specs.Sections.{Sections, sectionsOf}
-use Rattle.pieces.specs.Pieces.{pieceAt}
+use Rattle.pieces.specs.Pieces.{pieceAt, pieceWidth}
 use Rattle.pieces.specs.declared.Piece.{Piece}
 use Rattle.restore.specs.Restoring.{returned, bytesIn}
 use Rattle.entry_piece_bytes.specs.declared.Place.{Place}
@@ -37,8 +37,8 @@ part-of-front (suc from) size (suc n) (x ∷ l) h = part-of-front from size n l 
 -- the piece's section is there, its bytes lie in the image, and the piece in it
 pub record Accepted (sections places image pieces : List ℕ) (which : ℕ) (place : Place) : Type 0 where
   pub piece : Piece
-  pub is-piece : piece ≡ pieceAt pieces (28 * which)
-  pub there : which < length pieces / 28
+  pub is-piece : piece ≡ pieceAt pieces (pieceWidth * which)
+  pub there : which < length pieces / pieceWidth
   pub listed : piece .section < length sections / 15
   pub whole : bytesCut (imagePlaces places) (reach (length image)) (piece .section) (sectionAt sections (15 * piece .section)) ≡ false
   pub inside : outside (sectionAt sections (15 * piece .section)) piece ≡ false
@@ -48,7 +48,7 @@ pub place-accepted : (sections places image pieces : List ℕ) (which : ℕ) (pl
     → Accepted sections places image pieces which place
 unfolding placeOf ofPiece inSection within
 place-accepted sections places image pieces which place e =
-    let p = pieceAt pieces (28 * which) in
+    let p = pieceAt pieces (pieceWidth * which) in
     let a = then-both _ _ _ e in
     let b = then-both _ _ _ (a .1) in
     let c = then-inv _ _ _ _ _ _ (b .1) in
@@ -136,7 +136,7 @@ module _ (sections places image pieces : List ℕ) (which : ℕ) (place : Place)
       subst (λ (x : Place). x .offset + x .length ≤ length image) (sym (a .is)) (placed-inside image (imagePlaces places) _ (a .piece) (a .whole) (a .inside))
 
   -- and has the bytes of the piece of this number
-  pub place-reads : take (place .length) (drop (place .offset) image) ≡ bytesIn (sectionsIn sections places image) (pieceAt pieces (28 * which))
+  pub place-reads : take (place .length) (drop (place .offset) image) ≡ bytesIn (sectionsIn sections places image) (pieceAt pieces (pieceWidth * which))
   place-reads =
       let a = place-accepted sections places image pieces which place e in
       ap (λ (x : Place). take (x .length) (drop (x .offset) image)) (a .is)

@@ -17,7 +17,7 @@ use Rattle.obj.specs.declared.Answer.{Answer}
 use Rattle.obj.specs.declared.Answer.the-variants.{Refused}
 use Rattle.obj.specs.declared.Section.{Section}
 use Rattle.tables.specs.Records.{bytesCut}
-use Rattle.pieces.specs.Pieces.{pieceAt}
+use Rattle.pieces.specs.Pieces.{pieceAt, pieceWidth}
 use Rattle.pieces.specs.declared.Piece.{Piece}
 use Rattle.entry_piece_bytes.specs.declared.Place.{Place}
 use Rattle.entry_piece_bytes.specs.Entry.{within, inSection, ofPiece, outside, placed, reach, found}
@@ -75,11 +75,11 @@ module _ (sections places : List ℕ) (image : ℕ) (p : Piece) where
   section-there h = passes 20 (p .section) 0 _ _ (lt-leb _ _ h)
 
 module _ (sections places : List ℕ) (image : ℕ) (pieces : List ℕ) (which : ℕ) where
-  pub no-piece : length pieces / 28 ≤ which → ofPiece sections places image pieces which ≡ refused 20 0 which
+  pub no-piece : length pieces / pieceWidth ≤ which → ofPiece sections places image pieces which ≡ refused 20 0 which
   unfolding ofPiece
   no-piece h = fails 20 0 which _ _ (le-leb _ _ h)
 
-  pub piece-there : which < length pieces / 28 → ofPiece sections places image pieces which ≡ inSection sections places image (pieceAt pieces (28 * which))
+  pub piece-there : which < length pieces / pieceWidth → ofPiece sections places image pieces which ≡ inSection sections places image (pieceAt pieces (pieceWidth * which))
   unfolding ofPiece
   piece-there h = passes 20 0 which _ _ (lt-leb _ _ h)
 

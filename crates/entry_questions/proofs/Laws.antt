@@ -10,7 +10,7 @@ use lib.Dec.{leb}
 use lib.ListN.{length, getD}
 use Rattle.lists.specs.Outcome.{Outcome, accepted, refused, _>>_, _>>=_}
 use Rattle.lists.proofs.Outcomes.{fails, passes, then-goes}
-use Rattle.obj.specs.Records.{stagePlaces}
+use Rattle.obj.specs.Records.{stagePlaces, splitWidth}
 use Rattle.obj.specs.declared.Section.{Section}
 use Rattle.obj.specs.declared.Split.{Split}
 use Rattle.obj.proofs.Laws.{length-stagePlaces}
@@ -110,30 +110,30 @@ module _ (g : Image) (head : ℕ → Section) (count : ℕ) (split : ℕ → Spl
 
 -- ---- the question over the columns is that over the lent tables
 pub question-as : (b heads image splits places name-bytes name-places name-lengths P H I S : List ℕ) (question : Question)
-    → P ≡ stagePlaces 20 (length b / 20) → H ≡ stagePlaces 15 (length heads / 15) → S ≡ stagePlaces 19 (length splits / 19)
+    → P ≡ stagePlaces 20 (length b / 20) → H ≡ stagePlaces 15 (length heads / 15) → S ≡ stagePlaces splitWidth (length splits / splitWidth)
     → ((n : ℕ) → n < length heads / 15 → getD I n 0 ≡ getD (imagePlaces places) n 0)
     → questionOf (imageOf b P name-bytes name-places name-lengths) (sectionsOf heads H image I) (length S) (splitOf splits S) question
-    ≡ questionOf (imageOf b (stagePlaces 20 (length b / 20)) name-bytes name-places name-lengths) (sectionsIn heads places image) (length splits / 19) (splitIn splits) question
+    ≡ questionOf (imageOf b (stagePlaces 20 (length b / 20)) name-bytes name-places name-lengths) (sectionsIn heads places image) (length splits / splitWidth) (splitIn splits) question
 unfolding questionOf
 question-as b heads image splits places name-bytes name-places name-lengths P H I S question p h s same =
     ap₂ (λ (x y : List ℕ). questionOf (imageOf b x name-bytes name-places name-lengths) (sectionsOf heads y image I) (length S) (splitOf splits S) question) p h
     ∙ ap (λ (z : List ℕ). questionOf g (sectionsOf heads (stagePlaces 15 (length heads / 15)) image I) (length z) (splitOf splits z) question) s
-    ∙ ap (λ (n : ℕ). questionOf g (sectionsOf heads (stagePlaces 15 (length heads / 15)) image I) n (splitIn splits) question) (length-stagePlaces 19 (length splits / 19))
+    ∙ ap (λ (n : ℕ). questionOf g (sectionsOf heads (stagePlaces 15 (length heads / 15)) image I) n (splitIn splits) question) (length-stagePlaces splitWidth (length splits / splitWidth))
     ∙ go question
   where
     g : Image
     g = imageOf b (stagePlaces 20 (length b / 20)) name-bytes name-places name-lengths
 
     go : (q : Question)
-        → questionOf g (sectionsOf heads (stagePlaces 15 (length heads / 15)) image I) (length splits / 19) (splitIn splits) q
-        ≡ questionOf g (sectionsIn heads places image) (length splits / 19) (splitIn splits) q
+        → questionOf g (sectionsOf heads (stagePlaces 15 (length heads / 15)) image I) (length splits / splitWidth) (splitIn splits) q
+        ≡ questionOf g (sectionsIn heads places image) (length splits / splitWidth) (splitIn splits) q
     go (questions.End section) = end-as g heads (stagePlaces 15 (length heads / 15)) image I (imagePlaces places) section (λ n k. same n (rw length-stagePlaces at k))
     go (questions.Alignment which) = refl
 
 -- ---- `end_for_section` takes no splits
 
 -- an empty table is of good size
-no-records : (c : ℕ) → sizeCheck 19 c 0 ≡ accepted tt
+no-records : (c : ℕ) → sizeCheck splitWidth c 0 ≡ accepted tt
 unfolding sizeCheck
 no-records c = passes 1 0 _ _ _ refl ∙ passes 2 0 c _ _ (le-ltb c 0 (omega arith))
 
@@ -141,7 +141,7 @@ no-records c = passes 1 0 _ _ _ refl ∙ passes 2 0 c _ _ (le-ltb c 0 (omega ari
 pub no-splits : (c : ℕ) (lengths : List ℕ) (heads : List Section) → splitsCheck c lengths heads [] ≡ accepted tt
 unfolding tableCheck
 no-splits c lengths heads =
-    sym (then-goes (refl {a = sizeCheck 19 c 0}) _ (no-records c))
+    sym (then-goes (refl {a = sizeCheck splitWidth c 0}) _ (no-records c))
     ∙ records-pass (splitFault lengths heads (stageSplits [])) 0 (λ k h. absurd (omega (arith, h)))
 
 -- so it answers for names, sections with their bytes, symbols, and then the end

@@ -9,7 +9,7 @@ use lib.Seq.{length-take-le, getD-take}
 use Rattle.lists.specs.Outcome.{Outcome, accepted, _>>_}
 use Rattle.lists.proofs.Rows.{getD-map}
 use Rattle.obj.specs.Answers.{meaning}
-use Rattle.obj.specs.Records.{splitAt, stagePlaces}
+use Rattle.obj.specs.Records.{splitAt, stagePlaces, splitWidth}
 use Rattle.obj.specs.declared.Answer.{Answer}
 use Rattle.obj.specs.declared.Answer.the-variants.{Refused}
 use Rattle.obj.specs.declared.Section.{Section}
@@ -60,23 +60,23 @@ headed kept = record { held = kept .held; named = kept .named }
 
 -- each split of a table that passed can be read, and its section is there
 pub homes-taken : (ceiling : ℕ) (lengths : List ℕ) (sections : List Section) (b : List ℕ) → splitsCheck ceiling lengths sections b ≡ accepted tt
-    → ceiling ≤ 4096 → {places head-places : List ℕ} → places ≡ stagePlaces 19 (length b / 19) → length sections ≡ length head-places
+    → ceiling ≤ 4096 → {places head-places : List ℕ} → places ≡ stagePlaces splitWidth (length b / splitWidth) → length sections ≡ length head-places
     → Homes b places head-places
 homes-taken ceiling lengths sections b passed low {places} {head-places} there count =
     rw there
     (record {
-      held = λ k h. held (stage-held 19 (length b / 19) b (omega (arith, table .1, low)) (omega arith)) k h;
-      home = λ k h. rw (split-is k (within k h), sym count) (splits-section lengths sections (stageSplits b) (length b / 19) (table .2) k (within k h));
+      held = λ k h. held (stage-held splitWidth (length b / splitWidth) b (omega (arith, table .1, low)) (omega arith)) k h;
+      home = λ k h. rw (split-is k (within k h), sym count) (splits-section lengths sections (stageSplits b) (length b / splitWidth) (table .2) k (within k h));
     })
   where
-    table : (length b % 19 ≡ 0) × (length b / 19 ≤ ceiling) × (recordsCheck (splitFault lengths sections (stageSplits b)) (length b / 19) ≡ accepted tt)
-    table = table-passed 19 ceiling b _ passed
+    table : (length b % splitWidth ≡ 0) × (length b / splitWidth ≤ ceiling) × (recordsCheck (splitFault lengths sections (stageSplits b)) (length b / splitWidth) ≡ accepted tt)
+    table = table-passed splitWidth ceiling b _ passed
 
-    within : (k : ℕ) → k < length (stagePlaces 19 (length b / 19)) → k < length b / 19
+    within : (k : ℕ) → k < length (stagePlaces splitWidth (length b / splitWidth)) → k < length b / splitWidth
     within k h = rw length-stagePlaces at h
 
-    split-is : (k : ℕ) → k < length b / 19 → splitOf b (stagePlaces 19 (length b / 19)) k ≡ getD (stageSplits b) k noSplit
-    split-is k h = sym (getD-map (splitAt b) (stagePlaces 19 (length b / 19)) k 0 noSplit (rw length-stagePlaces h))
+    split-is : (k : ℕ) → k < length b / splitWidth → splitOf b (stagePlaces splitWidth (length b / splitWidth)) k ≡ getD (stageSplits b) k noSplit
+    split-is k h = sym (getD-map (splitAt b) (stagePlaces splitWidth (length b / splitWidth)) k 0 noSplit (rw length-stagePlaces h))
 
 -- ---- names that passed stand at the fronts of their columns
 module _ (ends bytes places lengths heads chain : List ℕ) (stored : names.Stored ends bytes places lengths heads chain (length ends / 2)) where
@@ -104,7 +104,7 @@ module _ (ends bytes places lengths heads chain : List ℕ) (stored : names.Stor
         imageCheck (mainCeilings .sections) (names.stageLengths ends bytes) section-places (length image) sections
         symbolsCheck (mainCeilings .symbols) (length ends / 2) (stageSections sections) symbols
         splitsCheck (mainCeilings .splits) (names.stageLengths ends bytes) (stageSections sections) splits
-        questionOf (imageIn ends bytes symbols) (sectionsIn sections section-places image) (length splits / 19) (splitIn splits) question)
+        questionOf (imageIn ends bytes symbols) (sectionsIn sections section-places image) (length splits / splitWidth) (splitIn splits) question)
   unfolding fromSections
   columns-as sections section-places image symbols splits question =
       ap (λ (n : ℕ). checks n (take (length ends / 2) places) (take (length ends / 2) lengths)) lengths-count
@@ -115,5 +115,5 @@ module _ (ends bytes places lengths heads chain : List ℕ) (stored : names.Stor
         imageCheck (mainCeilings .sections) sizes section-places (length image) sections
         symbolsCheck (mainCeilings .symbols) count (stageSections sections) symbols
         splitsCheck (mainCeilings .splits) sizes (stageSections sections) splits
-        questionOf (imageOf symbols (stagePlaces 20 (length symbols / 20)) bytes starts sizes) (sectionsIn sections section-places image) (length splits / 19)
+        questionOf (imageOf symbols (stagePlaces 20 (length symbols / 20)) bytes starts sizes) (sectionsIn sections section-places image) (length splits / splitWidth)
             (splitIn splits) question

@@ -15,7 +15,7 @@ use Rattle.lists.proofs.Compare.{lt-or-ge}
 use Rattle.lists.proofs.Outcomes.{then-goes, then-both}
 use Rattle.lists.proofs.Clear.{clear-all}
 use Rattle.obj.specs.Answers.{word, outcomeWord, meaning}
-use Rattle.obj.specs.Records.{sectionAt, splitAt, unitAt, stagePlaces}
+use Rattle.obj.specs.Records.{sectionAt, splitAt, unitAt, stagePlaces, splitWidth}
 use Rattle.obj.specs.declared.Answer.{Answer}
 use Rattle.obj.specs.declared.Answer.the-variants.{Accepted, Refused}
 use Rattle.obj.specs.declared.Split.{Split}
@@ -134,17 +134,17 @@ sections-taken lengths b places name-bytes name-places f e names =
 -- ---- splits
 module _ (lengths heads head-places name-bytes name-places b : List ℕ) (c : Columns) {answer : Outcome (Unit {0})}
     (t : Taken answer (splitsCheck 1024 lengths (sectionsIn heads head-places) b) b c) (e : answer ≡ accepted tt) where
-  passed-table : (length b / 19 ≤ 1024) × (recordsCheck (splitFault lengths (sectionsIn heads head-places) (stageSplits b)) (length b / 19) ≡ accepted tt)
-  passed-table = let p = table-passed 19 1024 b (splitFault lengths (sectionsIn heads head-places) (stageSplits b)) (sym (t .said) ∙ e) in (p .1, p .2)
+  passed-table : (length b / splitWidth ≤ 1024) × (recordsCheck (splitFault lengths (sectionsIn heads head-places) (stageSplits b)) (length b / splitWidth) ≡ accepted tt)
+  passed-table = let p = table-passed splitWidth 1024 b (splitFault lengths (sectionsIn heads head-places) (stageSplits b)) (sym (t .said) ∙ e) in (p .1, p .2)
 
-  pub rows-taken : rows c (length b / 19) ≡ stageSplits b
+  pub rows-taken : rows c (length b / splitWidth) ≡ stageSplits b
   rows-taken = t .taken (sym (t .said) ∙ e)
 
-  row-taken : (i : ℕ) → i < length b / 19 → rowAt c i ≡ getD (stageSplits b) i noSplit
-  row-taken i h = sym (row-at c (length b / 19) i h) ∙ ap (λ (l : List Split). getD l i noSplit) rows-taken
+  row-taken : (i : ℕ) → i < length b / splitWidth → rowAt c i ≡ getD (stageSplits b) i noSplit
+  row-taken i h = sym (row-at c (length b / splitWidth) i h) ∙ ap (λ (l : List Split). getD l i noSplit) rows-taken
 
   pub splits-taken : SectionsTaken heads head-places name-bytes name-places lengths → Long c 1024
-      → SplitsTaken c (length b / 19) heads head-places name-bytes name-places lengths
+      → SplitsTaken c (length b / splitWidth) heads head-places name-bytes name-places lengths
   splits-taken s long = record {
     given = record {
       long = record {
@@ -156,12 +156,12 @@ module _ (lengths heads head-places name-bytes name-places b : List ℕ) (c : Co
       few = passed-table .0;
       sections = s .sections;
       sectioned = λ i h.
-          let q = tables.splits-section lengths (sectionsIn heads head-places) (stageSplits b) (length b / 19) (passed-table .1) i h in
+          let q = tables.splits-section lengths (sectionsIn heads head-places) (stageSplits b) (length b / splitWidth) (passed-table .1) i h in
           omega (arith, ap (λ (r : Split). r .section) (row-taken i h), length-map head-places (sectionAt heads));
     };
     named = λ i h.
-        let partials = tables.splits-partials lengths (sectionsIn heads head-places) (stageSplits b) (length b / 19) (passed-table .1) in
-        let q = known lengths (getD (stageSplits b) i noSplit .unit) (tables.partials-named lengths (stageSplits b) (length b / 19) partials i h) in
+        let partials = tables.splits-partials lengths (sectionsIn heads head-places) (stageSplits b) (length b / splitWidth) (passed-table .1) in
+        let q = known lengths (getD (stageSplits b) i noSplit .unit) (tables.partials-named lengths (stageSplits b) (length b / splitWidth) partials i h) in
         omega (arith, ap (λ (r : Split). r .unit) (row-taken i h), s .few);
     few = s .few;
   }
@@ -239,11 +239,11 @@ pointers-splits lengths heads p q splits us size agree = by-check (splitsCheck 1
         → linkOrder (record { splits = stageSplits splits; units = stageUnits us; pointers = p }) (size / 8)
         ≡ linkOrder (record { splits = stageSplits splits; units = stageUnits us; pointers = q }) (size / 8)
     same e =
-        let passed = table-passed 19 1024 splits (splitFault lengths heads (stageSplits splits)) e .2 in
+        let passed = table-passed splitWidth 1024 splits (splitFault lengths heads (stageSplits splits)) e .2 in
         same-pointers (stageSplits splits) (stageUnits us) p q (size / 8)
         (λ i h.
-        let k : i < length splits / 19 = omega (arith, length-map (stagePlaces 19 (length splits / 19)) (splitAt splits), length-stagePlaces 19 (length splits / 19)) in
-        agree _ (tables.splits-section lengths heads (stageSplits splits) (length splits / 19) passed i k))
+        let k : i < length splits / splitWidth = omega (arith, length-map (stagePlaces splitWidth (length splits / splitWidth)) (splitAt splits), length-stagePlaces splitWidth (length splits / splitWidth)) in
+        agree _ (tables.splits-section lengths heads (stageSplits splits) (length splits / splitWidth) passed i k))
 
     by-check : (o : Outcome (Unit {0})) → splitsCheck 1024 lengths heads splits ≡ o
         → (o >> (unitsCheck 1024 lengths us >> linkOrder (record { splits = stageSplits splits; units = stageUnits us; pointers = p }) (size / 8)))

@@ -22,6 +22,7 @@ use Rattle.tables.specs.Records.{numbered, noSection, noSplit, noUnit, splitBef
 use Rattle.tables.proofs.Laws.{size-passed}
 use Rattle.name_table.specs.NameTable.{nameCut, nameWrong, nameFault, namesCheck}
 use Rattle.stage_tables.specs.StageTables.{tableCheck, stageSections, stageSplits, stageUnits, sectionsCheck, splitsCheck, unitsCheck}
+use Rattle.obj.specs.Records.{splitWidth}
 
 abbrev pub Low : {A : Type 0} → Outcome A → Type 0
 Low (accepted a) = Unit {0}
@@ -120,7 +121,7 @@ pub low-sections : (lengths b : List ℕ) → Low (sectionsCheck 64 lengths b)
 low-sections lengths b = low-table 15 64 b (sectionFault lengths (stageSections b)) (section-small lengths b) (omega arith)
 
 pub low-splits : (lengths : List ℕ) (heads : List Section) (b : List ℕ) → Low (splitsCheck 1024 lengths heads b)
-low-splits lengths heads b = low-table 19 1024 b (splitFault lengths heads (stageSplits b)) (split-small lengths heads b) (omega arith)
+low-splits lengths heads b = low-table splitWidth 1024 b (splitFault lengths heads (stageSplits b)) (split-small lengths heads b) (omega arith)
 
 pub low-units : (lengths b : List ℕ) → Low (unitsCheck 1024 lengths b)
 low-units lengths b = low-table 8 1024 b (unitFault lengths (stageUnits b)) (unit-small lengths b) (omega arith)

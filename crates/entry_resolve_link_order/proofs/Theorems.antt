@@ -23,7 +23,7 @@ use Rattle.lists.proofs.FirstIn.{firstIn-passes}
 use Rattle.lists.proofs.Compare.{never}
 use Rattle.lists.proofs.Outcomes.{then-goes, then-both}
 use Rattle.obj.specs.Answers.{refusalWord, outcomeWord}
-use Rattle.obj.specs.Records.{splitAt, unitAt, stagePlaces}
+use Rattle.obj.specs.Records.{splitAt, unitAt, stagePlaces, splitWidth}
 use Rattle.obj.specs.declared.Split.{Split}
 use Rattle.obj.specs.declared.Unit as units
 use Rattle.obj.proofs.Laws.{length-stagePlaces}
@@ -131,14 +131,14 @@ module _ (ends bytes sections splits us : List ℕ) (p : Passed ends bytes secti
   names-few : length L ≤ 4096
   names-few = lengths-few ends bytes (p .names)
 
-  length-S : length S ≡ length splits / 19
-  length-S = length-map (stagePlaces 19 (length splits / 19)) (splitAt splits) ∙ length-stagePlaces 19 (length splits / 19)
+  length-S : length S ≡ length splits / splitWidth
+  length-S = length-map (stagePlaces splitWidth (length splits / splitWidth)) (splitAt splits) ∙ length-stagePlaces splitWidth (length splits / splitWidth)
 
   length-U : length U ≡ length us / 8
   length-U = length-map (stagePlaces 8 (length us / 8)) (unitAt us) ∙ length-stagePlaces 8 (length us / 8)
 
-  passed-splits : (length splits / 19 ≤ 1024) × (recordsCheck (splitFault L (stageSections sections) S) (length splits / 19) ≡ accepted tt)
-  passed-splits = let q = table-passed 19 1024 splits (splitFault L (stageSections sections) S) (p .table) in (q .1, q .2)
+  passed-splits : (length splits / splitWidth ≤ 1024) × (recordsCheck (splitFault L (stageSections sections) S) (length splits / splitWidth) ≡ accepted tt)
+  passed-splits = let q = table-passed splitWidth 1024 splits (splitFault L (stageSections sections) S) (p .table) in (q .1, q .2)
 
   passed-units : (length us / 8 ≤ 1024) × (recordsCheck (unitFault L U) (length us / 8) ≡ accepted tt)
   passed-units = let q = table-passed 8 1024 us (unitFault L U) (p .records) in (q .1, q .2)
@@ -151,13 +151,13 @@ module _ (ends bytes sections splits us : List ℕ) (p : Passed ends bytes secti
 
   -- sections do not fall
   pub lies : BySection S
-  lies i j h q = tables.splits-rise L (stageSections sections) S (length splits / 19) (passed-splits .1) i j h (omega (arith, length-S)) .sections
+  lies i j h q = tables.splits-rise L (stageSections sections) S (length splits / splitWidth) (passed-splits .1) i j h (omega (arith, length-S)) .sections
 
   -- a unit that has splits is a name
   unit-small : (v : ℕ) → In v (nodes S) → v < 65536
   unit-small v i =
       let k = node-split S v i in
-      let h = known L (getD S (k .0) noSplit .unit) (tables.partials-named L S (length splits / 19) (tables.splits-partials L (stageSections sections) S (length splits / 19) (passed-splits .1)) (k .0) (omega (arith, length-S, k .1))) in
+      let h = known L (getD S (k .0) noSplit .unit) (tables.partials-named L S (length splits / splitWidth) (tables.splits-partials L (stageSections sections) S (length splits / splitWidth) (passed-splits .1)) (k .0) (omega (arith, length-S, k .1))) in
       omega (arith, names-few, k .2)
 
   -- a unit record has its widths

@@ -8,17 +8,17 @@ use native.Mathlib.Omega.{arith}
 use lib.ListN.{length, take}
 use Rattle.lists.specs.Outcome.{Outcome, accepted, refused}
 use Rattle.lists.specs.Rows.{tabulate}
-use Rattle.obj.specs.Records.{stagePlaces}
+use Rattle.obj.specs.Records.{stagePlaces, splitWidth}
 use Rattle.names.specs.Names.{namesOf}
 use Rattle.names.specs.Append.{Packed, Columns as Beside}
 use Rattle.splits.specs.Columns.{Columns, rows, Long}
 use Rattle.stage_splits.specs.StageSplits.{roomOf}
 use Rattle.order.specs.Bytes.{unitsBytes}
 use Rattle.gap_splits.specs.Entering.{bytesOf}
-use Rattle.pieces.specs.Pieces.{piecesIn, symbolsIn, relocsIn}
+use Rattle.pieces.specs.Pieces.{piecesIn, symbolsIn, relocsIn, pieceWidth}
 use Rattle.walk.specs.declared.Counts.{Counts}
 use Rattle.stage_walk.specs.Room.{roomIn}
-use Rattle.stage_walk.proofs.Room.{room-low, room-28, room-12, room-8}
+use Rattle.stage_walk.proofs.Room.{room-low, room-pieces, room-12, room-8}
 use Rattle.run.specs.Run.{Result, Ended}
 use Rattle.run.specs.Answers.{unitsAt, ranIn, Names, Units, Within}
 use Rattle.run.specs.declared.Ran.{Ran}
@@ -55,16 +55,16 @@ no-output pieces symbols relocs =
 
 output-fits : (pieces symbols relocs : ℕ) (made : Counts) → Within (roomIn pieces symbols relocs) made → OutputFits made pieces symbols relocs
 output-fits pieces symbols relocs made w = record {
-  pieces-fit = omega (arith, w .pieces, room-28 1024 pieces);
+  pieces-fit = omega (arith, w .pieces, room-pieces 1024 pieces);
   symbols-fit = omega (arith, w .symbols, room-12 4096 symbols);
   relocs-fit = omega (arith, w .relocs, room-8 4096 relocs);
-  few-pieces = omega (arith, w .pieces, room-low 1024 pieces 28);
+  few-pieces = omega (arith, w .pieces, room-low 1024 pieces pieceWidth);
   few-symbols = omega (arith, w .symbols, room-low 4096 symbols 12);
   few-relocs = omega (arith, w .relocs, room-low 4096 relocs 8);
 }
 
 -- ---- what is kept
-module _ (c : Beside) (table : Columns) (units : List ℕ) (sizes : Sizes) (cap : ℕ) (long : Long table cap) (few : cap ≤ 1024) (fit : 19 * cap ≤ sizes .splits) where
+module _ (c : Beside) (table : Columns) (units : List ℕ) (sizes : Sizes) (cap : ℕ) (long : Long table cap) (few : cap ≤ 1024) (fit : splitWidth * cap ≤ sizes .splits) where
   long-less : (n : ℕ) → n ≤ cap → Long table n
   long-less n h = record { starts = omega (arith, h, long .starts); ends = omega (arith, h, long .ends); units = omega (arith, h, long .units); rest = omega (arith, h, long .rest) }
 

@@ -18,10 +18,11 @@ use Rattle.split_obj.specs.declared.Walked.the-variants.{Accepted, Refused}
 use Rattle.split_obj.specs.Loop.{seen}
 use Rattle.stage_walk.specs.Room.{roomIn}
 use Rattle.stage_walk.specs.Lines.{Within}
-use Rattle.stage_walk.proofs.Room.{room-low, room-28, room-12, room-8}
+use Rattle.stage_walk.proofs.Room.{room-low, room-pieces, room-12, room-8}
 use Rattle.stage_walk.proofs.Walked.{none-read}
 use Rattle.entry_split_obj.specs.Entry.{Sizes, Laid, Leaves, outputOf}
 use Rattle.entry_split_obj.specs.Lines.{madeBy, wordBy, Fits}
+use Rattle.pieces.specs.Pieces.{pieceWidth}
 
 -- ---- the counts
 pub three-counts : (size a b c : ℕ) (before : List ℕ) → length before ≡ size
@@ -34,10 +35,10 @@ three-counts size a b c before e =
 pub made-fits : (pieces entries offsets : ℕ) (r : Walked) → Within (roomIn pieces entries offsets) r → Fits (madeBy r) pieces entries offsets
 made-fits pieces entries offsets (Accepted made) w =
     record {
-      pieces-fit = omega (arith, w .0, room-28 1024 pieces);
+      pieces-fit = omega (arith, w .0, room-pieces 1024 pieces);
       entries-fit = omega (arith, w .1, room-12 4096 entries);
       offsets-fit = omega (arith, w .2, room-8 4096 offsets);
-      few-pieces = omega (arith, w .0, room-low 1024 pieces 28);
+      few-pieces = omega (arith, w .0, room-low 1024 pieces pieceWidth);
       few-symbols = omega (arith, w .1, room-low 4096 entries 12);
       few-relocs = omega (arith, w .2, room-low 4096 offsets 8);
     }

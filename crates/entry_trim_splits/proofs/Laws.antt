@@ -10,7 +10,7 @@ use lib.Seq.{getD-take, length-take-le}
 use Rattle.lists.specs.Outcome.{Outcome, accepted, refused, _>>_}
 use Rattle.lists.proofs.Rows.{getD-tabulate}
 use Rattle.obj.specs.Answers.{meaning}
-use Rattle.obj.specs.Records.{sectionAt, stagePlaces}
+use Rattle.obj.specs.Records.{sectionAt, stagePlaces, splitWidth}
 use Rattle.obj.specs.declared.Answer.{Answer}
 use Rattle.obj.specs.declared.Answer.the-variants.{Accepted, Refused}
 use Rattle.obj.specs.declared.Section.{Section}
@@ -48,7 +48,7 @@ module _ {size counts-size : ℕ} {out counts : List ℕ} (a : Answer) (o : Outc
 
 -- ---- splits that passed: each has a section, and ends at or below 0xF0000000
 pub rows-placed : (ceiling : ℕ) (lengths : List ℕ) (heads : List Section) (b : List ℕ) (c : Columns) → splitsCheck ceiling lengths heads b ≡ accepted tt
-    → rows c (length b / 19) ≡ stageSplits b → Long c (length b / 19) → (count : ℕ) → length heads ≡ count → AllPlaced count c (length b / 19)
+    → rows c (length b / splitWidth) ≡ stageSplits b → Long c (length b / splitWidth) → (count : ℕ) → length heads ≡ count → AllPlaced count c (length b / splitWidth)
 rows-placed ceiling lengths heads b c passed taken long count e =
     record {
       long = long;
@@ -60,10 +60,10 @@ rows-placed ceiling lengths heads b c passed taken long count e =
     }
   where
     n : ℕ
-    n = length b / 19
+    n = length b / splitWidth
 
     records : recordsCheck (splitFault lengths heads (stageSplits b)) n ≡ accepted tt
-    records = table-passed 19 ceiling b _ passed .2
+    records = table-passed splitWidth ceiling b _ passed .2
 
     row-is : (k : ℕ) → k < n → rowAt c k ≡ getD (stageSplits b) k noSplit
     row-is k h = sym (getD-tabulate (rowAt c) 0 n k noSplit h ∙ ap (rowAt c) (zero-add k)) ∙ ap (λ (l : List Split). getD l k noSplit) taken

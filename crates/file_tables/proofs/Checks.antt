@@ -14,7 +14,7 @@ use Rattle.lists.specs.Outcome.{accepted}
 use Rattle.lists.specs.Rows.{anyOf, anyFrom}
 use Rattle.lists.proofs.Binds.{after-goes}
 use Rattle.lists.proofs.Rows.{getD-map}
-use Rattle.obj.specs.Records.{sectionAt, relocAt}
+use Rattle.obj.specs.Records.{sectionAt, relocAt, partialWidth}
 use Rattle.obj.specs.declared.Section.{Section}
 use Rattle.obj.specs.declared.Symbol.{Symbol}
 use Rattle.obj.specs.declared.Reloc.{Reloc}
@@ -24,7 +24,7 @@ use Rattle.names.specs.Names.{nameAt}
 use Rattle.names.proofs.Laws.{length-names, name-there}
 use Rattle.faults.specs.Faults.{sectionBad, symbolBad, relocBad, splitBad, unitBad}
 use Rattle.tables.specs.Tables.{sizeCheck}
-use Rattle.tables.specs.Records.{sectionsIn, symbolsIn, relocsIn, splitsIn, unitsIn, noSection, noSymbol, noReloc, noSplit, noUnit, bytesCut, floorFrom, sectionFault, imageFault, symbolFault, relocFaultAbove, relocFault, partialFault, unitFault}
+use Rattle.tables.specs.Records.{sectionsIn, symbolsIn, relocsIn, partialsIn, unitsIn, noSection, noSymbol, noReloc, noSplit, noUnit, bytesCut, floorFrom, sectionFault, imageFault, symbolFault, relocFaultAbove, relocFault, partialFault, unitFault}
 use Rattle.tables.proofs.Loops.{size-good}
 use Rattle.tables.proofs.Laws.{records-pass}
 use Rattle.tables.proofs.Floors.{floor-more}
@@ -246,15 +246,15 @@ module _ {file : List ℕ} {t : Loaded} (u : Usable file t) (names more : List (
     end = g .end;
   }
 
-  partial-none : (k : ℕ) → k < length (t .splits) → partialFault (map length names) (splitsIn file (t .splits)) k ≡ 0
+  partial-none : (k : ℕ) → k < length (t .splits) → partialFault (map length names) (partialsIn file (t .splits)) k ≡ 0
   unfolding partialFault
-  partial-none k h = rw (split-faultless (map length names) (getD (splitsIn file (t .splits)) k noSplit) (split-still _ (good-splits (u .good) k h)))
+  partial-none k h = rw (split-faultless (map length names) (getD (partialsIn file (t .splits)) k noSplit) (split-still _ (good-splits (u .good) k h)))
 
   -- THEOREM: the partial splits pass
   pub partials-pass : partialsCheck 1024 (map length names) (tablesOf file t .partials) ≡ accepted tt
   partials-pass =
-      ap (λ (l : List Split). tableCheck 19 1024 (tablesOf file t .partials) (partialFault (map length names) l)) (partials-back u)
-      ∙ table-passes 19 1024 (tablesOf file t .partials) (partialFault (map length names) (splitsIn file (t .splits))) (length (t .splits))
+      ap (λ (l : List Split). tableCheck partialWidth 1024 (tablesOf file t .partials) (partialFault (map length names) l)) (partials-back u)
+      ∙ table-passes partialWidth 1024 (tablesOf file t .partials) (partialFault (map length names) (partialsIn file (t .splits))) (length (t .splits))
       (partials-whole u) (partials-count u) (few-splits u) partial-none
 
   -- ---- units

@@ -9,14 +9,14 @@ use lib.ListN.{length, getD, take, drop, length-append, length-drop, length-map,
 use lib.Seq.{length-take-le, getD-append-add, getD-take, getD-drop}
 use Rattle.lists.specs.Rows.{tabulate}
 use Rattle.lists.proofs.Rows.{getD-map}
-use Rattle.lists.proofs.Parts.{tabulate-map, tabulate-list}
+use Rattle.lists.proofs.Parts.{tabulate-map, tabulate-list, tabulate-same}
 use Rattle.fields.specs.Fields.{le16, le32, le64, signed32, signed64, enc32, little}
 use Rattle.fields.proofs.Laws.{le16-is, le32-is, le64-is, numberAt-same, round32}
-use Rattle.obj.specs.Records.{sectionAt, symbolAt, relocAt, splitAt, unitAt, stagePlaces}
-use Rattle.obj.proofs.Laws.{stage-place}
+use Rattle.obj.specs.Records.{sectionAt, symbolAt, relocAt, partialAt, originOf, partialNumbered, unitAt, stagePlaces, partialWidth}
+use Rattle.obj.proofs.Laws.{length-stagePlaces, stage-place}
 use Rattle.obj.specs.declared.Unit as units
-use Rattle.tables.specs.Records.{sectionsIn, symbolsIn, relocsIn, splitsIn, unitsIn, imagePlaces}
-use Rattle.stage_tables.specs.StageTables.{stageSections, stageSymbols, stageRelocs, stageSplits, stageUnits}
+use Rattle.tables.specs.Records.{sectionsIn, symbolsIn, relocsIn, partialsIn, unitsIn, imagePlaces}
+use Rattle.stage_tables.specs.StageTables.{stageSections, stageSymbols, stageRelocs, stagePartials, stageUnits}
 use Rattle.load.specs.Load.{Loaded}
 use Rattle.symbol_order.specs.Order.{symbolOf}
 use Rattle.sections.specs.Sections.{headOf}
@@ -90,17 +90,19 @@ reads-reloc = record {
   };
 }
 
-pub reads-split : Reads 19 splitAt
-unfolding splitAt
-reads-split = record {
+-- partial record k, whichever k
+pub reads-partial : (k : ℕ) → Reads partialWidth (λ b at. partialNumbered b k at)
+unfolding partialNumbered partialAt
+reads-partial k = record {
   same = λ b c i j same z. record {
-    section = first 19 b c i j same (omega arith) z;
-    start = field32 19 b c i j same 2 (omega arith) z;
-    end = field32 19 b c i j same 6 (omega arith) z;
-    unit = field16 19 b c i j same 10 (omega arith) z;
-    alignment = field32 19 b c i j same 12 (omega arith) z;
+    section = first partialWidth b c i j same (omega arith) z;
+    start = field32 partialWidth b c i j same 2 (omega arith) z;
+    end = field32 partialWidth b c i j same 6 (omega arith) z;
+    unit = field16 partialWidth b c i j same 10 (omega arith) z;
+    alignment = field32 partialWidth b c i j same 12 (omega arith) z;
     flags = same 16 (omega arith) z;
-    rename = field16 19 b c i j same 17 (omega arith) z;
+    rename = field16 partialWidth b c i j same 17 (omega arith) z;
+    origin = originOf k (same 16 (omega arith) z);
   };
 }
 
@@ -253,17 +255,22 @@ module _ {file : List ℕ} {t : Loaded} (u : Usable file t) where
   relocs-back = records-back 23 relocAt reads-reloc file (t .relocations) (omega arith) (u .good .relocations .held)
 
   -- partial splits
-  pub partials-long : length (tablesOf file t .partials) ≡ 19 * length (t .splits)
-  partials-long = length-recordsAt 19 file (t .splits) (u .good .splits .held)
+  pub partials-long : length (tablesOf file t .partials) ≡ partialWidth * length (t .splits)
+  partials-long = length-recordsAt partialWidth file (t .splits) (u .good .splits .held)
 
-  pub partials-count : length (tablesOf file t .partials) / 19 ≡ length (t .splits)
-  partials-count = table-count 19 splitAt reads-split file (t .splits) (omega arith) (u .good .splits .held)
+  pub partials-count : length (tablesOf file t .partials) / partialWidth ≡ length (t .splits)
+  partials-count = table-count partialWidth (λ b at. partialNumbered b 0 at) (reads-partial 0) file (t .splits) (omega arith) (u .good .splits .held)
 
-  pub partials-whole : length (tablesOf file t .partials) % 19 ≡ 0
-  partials-whole = table-whole 19 splitAt reads-split file (t .splits) (omega arith) (u .good .splits .held)
+  pub partials-whole : length (tablesOf file t .partials) % partialWidth ≡ 0
+  partials-whole = table-whole partialWidth (λ b at. partialNumbered b 0 at) (reads-partial 0) file (t .splits) (omega arith) (u .good .splits .held)
 
-  pub partials-back : stageSplits (tablesOf file t .partials) ≡ splitsIn file (t .splits)
-  partials-back = records-back 19 splitAt reads-split file (t .splits) (omega arith) (u .good .splits .held)
+  pub partials-back : stagePartials (tablesOf file t .partials) ≡ partialsIn file (t .splits)
+  partials-back =
+      let table = tablesOf file t .partials in
+      let at : ℕ → ℕ = λ k. getD (stagePlaces partialWidth (length table / partialWidth)) k 0 in
+      ap (tabulate (λ k. partialNumbered table k (at k)) 0) (length-stagePlaces partialWidth (length table / partialWidth) ∙ partials-count)
+      ∙ tabulate-same (λ k. partialNumbered table k (at k)) (λ k. partialNumbered file k (getD (t .splits) k 0)) 0 (length (t .splits))
+      (λ k m q. stage-record partialWidth (λ b i. partialNumbered b k i) (reads-partial k) file (t .splits) (omega arith) (u .good .splits .held) k (omega arith))
 
   -- units
   pub units-long : length (tablesOf file t .units) ≡ 8 * length (t .units)

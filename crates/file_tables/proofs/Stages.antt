@@ -6,6 +6,7 @@ use mathlib.Core.List.{List, _++_, map}
 use native.Mathlib.Omega.{arith}
 use lib.ListN.{length, getD, length-map}
 use Rattle.lists.specs.Outcome.{accepted}
+use Rattle.lists.specs.Sort.{All}
 use Rattle.obj.specs.Records.{sectionAt}
 use Rattle.obj.specs.declared.Section.{Section}
 use Rattle.obj.specs.declared.Split.{Split}
@@ -50,7 +51,7 @@ module _ {file : List ℕ} {t : Loaded} (u : Usable file t) (names more : List (
 
 -- ---- rows that a stage left, over the file's sections
 module _ {file : List ℕ} {t : Loaded} (u : Usable file t) (names : List (List ℕ)) (c : Clean names) (rows : List Split)
-    (faultless : (k : ℕ) → k < length rows → splitFault (map length names) (sectionsIn file (t .sections)) rows k ≡ 0) where
+    (faultless : (k : ℕ) → k < length rows → splitFault (map length names) (sectionsIn file (t .sections)) rows k ≡ 0) (origins : All (λ s. s .origin < 65536) rows) where
   many-lengths : length (map length names) ≤ 65536
   many-lengths = omega (arith, length-map names length, c .few)
 
@@ -58,13 +59,13 @@ module _ {file : List ℕ} {t : Loaded} (u : Usable file t) (names : List (List 
   many-sections = omega (arith, length-map (t .sections) (sectionAt file), few-sections u)
 
   pub stage-splits-back : stageSplits (tableBytes rows) ≡ rows
-  stage-splits-back = split-table-back (map length names) (sectionsIn file (t .sections)) rows many-lengths many-sections faultless
+  stage-splits-back = split-table-back (map length names) (sectionsIn file (t .sections)) rows many-lengths many-sections faultless origins
 
   pub stage-splits-pass : (ceiling : ℕ) → length rows ≤ ceiling
       → splitsCheck ceiling (stageLengths (endsOf names) (flat names)) (stageSections (tablesOf file t .sections)) (tableBytes rows) ≡ accepted tt
   stage-splits-pass ceiling few =
       ap₂ (λ (l : List ℕ) (s : List Section). splitsCheck ceiling l s (tableBytes rows)) (lengths-back names (c .short)) (sections-back u)
-      ∙ split-table-passes (map length names) (sectionsIn file (t .sections)) rows many-lengths many-sections faultless ceiling few
+      ∙ split-table-passes (map length names) (sectionsIn file (t .sections)) rows many-lengths many-sections faultless origins ceiling few
 
 -- ---- units that the order left
 pub stage-order-pass : (names : List (List ℕ)) → Clean names → (us : List units.Unit) → ((k : ℕ) → k < length us → Fits (getD us k noUnit))

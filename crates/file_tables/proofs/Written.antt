@@ -13,11 +13,13 @@ use lib.ListN.{length, getD, drop, List·getD-eq-default}
 use lib.Seq.{sets, sets-eq, drop-length}
 use Rattle.lists.specs.Outcome.{accepted}
 use Rattle.lists.specs.Rows.{tabulate}
+use Rattle.lists.specs.Sort.{All}
+use Rattle.lists.proofs.All.{all-at}
 use Rattle.lists.proofs.Compare.{lt-or-ge}
 use Rattle.lists.proofs.Parts.{tabulate-map, tabulate-list}
 use Rattle.align.specs.Align.{badAlign}
 use Rattle.align.proofs.Laws.{good-parts, not-bad}
-use Rattle.obj.specs.Records.{unitAt, stagePlaces}
+use Rattle.obj.specs.Records.{unitAt, stagePlaces, splitWidth}
 use Rattle.obj.specs.declared.Section.{Section}
 use Rattle.obj.specs.declared.Split.{Split}
 use Rattle.obj.specs.declared.Unit as units
@@ -44,8 +46,8 @@ stored-over b =
 -- THEOREM: the rows that were written are read back
 pub rows-read : (rows : List Split) → ((k : ℕ) → k < length rows → Fits (getD rows k noSplit)) → stageSplits (tableBytes rows) ≡ rows
 rows-read rows fits =
-    ap (λ (n : ℕ). splitsIn (tableBytes rows) (stagePlaces 19 n)) (let e : length (tableBytes rows) / 19 ≡ length rows = omega (arith, length-tableBytes rows) in e)
-    ∙ ap (λ (b : List ℕ). splitsIn b (stagePlaces 19 (length rows))) (sym (stored-over (tableBytes rows)))
+    ap (λ (n : ℕ). splitsIn (tableBytes rows) (stagePlaces splitWidth n)) (let e : length (tableBytes rows) / splitWidth ≡ length rows = omega (arith, length-tableBytes rows) in e)
+    ∙ ap (λ (b : List ℕ). splitsIn b (stagePlaces splitWidth (length rows))) (sym (stored-over (tableBytes rows)))
     ∙ splits-back (tableBytes rows) rows (omega (arith, length-tableBytes rows)) noSplit fits
 
 low-align : (a : ℕ) → badAlign a ≡ false → a < 4294967296
@@ -64,7 +66,7 @@ known lengths k h = go (lt-or-ge k (length lengths))
     go (inr q) = absurd (omega (arith, List·getD-eq-default lengths 0 q))
 
 module _ (lengths : List ℕ) (sections : List Section) (rows : List Split) (few-names : length lengths ≤ 65536) (few-sections : length sections ≤ 65536)
-    (faultless : (k : ℕ) → k < length rows → splitFault lengths sections rows k ≡ 0) where
+    (faultless : (k : ℕ) → k < length rows → splitFault lengths sections rows k ≡ 0) (origins : All (λ s. s .origin < 65536) rows) where
   -- the fields of a split without a fault have their widths
   pub rows-fit : (k : ℕ) → k < length rows → Fits (getD rows k noSplit)
   rows-fit k h =
@@ -78,6 +80,7 @@ module _ (lengths : List ℕ) (sections : List Section) (rows : List Split) (few
         alignment = low-align _ (partials-aligned lengths rows (length rows) p k h);
         flags = omega (arith, partials-flags lengths rows (length rows) p k h);
         rename = rename (eqb (getD rows k noSplit .rename) 65535) refl;
+        origin = all-at k noSplit origins h;
       }
     where
       rename : (t : Bool) → eqb (getD rows k noSplit .rename) 65535 ≡ t → getD rows k noSplit .rename < 65536
@@ -93,8 +96,8 @@ module _ (lengths : List ℕ) (sections : List Section) (rows : List Split) (few
   -- THEOREM: .. and pass, under any ceiling that they are within
   pub split-table-passes : (ceiling : ℕ) → length rows ≤ ceiling → splitsCheck ceiling lengths sections (tableBytes rows) ≡ accepted tt
   split-table-passes ceiling few =
-      ap (λ (l : List Split). tableCheck 19 ceiling (tableBytes rows) (splitFault lengths sections l)) split-table-back
-      ∙ table-passes 19 ceiling (tableBytes rows) (splitFault lengths sections rows) (length rows) (omega (arith, length-tableBytes rows))
+      ap (λ (l : List Split). tableCheck splitWidth ceiling (tableBytes rows) (splitFault lengths sections l)) split-table-back
+      ∙ table-passes splitWidth ceiling (tableBytes rows) (splitFault lengths sections rows) (length rows) (omega (arith, length-tableBytes rows))
       (omega (arith, length-tableBytes rows)) few faultless
 
 -- a table without splits
@@ -103,7 +106,7 @@ unfolding stagePlaces tabulate
 no-splits-back = refl
 
 pub no-splits-pass : (ceiling : ℕ) (lengths : List ℕ) (sections : List Section) → splitsCheck ceiling lengths sections [] ≡ accepted tt
-no-splits-pass ceiling lengths sections = table-passes 19 ceiling [] (splitFault lengths sections (stageSplits [])) 0 refl refl (omega arith) (λ k h. absurd (not-suc-le-zero h))
+no-splits-pass ceiling lengths sections = table-passes splitWidth ceiling [] (splitFault lengths sections (stageSplits [])) 0 refl refl (omega arith) (λ k h. absurd (not-suc-le-zero h))
 
 -- ---- units
 

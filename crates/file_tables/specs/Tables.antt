@@ -14,6 +14,7 @@ use Rattle.stage_names.specs.StageNames.{endsFrom}
 use Rattle.load.specs.Load.{Loaded}
 use Rattle.loaded.specs.Tables.{bytePlaces}
 use Rattle.gap_splits.specs.Entering.{bytesOf}
+use Rattle.obj.specs.Records.{partialWidth}
 
 -- the records of `width` bytes at these places, one after another
 unfoldable pub recordsAt : (width : ℕ) → (file places : List ℕ) → List ℕ
@@ -44,7 +45,7 @@ tablesOf file t = record {
   places = words (bytePlaces (t .sections));
   symbols = recordsAt 20 file (t .symbols);
   relocations = recordsAt 23 file (t .relocations);
-  partials = recordsAt 19 file (t .splits);
+  partials = recordsAt partialWidth file (t .splits);
   units = recordsAt 8 file (t .units);
 }
 

@@ -27,7 +27,7 @@ abbrev head : Section
 head = record { name = 0; kind = 1; address = 0x1000; size = 0x1000; offset = 0 }
 
 abbrev split : (section start end unit flags : ℕ) → Split
-split section start end unit flags = record { section = section; start = start; end = end; unit = unit; alignment = 0; flags = flags; rename = 65535 }
+split section start end unit flags = record { section = section; start = start; end = end; unit = unit; alignment = 0; flags = flags; rename = 65535; origin = 65535 }
 
 abbrev table : List String → List Split → Filled
 table names rows = record { names = map codes names; rows = rows }

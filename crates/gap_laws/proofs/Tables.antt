@@ -21,7 +21,8 @@ use Rattle.tables.proofs.Laws as table-laws
 use Rattle.sections.specs.Image.{Image}
 use Rattle.sections.specs.Sections.{Sections, sectionsOf, Kept}
 use Rattle.merge.specs.Merge.{Given, given}
-use Rattle.merge.proofs.Keeping.{one-few}
+use Rattle.merge.specs.Kept.{Keeps}
+use Rattle.merge.proofs.Keeping.{one-kept, one-few}
 use Rattle.merge.proofs.Tables.{Sound, sound-of, sound-good, one-good}
 use Rattle.gap_columns.specs.Columns.{Gap}
 use Rattle.gaps.specs.Gaps.{foundGaps}
@@ -110,6 +111,14 @@ module _ (sectionName : ℕ → List ℕ) (heads : List Section) (most : ℕ) (r
       → filled sectionName g room t gaps ≡ accepted t′ → Faultless heads t′
   entered-good sections b t t′ gaps all q e = filled-keeps sectionName g room (Faultless heads) Low gap-good t t′ (all-map (low-of sections b) all) q e
 
+  -- THEOREM: a property of splits that a merge keeps, and that every gap's split has, stays
+  pub entered-kept : (P : Split → Type 0) → Keeps P → ((x : Gap) (unit : ℕ) → P (gapSplit x unit)) → (t t′ : Filled) (gaps : List Gap) → All P (t .rows)
+      → filled sectionName g room t gaps ≡ accepted t′ → All P (t′ .rows)
+  entered-kept P keeps own t t′ gaps q e =
+      filled-keeps sectionName g room (λ t. All P (t .rows)) (λ x. Unit {0})
+      (λ t x t′ u q c. one-kept P keeps g (t .rows) (gapSplit x (c .unit .number)) (t′ .rows) q (λ i. own x (c .unit .number)) (c .merged))
+      t t′ (all-any (λ x. tt) gaps) q e
+
   -- THEOREM: the splits never pass the room
   pub entered-few : (t t′ : Filled) (gaps : List Gap) → length (t .rows) ≤ most → filled sectionName g room t gaps ≡ accepted t′ → length (t′ .rows) ≤ most
   entered-few t t′ gaps h e =
@@ -150,6 +159,14 @@ filled-good g sections heads most room t t′ b q e =
       within = λ w. entered-within names heads most room t t′ (p .0) w (p .2);
       added = entered-added names heads most room t t′ (p .0) (p .2);
     }
+
+-- THEOREM: .. and a property of splits that a merge keeps, and that every gap's split has, stays
+pub filled-kept : (P : Split → Type 0) → Keeps P → ((x : Gap) (unit : ℕ) → P (gapSplit x unit)) → (g : Image) (sections : Sections) (heads : List Section) (most : ℕ) (room : Ceilings)
+    (t t′ : Filled) → All P (t .rows) → gapsFilled g sections (given heads most) room t ≡ accepted t′ → All P (t′ .rows)
+unfolding gapsFilled
+filled-kept P keeps own g sections heads most room t t′ q e =
+    let p = bind-inv (foundGaps g sections (t .rows)) _ t′ e in
+    entered-kept (nameIn g sections) heads most room P keeps own t t′ (p .0) q (p .2)
 
 -- .. of sections that passed the table checks, as they are lent
 pub lent-good : (g : Image) (heads head-places image image-places name-places : List ℕ) (most : ℕ) (room : Ceilings) (t t′ : Filled) → Kept heads head-places image image-places name-places

@@ -27,7 +27,7 @@ pub record Case : Type 0 where
   pub outcome : Outcome Filled
 
 abbrev split : (section start end unit flags : ℕ) → Split
-split section start end unit flags = record { section = section; start = start; end = end; unit = unit; alignment = 0; flags = flags; rename = 65535 }
+split section start end unit flags = record { section = section; start = start; end = end; unit = unit; alignment = 0; flags = flags; rename = 65535; origin = 65535 }
 
 abbrev table : List String → List Split → Filled
 table names rows = record { names = map codes names; rows = rows }

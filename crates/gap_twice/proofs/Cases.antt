@@ -39,7 +39,7 @@ abbrev pub head : (size : ℕ) → Section
 head size = record { name = 0; kind = 1; address = 0x1000; size = size; offset = 0 }
 
 abbrev pub split : (start end unit alignment flags : ℕ) → Split
-split start end unit alignment flags = record { section = 0; start = start; end = end; unit = unit; alignment = alignment; flags = flags; rename = 65535 }
+split start end unit alignment flags = record { section = 0; start = start; end = end; unit = unit; alignment = alignment; flags = flags; rename = 65535; origin = 65535 }
 
 abbrev pub table : List String → List Split → Filled
 table names rows = record { names = map codes names; rows = rows }

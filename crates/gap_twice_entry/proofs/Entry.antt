@@ -6,6 +6,7 @@ use Prim.Native.Nat.{ℕ, _+_, _/_, _≤_, _<_}
 use native.Mathlib.Omega.{arith}
 use lib.ListN.{length, length-map, length-append, getD, List·getD-append, List·getD-map}
 use Rattle.lists.specs.Outcome.{accepted}
+use Rattle.lists.specs.Sort.{All}
 use Rattle.lists.proofs.Binds.{after-goes}
 use Rattle.lists.proofs.Outcomes.{then-both}
 use Rattle.lists.proofs.Rows.{getD-map}
@@ -17,6 +18,7 @@ use Rattle.names.specs.Names.{nameAt}
 use Rattle.tables.specs.Tables.{recordsCheck}
 use Rattle.tables.specs.Records.{noSection, noSymbol, imagePlaces, sectionFault, splitFault}
 use Rattle.tables.proofs.Laws as table-laws
+use Rattle.tables.proofs.Lookups.{split-origins}
 use Rattle.name_table.specs.NameTable.{stageNames, namesCheck}
 use Rattle.name_table.specs.Stored.{nameStarts, nameLengths, stageLengths}
 use Rattle.name_table.proofs.Laws.{length-stageNames}
@@ -29,6 +31,7 @@ use Rattle.sections.specs.Sections.{Sections, sectionsOf}
 use Rattle.splits.specs.Bytes.{tableBytes}
 use Rattle.stage_splits.specs.StageSplits.{roomOf}
 use Rattle.merge.specs.Merge.{given}
+use Rattle.merge.proofs.Keeping.{origins-keep}
 use Rattle.gap_splits.specs.Entering.{Filled, Ceilings}
 use Rattle.create_gap_splits.specs.Create as create
 use Rattle.create_gap_splits.specs.Create.{gapsFilled}
@@ -210,8 +213,17 @@ module _ (c : Call) (t′ : Filled) (e : outcome c ≡ accepted t′) where
   few-heads : length heads ≤ 65536
   few-heads = omega (arith, heads-count, sections-few)
 
-  rows-back : stageSplits (tableBytes (t′ .rows)) ≡ t′ .rows
-  rows-back = split-table-back (map length (t′ .names)) heads (t′ .rows) few-lengths few-heads (leaves .good)
+  -- the lent split table is of bytes, as every table is, so that its origins have 16 bits
+  abbrev OfBytes : Type 0
+  OfBytes = (i : ℕ) → getD splits i 0 < 256
+
+  origins : OfBytes → All (λ s. s .origin < 65536) (t′ .rows)
+  origins small =
+      gap-tables.filled-kept (λ s. s .origin < 65536) (origins-keep 65536) (λ x unit. omega arith) image-of sections-of heads most-splits room (listOf c) t′
+      (split-origins splits (stagePlaces splitWidth (length splits / splitWidth)) small) (lines .filled-first)
+
+  rows-back : OfBytes → stageSplits (tableBytes (t′ .rows)) ≡ t′ .rows
+  rows-back small = split-table-back (map length (t′ .names)) heads (t′ .rows) few-lengths few-heads (leaves .good) (origins small)
 
   module _ (extra : List ℕ) where
     abbrev ends′ : List ℕ
@@ -243,16 +255,16 @@ module _ (c : Call) (t′ : Filled) (e : outcome c ≡ accepted t′) where
     same-names : SameNames image-of sections-of (nameAt bytes′ (nameStarts ends′ (length ends′ / 2)) (stageLengths ends′ bytes′))
     same-names = record { heads = λ n h. same-name (sections-of .head n .name) (head-named n h .0); symbols = λ i h. same-name (image-of .symbol i .name) (symbol-named i h) }
 
-    tables-back : _≡_ {A = Filled} (record { names = stageNames ends′ bytes′ (length ends′ / 2); rows = stageSplits (tableBytes (t′ .rows)) }) t′
-    tables-back =
-        ap₂ (λ (n : List (List ℕ)) (r : List Split). record { names = n; rows = r }) back rows-back
+    tables-back : OfBytes → _≡_ {A = Filled} (record { names = stageNames ends′ bytes′ (length ends′ / 2); rows = stageSplits (tableBytes (t′ .rows)) }) t′
+    tables-back small =
+        ap₂ (λ (n : List (List ℕ)) (r : List Split). record { names = n; rows = r }) back (rows-back small)
 
     -- THEOREM (document 02, (k), over the entry's definition): the tables that the entry left, handed to it again with the same sections and symbols and outputs of no
     -- smaller ceilings, are accepted and come back as they are
-    pub entry-again : Needed (listOf c) → (ends-size′ bytes-size′ size′ : ℕ) → NoSmaller (c .ends-size) (c .bytes-size) (c .size) ends-size′ bytes-size′ size′
+    pub entry-again : OfBytes → Needed (listOf c) → (ends-size′ bytes-size′ size′ : ℕ) → NoSmaller (c .ends-size) (c .bytes-size) (c .size) ends-size′ bytes-size′ size′
         → gapSplitsOf (endsOf (t′ .names)) (flat (t′ .names) ++ extra) sections places image symbols (tableBytes (t′ .rows)) ends-size′ bytes-size′ size′ ≡ accepted t′
     unfolding gapSplitsOf
-    entry-again needed ends-size′ bytes-size′ size′ w =
+    entry-again small needed ends-size′ bytes-size′ size′ w =
         after-goes _ _ (fits-pass (t′ .names) (names-clean .short) (namesRoom ends-size′) (bytesRoom bytes-size′) (omega (arith, within-after .few, w .names)) (omega (arith, within-after .short, w .bytes)))
         ∙ after-goes _ _ (pass-behind (t′ .names) names-clean extra 4096 (names-clean .few))
         ∙ after-goes _ _
@@ -261,8 +273,8 @@ module _ (c : Call) (t′ : Filled) (e : outcome c ≡ accepted t′) where
         ∙ after-goes _ _ (symbols-more 4096 (length ends / 2) (length ends′ / 2) heads symbols (omega (arith, count-is, more-names)) (lines .marked))
         ∙ after-goes _ _
         (ap (λ (l : List ℕ). splitsCheck (roomOf size′) l heads (tableBytes (t′ .rows))) lengths-back
-        ∙ split-table-passes (map length (t′ .names)) heads (t′ .rows) few-lengths few-heads (leaves .good) (roomOf size′) (omega (arith, rows-few, w .splits)))
+        ∙ split-table-passes (map length (t′ .names)) heads (t′ .rows) few-lengths few-heads (leaves .good) (origins small) (roomOf size′) (omega (arith, rows-few, w .splits)))
         ∙ ap (gapsFilled (withNames image-of (nameAt bytes′ (nameStarts ends′ (length ends′ / 2)) (stageLengths ends′ bytes′))) sections-of (given heads (roomOf size′)) (record { names = namesRoom ends-size′; bytes = bytesRoom bytes-size′ }))
-        tables-back
+        (tables-back small)
         ∙ filled-again image-of sections-of heads most-splits room few below (listOf c) t′ faultless (lines .filled-first) _ same-names (given heads (roomOf size′))
         (record { names = namesRoom ends-size′; bytes = bytesRoom bytes-size′ }) needed

@@ -4,7 +4,7 @@ use mathlib.Core.Path.{_≡_, sym, ap, ap₂, _∙_}
 use mathlib.Core.List.{List, [], _∷_, _++_}
 use Prim.Native.Nat.{ℕ, _+_, _-_, _*_, _/_, _≤_, _<_}
 use native.Mathlib.Omega.{arith}
-use lib.ListN.{length, take, replicate}
+use lib.ListN.{length, getD, take, replicate}
 use lib.Seq.{take-at, take-all, take-append-add}
 use Rattle.lists.specs.Outcome.{accepted}
 use Rattle.lists.specs.Tables.{laid}
@@ -64,15 +64,15 @@ module _ (c : Call) (r : Left c) (whole : 6 ≤ c .counts-size) (t : Filled) (e 
       ap₂ take (let e : m ≡ length (flat (t .names)) + (m - length (flat (t .names))) = omega (arith, counts-read .1) in e) (laid-out .bytes)
       ∙ take-append-add (flat (t .names)) (replicate (c .bytes-size - length (flat (t .names))) 0) (m - length (flat (t .names)))
 
-  again-accepted : Needed (listOf c) → (m : ℕ) → le16 (r .counts) 2 ≤ m → outcome (again c r m) ≡ accepted t
-  again-accepted needed m h =
+  again-accepted : ((i : ℕ) → getD (c .splits) i 0 < 256) → Needed (listOf c) → (m : ℕ) → le16 (r .counts) 2 ≤ m → outcome (again c r m) ≡ accepted t
+  again-accepted small needed m h =
       ap₂ (λ (l s : List ℕ). gapSplitsOf l (take m (r .bytes)) (c .sections) (c .places) (c .image) (c .symbols) s (c .ends-size) (c .bytes-size) (c .size)) ends-are splits-are
       ∙ ap (λ (b : List ℕ). gapSplitsOf (endsOf (t .names)) b (c .sections) (c .places) (c .image) (c .symbols) (tableBytes (t .rows)) (c .ends-size) (c .bytes-size) (c .size)) (bytes-are m h)
-      ∙ entry-again c t e _ needed (c .ends-size) (c .bytes-size) (c .size) (record { names = omega arith; bytes = omega arith; splits = omega arith })
+      ∙ entry-again c t e _ small needed (c .ends-size) (c .bytes-size) (c .size) (record { names = omega arith; bytes = omega arith; splits = omega arith })
 
-  same-bytes : Needed (listOf c) → (m : ℕ) → le16 (r .counts) 2 ≤ m → (s : Left (again c r m)) → Unchanged c (again c r m) r s
-  same-bytes needed m h s =
-      let a = again-accepted needed m h in
+  same-bytes : ((i : ℕ) → getD (c .splits) i 0 < 256) → Needed (listOf c) → (m : ℕ) → le16 (r .counts) 2 ≤ m → (s : Left (again c r m)) → Unchanged c (again c r m) r s
+  same-bytes small needed m h s =
+      let a = again-accepted small needed m h in
       let l : Laid t (c .ends-size) (c .bytes-size) (c .size) (c .counts-size) (s .ends) (s .bytes) (s .splits) (s .counts) = rw (ap filledOf a) at (s .leaves .laid-out) in record {
         accepts = s .leaves .answered ∙ ap outcomeWord a;
         ends = l .ends ∙ sym (laid-out .ends);
@@ -83,11 +83,11 @@ module _ (c : Call) (r : Left c) (whole : 6 ≤ c .counts-size) (t : Filled) (e 
 
 -- ---- whatever was lent to two calls of the entry
 
--- the first answered 0, and its counts are whole; the second was lent the name ends, name bytes and splits that were counted, or more of the name bytes
-module _ (c : Call) (r : Left c) (whole : 6 ≤ c .counts-size) (accepted-first : r .answer ≡ 0) (m : ℕ) (long : le16 (r .counts) 2 ≤ m) (s : Left (again c r m)) where
+-- the lent split table is of bytes, as every table is; the first answered 0, and its counts are whole; the second was lent the name ends, name bytes and splits that were counted, or more of the name bytes
+module _ (c : Call) (small : (i : ℕ) → getD (c .splits) i 0 < 256) (r : Left c) (whole : 6 ≤ c .counts-size) (accepted-first : r .answer ≡ 0) (m : ℕ) (long : le16 (r .counts) 2 ≤ m) (s : Left (again c r m)) where
   -- THEOREM: the second answers 0 and leaves the same bytes, also where starts within a section are equal
   pub called-again : Needed (listOf c) → Unchanged c (again c r m) r s
-  called-again needed = let a = accepts c r accepted-first in same-bytes c r whole (a .0) (a .1) needed m long s
+  called-again needed = let a = accepts c r accepted-first in same-bytes c r whole (a .0) (a .1) small needed m long s
 
   -- THEOREM (document 02, (k), over the bytes of two calls): so it is under document 02's premises
   pub called-twice : Premises (listOf c) → Unchanged c (again c r m) r s

@@ -40,10 +40,10 @@ stripped name address alignment = record { name = name; section = 0; address = a
 
 -- a split of section n, and one with a given alignment
 abbrev pub split : (n start end : ℕ) → Split
-split n start end = record { section = n; start = start; end = end; unit = 1; alignment = 0; flags = 0; rename = 65535 }
+split n start end = record { section = n; start = start; end = end; unit = 1; alignment = 0; flags = 0; rename = 65535; origin = 65535 }
 
 abbrev pub aligned : (alignment start end : ℕ) → Split
-aligned alignment start end = record { section = 0; start = start; end = end; unit = 1; alignment = alignment; flags = 0; rename = 65535 }
+aligned alignment start end = record { section = 0; start = start; end = end; unit = 1; alignment = alignment; flags = 0; rename = 65535; origin = 65535 }
 
 pub record Case : Type 0 where
   pub heads : List Section

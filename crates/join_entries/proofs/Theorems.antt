@@ -47,6 +47,7 @@ use Rattle.head_tables.specs.HeadTables.{headTables}
 use Rattle.kept_output.specs.Kept.{outputOf as leftOf, sizeOf, Leaves}
 use Rattle.entry_join_pieces.specs.Entry.{joinPieces}
 use Rattle.join_entries.specs.Entries.{JoinsRun, PutBack}
+use Rattle.pieces.specs.Pieces.{pieceWidth}
 
 -- ---- J2
 
@@ -174,7 +175,7 @@ module _ (r : Run) (parts : List Part) (order : List·Permᴰ parts (partsOfWalk
       let b = length-map (keepIf (ofBytes (input r .sections)) (out .pieces)) (partIn (input r .sections)) in
       let d = keep-length (ofBytes (input r .sections)) (out .pieces) in
       let e = pieces-room (input r) out (passed r .walked) in
-      let f = few 1024 28 (c .sizes .pieces) in
+      let f = few 1024 pieceWidth (c .sizes .pieces) in
       omega arith
 
   -- THEOREM J1: the pieces of an accepted call of `split_obj`, of sections that hold bytes and in any order, are accepted by `join_pieces` wherever the output is long

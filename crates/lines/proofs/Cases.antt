@@ -19,9 +19,9 @@ abbrev pub cases : List Case
 cases =
     -- document 01's program `splitlist`
     record { is = unitLine 0 (codes "auto_00_00001000_data") 8; text = "unit 0 auto_00_00001000_data 8" }
-    ∷ record { is = pieceLine 0 (codes ".data") 4096 8 8; text = "piece 0 .data 00001000 8 8" }
+    ∷ record { is = pieceLine 0 (codes ".data") 4096 8 8 65535; text = "piece 0 .data 00001000 8 8 65535" }
     ∷ record { is = unitLine 1 (codes "b.c") 8; text = "unit 1 b.c 8" }
-    ∷ record { is = pieceLine 0 (codes ".data") 4104 8 8; text = "piece 0 .data 00001008 8 8" }
+    ∷ record { is = pieceLine 0 (codes ".data") 4104 8 8 0; text = "piece 0 .data 00001008 8 8 0" }
     ∷ record { is = totalLine 2 2 16; text = "total 2 2 16" }
     -- "A refusal prints only `refused`, number, section, address."
     ∷ record { is = refusedLine 52 3 2148532236; text = "refused 52 3 8010000C" }

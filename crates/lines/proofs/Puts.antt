@@ -146,7 +146,7 @@ shown-name [] h = absurd (h refl)
 shown-name (b ∷ name) h = refl
 
 -- a line at the front
-pub written : {a b : List ℕ} {r : ℕ} (text : List ℕ) → Put a b 0 text r → r ≤ 192 → Written a b text r
+pub written : {a b : List ℕ} {r : ℕ} (text : List ℕ) → Put a b 0 text r → r ≤ 208 → Written a b text r
 written text p h = record { is = p .is; end = p .end ∙ zero; few = h; long = p .long }
   where
     zero : 0 + length text ≡ length text

@@ -51,10 +51,10 @@ line (field ∷ next ∷ fields) = field ++ (32 ∷ line (next ∷ fields))
 abbrev pub unitLine : (number : ℕ) → (name : List ℕ) → (size : ℕ) → List ℕ
 unitLine number name size = line (codes "unit" ∷ decimal number ∷ name ∷ decimal size ∷ [])
 
--- "Piece: number in its unit, name, address, size, alignment."
-abbrev pub pieceLine : (number : ℕ) → (name : List ℕ) → (address size alignment : ℕ) → List ℕ
-pieceLine number name address size alignment =
-    line (codes "piece" ∷ decimal number ∷ name ∷ hex8 address ∷ decimal size ∷ decimal alignment ∷ [])
+-- "Piece: number in its unit, name, address, size, alignment."; document 02, (b): "A piece line in the listing ends with this number", its split's origin
+abbrev pub pieceLine : (number : ℕ) → (name : List ℕ) → (address size alignment origin : ℕ) → List ℕ
+pieceLine number name address size alignment origin =
+    line (codes "piece" ∷ decimal number ∷ name ∷ hex8 address ∷ decimal size ∷ decimal alignment ∷ decimal origin ∷ [])
 
 -- "`sym` name (`-` if empty), piece or `common`, address, size"
 abbrev pub symLine : (name : List ℕ) → Owner → (address size : ℕ) → List ℕ
@@ -85,7 +85,7 @@ pub record Put (before after : List ℕ) (at : ℕ) (text : List ℕ) (r : ℕ) 
 pub record Written (before after : List ℕ) (text : List ℕ) (r : ℕ) : Type 0 where
   pub is : take r after ≡ text
   pub end : r ≡ length text
-  pub few : r ≤ 192
+  pub few : r ≤ 208
   pub long : length after ≡ length before
 
 -- the digits of n stand at the end of a column, from place r on

@@ -58,7 +58,7 @@ fn put_owner(out: &mut [u8], at: usize, owner: Owner) -> usize
 
 // "Unit: number, name, sum of its piece sizes."
 pub fn write_unit(out: &mut [u8], number: u16, name: &[u8], size: u64) -> usize
-    requires { ⌜ (192 ≤ length (now out)) × (length (now name) ≤ 128) ⌝ }
+    requires { ⌜ (208 ≤ length (now out)) × (length (now name) ≤ 128) ⌝ }
     ensures { λ r. ⌜ Written (now (out .entry)) (now (out .exit)) (unitLine number (now (name .entry)) size) r ⌝ }
 {
     let mut at = put_field(out, 0, b"unit");
@@ -67,7 +67,7 @@ pub fn write_unit(out: &mut [u8], number: u16, name: &[u8], size: u64) -> usize
     put_decimal(out, at, size, NEWLINE)
 }
 
-// "Piece: number in its unit, name, address, size, alignment."
+// "Piece: number in its unit, name, address, size, alignment.", then its split's origin.
 pub fn write_piece(
     out: &mut [u8],
     number: u16,
@@ -75,21 +75,23 @@ pub fn write_piece(
     address: u32,
     size: u32,
     alignment: u32,
+    origin: u16,
 ) -> usize
-    requires { ⌜ (192 ≤ length (now out)) × (length (now name) ≤ 128) ⌝ }
-    ensures { λ r. ⌜ Written (now (out .entry)) (now (out .exit)) (pieceLine number (now (name .entry)) address size alignment) r ⌝ }
+    requires { ⌜ (208 ≤ length (now out)) × (length (now name) ≤ 128) ⌝ }
+    ensures { λ r. ⌜ Written (now (out .entry)) (now (out .exit)) (pieceLine number (now (name .entry)) address size alignment origin) r ⌝ }
 {
     let mut at = put_field(out, 0, b"piece");
     at = put_decimal(out, at, number as u64, SPACE);
     at = put_field(out, at, name);
     at = put_hex8(out, at, address, SPACE);
     at = put_decimal(out, at, size as u64, SPACE);
-    put_decimal(out, at, alignment as u64, NEWLINE)
+    at = put_decimal(out, at, alignment as u64, SPACE);
+    put_decimal(out, at, origin as u64, NEWLINE)
 }
 
 // "`sym` name (`-` if empty), piece or `common`, address, size"
 pub fn write_symbol(out: &mut [u8], name: &[u8], owner: Owner, address: u32, size: u32) -> usize
-    requires { ⌜ (192 ≤ length (now out)) × (length (now name) ≤ 128) ⌝ }
+    requires { ⌜ (208 ≤ length (now out)) × (length (now name) ≤ 128) ⌝ }
     ensures { λ r. ⌜ Written (now (out .entry)) (now (out .exit)) (symLine (now (name .entry)) owner address size) r ⌝ }
 {
     let mut at = put_field(out, 0, b"sym");
@@ -108,7 +110,7 @@ pub fn write_reloc(
     target: u32,
     addend: i64,
 ) -> usize
-    requires { ⌜ 192 ≤ length (now out) ⌝ }
+    requires { ⌜ 208 ≤ length (now out) ⌝ }
     ensures { λ r. ⌜ Written (now (out .entry)) (now (out .exit)) (relocLine number offset kind target addend) r ⌝ }
 {
     let mut at = put_field(out, 0, b"reloc");
@@ -121,7 +123,7 @@ pub fn write_reloc(
 
 // "Total: units, pieces, bytes."
 pub fn write_total(out: &mut [u8], units: u16, pieces: u16, bytes: u64) -> usize
-    requires { ⌜ 192 ≤ length (now out) ⌝ }
+    requires { ⌜ 208 ≤ length (now out) ⌝ }
     ensures { λ r. ⌜ Written (now (out .entry)) (now (out .exit)) (totalLine units pieces bytes) r ⌝ }
 {
     let mut at = put_field(out, 0, b"total");
@@ -132,7 +134,7 @@ pub fn write_total(out: &mut [u8], units: u16, pieces: u16, bytes: u64) -> usize
 
 // "A refusal prints only `refused`, number, section, address."
 pub fn write_refused(out: &mut [u8], number: u16, section: u16, address: u32) -> usize
-    requires { ⌜ 192 ≤ length (now out) ⌝ }
+    requires { ⌜ 208 ≤ length (now out) ⌝ }
     ensures { λ r. ⌜ Written (now (out .entry)) (now (out .exit)) (refusedLine number section address) r ⌝ }
 {
     let mut at = put_field(out, 0, b"refused");

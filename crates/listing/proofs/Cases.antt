@@ -32,8 +32,8 @@ example = record {
   reloc = λ k. noReloc;
   units = 0 ∷ 1 ∷ [];
   pieces =
-      record { unit = 0; number = 0; section = 0; name = 2; address = 4096; size = 8; alignment = 8; offset = 0 }
-      ∷ record { unit = 1; number = 0; section = 0; name = 2; address = 4104; size = 8; alignment = 8; offset = 0 }
+      record { unit = 0; number = 0; section = 0; name = 2; address = 4096; size = 8; alignment = 8; offset = 0; origin = 65535 }
+      ∷ record { unit = 1; number = 0; section = 0; name = 2; address = 4104; size = 8; alignment = 8; offset = 0; origin = 0 }
       ∷ [];
   symbols = [];
   relocs = [];
@@ -43,9 +43,9 @@ pub example-listed :
     listing example
     ≡ text
     ("unit 0 auto_00_00001000_data 8"
-    ∷ "piece 0 .data 00001000 8 8"
+    ∷ "piece 0 .data 00001000 8 8 65535"
     ∷ "unit 1 b.c 8"
-    ∷ "piece 0 .data 00001008 8 8"
+    ∷ "piece 0 .data 00001008 8 8 0"
     ∷ "total 2 2 16"
     ∷ [])
 unfolding listing unitsLines unitLines pieceLines symLines relocLines sizes figures keepIf text codes digits line hex8
@@ -66,9 +66,9 @@ mixed = record {
   reloc = λ k. record { section = 0; address = 4116; kind = 6; target = 2; addend = negsuc 3; «module» = 0 };
   units = 0 ∷ 1 ∷ [];
   pieces =
-      record { unit = 1; number = 0; section = 0; name = 2; address = 4096; size = 16; alignment = 4; offset = 0 }
-      ∷ record { unit = 0; number = 0; section = 0; name = 2; address = 4112; size = 16; alignment = 4; offset = 0 }
-      ∷ record { unit = 1; number = 1; section = 0; name = 2; address = 4128; size = 32; alignment = 4; offset = 0 }
+      record { unit = 1; number = 0; section = 0; name = 2; address = 4096; size = 16; alignment = 4; offset = 0; origin = 1 }
+      ∷ record { unit = 0; number = 0; section = 0; name = 2; address = 4112; size = 16; alignment = 4; offset = 0; origin = 65535 }
+      ∷ record { unit = 1; number = 1; section = 0; name = 2; address = 4128; size = 32; alignment = 4; offset = 0; origin = 1023 }
       ∷ [];
   symbols =
       record { unit = 1; piece = 0; symbol = 0; flags = 0; address = 0 }
@@ -82,12 +82,12 @@ pub mixed-listed :
     listing mixed
     ≡ text
     ("unit 0 a.c 16"
-    ∷ "piece 0 .text 00001010 16 4"
+    ∷ "piece 0 .text 00001010 16 4 65535"
     ∷ "sym - 0 00000000 0"
     ∷ "reloc 0 00000004 6 2 -4"
     ∷ "unit 1 b.c 48"
-    ∷ "piece 0 .text 00001000 16 4"
-    ∷ "piece 1 .text 00001020 32 4"
+    ∷ "piece 0 .text 00001000 16 4 1"
+    ∷ "piece 1 .text 00001020 32 4 1023"
     ∷ "sym main 0 00000000 12"
     ∷ "sym buffer common 00000004 256"
     ∷ "reloc 1 0000001C 6 2 -4"

@@ -12,7 +12,7 @@ use Rattle.lists.specs.Rows.{tabulate}
 use Rattle.lists.proofs.Rows.{length-tabulate}
 use Rattle.obj.specs.Records.{unitAt}
 use Rattle.units.specs.Units.{unitNames}
-use Rattle.pieces.specs.Pieces.{pieceAt, symbolAt, relocAt, piecesIn, symbolsIn, relocsIn}
+use Rattle.pieces.specs.Pieces.{pieceAt, symbolAt, relocAt, piecesIn, symbolsIn, relocsIn, pieceWidth}
 use Rattle.lines.specs.Lines.{line, unitLine, totalLine, Written}
 use Rattle.listing.specs.declared.Cursor.{Cursor}
 use Rattle.listing.specs.declared.Cursor.the-variants.{Units, Pieces, Symbols, Relocs, Total, Done}
@@ -40,7 +40,7 @@ mapped f (x ∷ l) zero h = refl
 mapped f (x ∷ l) (suc k) h = mapped f l k (omega arith)
 
 -- what is left falls with each line
-pub rest-shorter : (t : Run) (c : Cursor) {before after : List ℕ} {r : Line} → Next t c before after r → 192 ≤ length before → goesOn c ≡ true
+pub rest-shorter : (t : Run) (c : Cursor) {before after : List ℕ} {r : Line} → Next t c before after r → 208 ≤ length before → goesOn c ≡ true
     → length (rest t (r .next)) < length (rest t c)
 rest-shorter t c {before} {after} {r} n h g =
     let e = ap length (n .is) in
@@ -81,7 +81,7 @@ module _ (t : Tables) {c ready : Cursor}
 
     pub piece-ready : {unit at bytes : ℕ} → ready ≡ Pieces unit at bytes → at < t .pieces .count
     unfolding piecesIn
-    piece-ready e = let h = found e .ready .0 in let k = length-tabulate (λ (i : ℕ). pieceAt (t .pieces .bytes) (28 * i)) 0 (t .pieces .count) in omega arith
+    piece-ready e = let h = found e .ready .0 in let k = length-tabulate (λ (i : ℕ). pieceAt (t .pieces .bytes) (pieceWidth * i)) 0 (t .pieces .count) in omega arith
 
     pub symbol-ready : {unit at bytes : ℕ} → ready ≡ Symbols unit at bytes → at < t .«piece_symbols» .count
     unfolding symbolsIn
@@ -130,14 +130,14 @@ module _ (t : Tables) {c ready : Cursor}
           w
 
       pub next-piece : (unit at bytes : ℕ) → ready ≡ Pieces unit at bytes
-          → Wrote before after (pieceText (runOf t .name) (pieceAt (t .pieces .bytes) (28 * at))) (Pieces unit (at + 1) bytes) r → Next (runOf t) c before after r
+          → Wrote before after (pieceText (runOf t .name) (pieceAt (t .pieces .bytes) (pieceWidth * at))) (Pieces unit (at + 1) bytes) r → Next (runOf t) c before after r
       unfolding piecesIn
       next-piece unit at bytes e w =
-          let d = pieceAt (t .pieces .bytes) (28 * at) in
+          let d = pieceAt (t .pieces .bytes) (pieceWidth * at) in
           finish e refl
           (piece-step (runOf t) unit at bytes d (found e .ready .0) (found e .ready .1 d)
           ∙ ap (λ p. pieceText (runOf t .name) p ++ rest (runOf t) (Pieces unit (at + 1) bytes))
-          (listed (pieceIs unit) (λ (i : ℕ). pieceAt (t .pieces .bytes) (28 * i)) (t .pieces .count) 0 at d (piece-ready e)))
+          (listed (pieceIs unit) (λ (i : ℕ). pieceAt (t .pieces .bytes) (pieceWidth * i)) (t .pieces .count) 0 at d (piece-ready e)))
           (line-some _) (found e .valid) w
 
       pub next-symbol : (unit at bytes : ℕ) → ready ≡ Symbols unit at bytes
@@ -182,7 +182,7 @@ module _ (t : Tables) {c ready : Cursor}
           written =
               subst (λ (l : List ℕ). Written before after l long)
               (ap₂ (λ (a b : ℕ). totalLine a b bytes) (sym units-long)
-              (sym (length-tabulate (λ (i : ℕ). pieceAt (t .pieces .bytes) (28 * i)) 0 (t .pieces .count))))
+              (sym (length-tabulate (λ (i : ℕ). pieceAt (t .pieces .bytes) (pieceWidth * i)) 0 (t .pieces .count))))
               w;
           next = refl;
         })

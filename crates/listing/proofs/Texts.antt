@@ -27,12 +27,12 @@ module _ {before after : List ℕ} {length : ℕ} where
   }
 
   pub wrote-piece : (name : ℕ → List ℕ) {spelled : List ℕ} {p : Piece} (read : Piece) (behind : Cursor) → p ≡ read → spelled ≡ name (p .name)
-      → Written before after (pieceLine (p .number) spelled (p .address) (p .size) (p .alignment)) length
+      → Written before after (pieceLine (p .number) spelled (p .address) (p .size) (p .alignment) (p .origin)) length
       → Wrote before after (pieceText name read) behind (record { length = length; next = behind })
   wrote-piece name {spelled} {p} read behind e q w = record {
     written =
         as-text (pieceText name read)
-        (ap (λ (n : List ℕ). pieceLine (p .number) n (p .address) (p .size) (p .alignment)) q ∙ ap (pieceText name) e)
+        (ap (λ (n : List ℕ). pieceLine (p .number) n (p .address) (p .size) (p .alignment) (p .origin)) q ∙ ap (pieceText name) e)
         w;
     next = refl;
   }

@@ -81,7 +81,7 @@ goesOn Done = false
 
 -- what stands where there is no piece, as `pieceIn` has it
 abbrev pub noPiece : Piece
-noPiece = record { unit = 0; number = 0; section = 0; name = 0; address = 0; size = 0; alignment = 0; offset = 0 }
+noPiece = record { unit = 0; number = 0; section = 0; name = 0; address = 0; size = 0; alignment = 0; offset = 0; origin = 0 }
 
 abbrev pub pieceOf : List Piece → (place : ℕ) → Piece
 pieceOf pieces place = getD pieces place noPiece
@@ -130,7 +130,7 @@ SoughtUnits units c r = (pieces : List Piece) (symbols : List PieceSymbol) (relo
 -- ---- a line
 
 abbrev pub pieceText : (name : ℕ → List ℕ) → Piece → List ℕ
-pieceText name p = pieceLine (p .number) (name (p .name)) (p .address) (p .size) (p .alignment)
+pieceText name p = pieceLine (p .number) (name (p .name)) (p .address) (p .size) (p .alignment) (p .origin)
 
 -- "piece or `common`"
 abbrev pub ownerAt : List Piece → (place : ℕ) → Owner
@@ -153,5 +153,5 @@ pub record Next (t : Run) (c : Cursor) (before after : List ℕ) (r : Line) : Ty
   pub is : rest t c ≡ take (r .length) after ++ rest t (r .next)
   pub valid : Valid (length (t .units)) (r .next)
   pub goes : ltb 0 (r .length) ≡ goesOn c
-  pub few : r .length ≤ 192
+  pub few : r .length ≤ 208
   pub long : length after ≡ length before

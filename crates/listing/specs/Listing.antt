@@ -48,11 +48,11 @@ figures t unit (name ∷ later) = figure t unit + figures t (suc unit) later
 -- ---- the lines of a unit
 
 abbrev pub pieceIn : Run → (place : ℕ) → Piece
-pieceIn t place = getD (t .pieces) place (record { unit = 0; number = 0; section = 0; name = 0; address = 0; size = 0; alignment = 0; offset = 0 })
+pieceIn t place = getD (t .pieces) place (record { unit = 0; number = 0; section = 0; name = 0; address = 0; size = 0; alignment = 0; offset = 0; origin = 0 })
 
 unfoldable pub pieceLines : Run → List Piece → List ℕ
 pieceLines t [] = []
-pieceLines t (p ∷ later) = pieceLine (p .number) (t .name (p .name)) (p .address) (p .size) (p .alignment) ++ pieceLines t later
+pieceLines t (p ∷ later) = pieceLine (p .number) (t .name (p .name)) (p .address) (p .size) (p .alignment) (p .origin) ++ pieceLines t later
 
 -- "piece or `common`"
 abbrev pub ownerIn : Run → (place : ℕ) → Owner

@@ -55,7 +55,7 @@ pub fn next_line<'a>(
     out: &mut [u8],
 ) -> Line
     requires { ⌜
-        (192 ≤ length (now out))
+        (208 ≤ length (now out))
         × Valid (length (now «unit_places»)) cursor
         × Readable
         (record {

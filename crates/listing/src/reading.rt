@@ -62,6 +62,7 @@ pub fn piece_of(pieces: &[u8], count: usize, k: usize) -> Piece
         size: 0,
         alignment: 0,
         offset: 0,
+        origin: 0,
     }
 }
 

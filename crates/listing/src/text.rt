@@ -45,7 +45,7 @@ pub fn unit_line<'a>(
     out: &mut [u8],
 ) -> Line
     requires { ⌜
-        (192 ≤ length (now out))
+        (208 ≤ length (now out))
         × (pieceWidth * «piece_count» ≤ length (now pieces))
         × («piece_count» ≤ 65535)
         × (unit < 65535)
@@ -99,7 +99,7 @@ pub fn piece_line<'a>(
     out: &mut [u8],
 ) -> Line
     requires { ⌜
-        (192 ≤ length (now out))
+        (208 ≤ length (now out))
         × (pieceWidth * at + pieceWidth ≤ length (now pieces))
         × (at < 18446744073709551615)
         × Known (record { bytes = now («base_bytes»); places = now («base_places»); lengths = now («base_lengths») }) (record { bytes = now («added_bytes»); places = now («added_places»); lengths = now («added_lengths») }) (pieceAt (now pieces) (pieceWidth * at) .name)
@@ -121,7 +121,15 @@ pub fn piece_line<'a>(
         added_lengths,
         number,
     );
-    let length = write_piece(out, p.number, name, p.address, p.size, p.alignment);
+    let length = write_piece(
+        out,
+        p.number,
+        name,
+        p.address,
+        p.size,
+        p.alignment,
+        p.origin,
+    );
     Line {
         length,
         next: Cursor::Pieces {
@@ -151,7 +159,7 @@ pub fn symbol_line<'a>(
     out: &mut [u8],
 ) -> Line
     requires { ⌜
-        (192 ≤ length (now out))
+        (208 ≤ length (now out))
         × (pieceWidth * «piece_count» ≤ length (now pieces))
         × (12 * at + 12 ≤ length (now «piece_symbols»))
         × (at < 18446744073709551615)
@@ -202,7 +210,7 @@ pub fn reloc_line(
     out: &mut [u8],
 ) -> Line
     requires { ⌜
-        (192 ≤ length (now out))
+        (208 ≤ length (now out))
         × (pieceWidth * «piece_count» ≤ length (now pieces))
         × (8 * at + 8 ≤ length (now «piece_relocs»))
         × (at < 18446744073709551615)

@@ -15,7 +15,7 @@ use Rattle.obj.specs.declared.Symbol.{Symbol}
 use Rattle.obj.specs.declared.Reloc.{Reloc}
 use Rattle.obj.specs.declared.Split.{Split}
 use Rattle.obj.specs.declared.Unit as units
-use Rattle.obj.specs.Records.{sectionAt, symbolAt, relocAt, splitAt, unitAt}
+use Rattle.obj.specs.Records.{sectionAt, symbolAt, relocAt, partialAt, unitAt, partialWidth}
 use Rattle.names.specs.Names.{namesOf, nameBad, Named}
 use Rattle.names.specs.Index.{Indexed, Found}
 use Rattle.names.proofs.Laws.{part-is}
@@ -132,30 +132,30 @@ module _ (c : Ceilings) (file : List ℕ) (at len : ℕ) (n : Counts) (places le
         rw (eq-eqb len 23 h, relocations-count n places lengths (old .long-places) here, lt-leb (c .relocations) (n .relocations) f, reloc-tested, e)
 
   -- ---- splitNumber
-  pub split-cut : (len ≡ 19 → ⊥) → 1 ≡ splitNumber c file at len (tablesIn n places lengths)
+  pub split-cut : (len ≡ partialWidth → ⊥) → 1 ≡ splitNumber c file at len (tablesIn n places lengths)
   unfolding splitNumber
-  split-cut h = rw (ne-eqb len 19 h)
+  split-cut h = rw (ne-eqb len partialWidth h)
 
-  pub split-over : len ≡ 19 → c .splits ≤ n .splits → 2 ≡ splitNumber c file at len (tablesIn n places lengths)
+  pub split-over : len ≡ partialWidth → c .splits ≤ n .splits → 2 ≡ splitNumber c file at len (tablesIn n places lengths)
   unfolding splitNumber
-  split-over h f = rw (eq-eqb len 19 h, splits-count n places lengths (old .long-places) here, le-leb (c .splits) (n .splits) f)
+  split-over h f = rw (eq-eqb len partialWidth h, splits-count n places lengths (old .long-places) here, le-leb (c .splits) (n .splits) f)
 
-  module _ (h : len ≡ 19) (f : n .splits < c .splits) {s : Split} {unit-len rename-len : ℕ} {bad : Bool} (read : s ≡ splitAt file at)
+  module _ (h : len ≡ partialWidth) (f : n .splits < c .splits) {s : Split} {unit-len rename-len : ℕ} {bad : Bool} (read : s ≡ partialAt 65535 file at)
       (unit-looked : unit-len ≡ getD (take (n .names) lengths) (s .unit) 0)
       (rename-looked : rename-len ≡ getD (take (n .names) lengths) (s .rename) 0) (tested : bad ≡ splitBad unit-len rename-len s) where
-    split-tested : splitBad (getD (tablesIn n places lengths .lengths) (splitAt file at .unit) 0) (getD (tablesIn n places lengths .lengths) (splitAt file at .rename) 0) (splitAt file at) ≡ bad
+    split-tested : splitBad (getD (tablesIn n places lengths .lengths) (partialAt 65535 file at .unit) 0) (getD (tablesIn n places lengths .lengths) (partialAt 65535 file at .rename) 0) (partialAt 65535 file at) ≡ bad
     unfolding tablesIn
     split-tested = rw (← read, ← unit-looked, ← rename-looked) (sym tested)
 
     pub split-faulty : bad ≡ true → 7 ≡ splitNumber c file at len (tablesIn n places lengths)
     unfolding splitNumber
     split-faulty e =
-        rw (eq-eqb len 19 h, splits-count n places lengths (old .long-places) here, lt-leb (c .splits) (n .splits) f, split-tested, e)
+        rw (eq-eqb len partialWidth h, splits-count n places lengths (old .long-places) here, lt-leb (c .splits) (n .splits) f, split-tested, e)
 
     pub split-passes : bad ≡ false → 0 ≡ splitNumber c file at len (tablesIn n places lengths)
     unfolding splitNumber
     split-passes e =
-        rw (eq-eqb len 19 h, splits-count n places lengths (old .long-places) here, lt-leb (c .splits) (n .splits) f, split-tested, e)
+        rw (eq-eqb len partialWidth h, splits-count n places lengths (old .long-places) here, lt-leb (c .splits) (n .splits) f, split-tested, e)
 
   -- ---- unitNumber
   pub unit-cut : (len ≡ 8 → ⊥) → 1 ≡ unitNumber c file at len (tablesIn n places lengths)

@@ -13,7 +13,7 @@ use Rattle.lists.specs.Outcome.{accepted, refused}
 use Rattle.lists.proofs.Outcomes.{not-both, same-accepted, then-inv}
 use Rattle.lists.proofs.Rows.{getD-map}
 use Rattle.fields.specs.Fields.{le16, le32}
-use Rattle.obj.specs.Records.{sectionAt, symbolAt, relocAt, splitAt, unitAt}
+use Rattle.obj.specs.Records.{sectionAt, symbolAt, relocAt, partialAt, partialNumbered, unitAt, partialWidth}
 use Rattle.lists.proofs.Tests.{none-of}
 use Rattle.names.specs.Names.{nameAt, namesOf, numberOf, nameBad, Named}
 use Rattle.names.specs.Index.{Different}
@@ -21,7 +21,8 @@ use Rattle.names.proofs.Laws.{length-names, number-le}
 use Rattle.faults.proofs.Laws.{reloc-above}
 use Rattle.tables.specs.declared.Ceilings.{Ceilings}
 use Rattle.tables.specs.Tables.{AllHeld}
-use Rattle.tables.specs.Records.{sectionsIn, symbolsIn, relocsIn, splitsIn, unitsIn, noSection, noSymbol, noReloc, noSplit, noUnit, floorFrom}
+use Rattle.tables.proofs.Lookups.{partial-is}
+use Rattle.tables.specs.Records.{sectionsIn, symbolsIn, relocsIn, partialsIn, unitsIn, noSection, noSymbol, noReloc, noSplit, noUnit, floorFrom}
 use Rattle.load.specs.Load.{Loaded, nothing, namesIn, repeated, withRecord, recordNumber, loadFrom, loadOf}
 use Rattle.load.specs.Good.{SectionGood, SymbolGood, RelocGood, SplitGood, UnitGood, Good}
 use Rattle.load.proofs.Numbers.{NewName, PassedSection, PassedSymbol, PassedReloc, PassedSplit, PassedUnit, Passed, again, name, section, symbol, reloc, split, unit, record-passed}
@@ -170,7 +171,7 @@ module _ (c : Ceilings) (file : List ℕ) (at len : ℕ) (t : Loaded) (g : Good 
     symbols = g .symbols;
     relocations = g .relocations;
     rising = g .rising;
-    splits = all-more (g .splits) at (omega (arith, p .long)) (split-good (t .lengths) (splitAt file at) (p .good));
+    splits = all-more (g .splits) at (omega (arith, p .long)) (split-good (t .lengths) (partialAt 65535 file at) (p .good));
     units = g .units;
   }
 
@@ -246,6 +247,11 @@ pub loaded-small : (c : Ceilings) (file : List ℕ) (t : Loaded) → loadOf c fi
 unfolding loadOf
 loaded-small c file t e = ltb-false _ _ (then-inv _ _ _ _ _ _ e .0)
 
+-- a partial split is good whatever its number
+any-number : (lengths file : List ℕ) (at k : ℕ) → SplitGood lengths (partialAt 65535 file at) → SplitGood lengths (partialNumbered file k at)
+unfolding partialAt partialNumbered
+any-number lengths file at k g = record { named = g .named; renamed = g .renamed; aligned = g .aligned; flags = g .flags; start = g .start; end = g .end }
+
 -- ---- what the stages take of it, over the lists of the records
 
 module _ {c : Ceilings} {file : List ℕ} {t : Loaded} (g : Good c file t) where
@@ -285,8 +291,8 @@ module _ {c : Ceilings} {file : List ℕ} {t : Loaded} (g : Good c file t) where
       → RelocGood (sectionsIn file (t .sections)) (length (t .symbols)) (getD (relocsIn file (t .relocations)) k noReloc)
   good-relocs k h = rw (getD-map (relocAt file) (t .relocations) k 0 noReloc h) (g .relocations .each k h)
 
-  pub good-splits : (k : ℕ) → k < length (t .splits) → SplitGood (t .lengths) (getD (splitsIn file (t .splits)) k noSplit)
-  good-splits k h = rw (getD-map (splitAt file) (t .splits) k 0 noSplit h) (g .splits .each k h)
+  pub good-splits : (k : ℕ) → k < length (t .splits) → SplitGood (t .lengths) (getD (partialsIn file (t .splits)) k noSplit)
+  good-splits k h = rw (partial-is file (t .splits) k h) (any-number (t .lengths) file (getD (t .splits) k 0) k (g .splits .each k h))
 
   pub good-units : (k : ℕ) → k < length (t .units) → UnitGood (t .lengths) (getD (unitsIn file (t .units)) k noUnit)
   good-units k h = rw (getD-map (unitAt file) (t .units) k 0 noUnit h) (g .units .each k h)
@@ -301,7 +307,7 @@ module _ {c : Ceilings} {file : List ℕ} {t : Loaded} (g : Good c file t) where
   pub held-relocs : c .relocations ≤ 4294967295 → AllHeld 23 file (t .relocations)
   held-relocs h = record { few = omega (arith, g .within .relocations); each = g .relocations .held }
 
-  pub held-splits : c .splits ≤ 4294967295 → AllHeld 19 file (t .splits)
+  pub held-splits : c .splits ≤ 4294967295 → AllHeld partialWidth file (t .splits)
   held-splits h = record { few = omega (arith, g .within .splits); each = g .splits .held }
 
   pub held-units : c .units ≤ 4294967295 → AllHeld 8 file (t .units)

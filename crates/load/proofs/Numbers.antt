@@ -9,7 +9,7 @@ use borrow.Author.Tests.{ltb-false, leb-false, eqb-true, not-false}
 use lib.Dec.{eqb, ltb, leb}
 use lib.ListN.{length, getD, take, drop}
 use Rattle.fields.specs.Fields.{le16, le32}
-use Rattle.obj.specs.Records.{sectionAt, symbolAt, relocAt, splitAt, unitAt}
+use Rattle.obj.specs.Records.{sectionAt, symbolAt, relocAt, partialAt, unitAt, partialWidth}
 use Rattle.names.specs.Names.{nameBad}
 use Rattle.faults.specs.Faults.{sectionBad, symbolBad, relocBad, splitBad, unitBad}
 use Rattle.tables.specs.declared.Ceilings.{Ceilings}
@@ -72,9 +72,9 @@ module _ (c : Ceilings) (file : List ℕ) (at len : ℕ) (t : Loaded) where
         ≡ false
 
   pub record PassedSplit : Type 0 where
-    pub long : len ≡ 19
+    pub long : len ≡ partialWidth
     pub room : length (t .splits) < c .splits
-    pub good : splitBad (getD (t .lengths) (splitAt file at .unit) 0) (getD (t .lengths) (splitAt file at .rename) 0) (splitAt file at) ≡ false
+    pub good : splitBad (getD (t .lengths) (partialAt 65535 file at .unit) 0) (getD (t .lengths) (partialAt 65535 file at .rename) 0) (partialAt 65535 file at) ≡ false
 
   pub record PassedUnit : Type 0 where
     pub long : len ≡ 8
@@ -116,10 +116,10 @@ module _ (c : Ceilings) (file : List ℕ) (at len : ℕ) (t : Loaded) where
   split-passed : splitNumber c file at len t ≡ 0 → PassedSplit
   unfolding splitNumber
   split-passed e =
-      let f = faultless (not (eqb len 19)) (leb (c .splits) (length (t .splits)))
-      (splitBad (getD (t .lengths) (splitAt file at .unit) 0) (getD (t .lengths) (splitAt file at .rename) 0) (splitAt file at))
+      let f = faultless (not (eqb len partialWidth)) (leb (c .splits) (length (t .splits)))
+      (splitBad (getD (t .lengths) (partialAt 65535 file at .unit) 0) (getD (t .lengths) (partialAt 65535 file at .rename) 0) (partialAt 65535 file at))
       7 (omega arith) e in
-      record { long = right-length len 19 (f .length-right); room = leb-false (c .splits) (length (t .splits)) (f .room); good = f .good }
+      record { long = right-length len partialWidth (f .length-right); room = leb-false (c .splits) (length (t .splits)) (f .room); good = f .good }
 
   unit-passed : unitNumber c file at len t ≡ 0 → PassedUnit
   unfolding unitNumber

@@ -12,7 +12,7 @@ use Rattle.obj.specs.declared.Symbol.{Symbol}
 use Rattle.obj.specs.declared.Reloc.{Reloc}
 use Rattle.obj.specs.declared.Split.{Split}
 use Rattle.obj.specs.declared.Unit as units
-use Rattle.obj.specs.Records.{sectionAt, symbolAt, relocAt, splitAt, unitAt, partialWidth}
+use Rattle.obj.specs.Records.{sectionAt, symbolAt, relocAt, partialAt, unitAt, partialWidth}
 use Rattle.names.specs.Names.{nameAt, namesOf, nameBad}
 use Rattle.names.specs.Index.{Different}
 use Rattle.tables.specs.declared.Ceilings.{Ceilings}
@@ -96,5 +96,5 @@ pub record Good (c : Ceilings) (file : List ℕ) (t : Loaded) : Type 0 where
   pub symbols : AllGood 20 file (symbolAt file) (SymbolGood (length (t .names)) (sectionsIn file (t .sections))) (t .symbols)
   pub relocations : AllGood 23 file (relocAt file) (RelocGood (sectionsIn file (t .sections)) (length (t .symbols))) (t .relocations)
   pub rising : Rising (relocsIn file (t .relocations))
-  pub splits : AllGood partialWidth file (splitAt file) (SplitGood (t .lengths)) (t .splits)
+  pub splits : AllGood partialWidth file (partialAt 65535 file) (SplitGood (t .lengths)) (t .splits)
   pub units : AllGood 8 file (unitAt file) (UnitGood (t .lengths)) (t .units)

@@ -9,7 +9,7 @@ use lib.ListN.{length, getD, take, drop}
 use lib.Dec.{eqb, ltb, leb}
 use Rattle.lists.specs.Outcome.{Outcome, accepted, refused, refuse, _>>_}
 use Rattle.fields.specs.Fields.{le16, le32}
-use Rattle.obj.specs.Records.{sectionAt, symbolAt, relocAt, splitAt, unitAt, partialWidth}
+use Rattle.obj.specs.Records.{sectionAt, symbolAt, relocAt, partialAt, unitAt, partialWidth}
 use Rattle.names.specs.Names.{namesOf, numberOf, nameBad}
 use Rattle.faults.specs.Faults.{sectionBad, symbolBad, relocBad, splitBad, unitBad}
 use Rattle.tables.specs.declared.Ceilings.{Ceilings}
@@ -76,7 +76,7 @@ module _ (c : Ceilings) (file : List ℕ) (at len : ℕ) (t : Loaded) where
   splitNumber =
       cond (not (eqb len partialWidth)) 1
       (cond (leb (c .splits) (length (t .splits))) 2
-      (cond (splitBad (getD (t .lengths) (splitAt file at .unit) 0) (getD (t .lengths) (splitAt file at .rename) 0) (splitAt file at)) 7 0))
+      (cond (splitBad (getD (t .lengths) (partialAt 65535 file at .unit) 0) (getD (t .lengths) (partialAt 65535 file at .rename) 0) (partialAt 65535 file at)) 7 0))
 
   unfoldable pub unitNumber : ℕ
   unitNumber =

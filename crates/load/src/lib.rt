@@ -28,9 +28,9 @@ use names::find;
 use obj::Answer;
 use obj::PARTIAL_BYTES;
 use obj::Section;
+use obj::read_partial;
 use obj::read_reloc;
 use obj::read_section;
-use obj::read_split;
 use obj::read_symbol;
 use obj::read_unit;
 use obj::refusal;
@@ -290,7 +290,8 @@ fn split_number(
     if c.splits <= n.splits {
         return 2;
     }
-    let s = read_split(file, at);
+    // 7 does not ask for its number
+    let s = read_partial(file, at, 65535);
     let unit_len = name_length(lengths, n.names, s.unit);
     let rename_len = name_length(lengths, n.names, s.rename);
     if split_bad(s, unit_len, rename_len) {

@@ -1,22 +1,25 @@
 -- What each stage asks of the tables, of a file that is usable: the records can be read, the names are there, ends and alignments are as they should be.
 -- Assumes nothing.
 use Prim.Native.Nat.{ℕ, _+_, _<_, _≤_}
-use mathlib.Core.Path.{_≡_}
+use mathlib.Core.Path.{_≡_, sym, ap, _∙_}
 use mathlib.Core.List.{List}
 use native.Mathlib.Omega.{arith}
 use lib.ListN.{length, getD, length-map}
 use Rattle.lists.proofs.Rows.{getD-map}
+use Rattle.align.specs.Align.{badAlign}
 use Rattle.obj.specs.Records.{relocAt}
+use Rattle.obj.specs.declared.Split.{Split}
 use Rattle.names.specs.Names.{Named}
 use Rattle.tables.specs.Tables.{AllHeld}
 use Rattle.tables.specs.Records.{relocsIn, noReloc}
+use Rattle.tables.proofs.Lookups.{partial-is}
 use Rattle.load.specs.Load.{Loaded}
-use Rattle.load.proofs.Laws.{name-known, names-named, held-sections, held-units}
+use Rattle.load.proofs.Laws.{name-known, names-named, good-splits, held-sections, held-units}
 use Rattle.symbol_order.specs.Order.{symbolOf, orderOf, Whole, Room}
 use Rattle.symbols.specs.Sound.{Sound}
 use Rattle.sections.specs.Image.{SymbolNames, Tables}
 use Rattle.sections.specs.Sections.{headOf, Kept, Heads}
-use Rattle.splits.specs.Bytes.{Loadable}
+use Rattle.splits.specs.Bytes.{Partials}
 use Rattle.relocs.specs.Relocs as relocs
 use Rattle.units.specs.Units.{Listed}
 use Rattle.loaded.specs.Tables.{bytePlaces, Usable}
@@ -119,8 +122,12 @@ module _ {file : List ℕ} {t : Loaded} (u : Usable file t) where
           omega (arith, lower)
 
   -- ---- partial splits
-  pub partials-loadable : Loadable file (t .splits)
-  partials-loadable = record { held = λ k h. record { there = h; inside = u .good .splits .held k h }; aligned = λ k h. u .good .splits .each k h .aligned }
+  pub partials-mergeable : Partials file (t .splits)
+  partials-mergeable = record {
+    few = omega (arith, few-splits);
+    held = λ k h. record { there = h; inside = u .good .splits .held k h };
+    aligned = λ k h. ap (λ (s : Split). badAlign (s .alignment)) (sym (partial-is file (t .splits) k h)) ∙ good-splits (u .good) k h .aligned;
+  }
 
   -- ---- units
   pub units-held : AllHeld 8 file (t .units)

@@ -163,7 +163,7 @@ pub fn check_ends(
 
 // "section number, start, old end and new end"
 fn write_line(out: &mut [u8], section: u16, start: u32, old: u32, new: u32) -> usize
-    requires { ⌜ 192 ≤ length (now out) ⌝ }
+    requires { ⌜ 208 ≤ length (now out) ⌝ }
     ensures { λ r. ⌜ Written (now (out .entry)) (now (out .exit)) (mendLine section start old new) r ⌝ }
 {
     let mut at = put_decimal(out, 0, section as u64, SPACE);
@@ -177,7 +177,7 @@ fn put_line(lines: &mut [u8], at: usize, section: u16, start: u32, old: u32, new
     requires { ⌜ at ≤ length (now lines) ⌝ }
     ensures { λ r. ⌜ Joins (now (lines .entry)) (now (lines .exit)) at (mendLine section start old new) r ⌝ }
 {
-    let mut buffer = [0u8; 192];
+    let mut buffer = [0u8; 208];
     let size = write_line(&mut buffer, section, start, old, new);
     if lines.len() - at < size {
         return Lines {

@@ -24,6 +24,7 @@ use Rattle.mend.specs.Steps.{mending}
 use Rattle.mend.specs.declared.Mending.{Mending}
 use Rattle.mend.specs.declared.Mending.the-variants.{Accepted as Kept, Refused as Rejected}
 use Rattle.mend_outputs.specs.Outputs.{Leaves, Laid, Gives, Stores, Finishes}
+use Rattle.obj.specs.Records.{splitWidth}
 use Rattle.mend_outputs.proofs.Counts.{at-front, counts-kept}
 
 -- ---- an outcome on its way
@@ -65,7 +66,7 @@ stores-rows {n = n} {counts = counts} {counts′ = counts′} e p q = rw e (reco
 
 -- a mending that was stored, with its lines at the front of their room
 pub stored-gives : {o : Outcome Mended} (r : Mending) {n : ℕ} (c : Columns) {a : Answer} {out lines counts out′ lines′ counts′ : List ℕ} → mending r (rows c n) lines′ ≡ o
-    → ((size : ℕ) → r ≡ Kept size → (lines′ ≡ sets lines 0 (take size lines′)) × (size ≤ length lines)) → 19 * n ≤ length out
+    → ((size : ℕ) → r ≡ Kept size → (lines′ ≡ sets lines 0 (take size lines′)) × (size ≤ length lines)) → splitWidth * n ≤ length out
     → Stores r (rows c n) n a out counts out′ counts′ → Gives o a (Laid out lines counts out′ lines′ counts′)
 stored-gives {o} (Rejected number section address) {n} c {a} {out} {lines} {counts} {out′} {lines′} {counts′} e t h s =
     subst (λ (x : Answer). Gives o x (Laid out lines counts out′ lines′ counts′)) (sym (s .answered)) (gives-refused e)

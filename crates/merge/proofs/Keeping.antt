@@ -2,13 +2,14 @@
 -- single splits (`Keeps`), and for the room. Assumes nothing.
 use mathlib.Core.Path.{_≡_, refl, sym, subst, _∙_}
 use mathlib.Core.List.{List, [], _∷_}
-use mathlib.Core.Bool.{Bool, true, false, _&&_}
-use Prim.Native.Nat.{ℕ, zero, suc, _≤_}
+use mathlib.Core.Bool.{Bool, true, false, cond, _&&_}
+use Prim.Native.Nat.{ℕ, zero, suc, _≤_, _<_}
 use native.Mathlib.Omega.{arith}
 use borrow.Author.Tests.{eqb-true}
-use lib.Dec.{eqb}
+use lib.Dec.{eqb, ltb}
 use lib.ListN.{length}
 use Rattle.lists.specs.Sort.{All, none, each}
+use Rattle.lists.specs.Bounds.{lower}
 use Rattle.lists.specs.Outcome.{accepted}
 use Rattle.lists.proofs.All.{all-keep, all-any}
 use Rattle.lists.proofs.Filter.{keep-passes}
@@ -19,7 +20,7 @@ use Rattle.splits.specs.Rising.{Rising}
 use Rattle.split_edits.specs.Edits.{pushed, renamed, joined}
 use Rattle.split_edits.proofs.Order.{rising-pushed, rising-joined}
 use Rattle.split_edits.proofs.Each.{all-pushed, all-joined, length-pushed}
-use Rattle.merge.specs.Merge.{Given, Step, keep, push, join, decide, again, carried, rounds, mergeOne, mergeAll}
+use Rattle.merge.specs.Merge.{Given, Step, keep, push, join, jointOf, decide, again, carried, rounds, mergeOne, mergeAll}
 use Rattle.merge.specs.Kept.{Inside, Keeps}
 use Rattle.merge.proofs.Rounds.{Joins, Pushes, decide-joins, decide-pushes, joined-shorter, rounds-done}
 
@@ -124,3 +125,18 @@ module _ (g : Given) where
 
   pub all-few : (rows partials result : List Split) → length rows ≤ g .room → mergeAll g rows partials ≡ accepted result → length result ≤ g .room
   all-few rows partials result h e = all-keeps g (λ l. length l ≤ g .room) (λ s. Unit {0}) few-on-push few-on-join rows partials result h (all-any (λ s. tt) partials) e
+
+-- ---- (d) origins below a bound
+lower-below : (a b m : ℕ) → a < m → b < m → lower a b < m
+lower-below a b m h q = go (ltb a b)
+  where
+    go : (t : Bool) → cond t a b < m
+    go true = h
+    go false = q
+
+joint-below : (m : ℕ) (new old : Split) → new .origin < m → old .origin < m → jointOf new old .origin < m
+unfolding jointOf
+joint-below m new old h q = lower-below (new .origin) (old .origin) m h q
+
+pub origins-keep : (m : ℕ) → Keeps (λ s. s .origin < m)
+origins-keep m = record { joint = λ new old e p q. joint-below m new old p q; renamed = λ s named p q. p }

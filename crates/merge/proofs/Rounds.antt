@@ -3,21 +3,19 @@
 use mathlib.Core.Path.{_≡_, refl, sym, ap, _∙_}
 use mathlib.Core.List.{List, [], _∷_}
 use mathlib.Core.Bool.{Bool, true, false, not, _&&_}
-use Prim.Native.Nat.{ℕ, zero, suc, _+_, _≤_, _<_}
+use Prim.Native.Nat.{ℕ, zero, suc, _+_, _-_, _≤_, _<_}
 use native.Mathlib.Nat.{not-suc-le-zero}
-use native.Mathlib.Numerals.{add-one}
 use native.Mathlib.Omega.{arith}
-use lib.ListN.{length, getD, drop, length-map, drop-of-length-le}
-use lib.Seq.{drop-cons}
+use lib.ListN.{length, getD, length-map}
 use lib.Dec.{eqb, ltb}
 use borrow.Author.Tests.{not-false, leb-false, ltb-false, eqb-true}
-use Rattle.lists.specs.Rows.{keepIf, some}
+use Rattle.lists.specs.Rows.{tabulate, keepIf, some}
 use Rattle.lists.specs.Outcome.{Outcome, accepted, refused, _>>=_}
 use Rattle.lists.proofs.Outcomes.{not-both, then-inv}
+use Rattle.lists.proofs.Rows.{rest-cons, rest-none}
 use Rattle.lists.proofs.FilterRows.{fewer-without}
 use Rattle.obj.specs.declared.Split.{Split}
-use Rattle.obj.specs.Records.{splitAt}
-use Rattle.tables.specs.Records.{splitsIn}
+use Rattle.obj.specs.Records.{partialNumbered}
 use Rattle.splits.specs.Questions.{within, ofUnit}
 use Rattle.split_edits.specs.Edits.{pushed, renamed, joined}
 use Rattle.merge.specs.Merge.{Given, Step, keep, push, join, unchangedIf, jointOf, inRange, onJoint, onOld, onOwn, decide, Next, done, again, carried, rounds, mergeOne, mergeAll}
@@ -226,20 +224,24 @@ pub all-done : (g : Given) (rows : List Split) → mergeAll g rows [] ≡ accept
 unfolding mergeAll
 all-done g rows = refl
 
--- .. those at their places, from place i on
-module _ (g : Given) (rows : List Split) (b places : List ℕ) (i : ℕ) (h : i < length places) (new : Split) (e : new ≡ splitAt b (getD places i 0)) where
-  from-here : mergeAll g rows (splitsIn b (drop i places)) ≡ mergeAll g rows (new ∷ splitsIn b (drop (i + 1) places))
-  from-here =
-      ap (λ (l : List ℕ). mergeAll g rows (splitsIn b l)) (drop-cons places i 0 h)
-      ∙ (λ z. mergeAll g rows (sym e z ∷ splitsIn b (drop (sym (add-one i) z) places)))
+-- .. the partial splits of a list, from number i on
+module _ (b places : List ℕ) where
+  abbrev pub partialsFrom : ℕ → List Split
+  partialsFrom i = tabulate (λ k. partialNumbered b k (getD places k 0)) i (length places - i)
 
-  pub places-refused : {number section address : ℕ} → mergeOne g rows new ≡ refused number section address
-      → mergeAll g rows (splitsIn b (drop i places)) ≡ refused number section address
-  places-refused q = from-here ∙ all-refused g rows new _ _ _ _ q
+  module _ (g : Given) (rows : List Split) (i : ℕ) (h : i < length places) (new : Split) (e : new ≡ partialNumbered b i (getD places i 0)) where
+    from-here : mergeAll g rows (partialsFrom i) ≡ mergeAll g rows (new ∷ partialsFrom (i + 1))
+    from-here =
+        ap (mergeAll g rows) (rest-cons (λ k. partialNumbered b k (getD places k 0)) i (length places) h)
+        ∙ ap (λ (s : Split). mergeAll g rows (s ∷ partialsFrom (i + 1))) (sym e)
 
-  pub places-on : {rows′ : List Split} → mergeOne g rows new ≡ accepted rows′
-      → mergeAll g rows (splitsIn b (drop i places)) ≡ mergeAll g rows′ (splitsIn b (drop (i + 1) places))
-  places-on q = from-here ∙ all-on g rows _ new _ q
+    pub places-refused : {number section address : ℕ} → mergeOne g rows new ≡ refused number section address
+        → mergeAll g rows (partialsFrom i) ≡ refused number section address
+    places-refused q = from-here ∙ all-refused g rows new _ _ _ _ q
 
-pub places-done : (g : Given) (rows : List Split) (b places : List ℕ) (i : ℕ) → length places ≤ i → mergeAll g rows (splitsIn b (drop i places)) ≡ accepted rows
-places-done g rows b places i h = ap (λ (l : List ℕ). mergeAll g rows (splitsIn b l)) (drop-of-length-le places h) ∙ all-done g rows
+    pub places-on : {rows′ : List Split} → mergeOne g rows new ≡ accepted rows′ → mergeAll g rows (partialsFrom i) ≡ mergeAll g rows′ (partialsFrom (i + 1))
+    places-on q = from-here ∙ all-on g rows _ new _ q
+
+  pub places-done : (g : Given) (rows : List Split) (i : ℕ) → length places ≤ i → mergeAll g rows (partialsFrom i) ≡ accepted rows
+  places-done g rows i h =
+      ap (mergeAll g rows) (rest-none (λ k. partialNumbered b k (getD places k 0)) i (length places) h) ∙ all-done g rows

@@ -9,18 +9,18 @@ ghost use Rattle.lists.specs.Rows.{keepIf};
 ghost use Rattle.lists.specs.Outcome.{accepted};
 ghost use Rattle.obj.specs.Records.{sectionAt, Held};
 ghost use Rattle.tables.specs.Tables.{AllHeld};
-ghost use Rattle.tables.specs.Records.{sectionsIn, splitsIn};
+ghost use Rattle.tables.specs.Records.{sectionsIn, partialsIn};
 ghost use Rattle.splits.specs.Columns.{Good, columns, rows, Long};
 ghost use Rattle.splits.specs.Questions.{ofUnit};
-ghost use Rattle.splits.specs.Bytes.{Loadable};
+ghost use Rattle.splits.specs.Bytes.{Partials};
 ghost use Rattle.split_joins.specs.Joins.{joinedBy};
 ghost use Rattle.lists.specs.Bounds.{lower, higher};
 ghost use Rattle.merge.specs.Merge.{given, sectionEnd, jointOf, onJoint, onOld, onOwn, decide, mergeOne, mergeAll};
 ghost use Rattle.merge.specs.Answers.{decided, HandsGood, merged, count};
 ghost use Rattle.merge.specs.declared.Decision.the-variants.{Refuse};
 use obj::Split;
+use obj::partial_at;
 use obj::section_at;
-use obj::split_at;
 use split_edits::join;
 use split_edits::push;
 use split_joins::join_and_push;
@@ -72,6 +72,16 @@ fn higher_of(a: u32, b: u32) -> u32
     a
 }
 
+// The smaller of two origins; 65535, for none, is the largest.
+fn lower_number(a: u16, b: u16) -> u16
+    ensures { λ r. ⌜ r ≡ lower a b ⌝ }
+{
+    if a < b {
+        return a;
+    }
+    b
+}
+
 // The alignment of either: the new one's, or where that has none the old one's.
 fn alignment_of_either(new: u32, old: u32) -> u32
     ensures { λ r. ⌜ r ≡ cond (eqb new 0) old new ⌝ }
@@ -82,7 +92,7 @@ fn alignment_of_either(new: u32, old: u32) -> u32
     new
 }
 
-// "both become one with the lower start and higher end", "skip off, rename gone".
+// "both become one with the lower start and higher end", "skip off, rename gone"; "A joint split has the smaller of the two numbers".
 fn joint_of(new: Split, old: Split) -> Split
     ensures { λ r. ⌜ r ≡ jointOf new old ⌝ }
 {
@@ -94,6 +104,7 @@ fn joint_of(new: Split, old: Split) -> Split
         alignment: alignment_of_either(new.alignment, old.alignment),
         flags: new.flags % 2 + 2 * (new.flags / 2 % 2 * (old.flags / 2 % 2)),
         rename: 65535,
+        origin: lower_number(new.origin, old.origin),
     }
 }
 
@@ -349,17 +360,17 @@ pub fn add_splits(
     partials: &[u8],
     partial_places: &[u32],
 ) -> Merged
-    requires { ⌜ Long (columns (now starts) (now ends) (now units) (now rest)) cap × (n ≤ cap) × AllHeld 15 (now heads) (now «head_places») × Loadable (now partials) (now «partial_places») ⌝ }
+    requires { ⌜ Long (columns (now starts) (now ends) (now units) (now rest)) cap × (n ≤ cap) × AllHeld 15 (now heads) (now «head_places») × Partials (now partials) (now «partial_places») ⌝ }
     ensures { λ r. ⌜
         (merged r (columns (now (starts .exit)) (now (ends .exit)) (now (units .exit)) (now (rest .exit)))
         ≡ mergeAll (given (sectionsIn (now (heads .entry)) (now («head_places» .entry))) cap) (rows (columns (now (starts .entry)) (now (ends .entry)) (now (units .entry)) (now (rest .entry))) n)
-        (splitsIn (now (partials .entry)) (now («partial_places» .entry))))
+        (partialsIn (now (partials .entry)) (now («partial_places» .entry))))
         × (count r ≤ cap) ⌝ }
 {
     let mut k = n;
     let mut i: usize = 0;
     while i < partial_places.len() {
-        let new = split_at(partials, partial_places, i);
+        let new = partial_at(partials, partial_places, i);
         let r = add_split(starts, ends, units, rest, k, cap, heads, head_places, new);
         match r {
             Merged::Refused {

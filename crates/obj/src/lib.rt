@@ -4,7 +4,7 @@
 ghost use mathlib.Core.Path.{_≡_};
 ghost use Prim.Native.Nat.{_+_, _<_, _≤_};
 ghost use lib.ListN.{length, getD};
-ghost use Rattle.obj.specs.Records.{sectionAt, symbolAt, relocAt, splitAt, unitAt, Held, splitWidth};
+ghost use Rattle.obj.specs.Records.{sectionAt, symbolAt, relocAt, partialAt, originOf, partialNumbered, splitAt, unitAt, Held, partialWidth, splitWidth};
 ghost use Rattle.obj.specs.Answers.{word, place};
 ghost use Rattle.obj.specs.declared.Answer.the-variants.{Refused};
 use fields::get_i32;
@@ -41,6 +41,7 @@ pub struct Reloc {
     pub module: u32,
 }
 
+// `origin` is "the number of its hand-made partial split record", or 65535 (document 02, (b)).
 #[repr(C)]
 pub struct Split {
     pub section: u16,
@@ -50,6 +51,7 @@ pub struct Split {
     pub alignment: u32,
     pub flags: u8,
     pub rename: u16,
+    pub origin: u16,
 }
 
 pub struct Unit {
@@ -72,7 +74,7 @@ pub enum Answer {
 // Bytes of a partial split's record, in a file and in the merge's list, and of a split's record in a stage table.
 pub const PARTIAL_BYTES: usize = 19;
 
-pub const SPLIT_BYTES: usize = 19;
+pub const SPLIT_BYTES: usize = 21;
 
 pub fn read_section(b: &[u8], at: usize) -> Section
     requires { ⌜ at + 15 ≤ length (now b) ⌝ }
@@ -117,9 +119,10 @@ pub fn read_reloc(b: &[u8], at: usize) -> Reloc
     }
 }
 
-pub fn read_split(b: &[u8], at: usize) -> Split
-    requires { ⌜ at + splitWidth ≤ length (now b) ⌝ }
-    ensures { λ r. ⌜ r ≡ splitAt (now (b .entry)) at ⌝ }
+// A partial split's record, which holds no origin: it is given one.
+pub fn read_partial(b: &[u8], at: usize, origin: u16) -> Split
+    requires { ⌜ at + partialWidth ≤ length (now b) ⌝ }
+    ensures { λ r. ⌜ r ≡ partialAt origin (now (b .entry)) at ⌝ }
 {
     Split {
         section: get16(b, at),
@@ -129,7 +132,15 @@ pub fn read_split(b: &[u8], at: usize) -> Split
         alignment: get32(b, at + 12),
         flags: b[at + 16],
         rename: get16(b, at + 17),
+        origin: origin,
     }
+}
+
+pub fn read_split(b: &[u8], at: usize) -> Split
+    requires { ⌜ at + splitWidth ≤ length (now b) ⌝ }
+    ensures { λ r. ⌜ r ≡ splitAt (now (b .entry)) at ⌝ }
+{
+    read_partial(b, at, get16(b, at + PARTIAL_BYTES))
 }
 
 pub fn read_unit(b: &[u8], at: usize) -> Unit
@@ -164,6 +175,25 @@ pub fn reloc_at(b: &[u8], places: &[u32], k: usize) -> Reloc
     ensures { λ r. ⌜ r ≡ relocAt (now (b .entry)) (getD (now (places .entry)) k 0) ⌝ }
 {
     read_reloc(b, places[k] as usize)
+}
+
+// The origin of partial record k, which has these flags.
+fn origin_of(k: u16, flags: u8) -> u16
+    ensures { λ r. ⌜ r ≡ originOf k flags ⌝ }
+{
+    if flags / 2 % 2 == 1 {
+        return 65535;
+    }
+    k
+}
+
+// Partial record k, with its origin.
+pub fn partial_at(b: &[u8], places: &[u32], k: usize) -> Split
+    requires { ⌜ Held partialWidth (now b) (now places) k × (k < 65535) ⌝ }
+    ensures { λ r. ⌜ r ≡ partialNumbered (now (b .entry)) k (getD (now (places .entry)) k 0) ⌝ }
+{
+    let at = places[k] as usize;
+    read_partial(b, at, origin_of(k as u16, b[at + 16]))
 }
 
 pub fn split_at(b: &[u8], places: &[u32], k: usize) -> Split

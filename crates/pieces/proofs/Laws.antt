@@ -13,7 +13,7 @@ use Rattle.lists.specs.Rows.{tabulate}
 use Rattle.lists.proofs.Rows.{length-tabulate}
 use Rattle.fields.specs.Fields.{le16, le32, le64, enc16, enc32, enc64, little}
 use Rattle.fields.proofs.Laws.{le16-is, le32-is, le64-is, numberAt-same, round16, round32, round64}
-use Rattle.pieces.specs.Pieces.{pieceAt, symbolAt, relocAt, pieceBytes, symbolBytes, relocBytes, piecesIn, symbolsIn, relocsIn, packed, FitsPiece, FitsSymbol, FitsReloc}
+use Rattle.pieces.specs.Pieces.{pieceAt, symbolAt, relocAt, pieceHead, pieceBytes, symbolBytes, relocBytes, piecesIn, symbolsIn, relocsIn, packed, FitsPiece, FitsSymbol, FitsReloc, pieceWidth}
 use Rattle.pieces.specs.declared.Piece.{Piece}
 use Rattle.pieces.specs.declared.PieceSymbol.{PieceSymbol}
 use Rattle.pieces.specs.declared.PieceReloc.{PieceReloc}
@@ -40,17 +40,18 @@ module _ (w : ℕ) (b c : List ℕ) (i j : ℕ) (same : (k : ℕ) → k < w → 
   first16 h = le16-is b i ∙ numberAt-same little 2 b c i j (λ k q. same k (omega arith)) ∙ sym (le16-is c j)
 
 -- ---- a reader looks at its record's bytes only
-pub piece-same : (b c : List ℕ) (i j : ℕ) → ((k : ℕ) → k < 28 → getD b (i + k) 0 ≡ getD c (j + k) 0) → pieceAt b i ≡ pieceAt c j
+pub piece-same : (b c : List ℕ) (i j : ℕ) → ((k : ℕ) → k < pieceWidth → getD b (i + k) 0 ≡ getD c (j + k) 0) → pieceAt b i ≡ pieceAt c j
 unfolding pieceAt
 piece-same b c i j same = λ z. record {
-  unit = first16 28 b c i j same (omega arith) z;
-  number = field16 28 b c i j same 2 (omega arith) z;
-  section = field16 28 b c i j same 4 (omega arith) z;
-  name = field16 28 b c i j same 6 (omega arith) z;
-  address = field32 28 b c i j same 8 (omega arith) z;
-  size = field32 28 b c i j same 12 (omega arith) z;
-  alignment = field32 28 b c i j same 16 (omega arith) z;
-  offset = field64 28 b c i j same 20 (omega arith) z;
+  unit = first16 pieceWidth b c i j same (omega arith) z;
+  number = field16 pieceWidth b c i j same 2 (omega arith) z;
+  section = field16 pieceWidth b c i j same 4 (omega arith) z;
+  name = field16 pieceWidth b c i j same 6 (omega arith) z;
+  address = field32 pieceWidth b c i j same 8 (omega arith) z;
+  size = field32 pieceWidth b c i j same 12 (omega arith) z;
+  alignment = field32 pieceWidth b c i j same 16 (omega arith) z;
+  offset = field64 pieceWidth b c i j same 20 (omega arith) z;
+  origin = field16 pieceWidth b c i j same 28 (omega arith) z;
 }
 
 pub symbol-same : (b c : List ℕ) (i j : ℕ) → ((k : ℕ) → k < 12 → getD b (i + k) 0 ≡ getD c (j + k) 0) → symbolAt b i ≡ symbolAt c j
@@ -73,7 +74,7 @@ reloc-same b c i j same = λ z. record {
 
 -- ---- a record's bytes give it back
 pub piece-back : (p : Piece) → FitsPiece p → pieceAt (pieceBytes p) 0 ≡ p
-unfolding pieceAt pieceBytes
+unfolding pieceAt pieceBytes pieceHead
 piece-back p f = λ z. record {
   unit = round16 (p .unit) (f .unit) z;
   number = round16 (p .number) (f .number) z;
@@ -83,6 +84,7 @@ piece-back p f = λ z. record {
   size = round32 (p .size) (f .size) z;
   alignment = round32 (p .alignment) (f .alignment) z;
   offset = round64 (p .offset) (f .offset) z;
+  origin = round16 (p .origin) (f .origin) z;
 }
 
 pub symbol-back : (y : PieceSymbol) → FitsSymbol y → symbolAt (symbolBytes y) 0 ≡ y
@@ -104,8 +106,8 @@ reloc-back r f = λ z. record {
 }
 
 -- ---- a record's length
-pub length-pieceBytes : (p : Piece) → length (pieceBytes p) ≡ 28
-unfolding pieceBytes
+pub length-pieceBytes : (p : Piece) → length (pieceBytes p) ≡ pieceWidth
+unfolding pieceBytes pieceHead
 length-pieceBytes p = refl
 
 pub length-symbolBytes : (y : PieceSymbol) → length (symbolBytes y) ≡ 12
@@ -118,9 +120,9 @@ length-relocBytes r = refl
 
 -- ---- one record more
 module _ (b : List ℕ) (k : ℕ) where
-  pub pieces-more : (p : Piece) → FitsPiece p → 28 * k + 28 ≤ length b → piecesIn (sets b (28 * k) (pieceBytes p)) (k + 1) ≡ piecesIn b k ++ (p ∷ [])
+  pub pieces-more : (p : Piece) → FitsPiece p → pieceWidth * k + pieceWidth ≤ length b → piecesIn (sets b (pieceWidth * k) (pieceBytes p)) (k + 1) ≡ piecesIn b k ++ (p ∷ [])
   unfolding piecesIn
-  pieces-more p f h = record-more 28 pieceAt piece-same b (pieceBytes p) k p (length-pieceBytes p) h (piece-back p f)
+  pieces-more p f h = record-more pieceWidth pieceAt piece-same b (pieceBytes p) k p (length-pieceBytes p) h (piece-back p f)
 
   pub symbols-more : (y : PieceSymbol) → FitsSymbol y → 12 * k + 12 ≤ length b → symbolsIn (sets b (12 * k) (symbolBytes y)) (k + 1) ≡ symbolsIn b k ++ (y ∷ [])
   unfolding symbolsIn
@@ -132,7 +134,7 @@ module _ (b : List ℕ) (k : ℕ) where
 
   pub length-piecesIn : length (piecesIn b k) ≡ k
   unfolding piecesIn
-  length-piecesIn = length-tabulate (λ i. pieceAt b (28 * i)) 0 k
+  length-piecesIn = length-tabulate (λ i. pieceAt b (pieceWidth * i)) 0 k
 
   pub length-symbolsIn : length (symbolsIn b k) ≡ k
   unfolding symbolsIn
@@ -144,17 +146,19 @@ module _ (b : List ℕ) (k : ℕ) where
 
 -- ---- the bytes of a table
 module _ (b : List ℕ) (small : (i : ℕ) → getD b i 0 < 256) where
-  piece-bytes : (at : ℕ) → at + 28 ≤ length b → pieceBytes (pieceAt b at) ≡ take 28 (drop at b)
-  unfolding pieceAt pieceBytes
+  piece-bytes : (at : ℕ) → at + pieceWidth ≤ length b → pieceBytes (pieceAt b at) ≡ take pieceWidth (drop at b)
+  unfolding pieceAt pieceBytes pieceHead
   piece-bytes at h =
       let names = parts-join b at 6 2
       (parts-join b at 4 2 (parts-join b at 2 2 (bytes16 b small at (omega arith)) (bytes16 b small (at + 2) (omega arith))) (bytes16 b small (at + 4) (omega arith)))
       (bytes16 b small (at + 6) (omega arith)) in
-      parts-join b at 20 8
+      parts-join b at 28 2
+      (parts-join b at 20 8
       (parts-join b at 16 4
       (parts-join b at 12 4 (parts-join b at 8 4 names (bytes32 b small (at + 8) (omega arith))) (bytes32 b small (at + 12) (omega arith)))
       (bytes32 b small (at + 16) (omega arith)))
-      (bytes64 b small (at + 20) (omega arith))
+      (bytes64 b small (at + 20) (omega arith)))
+      (bytes16 b small (at + 28) (omega arith))
 
   symbol-bytes : (at : ℕ) → at + 12 ≤ length b → symbolBytes (symbolAt b at) ≡ take 12 (drop at b)
   unfolding symbolAt symbolBytes
@@ -172,9 +176,9 @@ module _ (b : List ℕ) (small : (i : ℕ) → getD b i 0 < 256) where
 
   -- the first k records of a table, packed, are its first bytes
   module _ (k : ℕ) where
-    pub pieces-packed : 28 * k ≤ length b → packed pieceBytes (piecesIn b k) ≡ take (28 * k) b
+    pub pieces-packed : pieceWidth * k ≤ length b → packed pieceBytes (piecesIn b k) ≡ take (pieceWidth * k) b
     unfolding piecesIn
-    pieces-packed h = packed-table pieceBytes 28 pieceAt b k (λ i q. piece-bytes (28 * i) (omega arith))
+    pieces-packed h = packed-table pieceBytes pieceWidth pieceAt b k (λ i q. piece-bytes (pieceWidth * i) (omega arith))
 
     pub symbols-packed : 12 * k ≤ length b → packed symbolBytes (symbolsIn b k) ≡ take (12 * k) b
     unfolding symbolsIn

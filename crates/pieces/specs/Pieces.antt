@@ -1,5 +1,5 @@
--- What the walk gives, as packed records, little-endian: pieces of 28 bytes (unit 2, number in its unit 2, section 2, name 2, address 4, size 4,
--- alignment 4, file offset 8), piece symbols of 12 (unit 2, piece 2, its place among the pieces or 0xFFFF for common, symbol 2, flags 2, address 4),
+-- What the walk gives, as packed records, little-endian: pieces of 30 bytes (unit 2, number in its unit 2, section 2, name 2, address 4, size 4,
+-- alignment 4, file offset 8, origin of its split 2), piece symbols of 12 (unit 2, piece 2, its place among the pieces or 0xFFFF for common, symbol 2, flags 2, address 4),
 -- piece relocations of 8 (piece 2, relocation 2, offset 4). The first k records of a table are read as a list; `packed` are a list's records, one after
 -- another. Callers use the laws of proofs/Laws.antt: a record more is one more at the end, and a table's first bytes are its records' bytes.
 use Prim.Native.Nat.{ℕ, _+_, _*_, _<_}
@@ -12,7 +12,7 @@ use Rattle.pieces.specs.declared.PieceReloc.{PieceReloc}
 
 -- the bytes of a piece's record
 abbrev pub pieceWidth : ℕ
-pieceWidth = 28
+pieceWidth = 30
 
 -- ---- a record at a place
 
@@ -26,6 +26,7 @@ pieceAt b at = record {
   size = le32 b (at + 12);
   alignment = le32 b (at + 16);
   offset = le64 b (at + 20);
+  origin = le16 b (at + 28);
 }
 
 unfoldable pub symbolAt : List ℕ → ℕ → PieceSymbol
@@ -42,10 +43,15 @@ relocAt b at = record { piece = le16 b at; relocation = le16 b (at + 2); offset 
 
 -- ---- a record's bytes
 
-unfoldable pub pieceBytes : Piece → List ℕ
-pieceBytes p =
+-- what document 01 gives a piece: 28 bytes
+unfoldable pub pieceHead : Piece → List ℕ
+pieceHead p =
     enc16 (p .unit) ++ enc16 (p .number) ++ enc16 (p .section) ++ enc16 (p .name) ++ enc32 (p .address) ++ enc32 (p .size)
     ++ enc32 (p .alignment) ++ enc64 (p .offset)
+
+-- .. and, document 02, (b), the origin of its split
+unfoldable pub pieceBytes : Piece → List ℕ
+pieceBytes p = pieceHead p ++ enc16 (p .origin)
 
 unfoldable pub symbolBytes : PieceSymbol → List ℕ
 symbolBytes y = enc16 (y .unit) ++ enc16 (y .piece) ++ enc16 (y .symbol) ++ enc16 (y .flags) ++ enc32 (y .address)
@@ -81,6 +87,7 @@ pub record FitsPiece (p : Piece) : Type 0 where
   pub size : p .size < 4294967296
   pub alignment : p .alignment < 4294967296
   pub offset : p .offset < 18446744073709551616
+  pub origin : p .origin < 65536
 
 pub record FitsSymbol (y : PieceSymbol) : Type 0 where
   pub unit : y .unit < 65536

@@ -5,7 +5,7 @@ ghost use mathlib.Core.List.{[], _∷_, _++_};
 ghost use Prim.Native.Nat.{_+_, _*_, _-_, _≤_, min};
 ghost use lib.ListN.{length, take, drop};
 ghost use lib.Seq.{sets};
-ghost use Rattle.pieces.specs.Pieces.{pieceWidth, pieceBytes, symbolBytes, relocBytes, pieceAt, symbolAt, relocAt, piecesIn, symbolsIn, relocsIn};
+ghost use Rattle.pieces.specs.Pieces.{pieceWidth, pieceHead, pieceBytes, symbolBytes, relocBytes, pieceAt, symbolAt, relocAt, piecesIn, symbolsIn, relocsIn};
 use fields::get16;
 use fields::get32;
 use fields::get64;
@@ -22,6 +22,7 @@ pub struct Piece {
     pub size: u32,
     pub alignment: u32,
     pub offset: u64,
+    pub origin: u16,
 }
 
 pub struct PieceSymbol {
@@ -39,7 +40,7 @@ pub struct PieceReloc {
 }
 
 // Bytes of a piece's record.
-pub const PIECE_BYTES: usize = 28;
+pub const PIECE_BYTES: usize = 30;
 
 // ---- records read
 
@@ -57,6 +58,7 @@ pub fn piece_at(b: &[u8], k: usize) -> Piece
         size: get32(b, at + 12),
         alignment: get32(b, at + 16),
         offset: get64(b, at + 20),
+        origin: get16(b, at + 28),
     }
 }
 
@@ -88,9 +90,10 @@ pub fn piece_reloc_at(b: &[u8], k: usize) -> PieceReloc
 
 // ---- records written
 
-fn put_piece(out: &mut [u8], at: usize, p: Piece)
-    requires { ⌜ at + pieceWidth ≤ length (now out) ⌝ }
-    ensures { λ _. ⌜ now (out .exit) ≡ sets (now (out .entry)) at (pieceBytes p) ⌝ }
+// What document 01 gives a piece: all but its origin.
+fn put_head(out: &mut [u8], at: usize, p: Piece)
+    requires { ⌜ at + 28 ≤ length (now out) ⌝ }
+    ensures { λ _. ⌜ now (out .exit) ≡ sets (now (out .entry)) at (pieceHead p) ⌝ }
 {
     put16(out, at, p.unit);
     put16(out, at + 2, p.number);
@@ -100,6 +103,14 @@ fn put_piece(out: &mut [u8], at: usize, p: Piece)
     put32(out, at + 12, p.size);
     put32(out, at + 16, p.alignment);
     put64(out, at + 20, p.offset);
+}
+
+fn put_piece(out: &mut [u8], at: usize, p: Piece)
+    requires { ⌜ at + pieceWidth ≤ length (now out) ⌝ }
+    ensures { λ _. ⌜ now (out .exit) ≡ sets (now (out .entry)) at (pieceBytes p) ⌝ }
+{
+    put_head(out, at, p);
+    put16(out, at + 28, p.origin);
 }
 
 fn put_piece_symbol(out: &mut [u8], at: usize, y: PieceSymbol)

@@ -15,7 +15,7 @@ use Rattle.loaded.proofs.Bytes.{loaded-usable}
 use Rattle.splits.specs.Columns.{Columns}
 use Rattle.walk.specs.declared.Counts.{Counts}
 use Rattle.stage_walk.specs.Room.{roomIn}
-use Rattle.stage_walk.proofs.Room.{room-low, room-28, room-12, room-8}
+use Rattle.stage_walk.proofs.Room.{room-low, room-pieces, room-12, room-8}
 use Rattle.run.specs.declared.Ran.{Ran}
 use Rattle.run.specs.declared.Ran.the-variants.{Done, Cycle, Refused}
 use Rattle.run.specs.Run.{Rooms, Ended, stages, runOf}
@@ -24,6 +24,7 @@ use Rattle.run_file.specs.RunFile.{roomsIn, Holds, Runs}
 use Rattle.run_file.specs.declared.RanFile.{RanFile}
 use Rattle.run_listing.proofs.Readable.{run-readable}
 use Rattle.print_run.specs.Printed.{Printable, PrintableIf}
+use Rattle.pieces.specs.Pieces.{pieceWidth}
 
 -- ---- the loader's columns
 
@@ -64,7 +65,7 @@ module _ (file places lengths : List ℕ) (counts : load.Counts) (c : Beside) (t
         few = h .2 .few;
         readable =
             run-readable u (roomsIn file 4096 65535 1024 units-room (roomIn a b d) (tablesIn counts places lengths)) c table units pieces entries offsets names used splits n made
-            (e ∙ run-stages file _ _ l) (h .0 .packed) (h .2) (omega (arith, w .pieces, room-28 1024 a)) (omega (arith, w .pieces, room-low 1024 a 28))
+            (e ∙ run-stages file _ _ l) (h .0 .packed) (h .2) (omega (arith, w .pieces, room-pieces 1024 a)) (omega (arith, w .pieces, room-low 1024 a pieceWidth))
             (omega (arith, w .symbols, room-12 4096 b)) (omega (arith, w .relocs, room-8 4096 d));
       }
   run-printable (Cycle n) e h loaded long lengths-long pieces-long entries-long offsets-long = tt

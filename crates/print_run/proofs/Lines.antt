@@ -13,7 +13,7 @@ use Rattle.listing.specs.Cursor.{rest, Valid, Next}
 use Rattle.listing.specs.Tables.{Tables, runOf}
 
 -- a line that has bytes leaves less of the listing
-pub line-less : (t : Run) (c : Cursor) {before after : List ℕ} (r : Line) → Next t c before after r → 192 ≤ length before → 0 < r .length
+pub line-less : (t : Run) (c : Cursor) {before after : List ℕ} (r : Line) → Next t c before after r → 208 ≤ length before → 0 < r .length
     → length (rest t (r .next)) < length (rest t c)
 line-less t c {before} {after} r n h more =
     omega (arith, ap length (n .is), length-append (take (r .length) after) (rest t (r .next)), length-take-le (r .length) after (omega (arith, n .few, n .long)))

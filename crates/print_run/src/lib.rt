@@ -1,5 +1,5 @@
 // The run of a record file, printed: the listing of what it gives, or its refusal, to standard output. No buffer holds the whole listing: each line is written from a
-// buffer of 192 bytes. Writing that fails ends the printing.
+// buffer of 208 bytes. Writing that fails ends the printing.
 ghost use Prim.Native.Nat.{_≤_};
 ghost use mathlib.Core.Path.{_≡_};
 ghost use lib.ListN.{length};
@@ -38,7 +38,7 @@ fn print_lines<'a>(
     line: &mut [u8],
 )
     requires { ⌜
-        (192 ≤ length (now line))
+        (208 ≤ length (now line))
         × Readable
         (tablesOf (now «base_bytes») (now «base_places») (now «base_lengths») (beside (now «added_bytes») (now «added_places») (now «added_lengths»)) (now «symbol_places») (now «reloc_places»)
         (now units) (now «unit_places») (now pieces) (now entries) (now offsets) made)
@@ -103,7 +103,7 @@ fn print_tables<'a>(
     requires { ⌜
         Printable (now file) counts (now places) (now lengths) (beside (now «added_bytes») (now «added_places») (now «added_lengths»)) (now units) n (now pieces) (now entries) (now offsets) made
         × (length (now «unit_places») ≡ 1024)
-        × (192 ≤ length (now line))
+        × (208 ≤ length (now line))
         ⌝ }
 {
     let names = counts.names;
@@ -151,7 +151,7 @@ fn print_done<'a>(
         ⌝ }
 {
     let mut unit_places = [0u32; 1024];
-    let mut line = [0u8; 192];
+    let mut line = [0u8; 208];
     print_tables(
         file,
         counts,
@@ -173,7 +173,7 @@ fn print_done<'a>(
 
 // The line of a refusal, in a lent buffer.
 fn print_refused_in(number: u16, section: u16, address: u32, line: &mut [u8])
-    requires { ⌜ 192 ≤ length (now line) ⌝ }
+    requires { ⌜ 208 ≤ length (now line) ⌝ }
 {
     let n = write_refused(line, number, section, address);
     io::write_all(1, &line[..n]);
@@ -181,7 +181,7 @@ fn print_refused_in(number: u16, section: u16, address: u32, line: &mut [u8])
 
 // "A refusal prints only `refused`, number, section, address."
 fn print_refused(number: u16, section: u16, address: u32) {
-    let mut line = [0u8; 192];
+    let mut line = [0u8; 208];
     print_refused_in(number, section, address, &mut line);
 }
 
@@ -319,7 +319,7 @@ pub fn print_run(file: &[u8]) {
     let mut added_places = [0u32; 4096];
     let mut added_lengths = [0u8; 4096];
     let mut out_units = [0u8; 8192];
-    let mut pieces = [0u8; 28672];
+    let mut pieces = [0u8; 30720];
     let mut entries = [0u8; 49152];
     let mut offsets = [0u8; 32768];
     print_in(

@@ -27,7 +27,7 @@ abbrev bytes : List ℕ
 bytes = 1 ∷ 2 ∷ 3 ∷ 4 ∷ 5 ∷ 6 ∷ 7 ∷ 8 ∷ 9 ∷ 0 ∷ 0 ∷ 0 ∷ 0 ∷ 0 ∷ 0 ∷ 0 ∷ []
 
 abbrev out : Output
-out = record { pieces = piece 0 0 4096 8 8 0 ∷ piece 1 0 4104 8 8 8 ∷ []; symbols = []; relocs = [] }
+out = record { pieces = piece 0 0 4096 8 8 0 65535 ∷ piece 1 0 4104 8 8 8 0 ∷ []; symbols = []; relocs = [] }
 
 abbrev input : Input
 input = inputOf (record {
@@ -35,7 +35,7 @@ input = inputOf (record {
   bytes = bytes;
   symbols = [];
   relocs = [];
-  splits = split 4096 4104 1 0 2 ∷ split 4104 4112 2 0 0 ∷ [];
+  splits = split 4096 4104 1 0 2 65535 ∷ split 4104 4112 2 0 0 0 ∷ [];
   outcome = accepted out;
 })
 

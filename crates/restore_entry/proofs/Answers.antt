@@ -21,6 +21,7 @@ use Rattle.tables.specs.Tables.{sizeCheck, firstFault, recordsCheck}
 use Rattle.name_table.specs.NameTable.{nameCut, nameWrong, nameFault, namesCheck}
 use Rattle.stage_tables.specs.StageTables.{stageSections, stageSymbols, stageRelocs, stageSplits, stageUnits, tableCheck, imageCheck, symbolsCheck, relocsCheck, splitsCheck, unitsCheck}
 use Rattle.restore.proofs.Refusals.{Says, says-then}
+use Rattle.obj.specs.Records.{splitWidth}
 
 -- 1 to 8
 pub record Table (number section address : ℕ) : Type 0 where
@@ -132,7 +133,7 @@ pub relocs-say : (ceiling : ℕ) (sections : List Section) (symbols : ℕ) (b : 
 relocs-say ceiling sections symbols b = table-says 23 ceiling b _ (reloc-few sections symbols (stageRelocs b))
 
 pub splits-say : (ceiling : ℕ) (lengths : List ℕ) (sections : List Section) (b : List ℕ) → Says Table (splitsCheck ceiling lengths sections b)
-splits-say ceiling lengths sections b = table-says 19 ceiling b _ (split-few lengths sections (stageSplits b))
+splits-say ceiling lengths sections b = table-says splitWidth ceiling b _ (split-few lengths sections (stageSplits b))
 
 pub units-say : (ceiling : ℕ) (lengths b : List ℕ) → Says Table (unitsCheck ceiling lengths b)
 units-say ceiling lengths b = table-says 8 ceiling b _ (unit-few lengths (stageUnits b))

@@ -12,7 +12,7 @@ use Rattle.fields.specs.Fields.{le16, le32}
 use Rattle.fields.proofs.Laws.{round16, round32}
 use Rattle.sections.specs.Sections.{Sections}
 use Rattle.pieces.specs.declared.Piece.{Piece}
-use Rattle.pieces.specs.Pieces.{pieceAt, pieceBytes, piecesIn, packed}
+use Rattle.pieces.specs.Pieces.{pieceAt, pieceHead, pieceBytes, piecesIn, packed, pieceWidth}
 use Rattle.walk.specs.Walk.{Input, startIn}
 use Rattle.restore.specs.Restoring.{Part, partOf, parts, returned, laid, Inside, Restored}
 use Rattle.restore_entry.specs.Tables.{Spot, spot}
@@ -51,10 +51,10 @@ pub record Small (p : Piece) : Type 0 where
   pub alignment : p .alignment < 4294967296
 
 abbrev no-piece : Piece
-no-piece = record { unit = 0; number = 0; section = 0; name = 0; address = 0; size = 0; alignment = 0; offset = 0 }
+no-piece = record { unit = 0; number = 0; section = 0; name = 0; address = 0; size = 0; alignment = 0; offset = 0; origin = 0 }
 
 first : (p : Piece) (rest : List ℕ) → Small p → spot (pieceAt (pieceBytes p ++ rest) 0) ≡ spot p
-unfolding pieceAt pieceBytes
+unfolding pieceAt pieceBytes pieceHead
 first p rest f = λ z. record {
   section = round16 (p .section) (f .section) z;
   address = round32 (p .address) (f .address) z;
@@ -62,28 +62,28 @@ first p rest f = λ z. record {
   alignment = round32 (p .alignment) (f .alignment) z;
 }
 
-length-record : (p : Piece) → length (pieceBytes p) ≡ 28
-unfolding pieceBytes
+length-record : (p : Piece) → length (pieceBytes p) ≡ pieceWidth
+unfolding pieceBytes pieceHead
 length-record p = refl
 
 read : (ps : List Piece) (rest : List ℕ) → All Small ps → (k : ℕ) → k < length ps
-    → spot (pieceAt (packed pieceBytes ps ++ rest) (28 * k)) ≡ spot (getD ps k no-piece)
+    → spot (pieceAt (packed pieceBytes ps ++ rest) (pieceWidth * k)) ≡ spot (getD ps k no-piece)
 unfolding packed
 read [] rest all k h = absurd (omega arith)
 read (p ∷ ps) rest (each f all) zero h =
     ap (λ (b : List ℕ). spot (pieceAt b 0)) (append-assoc (pieceBytes p) (packed pieceBytes ps) rest) ∙ first p (packed pieceBytes ps ++ rest) f
 read (p ∷ ps) rest (each f all) (suc k) h =
-    ap (λ (b : List ℕ). spot (pieceAt b (28 * suc k))) (append-assoc (pieceBytes p) (packed pieceBytes ps) rest)
-    ∙ ap (λ (at : ℕ). spot (pieceAt (pieceBytes p ++ (packed pieceBytes ps ++ rest)) at)) (let e : 28 * suc k ≡ length (pieceBytes p) + 28 * k = omega (arith, length-record p) in e)
-    ∙ after (pieceBytes p) (packed pieceBytes ps ++ rest) (28 * k)
+    ap (λ (b : List ℕ). spot (pieceAt b (pieceWidth * suc k))) (append-assoc (pieceBytes p) (packed pieceBytes ps) rest)
+    ∙ ap (λ (at : ℕ). spot (pieceAt (pieceBytes p ++ (packed pieceBytes ps ++ rest)) at)) (let e : pieceWidth * suc k ≡ length (pieceBytes p) + pieceWidth * k = omega (arith, length-record p) in e)
+    ∙ after (pieceBytes p) (packed pieceBytes ps ++ rest) (pieceWidth * k)
     ∙ read ps rest all k (omega arith)
 
 -- THEOREM: the pieces that are read from a table of packed records are as the pieces
 pub read-back : (ps : List Piece) (rest : List ℕ) → All Small ps → map spot (piecesIn (packed pieceBytes ps ++ rest) (length ps)) ≡ map spot ps
 unfolding piecesIn
 read-back ps rest all =
-    sym (tabulate-map spot (λ i. pieceAt (packed pieceBytes ps ++ rest) (28 * i)) (λ i. spot (pieceAt (packed pieceBytes ps ++ rest) (28 * i))) 0 (length ps) (λ j a b. refl))
-    ∙ tabulate-list spot (λ i. spot (pieceAt (packed pieceBytes ps ++ rest) (28 * i))) ps no-piece (λ k h. read ps rest all k h)
+    sym (tabulate-map spot (λ i. pieceAt (packed pieceBytes ps ++ rest) (pieceWidth * i)) (λ i. spot (pieceAt (packed pieceBytes ps ++ rest) (pieceWidth * i))) 0 (length ps) (λ j a b. refl))
+    ∙ tabulate-list spot (λ i. spot (pieceAt (packed pieceBytes ps ++ rest) (pieceWidth * i))) ps no-piece (λ k h. read ps rest all k h)
 
 -- ---- what restoring asks of pieces is where they lie
 
@@ -111,7 +111,7 @@ spots-all Q (p ∷ ps) (each h a) = each h (spots-all Q ps a)
 
 -- a piece of which this is so
 abbrev pub piece-there : Spot → Piece
-piece-there s = record { unit = 0; number = 0; section = s .section; name = 0; address = s .address; size = s .size; alignment = s .alignment; offset = 0 }
+piece-there s = record { unit = 0; number = 0; section = s .section; name = 0; address = s .address; size = s .size; alignment = s .alignment; offset = 0; origin = 0 }
 
 -- what rests on this alone holds of pieces that are alike in it
 pub all-same : (P : Piece → Type 0) → ((p : Piece) → P p → P (piece-there (spot p))) → ((p : Piece) → P (piece-there (spot p)) → P p)

@@ -27,7 +27,7 @@ use Rattle.stage_tables.specs.StageTables.{stageSections, imageCheck, symbolsCh
 use Rattle.sections.specs.Alignment.{Chosen}
 use Rattle.sections.proofs.Nobits.{nobits-bytes}
 use Rattle.pieces.specs.declared.Piece.{Piece}
-use Rattle.pieces.specs.Pieces.{piecesIn}
+use Rattle.pieces.specs.Pieces.{piecesIn, pieceWidth}
 use Rattle.walk.specs.Walk.{Output, startIn, endIn, splittingEndIn, alignmentIn, halved, walk}
 use Rattle.restore.specs.Restoring.{bytesIn, parts, byteAt, Plain, Checked, Restored}
 use Rattle.restore.specs.Alignments.{Largest}
@@ -120,7 +120,7 @@ module _ (r : Run) where
   pub counted : 2 ≤ c .sizes .counts → le16 (r .counts) 0 ≡ count r
   counted h =
       ap (λ (l : List ℕ). le16 l 0) (r .leaves .left .counted)
-      ∙ first-count (c .sizes .counts) (count r) _ h (omega (arith, pieces-room (input r) (outputOf o) (passed .walked), few 1024 28 (c .sizes .pieces)))
+      ∙ first-count (c .sizes .counts) (count r) _ h (omega (arith, pieces-room (input r) (outputOf o) (passed .walked), few 1024 pieceWidth (c .sizes .pieces)))
 
   pub held-is : tables.held (lent c) (outputOf o) passed (c .sizes .pieces) ≡ piecesOf r
   held-is = ap (λ (l : List ℕ). piecesIn l (count r)) (sym (r .leaves .left .pieces-are))

@@ -13,7 +13,7 @@ use Rattle.lists.specs.Sort.{All}
 use Rattle.lists.proofs.Each.{all-placed}
 use Rattle.lists.proofs.Rows.{getD-map}
 use Rattle.align.specs.Align.{badAlign}
-use Rattle.obj.specs.Records.{sectionAt, splitAt, stagePlaces}
+use Rattle.obj.specs.Records.{sectionAt, splitAt, stagePlaces, splitWidth}
 use Rattle.obj.specs.declared.Section.{Section}
 use Rattle.obj.specs.declared.Split.{Split}
 use Rattle.obj.proofs.Laws.{length-stagePlaces}
@@ -40,8 +40,8 @@ head-is sections n h = sym (getD-map (sectionAt sections) (stagePlaces 15 (lengt
 pub length-sections : (sections : List ℕ) → length (stageSections sections) ≡ length sections / 15
 length-sections sections = length-map (stagePlaces 15 (length sections / 15)) (sectionAt sections) ∙ length-stagePlaces 15 (length sections / 15)
 
-length-splits : (splits : List ℕ) → length (stageSplits splits) ≡ length splits / 19
-length-splits splits = length-map (stagePlaces 19 (length splits / 19)) (splitAt splits) ∙ length-stagePlaces 19 (length splits / 19)
+length-splits : (splits : List ℕ) → length (stageSplits splits) ≡ length splits / splitWidth
+length-splits splits = length-map (stagePlaces splitWidth (length splits / splitWidth)) (splitAt splits) ∙ length-stagePlaces splitWidth (length splits / splitWidth)
 
 module _ (t : Lent) (a : Passed t) where
   abbrev head : ℕ → Section
@@ -68,30 +68,30 @@ module _ (t : Lent) (a : Passed t) where
           (λ q. holds (ap (λ (x : Section). x .kind) (head-is (t .sections) n h) ∙ q)) .1)
 
   -- ---- the splits
-  records : recordsCheck (splitFault (t .name-lengths) (stageSections (t .sections)) (stageSplits (t .splits))) (length (t .splits) / 19) ≡ accepted tt
-  records = table-passed 19 1024 (t .splits) _ (a .of-splits) .2
+  records : recordsCheck (splitFault (t .name-lengths) (stageSections (t .sections)) (stageSplits (t .splits))) (length (t .splits) / splitWidth) ≡ accepted tt
+  records = table-passed splitWidth 1024 (t .splits) _ (a .of-splits) .2
 
-  partials : recordsCheck (partialFault (t .name-lengths) (stageSplits (t .splits))) (length (t .splits) / 19) ≡ accepted tt
-  partials = splits-partials (t .name-lengths) (stageSections (t .sections)) (stageSplits (t .splits)) (length (t .splits) / 19) records
+  partials : recordsCheck (partialFault (t .name-lengths) (stageSplits (t .splits))) (length (t .splits) / splitWidth) ≡ accepted tt
+  partials = splits-partials (t .name-lengths) (stageSections (t .sections)) (stageSplits (t .splits)) (length (t .splits) / splitWidth) records
 
-  each-split : (P : Split → Type 0) → ((k : ℕ) → k < length (t .splits) / 19 → P (getD (stageSplits (t .splits)) k noSplit)) → All P (stageSplits (t .splits))
+  each-split : (P : Split → Type 0) → ((k : ℕ) → k < length (t .splits) / splitWidth → P (getD (stageSplits (t .splits)) k noSplit)) → All P (stageSplits (t .splits))
   each-split P f = all-placed (stageSplits (t .splits)) noSplit (λ k h. f k (omega (arith, length-splits (t .splits))))
 
-  split-ends : (k : ℕ) → k < length (t .splits) / 19 → let s = getD (stageSplits (t .splits)) k noSplit in
+  split-ends : (k : ℕ) → k < length (t .splits) / splitWidth → let s = getD (stageSplits (t .splits)) k noSplit in
       s .end ≤ head (s .section) .address + head (s .section) .size
   split-ends k h =
       let s = getD (stageSplits (t .splits)) k noSplit in
       let home : s .section < length (t .sections) / 15 = omega (
         arith,
-        splits-section (t .name-lengths) (stageSections (t .sections)) (stageSplits (t .splits)) (length (t .splits) / 19) records k h,
+        splits-section (t .name-lengths) (stageSections (t .sections)) (stageSplits (t .splits)) (length (t .splits) / splitWidth) records k h,
         length-sections (t .sections),
       ) in
       subst (λ (x : Section). s .end ≤ x .address + x .size) (sym (head-is (t .sections) (s .section) home))
-      (splits-in-section (t .name-lengths) (stageSections (t .sections)) (stageSplits (t .splits)) (length (t .splits) / 19) records k h)
+      (splits-in-section (t .name-lengths) (stageSections (t .sections)) (stageSplits (t .splits)) (length (t .splits) / splitWidth) records k h)
 
   -- 7: "end above 0xF0000000"
   pub splits-end : All (λ s. s .end ≤ 4026531840) (stageSplits (t .splits))
-  splits-end = each-split (λ s. s .end ≤ 4026531840) (partials-end (t .name-lengths) (stageSplits (t .splits)) (length (t .splits) / 19) partials)
+  splits-end = each-split (λ s. s .end ≤ 4026531840) (partials-end (t .name-lengths) (stageSplits (t .splits)) (length (t .splits) / splitWidth) partials)
 
   -- THEOREM: tables that passed their checks give a walk what the theorems on restoring ask of its input
   pub input-checked : Checked (inputIn t)
@@ -102,6 +102,6 @@ module _ (t : Lent) (a : Passed t) where
         sound =
             subst (Sound (symbolOf (t .symbols) (stagePlaces 20 (length (t .symbols) / 20)))) (sym (length-stagePlaces 20 (length (t .symbols) / 20)))
             (symbols-sound 4096 (t .names) (stageSections (t .sections)) (t .symbols) (a .of-symbols));
-        aligned = each-split (λ s. badAlign (s .alignment) ≡ false) (partials-aligned (t .name-lengths) (stageSplits (t .splits)) (length (t .splits) / 19) partials);
+        aligned = each-split (λ s. badAlign (s .alignment) ≡ false) (partials-aligned (t .name-lengths) (stageSplits (t .splits)) (length (t .splits) / splitWidth) partials);
         ended = each-split (λ s. s .end ≤ endIn (inputIn t .sections) (s .section)) split-ends;
       }

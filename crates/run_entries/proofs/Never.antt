@@ -15,9 +15,10 @@ use Rattle.lists.proofs.Outcomes.{same-accepted}
 use Rattle.lists.proofs.Rows.{getD-map}
 use Rattle.obj.specs.declared.Split.{Split}
 use Rattle.obj.specs.declared.Unit as units
-use Rattle.obj.specs.Records.{sectionAt, splitAt}
+use Rattle.obj.specs.Records.{sectionAt, partialAt, partialNumbered}
 use Rattle.tables.specs.Tables.{mainCeilings}
-use Rattle.tables.specs.Records.{noSplit, sectionsIn, splitsIn, unitsIn}
+use Rattle.tables.specs.Records.{noSplit, sectionsIn, partialsIn, unitsIn}
+use Rattle.tables.proofs.Lookups.{partial-is, length-partialsIn}
 use Rattle.load.specs.Load.{Loaded, loadOf, namesIn}
 use Rattle.load.proofs.Laws.{good-splits}
 use Rattle.loaded.specs.Tables.{imageFrom, sectionsFrom, Usable}
@@ -113,7 +114,7 @@ module _ (B : Type 0) {file : List ℕ} {t : Loaded} (u : Usable file t) where
         gaps-can B (imageFrom file t) (sectionsFrom file t) (few-sections u) (section-below u) (given (sectionsIn file (t .sections)) room) names
         (record { names = namesIn file t; rows = l }) q
 
-    table-can : All (Fitting B) (splitsIn file (t .splits)) → Says (Can B) (table.splitTable file t room names)
+    table-can : All (Fitting B) (partialsIn file (t .splits)) → Says (Can B) (table.splitTable file t room names)
     unfolding table.splitTable table.merged
     table-can partials =
         says-bind (Can B) (table.merged file t room names) _ (merge-can B (given (sectionsIn file (t .sections)) room) [] partials) (λ l a.
@@ -169,7 +170,7 @@ module _ (B : Type 0) {file : List ℕ} {t : Loaded} (u : Usable file t) where
     ends-can output added most o (on-cycle l c inside) = tt
 
   -- ---- all stages
-  stages-can : All (Fitting B) (splitsIn file (t .splits)) → (room : Rooms) → room .splits ≤ 1024 → Says (Can B) (stages file t room)
+  stages-can : All (Fitting B) (partialsIn file (t .splits)) → (room : Rooms) → room .splits ≤ 1024 → Says (Can B) (stages file t room)
   unfolding stages orderedAndWalked
   stages-can partials room few =
       says-bind (Can B) (table.splitTable file t (room .splits) (room .names)) _ (table-can (room .splits) (room .names) partials) (λ full e.
@@ -182,13 +183,13 @@ module _ (file : List ℕ) where
   abbrev pub OfBytes : Type 0
   OfBytes = (at : ℕ) → getD file at 0 < 256
 
-  partials-fitting : {t : Loaded} → Usable file t → All (Fitting OfBytes) (splitsIn file (t .splits))
-  unfolding splitAt
+  partials-fitting : {t : Loaded} → Usable file t → All (Fitting OfBytes) (partialsIn file (t .splits))
+  unfolding partialNumbered partialAt
   partials-fitting {t} u =
-      all-placed (splitsIn file (t .splits)) noSplit (λ k h.
-      let q : k < length (t .splits) = omega (arith, h, length-map (t .splits) (splitAt file)) in
+      all-placed (partialsIn file (t .splits)) noSplit (λ k h.
+      let q : k < length (t .splits) = omega (arith, h, length-partialsIn file (t .splits)) in
       let at = getD (t .splits) k 0 in
-      let is = getD-map (splitAt file) (t .splits) k 0 noSplit q in
+      let is = partial-is file (t .splits) k q in
       record {
         section = λ b. subst (λ (s : Split). s .section < 65536) (sym is) (let x = b at in let y = b (at + 1) in omega arith);
         start = good-splits (u .good) k q .start;

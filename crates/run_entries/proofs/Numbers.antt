@@ -14,7 +14,7 @@ use Rattle.lists.specs.Sort.{All, none, each}
 use Rattle.lists.proofs.All.{all-keep}
 use Rattle.align.specs.Align.{alignUp}
 use Rattle.fields.specs.Fields.{le16, le32}
-use Rattle.obj.specs.Records.{sectionAt, symbolAt, relocAt, splitAt, unitAt}
+use Rattle.obj.specs.Records.{sectionAt, symbolAt, relocAt, partialAt, unitAt, partialWidth}
 use Rattle.obj.specs.declared.Section.{Section}
 use Rattle.obj.specs.declared.Symbol.{Symbol}
 use Rattle.obj.specs.declared.Split.{Split}
@@ -93,8 +93,8 @@ module _ (c : tables.Ceilings) (file : List ℕ) (at len : ℕ) (t : Loaded) whe
   split-few : splitNumber c file at len t ≤ 8
   unfolding splitNumber
   split-few =
-      three (not (eqb len 19)) (leb (c .splits) (length (t .splits)))
-      (splitBad (getD (t .lengths) (splitAt file at .unit) 0) (getD (t .lengths) (splitAt file at .rename) 0) (splitAt file at))
+      three (not (eqb len partialWidth)) (leb (c .splits) (length (t .splits)))
+      (splitBad (getD (t .lengths) (partialAt 65535 file at .unit) 0) (getD (t .lengths) (partialAt 65535 file at .rename) 0) (partialAt 65535 file at))
       1 2 7 (omega arith) (omega arith) (omega arith)
 
   unit-few : unitNumber c file at len t ≤ 8

@@ -12,11 +12,12 @@ use Rattle.lists.specs.Outcome.{accepted}
 use Rattle.lists.specs.Rows.{tabulate}
 use Rattle.lists.proofs.Outcomes.{bind-inv, then-both, same-accepted}
 use Rattle.lists.proofs.Parts.{tabulate-map, tabulate-list}
-use Rattle.obj.specs.Records.{splitAt, unitAt}
+use Rattle.obj.specs.Records.{unitAt}
 use Rattle.obj.specs.declared.Section.{Section}
 use Rattle.obj.specs.declared.Split.{Split}
 use Rattle.names.specs.Names.{nameAt, namesOf}
-use Rattle.tables.specs.Records.{sectionsIn, splitsIn, noSplit, partialFault}
+use Rattle.tables.specs.Records.{sectionsIn, partialsIn, noSplit, partialFault}
+use Rattle.tables.proofs.Lookups.{length-partialsIn}
 use Rattle.load.specs.Load.{Loaded, namesIn}
 use Rattle.load.proofs.Laws.{good-splits}
 use Rattle.loaded.specs.Tables.{imageFrom, sectionsFrom, Usable}
@@ -35,6 +36,7 @@ use Rattle.order.specs.LinkOrder.{linkOrder}
 use Rattle.order.proofs.Theorems.{Ways, ways}
 use Rattle.run_splits.specs.Table as table
 use Rattle.run.specs.Run.{linked}
+use Rattle.split_origins.proofs.Originated.{merged-originated, common-originated, gaps-originated, trimmed-originated}
 use Rattle.run_entries.proofs.Good.{Good, by-section}
 use Rattle.run_entries.proofs.Common.{common-faultless, common-length}
 
@@ -58,11 +60,11 @@ module _ {file : List ℕ} {t : Loaded} (u : Usable file t) where
           (let held = u .good .names .held k h in let long = length-drop (getD (t .names) k 0) file in omega arith)
 
   -- no partial split has a fault
-  pub partials-faultless : (k : ℕ) → k < length (splitsIn file (t .splits)) → partialFault (map length (namesIn file t)) (splitsIn file (t .splits)) k ≡ 0
+  pub partials-faultless : (k : ℕ) → k < length (partialsIn file (t .splits)) → partialFault (map length (namesIn file t)) (partialsIn file (t .splits)) k ≡ 0
   unfolding partialFault
   partials-faultless k h =
-      let s : Split = getD (splitsIn file (t .splits)) k noSplit in
-      let g = good-splits (u .good) k (omega (arith, length-map (t .splits) (splitAt file))) in
+      let s : Split = getD (partialsIn file (t .splits)) k noSplit in
+      let g = good-splits (u .good) k (omega (arith, h, length-partialsIn file (t .splits))) in
       let sound : Sound (map length (namesIn file t)) s =
       subst (λ (l : List ℕ). Sound l s) (sym lengths-are)
       (record { named = g .named; renamed = g .renamed; aligned = g .aligned; flags = g .flags; start = g .start; end = g .end }) in
@@ -78,8 +80,9 @@ module _ {file : List ℕ} {t : Loaded} (u : Usable file t) where
     pub merged-good : (l : List Split) → table.merged file t room names ≡ accepted l → Good heads room (namesIn file t) l
     unfolding table.merged
     merged-good l e = record {
-      faultless = all-good (map length (namesIn file t)) heads room [] (splitsIn file (t .splits)) l (λ k h. absurd (not-suc-le-zero h)) partials-faultless e;
-      few = all-few (given heads room) [] (splitsIn file (t .splits)) l (omega arith) e;
+      faultless = all-good (map length (namesIn file t)) heads room [] (partialsIn file (t .splits)) l (λ k h. absurd (not-suc-le-zero h)) partials-faultless e;
+      few = all-few (given heads room) [] (partialsIn file (t .splits)) l (omega arith) e;
+      origins = merged-originated u room names l e;
     }
 
     pub common-good : (l m : List Split) → Good heads room (namesIn file t) l → table.withCommon file t room names l ≡ accepted m → Good heads room (namesIn file t) m
@@ -87,6 +90,7 @@ module _ {file : List ℕ} {t : Loaded} (u : Usable file t) where
     common-good l m q e = record {
       faultless = common-faultless (map length (namesIn file t)) heads false 0 _ l m e (q .faultless);
       few = omega (arith, common-length false 0 _ l m e, q .few);
+      origins = common-originated u room names l m (q .origins) e;
     }
 
     -- the gaps filled: with more names, within their ceilings
@@ -98,12 +102,13 @@ module _ {file : List ℕ} {t : Loaded} (u : Usable file t) where
 
     pub gaps-good : (l : List Split) (r : Filled) → Good heads room (namesIn file t) l → table.withGaps file t room names l ≡ accepted r
         → Good heads room (r .names) (r .rows)
-    gaps-good l r q e = let g = gaps-leave l r q e in record { faultless = g .good; few = g .few (q .few) }
+    gaps-good l r q e = let g = gaps-leave l r q e in record { faultless = g .good; few = g .few (q .few); origins = gaps-originated u room names l r (q .origins) e }
 
     pub trimmed-good : (all : List (List ℕ)) (l m : List Split) → Good heads room all l → trimmed (imageFrom file t) (sectionsFrom file t) l ≡ accepted m → Good heads room all m
     trimmed-good all l m q e = record {
       faultless = trim-faultless (map length all) heads (imageFrom file t) (sectionsFrom file t) l m e (q .faultless);
       few = omega (arith, same-length l m (trim-keeps (imageFrom file t) (sectionsFrom file t) l m e), q .few);
+      origins = trimmed-originated u room names l m (q .origins) e;
     }
 
     -- the split table of a run: the gaps left a table without a fault, which passed the check, and the trim of it has none either

@@ -19,7 +19,7 @@ use Rattle.load.specs.Load.{Loaded, namesIn}
 use Rattle.loaded.specs.Tables.{Usable}
 use Rattle.loaded.proofs.Laws.{few-units, section-named}
 use Rattle.splits.specs.Columns.{Columns}
-use Rattle.pieces.specs.Pieces.{pieceAt, symbolAt, relocAt, piecesIn, symbolsIn, relocsIn}
+use Rattle.pieces.specs.Pieces.{pieceAt, symbolAt, relocAt, piecesIn, symbolsIn, relocsIn, pieceWidth}
 use Rattle.pieces.specs.declared.Piece.{Piece}
 use Rattle.pieces.specs.declared.PieceSymbol.{PieceSymbol}
 use Rattle.pieces.specs.declared.PieceReloc.{PieceReloc}
@@ -41,9 +41,9 @@ row-at : {A : Type 0} {P : A → Type 0} (f : ℕ → A) (n k : ℕ) → k < n �
 row-at {A} {P} f n k h q = subst P (getD-tabulate f 0 n k (f k) h ∙ ap f (zero-add k)) (all-at k (f k) q (omega (arith, length-tabulate f 0 n)))
 
 module _ (b : List ℕ) (n k : ℕ) where
-  piece-at : {P : Piece → Type 0} → k < n → All P (piecesIn b n) → P (pieceAt b (28 * k))
+  piece-at : {P : Piece → Type 0} → k < n → All P (piecesIn b n) → P (pieceAt b (pieceWidth * k))
   unfolding piecesIn
-  piece-at h q = row-at (λ i. pieceAt b (28 * i)) n k h q
+  piece-at h q = row-at (λ i. pieceAt b (pieceWidth * i)) n k h q
 
   symbol-at : {P : PieceSymbol → Type 0} → k < n → All P (symbolsIn b n) → P (symbolAt b (12 * k))
   unfolding symbolsIn
@@ -81,7 +81,7 @@ pub run-readable : {file : List ℕ} {t : Loaded} (u : Usable file t) (room : Ro
     → ranIn c table units pieces entries offsets (Done names used splits n made) ≡ stages file t room
     → Packed (c .bytes) (c .places) (c .lengths) names used
     → Units units n
-    → 28 * made .pieces ≤ length pieces
+    → pieceWidth * made .pieces ≤ length pieces
     → made .pieces ≤ 1024
     → 12 * made .symbols ≤ length entries
     → 8 * made .relocs ≤ length offsets

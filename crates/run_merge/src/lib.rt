@@ -4,9 +4,9 @@ ghost use mathlib.Core.Path.{_≡_};
 ghost use mathlib.Core.List.{[]};
 ghost use Prim.Native.Nat.{_≤_};
 ghost use Rattle.tables.specs.Tables.{AllHeld};
-ghost use Rattle.tables.specs.Records.{sectionsIn, splitsIn};
+ghost use Rattle.tables.specs.Records.{sectionsIn, partialsIn};
 ghost use Rattle.splits.specs.Columns.{columns, Long};
-ghost use Rattle.splits.specs.Bytes.{Loadable};
+ghost use Rattle.splits.specs.Bytes.{Partials};
 ghost use Rattle.merge.specs.Merge.{given, mergeAll};
 ghost use Rattle.merge.specs.Answers.{merged, count};
 ghost use Rattle.common.specs.Sections.{bssIn, Sections};
@@ -82,13 +82,13 @@ pub fn merge_partials(
     requires { ⌜
         Sections (now file) (now names) (now lengths) (now file) (now sections)
         × AllHeld 15 (now file) (now sections)
-        × Loadable (now file) (now partials)
+        × Partials (now file) (now partials)
         × Long (columns (now starts) (now ends) (now units) (now rest)) cap
         ⌝ }
     ensures { λ r. ⌜
         (merged r (columns (now (starts .exit)) (now (ends .exit)) (now (units .exit)) (now (rest .exit)))
         ≡ markedIn (bssIn (now (file .entry)) (now (names .entry)) (now (lengths .entry)) (now (file .entry)) (now (sections .entry)))
-        (mergeAll (given (sectionsIn (now (file .entry)) (now (sections .entry))) cap) [] (splitsIn (now (file .entry)) (now (partials .entry)))))
+        (mergeAll (given (sectionsIn (now (file .entry)) (now (sections .entry))) cap) [] (partialsIn (now (file .entry)) (now (partials .entry)))))
         × (count r ≤ cap) ⌝ }
 {
     let r = add_splits(

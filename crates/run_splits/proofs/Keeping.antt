@@ -14,9 +14,10 @@ use Rattle.lists.specs.Sort.{All, none, each}
 use Rattle.lists.proofs.All.{all-at, all-map}
 use Rattle.lists.proofs.Each.{all-placed}
 use Rattle.lists.proofs.Outcomes.{bind-inv, then-inv, then-both, same-accepted}
-use Rattle.obj.specs.Records.{sectionAt, splitAt}
+use Rattle.obj.specs.Records.{sectionAt}
 use Rattle.obj.specs.declared.Split.{Split}
-use Rattle.tables.specs.Records.{sectionsIn, splitsIn, noSplit}
+use Rattle.tables.specs.Records.{sectionsIn, partialsIn, noSplit}
+use Rattle.tables.proofs.Lookups.{length-partialsIn}
 use Rattle.load.specs.Load.{Loaded, namesIn}
 use Rattle.load.proofs.Laws.{name-known, good-splits}
 use Rattle.loaded.specs.Tables.{imageFrom, sectionsFrom, Usable}
@@ -80,18 +81,18 @@ module _ {file : List ℕ} {t : Loaded} (u : Usable file t) (room : ℕ) (names 
   inside-there : (s : Split) → Inside ends s → s .section < sections
   inside-there s p = omega (arith, p .section, length-map (sectionsIn file (t .sections)) sectionEnd, length-map (t .sections) (sectionAt file))
 
-  partials-fine : All (λ s. Inside ends s → Fine sections (length (t .names)) s) (splitsIn file (t .splits))
-  partials-fine = all-placed (splitsIn file (t .splits)) noSplit fine-at
+  partials-fine : All (λ s. Inside ends s → Fine sections (length (t .names)) s) (partialsIn file (t .splits))
+  partials-fine = all-placed (partialsIn file (t .splits)) noSplit fine-at
     where
-      fine-at : (k : ℕ) → k < length (splitsIn file (t .splits)) → Inside ends (getD (splitsIn file (t .splits)) k noSplit)
-          → Fine sections (length (t .names)) (getD (splitsIn file (t .splits)) k noSplit)
+      fine-at : (k : ℕ) → k < length (partialsIn file (t .splits)) → Inside ends (getD (partialsIn file (t .splits)) k noSplit)
+          → Fine sections (length (t .names)) (getD (partialsIn file (t .splits)) k noSplit)
       fine-at k h p =
-          let g = good-splits (u .good) k (omega (arith, h, length-map (t .splits) (splitAt file))) in
+          let g = good-splits (u .good) k (omega (arith, h, length-partialsIn file (t .splits))) in
           record { section = inside-there _ p; end = g .end; unit = name-known (u .good) _ (g .named); renamed = λ q. name-known (u .good) _ (g .renamed q) }
 
   pub merged-fine : (l : List Split) → table.merged file t room names ≡ accepted l → All (Fine sections (length (t .names))) l
   unfolding table.merged
-  merged-fine l e = all-kept (Fine sections (length (t .names))) (fine-keeps sections (length (t .names))) ends [] (splitsIn file (t .splits)) l none partials-fine e
+  merged-fine l e = all-kept (Fine sections (length (t .names))) (fine-keeps sections (length (t .names))) ends [] (partialsIn file (t .splits)) l none partials-fine e
 
   -- ---- common
   marked-fine : (n section address : ℕ) (s : Split) → Fine sections n s → Fine sections n (marked section address s)

@@ -10,7 +10,7 @@ use Rattle.obj.specs.declared.Answer.the-variants as answers
 use Rattle.obj.specs.declared.Split.{Split}
 use Rattle.names.specs.Names.{namesOf}
 use Rattle.names.specs.Append.{Columns as Beside}
-use Rattle.tables.specs.Records.{sectionsIn, splitsIn}
+use Rattle.tables.specs.Records.{sectionsIn, partialsIn}
 use Rattle.load.specs.Load.{Loaded, namesIn}
 use Rattle.loaded.specs.Tables.{imageFrom, bytePlaces}
 use Rattle.sections.specs.Image.{Image}
@@ -72,7 +72,7 @@ module _ (check : List Split → Outcome (List Split)) where
 module _ (file : List ℕ) (t : Loaded) (room : ℕ) (names : Ceilings) where
   abbrev pub markedTable : Outcome (List Split)
   markedTable =
-      markedIn (bssIn file (t .names) (t .lengths) file (t .sections)) (mergeAll (given (sectionsIn file (t .sections)) room) [] (splitsIn file (t .splits)))
+      markedIn (bssIn file (t .names) (t .lengths) file (t .sections)) (mergeAll (given (sectionsIn file (t .sections)) room) [] (partialsIn file (t .splits)))
 
   -- `images` are the places of the sections' bytes
   abbrev pub gapsWith : (images : List ℕ) → Outcome (List Split) → Outcome Filled

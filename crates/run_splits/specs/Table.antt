@@ -9,7 +9,7 @@ use Rattle.lists.specs.Outcome.{Outcome, accepted, refused, _>>_, _>>=_}
 use Rattle.obj.specs.declared.Answer.{Answer}
 use Rattle.obj.specs.declared.Answer.the-variants as answers
 use Rattle.obj.specs.declared.Split.{Split}
-use Rattle.tables.specs.Records.{sectionsIn, splitsIn}
+use Rattle.tables.specs.Records.{sectionsIn, partialsIn}
 use Rattle.load.specs.Load.{Loaded, namesIn}
 use Rattle.loaded.specs.Tables.{imageFrom, sectionsFrom}
 use Rattle.sections.specs.Image.{Image}
@@ -28,7 +28,7 @@ use Rattle.trim.specs.Trim.{trimmed}
 module _ (file : List ℕ) (t : Loaded) (room : ℕ) (names : Ceilings) where
   -- "merges the partial splits in file order", into a table that has none
   unfoldable pub merged : Outcome (List Split)
-  merged = mergeAll (given (sectionsIn file (t .sections)) room) [] (splitsIn file (t .splits))
+  merged = mergeAll (given (sectionsIn file (t .sections)) room) [] (partialsIn file (t .splits))
 
   -- "marks common (`update_common_splits` with no start)"
   unfoldable pub withCommon : List Split → Outcome (List Split)

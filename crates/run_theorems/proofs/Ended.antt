@@ -18,7 +18,7 @@ use Rattle.lists.proofs.Outcomes.{bind-inv}
 use Rattle.fields.specs.Fields.{le16, enc16}
 use Rattle.fields.proofs.Laws.{round16}
 use Rattle.obj.specs.Answers.{refusalWord}
-use Rattle.obj.specs.Records.{sectionAt, unitAt, stagePlaces}
+use Rattle.obj.specs.Records.{sectionAt, unitAt, stagePlaces, splitWidth}
 use Rattle.obj.specs.declared.Split.{Split}
 use Rattle.obj.specs.declared.Unit as units
 use Rattle.outputs.specs.Outputs.{halves, countsOf}
@@ -49,6 +49,7 @@ use Rattle.run_listing.proofs.Ended.{Finished, finished}
 use Rattle.entry_resolve_link_order.proofs.Theorems.{node-split, own-fits}
 use Rattle.entry_split_file.specs.Entry.{splitFileOf, leftBy}
 use Rattle.run_theorems.specs.Run.{Call, loadedBy, tables, sectionHeads, unitRecords, roomsFor, rooms, result, splitCount, splitsOf, givenBy, Bytes}
+use Rattle.split_origins.proofs.Originated.{origin-fits}
 use Rattle.run_entries.proofs.Good.{Good}
 use Rattle.run_entries.proofs.Rows as rows-laws
 use Rattle.run_entries.proofs.Rows.{Staged, staged}
@@ -124,7 +125,7 @@ module _ (c : Call) where
       pub rows-fit : (k : ℕ) → k < length (full .rows) → split-bytes.Fits (getD (full .rows) k noSplit)
       rows-fit =
           written.rows-fit (map length (full .names)) (sectionHeads c) (full .rows) (omega (arith, length-map (full .names) (length {A = ℕ}), many-names))
-          (omega (arith, length-map (tables c .sections) (sectionAt (c .file)), few-sections usable)) (good-table .faultless)
+          (omega (arith, length-map (tables c .sections) (sectionAt (c .file)), few-sections usable)) (good-table .faultless) (all-map origin-fits (good-table .origins))
 
       -- a unit record of the file has its widths
       file-fits : (k : ℕ) → k < length (unitRecords c) → Fits (getD (unitRecords c) k noUnit)
@@ -163,7 +164,7 @@ module _ (c : Call) where
     -- THEOREM: the rows that the split output holds are those of the run's split table
     pub splits-read : splitsOf c ≡ f .full .rows
     splits-read =
-        ap (λ (b : List ℕ). splitsIn b (stagePlaces 19 (splitCount c))) (c .leaves .left .splits-are ∙ sym front)
+        ap (λ (b : List ℕ). splitsIn b (stagePlaces splitWidth (splitCount c))) (c .leaves .left .splits-are ∙ sym front)
         ∙ splits-back out rows (omega (arith, length-tableBytes rows, length-append (tableBytes rows) rest)) noSplit
         (λ k h. subst (λ (l : List Split). split-bytes.Fits (getD l k noSplit)) (sym (f .splits)) (rows-fit (came-done e .loaded) (f .full) (f .tabled) k (subst (λ (l : List Split). k < length l) (f .splits) h)))
         ∙ f .splits

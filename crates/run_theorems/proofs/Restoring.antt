@@ -23,7 +23,7 @@ use Rattle.sections.specs.Sections.{headOf}
 use Rattle.sections.proofs.Kept.{kept-whole}
 use Rattle.sections.proofs.Nobits.{nobits-bytes}
 use Rattle.pieces.specs.declared.Piece.{Piece}
-use Rattle.pieces.specs.Pieces.{piecesIn}
+use Rattle.pieces.specs.Pieces.{piecesIn, pieceWidth}
 use Rattle.walk.specs.Walk.{startIn, endIn, splittingEndIn, walk}
 use Rattle.walk.specs.Giving.{inputOf}
 use Rattle.stage_walk.proofs.Room.{room-low}
@@ -100,7 +100,7 @@ module _ (c : Call) (e : c .word ≡ 0) where
   unfolding roomsIn
   pieces-counted h =
       ap (λ (l : List ℕ). le16 l 8) (c .leaves .left .counted)
-      ∙ count-at (c .sizes .counts) _ 4 h (omega arith) (omega (arith, pieces-room (input c) (result c .output) walks-is, room-low 1024 (c .sizes .pieces) 28))
+      ∙ count-at (c .sizes .counts) _ 4 h (omega arith) (omega (arith, pieces-room (input c) (result c .output) walks-is, room-low 1024 (c .sizes .pieces) pieceWidth))
 
   -- THEOREM T2: in every section that holds bytes and of whose number no split in the table that was walked is skipped or common, the pieces that the output holds, laid over
   -- zeros at their addresses, give the section's own byte at every address from its start on and below its splitting end, and each write lies inside

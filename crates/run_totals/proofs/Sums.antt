@@ -11,7 +11,7 @@ use Rattle.lists.specs.Rows.{tabulate, keepIf}
 use Rattle.lists.specs.Sort.{All, none, each}
 use Rattle.obj.specs.Records.{unitAt}
 use Rattle.pieces.specs.declared.Piece.{Piece}
-use Rattle.pieces.specs.Pieces.{pieceAt, piecesIn}
+use Rattle.pieces.specs.Pieces.{pieceAt, piecesIn, pieceWidth}
 use Rattle.pieces.proofs.Laws.{length-piecesIn}
 use Rattle.lines.specs.Lines.{totalLine}
 use Rattle.listing.specs.Listing.{Run, sizes, piecesOf, figure, figures, unitsLines, listing}
@@ -84,7 +84,7 @@ read-of t q = record {
 }
   where
     row : ℕ → Piece
-    row k = pieceAt (t .pieces .bytes) (28 * k)
+    row k = pieceAt (t .pieces .bytes) (pieceWidth * k)
 
     units-are : length (runOf t .units) ≡ length (t .units .places)
     units-are = length-map (t .units .places) (λ (at : ℕ). unitAt (t .units .bytes) at .name)

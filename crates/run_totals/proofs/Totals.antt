@@ -26,7 +26,7 @@ use Rattle.trim.proofs.Bounds.{trim-within}
 use Rattle.run_splits.specs.Table.{Fine, checked, splitTable}
 use Rattle.run_splits.proofs.Keeping.{merged-fine, common-fine, gaps-fine}
 use Rattle.units.specs.Units.{unitNames}
-use Rattle.pieces.specs.Pieces.{piecesIn}
+use Rattle.pieces.specs.Pieces.{piecesIn, pieceWidth}
 use Rattle.walk.specs.declared.Counts.{Counts}
 use Rattle.restore.proofs.Walked.{pieces-room}
 use Rattle.stage_walk.specs.Room.{roomIn}
@@ -110,7 +110,7 @@ module _ (file : List ℕ) (names bytes splits units a b d : ℕ) where
   pub run-totals : (r : Result) → runOf file rooms ≡ accepted (done r) → (name : ℕ → List ℕ) (symbol : ℕ → Symbol) (reloc : ℕ → Reloc) → Totals (listed name symbol reloc r)
   run-totals r e name symbol reloc =
       let m = rows-made r e in
-      totals-of (listed name symbol reloc r) (m .listed) (m .small) (omega (arith, m .few, room-low 1024 a 28))
+      totals-of (listed name symbol reloc r) (m .listed) (m .small) (omega (arith, m .few, room-low 1024 a pieceWidth))
 
   -- THEOREM T8: .. and so it is told from the bytes of the piece table that the run left
   pub tables-totals : (t : Loaded) (c : Beside) (table : Columns) (unit-records pieces entries offsets : List ℕ) (added used rows n : ℕ) (made : Counts)
@@ -120,4 +120,4 @@ module _ (file : List ℕ) (names bytes splits units a b d : ℕ) where
       let m = rows-made _ (sym e) in
       read-of (listedTables file t c unit-records pieces entries offsets n made)
       (totals-of _ (subst (λ (k : ℕ). All (λ p. p .unit < k) (piecesIn pieces (made .pieces))) (names-alike unit-records n) (m .listed)) (m .small)
-      (omega (arith, m .few, room-low 1024 a 28)))
+      (omega (arith, m .few, room-low 1024 a pieceWidth)))

@@ -1,14 +1,15 @@
 -- Rows of columns: the packed number gives its parts back, and what stores in the columns do to the rows. `rowOf` stays shut, so that a row's equation is
 -- its four numbers' equations. Assumes nothing.
-use mathlib.Core.Path.{_≡_, refl, ap, _∙_}
-use mathlib.Core.List.{List}
+use mathlib.Core.Path.{_≡_, refl, sym, ap, subst, _∙_}
+use mathlib.Core.List.{List, [], _∷_, map}
 use Prim.Native.Nat.{ℕ, _+_, _*_, _/_, _%_, _≤_, _<_}
 use native.Mathlib.Omega.{arith}
 use lib.ListN.{length, getD, set, length-set}
 use lib.Seq.{getD-set-same, getD-set-other}
+use Rattle.lists.specs.Sort.{All, none, each}
 use Rattle.lists.proofs.Rows.{tabulate-set}
 use Rattle.obj.specs.declared.Split.{Split}
-use Rattle.splits.specs.Columns.{alignmentOf, Good, packed, sectionIn, renameIn, flagsIn, Columns, columns, rowOf, rowAt, rows, Long}
+use Rattle.splits.specs.Columns.{alignmentOf, Good, packed, sectionIn, renameIn, flagsIn, originIn, Columns, columns, rowOf, rowAt, rows, Long}
 use Rattle.splits.specs.Updates.{withEnd}
 
 -- ---- the packed number
@@ -25,18 +26,20 @@ low8 : (a b : ℕ) → a < 256 → (a + 256 * b) % 256 ≡ a
 low8 a b h = omega arith
 
 -- a split is the row of its packed number
-pub unpacked : (s : Split) (bits : ℕ) → s .section < 65536 → s .rename < 65536 → s .flags < 256 → bits < 18 → alignmentOf bits ≡ s .alignment
-    → rowOf (s .start) (s .end) (s .unit) (packed (s .section) (s .rename) (s .flags) bits) ≡ s
+pub unpacked : (s : Split) (bits : ℕ) → s .section < 65536 → s .rename < 65536 → s .flags < 256 → bits < 18 → s .origin < 65536
+    → alignmentOf bits ≡ s .alignment → rowOf (s .start) (s .end) (s .unit) (packed (s .section) (s .rename) (s .flags) bits (s .origin)) ≡ s
 unfolding rowOf
-unpacked s bits a b c d q =
-    let r = packed (s .section) (s .rename) (s .flags) bits in
-    let above16 : r / 65536 ≡ s .rename + 65536 * (s .flags + 256 * bits) = omega arith in
-    let above32 : r / 4294967296 ≡ s .flags + 256 * bits = omega arith in
-    let above40 : r / 1099511627776 ≡ bits + 256 * 0 = omega arith in
+unpacked s bits a b c d f q =
+    let r = packed (s .section) (s .rename) (s .flags) bits (s .origin) in
+    let above16 : r / 65536 ≡ s .rename + 65536 * (s .flags + 256 * (bits + 256 * s .origin)) = omega arith in
+    let above32 : r / 4294967296 ≡ s .flags + 256 * (bits + 256 * s .origin) = omega arith in
+    let above40 : r / 1099511627776 ≡ bits + 256 * s .origin = omega arith in
+    let above48 : r / 281474976710656 ≡ s .origin + 65536 * 0 = omega arith in
     let section-back : sectionIn r ≡ s .section = omega arith in
-    let rename-back : renameIn r ≡ s .rename = ap (λ (x : ℕ). x % 65536) above16 ∙ low16 (s .rename) (s .flags + 256 * bits) b in
-    let flags-back : flagsIn r ≡ s .flags = ap (λ (x : ℕ). x % 256) above32 ∙ low8 (s .flags) bits c in
-    let bits-back : r / 1099511627776 % 256 ≡ bits = ap (λ (x : ℕ). x % 256) above40 ∙ low8 bits 0 (omega arith) in
+    let rename-back : renameIn r ≡ s .rename = ap (λ (x : ℕ). x % 65536) above16 ∙ low16 (s .rename) (s .flags + 256 * (bits + 256 * s .origin)) b in
+    let flags-back : flagsIn r ≡ s .flags = ap (λ (x : ℕ). x % 256) above32 ∙ low8 (s .flags) (bits + 256 * s .origin) c in
+    let bits-back : r / 1099511627776 % 256 ≡ bits = ap (λ (x : ℕ). x % 256) above40 ∙ low8 bits (s .origin) (omega arith) in
+    let origin-back : originIn r ≡ s .origin = ap (λ (x : ℕ). x % 65536) above48 ∙ low16 (s .origin) 0 f in
     λ i. record {
       section = section-back i;
       start = s .start;
@@ -45,6 +48,7 @@ unpacked s bits a b c d q =
       alignment = (ap alignmentOf bits-back ∙ q) i;
       flags = flags-back i;
       rename = rename-back i;
+      origin = origin-back i;
     }
 
 -- ---- the numbers that a row has in columns of its own
@@ -113,3 +117,16 @@ end-stored a b c d k n new h =
   where
     other : (j : ℕ) → (j ≡ k → ⊥) → rowAt (columns a (set b k new) c d) j ≡ rowAt (columns a b c d) j
     other j z = ap (λ (e : ℕ). rowOf (getD a j 0) e (getD c j 0) (getD d j 0)) (getD-set-other b k j new 0 z)
+
+-- ---- tables that are the same but for their ends have the same origins
+module _ (P : ℕ → Type 0) where
+  origins-in : {l : List Split} → All (λ s. P (s .origin)) l → All (λ s. P (s .origin)) (map (withEnd 0) l)
+  origins-in none = none
+  origins-in (each p q) = each p (origins-in q)
+
+  origins-out : (l : List Split) → All (λ s. P (s .origin)) (map (withEnd 0) l) → All (λ s. P (s .origin)) l
+  origins-out [] none = none
+  origins-out (s ∷ l) (each p q) = each p (origins-out l q)
+
+  pub same-origins : (l m : List Split) → map (withEnd 0) m ≡ map (withEnd 0) l → All (λ s. P (s .origin)) l → All (λ s. P (s .origin)) m
+  same-origins l m e q = origins-out m (subst (All (λ s. P (s .origin))) (sym e) (origins-in q))

@@ -1,5 +1,5 @@
 -- The split table as four columns and a count, and the rows that they mean. A row's start, end and unit stand in columns of their own; `rest` packs, from the
--- lowest bit up, section (16 bits), rename (16), flags (8), alignment as its exponent + 1, or 0 for none (8); the top 16 bits are spare.
+-- lowest bit up, section (16 bits), rename (16), flags (8), alignment as its exponent + 1, or 0 for none (8), origin (16).
 -- The eight bits of the alignment are read by a total function, so that every row's alignment is good, whatever the columns hold.
 -- Callers speak of `rows`, and use the laws of proofs/Rows.antt and proofs/Alignment.antt: `good-alignment`, that what crate align does not call bad is good.
 use Prim.Native.Nat.{ℕ, zero, suc, _+_, _*_, _/_, _%_, _^_, _≤_}
@@ -23,8 +23,8 @@ pub record Good (a : ℕ) : Type 0 where
   pub bits : ℕ
   pub is : alignmentOf bits ≡ a
 
-abbrev pub packed : ℕ → ℕ → ℕ → ℕ → ℕ
-packed section rename flags alignment = section + 65536 * rename + 4294967296 * flags + 1099511627776 * alignment
+abbrev pub packed : ℕ → ℕ → ℕ → ℕ → ℕ → ℕ
+packed section rename flags alignment origin = section + 65536 * rename + 4294967296 * flags + 1099511627776 * alignment + 281474976710656 * origin
 
 abbrev pub sectionIn : ℕ → ℕ
 sectionIn rest = rest % 65536
@@ -37,6 +37,9 @@ flagsIn rest = rest / 4294967296 % 256
 
 abbrev pub alignmentIn : ℕ → ℕ
 alignmentIn rest = alignmentOf (rest / 1099511627776 % 256)
+
+abbrev pub originIn : ℕ → ℕ
+originIn rest = rest / 281474976710656 % 65536
 
 -- ---- the columns
 
@@ -59,6 +62,7 @@ rowOf start end unit rest = record {
   alignment = alignmentIn rest;
   flags = flagsIn rest;
   rename = renameIn rest;
+  origin = originIn rest;
 }
 
 abbrev pub rowAt : Columns → ℕ → Split

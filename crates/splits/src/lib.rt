@@ -1,5 +1,5 @@
 // The split table as four columns and a count: its rows, read from packed records and written to them, and what is asked of them.
-// `rest` packs section, rename, flags and alignment (specs/Columns.antt).
+// `rest` packs section, rename, flags, alignment and origin (specs/Columns.antt).
 ghost use mathlib.Core.Path.{_≡_};
 ghost use mathlib.Core.Bool.{true, false, not, _&&_};
 ghost use mathlib.Core.List.{map};
@@ -8,13 +8,14 @@ ghost use Prim.Native.Nat.{ℕ, _+_, _*_, _/_, _%_, _<_, _≤_};
 ghost use lib.ListN.{length, getD, set};
 ghost use lib.Seq.{sets};
 ghost use Rattle.lists.specs.Rows.{tabulate, some};
-ghost use Rattle.obj.specs.Records.{splitAt, splitWidth};
+ghost use Rattle.obj.specs.Records.{splitAt, partialWidth, splitWidth};
 ghost use Rattle.splits.specs.Columns.{alignmentOf, Good, columns, rowOf, rowAt, rows, Long};
 ghost use Rattle.splits.specs.Updates.{withEnd};
 ghost use Rattle.splits.specs.Questions.{within, ofUnit, Hit, Meets};
-ghost use Rattle.splits.specs.Bytes.{splitBytes, tableBytes, Loadable};
+ghost use Rattle.splits.specs.Bytes.{partialBytes, splitBytes, tableBytes, Loadable};
 use fields::put16;
 use fields::put32;
+use obj::PARTIAL_BYTES;
 use obj::SPLIT_BYTES;
 use obj::Split;
 use obj::split_at;
@@ -64,6 +65,7 @@ pub fn row_of(start: u32, end: u32, unit: u16, rest: u64) -> Split
         alignment: alignment_of(rest / 1099511627776 % 256),
         flags: (rest / 4294967296 % 256) as u8,
         rename: (rest / 65536 % 65536) as u16,
+        origin: (rest / 281474976710656 % 65536) as u16,
     }
 }
 
@@ -77,6 +79,7 @@ pub fn rest_of(s: Split) -> u64
         + 65536 * (s.rename as u64)
         + 4294967296 * (s.flags as u64)
         + 1099511627776 * bits
+        + 281474976710656 * (s.origin as u64)
 }
 
 // Row i.
@@ -133,10 +136,10 @@ pub fn load(
     }
 }
 
-// One split as a record at `at`.
-fn put_split(out: &mut [u8], at: usize, s: Split)
-    requires { ⌜ at + splitWidth ≤ length (now out) ⌝ }
-    ensures { λ _. ⌜ now (out .exit) ≡ sets (now (out .entry)) at (splitBytes s) ⌝ }
+// The fields of a partial split's record.
+fn put_partial(out: &mut [u8], at: usize, s: Split)
+    requires { ⌜ at + partialWidth ≤ length (now out) ⌝ }
+    ensures { λ _. ⌜ now (out .exit) ≡ sets (now (out .entry)) at (partialBytes s) ⌝ }
 {
     put16(out, at, s.section);
     put32(out, at + 2, s.start);
@@ -145,6 +148,15 @@ fn put_split(out: &mut [u8], at: usize, s: Split)
     put32(out, at + 12, s.alignment);
     out[at + 16] = s.flags;
     put16(out, at + 17, s.rename);
+}
+
+// One split as a record at `at`.
+fn put_split(out: &mut [u8], at: usize, s: Split)
+    requires { ⌜ at + splitWidth ≤ length (now out) ⌝ }
+    ensures { λ _. ⌜ now (out .exit) ≡ sets (now (out .entry)) at (splitBytes s) ⌝ }
+{
+    put_partial(out, at, s);
+    put16(out, at + PARTIAL_BYTES, s.origin);
 }
 
 // The first n rows as records at the front of a lent table.

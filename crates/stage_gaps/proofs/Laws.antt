@@ -35,6 +35,7 @@ use Rattle.gap_splits.specs.declared.Entered.the-variants.{Accepted}
 use Rattle.gap_splits.proofs.Naming.{bytes-append}
 use Rattle.create_gap_splits.specs.Create.{gapsFilled}
 use Rattle.stage_gaps.specs.StageGaps.{Laid, Gives, fromSplits, Space, Columns, Lent}
+use Rattle.obj.specs.Records.{splitWidth}
 
 -- ---- the counts
 pub stored : (counts : List ℕ) (names bytes splits : ℕ) {c₀ c₁ c₂ c₃ : List ℕ} → c₀ ≡ clearFrom 0 0 counts → c₁ ≡ storeCount 0 names c₀ → c₂ ≡ storeCount 1 bytes c₁ → c₃ ≡ storeCount 2 splits c₂
@@ -74,7 +75,7 @@ module _ {a : Answer} {es bs size cs : ℕ} {ends bytes out counts : List ℕ} w
   -- they stand in the columns: the filling decides
   pub splits-go : (lengths : List ℕ) (heads : List Section) (g : Image) (sections : Sections) (ceilings : Ceilings) (base : List (List ℕ)) (splits : List ℕ) (table : Table) {room : ℕ} {m : Outcome (Unit {0})}
       → room ≡ roomOf size → Taken m (splitsCheck room lengths heads splits) splits table → m ≡ accepted tt
-      → Gives (gapsFilled g sections (given heads room) ceilings (record { names = base; rows = rows table (length splits / 19) })) a es bs size cs ends bytes out counts
+      → Gives (gapsFilled g sections (given heads room) ceilings (record { names = base; rows = rows table (length splits / splitWidth) })) a es bs size cs ends bytes out counts
       → Gives (fromSplits lengths heads g sections ceilings base splits size) a es bs size cs ends bytes out counts
   unfolding fromSplits
   splits-go lengths heads g sections ceilings base splits table e t f w =

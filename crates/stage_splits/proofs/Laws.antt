@@ -21,41 +21,51 @@ use Rattle.obj.specs.declared.Answer.{Answer}
 use Rattle.obj.specs.declared.Answer.the-variants.{Accepted, Refused}
 use Rattle.obj.specs.declared.Section.{Section}
 use Rattle.obj.specs.declared.Split.{Split}
-use Rattle.obj.specs.Records.{splitAt, stagePlaces}
+use Rattle.obj.specs.Records.{splitAt, stagePlaces, splitWidth, partialWidth}
 use Rattle.obj.proofs.Laws.{length-stagePlaces}
 use Rattle.tables.specs.Tables.{recordsCheck, AllHeld}
-use Rattle.tables.specs.Records.{splitsIn, noSplit, partialFault}
-use Rattle.tables.proofs.Lookups.{held}
+use Rattle.tables.specs.Records.{partialsIn, splitsIn, noSplit, partialFault}
+use Rattle.tables.proofs.Lookups.{held, partial-is}
 use Rattle.tables.proofs.Laws.{partials-aligned, splits-partials}
 use Rattle.stage_tables.specs.StageTables.{partialsCheck, splitsCheck, Filled}
 use Rattle.stage_tables.proofs.Laws.{table-passed, taken-places, taken-held}
 use Rattle.outputs.specs.Outputs.{halves, countsOf, storeCount, storeCounts}
 use Rattle.outputs.proofs.Laws.{counts-stored}
 use Rattle.splits.specs.Columns.{Columns, rows}
-use Rattle.splits.specs.Bytes.{tableBytes, Loadable}
+use Rattle.splits.specs.Bytes.{tableBytes, Loadable, Partials}
 use Rattle.stage_splits.specs.StageSplits.{roomOf, Leaves, Taken, Laid, said, Gives}
 
 -- ---- the room
 pub room-low : (size : ℕ) → roomOf size ≤ 1024
 unfolding roomOf
-room-low size = go (ltb (size / 19) 1024) refl
+room-low size = go (ltb (size / splitWidth) 1024) refl
   where
-    go : (t : Bool) → ltb (size / 19) 1024 ≡ t → cond t (size / 19) 1024 ≤ 1024
-    go true e = omega (arith, ltb-true (size / 19) 1024 e)
+    go : (t : Bool) → ltb (size / splitWidth) 1024 ≡ t → cond t (size / splitWidth) 1024 ≤ 1024
+    go true e = omega (arith, ltb-true (size / splitWidth) 1024 e)
     go false e = omega arith
 
-pub room-fits : (size : ℕ) → 19 * roomOf size ≤ size
+pub room-fits : (size : ℕ) → splitWidth * roomOf size ≤ size
 unfolding roomOf
-room-fits size = go (ltb (size / 19) 1024) refl
+room-fits size = go (ltb (size / splitWidth) 1024) refl
   where
-    go : (t : Bool) → ltb (size / 19) 1024 ≡ t → 19 * cond t (size / 19) 1024 ≤ size
-    go true e = mul-div-le size 19
-    go false e = omega (arith, ltb-false (size / 19) 1024 e, mul-div-le size 19)
+    go : (t : Bool) → ltb (size / splitWidth) 1024 ≡ t → splitWidth * cond t (size / splitWidth) 1024 ≤ size
+    go true e = mul-div-le size splitWidth
+    go false e = omega (arith, ltb-false (size / splitWidth) 1024 e, mul-div-le size splitWidth)
 
 -- ---- a table that was taken
 
+-- partial splits without a fault, of which there are not too many, can be merged
+partials-of : (lengths b places : List ℕ) → AllHeld partialWidth b places → length places ≤ 65535
+    → recordsCheck (partialFault lengths (partialsIn b places)) (length places) ≡ accepted tt → Partials b places
+partials-of lengths b places all few e = record {
+  few = few;
+  held = held all;
+  aligned = λ k h.
+      ap (λ (s : Split). badAlign (s .alignment)) (sym (partial-is b places k h)) ∙ partials-aligned lengths (partialsIn b places) (length places) e k h;
+}
+
 -- splits without a fault can be kept in columns
-loadable-of : (lengths b places : List ℕ) → AllHeld 19 b places → recordsCheck (partialFault lengths (splitsIn b places)) (length places) ≡ accepted tt
+loadable-of : (lengths b places : List ℕ) → AllHeld splitWidth b places → recordsCheck (partialFault lengths (splitsIn b places)) (length places) ≡ accepted tt
     → Loadable b places
 loadable-of lengths b places all e = record {
   held = held all;
@@ -66,29 +76,31 @@ loadable-of lengths b places all e = record {
 
 module _ (ceiling : ℕ) (lengths b places : List ℕ) (few : ceiling ≤ 4096) {answer : Outcome (Unit {0})} (e : answer ≡ accepted tt) where
   -- a partial list
-  pub partials-loadable : Filled answer (partialsCheck ceiling lengths b) 19 (length b) places → Loadable b (take (length b / 19) places)
-  partials-loadable f =
-      let n = length b / 19 in
-      let passed = table-passed 19 ceiling b _ (sym (f .said) ∙ e) .2 in
-      let there = taken-held 19 ceiling b places _ f e few in
-      let at = taken-places 19 ceiling b places _ f e in
-      loadable-of lengths b (take n places) there
-      (ap (λ (l : List ℕ). recordsCheck (partialFault lengths (splitsIn b l)) (length l)) at
-      ∙ ap (recordsCheck (partialFault lengths (splitsIn b (stagePlaces 19 n)))) (length-stagePlaces 19 n)
+  pub partials-mergeable : Filled answer (partialsCheck ceiling lengths b) partialWidth (length b) places → Partials b (take (length b / partialWidth) places)
+  partials-mergeable f =
+      let n = length b / partialWidth in
+      let passed = table-passed partialWidth ceiling b _ (sym (f .said) ∙ e) .2 in
+      let there = taken-held partialWidth ceiling b places _ f e few in
+      let at = taken-places partialWidth ceiling b places _ f e in
+      let low = table-passed partialWidth ceiling b _ (sym (f .said) ∙ e) .1 in
+      let count = ap length at ∙ length-stagePlaces partialWidth n in
+      partials-of lengths b (take n places) there (omega (arith, low, count))
+      (ap (λ (l : List ℕ). recordsCheck (partialFault lengths (partialsIn b l)) (length l)) at
+      ∙ ap (recordsCheck (partialFault lengths (partialsIn b (stagePlaces partialWidth n)))) (length-stagePlaces partialWidth n)
       ∙ passed)
 
   -- a split table
-  pub splits-loadable : (sections : List Section) → Filled answer (splitsCheck ceiling lengths sections b) 19 (length b) places
-      → Loadable b (take (length b / 19) places)
+  pub splits-loadable : (sections : List Section) → Filled answer (splitsCheck ceiling lengths sections b) splitWidth (length b) places
+      → Loadable b (take (length b / splitWidth) places)
   splits-loadable sections f =
-      let n = length b / 19 in
-      let passed = table-passed 19 ceiling b _ (sym (f .said) ∙ e) .2 in
-      let there = taken-held 19 ceiling b places _ f e few in
-      let at = taken-places 19 ceiling b places _ f e in
+      let n = length b / splitWidth in
+      let passed = table-passed splitWidth ceiling b _ (sym (f .said) ∙ e) .2 in
+      let there = taken-held splitWidth ceiling b places _ f e few in
+      let at = taken-places splitWidth ceiling b places _ f e in
       loadable-of lengths b (take n places) there
       (ap (λ (l : List ℕ). recordsCheck (partialFault lengths (splitsIn b l)) (length l)) at
-      ∙ ap (recordsCheck (partialFault lengths (splitsIn b (stagePlaces 19 n)))) (length-stagePlaces 19 n)
-      ∙ splits-partials lengths sections (splitsIn b (stagePlaces 19 n)) n passed)
+      ∙ ap (recordsCheck (partialFault lengths (splitsIn b (stagePlaces splitWidth n)))) (length-stagePlaces splitWidth n)
+      ∙ splits-partials lengths sections (splitsIn b (stagePlaces splitWidth n)) n passed)
 
 -- it was refused: the columns hold nothing
 pub taken-refused : {answer want : Outcome (Unit {0})} (b : List ℕ) (c : Columns) {number section address : ℕ} → answer ≡ want → answer ≡ refused number section address
@@ -97,13 +109,13 @@ taken-refused b c s e = record { said = s; taken = λ q. absurd (not-both (sym e
 
 -- it was accepted: the rows loaded from the places are its splits
 pub taken-rows : {answer want : Outcome (Unit {0})} (b places : List ℕ) (c : Columns) → answer ≡ want
-    → take (length b / 19) places ≡ stagePlaces 19 (length b / 19) → rows c (length (take (length b / 19) places)) ≡ splitsIn b (take (length b / 19) places)
+    → take (length b / splitWidth) places ≡ stagePlaces splitWidth (length b / splitWidth) → rows c (length (take (length b / splitWidth) places)) ≡ splitsIn b (take (length b / splitWidth) places)
     → Taken answer want b c
 taken-rows b places c s at e = record {
   said = s;
   taken = λ _.
-      let n = length b / 19 in
-      ap (rows c) (sym (ap length at ∙ length-stagePlaces 19 n)) ∙ e ∙ ap (splitsIn b) at;
+      let n = length b / splitWidth in
+      ap (rows c) (sym (ap length at ∙ length-stagePlaces splitWidth n)) ∙ e ∙ ap (splitsIn b) at;
 }
 
 -- ---- the counts

@@ -14,7 +14,7 @@ use Rattle.obj.specs.declared.Reloc.{Reloc}
 use Rattle.obj.specs.declared.Split.{Split}
 use Rattle.obj.specs.declared.Unit as units
 use Rattle.tables.specs.Tables.{sizeCheck, recordsCheck}
-use Rattle.tables.specs.Records.{sectionsIn, symbolsIn, relocsIn, splitsIn, unitsIn, imagePlaces, sectionFault, imageFault, symbolFault, relocFault, partialFault, splitFault, unitFault}
+use Rattle.tables.specs.Records.{sectionsIn, symbolsIn, relocsIn, partialsIn, splitsIn, unitsIn, imagePlaces, sectionFault, imageFault, symbolFault, relocFault, partialFault, splitFault, unitFault}
 
 -- the records of a stage table lie one after another
 abbrev pub stageSections : List ℕ → List Section
@@ -25,6 +25,9 @@ stageSymbols b = symbolsIn b (stagePlaces 20 (length b / 20))
 
 abbrev pub stageRelocs : List ℕ → List Reloc
 stageRelocs b = relocsIn b (stagePlaces 23 (length b / 23))
+
+abbrev pub stagePartials : List ℕ → List Split
+stagePartials b = partialsIn b (stagePlaces partialWidth (length b / partialWidth))
 
 abbrev pub stageSplits : List ℕ → List Split
 stageSplits b = splitsIn b (stagePlaces splitWidth (length b / splitWidth))
@@ -54,7 +57,7 @@ relocsCheck ceiling sections symbols b = tableCheck 23 ceiling b (relocFault sec
 
 -- "7 split": "The merge's partial list is checked as records"
 abbrev pub partialsCheck : (ceiling : ℕ) → (lengths b : List ℕ) → Outcome (Unit {0})
-partialsCheck ceiling lengths b = tableCheck partialWidth ceiling b (partialFault lengths (stageSplits b))
+partialsCheck ceiling lengths b = tableCheck partialWidth ceiling b (partialFault lengths (stagePartials b))
 
 -- "7 split", "in stage tables also .."
 abbrev pub splitsCheck : (ceiling : ℕ) → (lengths : List ℕ) → (sections : List Section) → (b : List ℕ) → Outcome (Unit {0})

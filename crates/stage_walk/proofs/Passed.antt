@@ -7,7 +7,7 @@ use native.Mathlib.Omega.{arith}
 use lib.ListN.{length, getD}
 use Rattle.lists.specs.Outcome.{accepted}
 use Rattle.lists.proofs.Rows.{getD-tabulate, getD-map}
-use Rattle.obj.specs.Records.{unitAt, stagePlaces}
+use Rattle.obj.specs.Records.{unitAt, stagePlaces, splitWidth}
 use Rattle.obj.specs.declared.Section.{Section}
 use Rattle.obj.specs.declared.Split.{Split}
 use Rattle.obj.specs.declared.Unit as unit-records
@@ -30,7 +30,7 @@ known (x ∷ l) (suc k) h = suc-le-suc (known l k h)
 
 -- ---- splits
 pub rows-named : (ceiling : ℕ) (lengths : List ℕ) (heads : List Section) (b : List ℕ) (c : Columns) → splitsCheck ceiling lengths heads b ≡ accepted tt
-    → rows c (length b / 19) ≡ stageSplits b → Long c (length b / 19) → Rowed c (length b / 19) (length lengths)
+    → rows c (length b / splitWidth) ≡ stageSplits b → Long c (length b / splitWidth) → Rowed c (length b / splitWidth) (length lengths)
 rows-named ceiling lengths heads b c passed taken long =
     record {
       long = long;
@@ -41,10 +41,10 @@ rows-named ceiling lengths heads b c passed taken long =
     }
   where
     n : ℕ
-    n = length b / 19
+    n = length b / splitWidth
 
     records : recordsCheck (splitFault lengths heads (stageSplits b)) n ≡ accepted tt
-    records = table-passed 19 ceiling b _ passed .2
+    records = table-passed splitWidth ceiling b _ passed .2
 
     row-is : (k : ℕ) → k < n → rowAt c k ≡ getD (stageSplits b) k noSplit
     row-is k h = sym (getD-tabulate (rowAt c) 0 n k noSplit h ∙ ap (rowAt c) (zero-add k)) ∙ ap (λ (l : List Split). getD l k noSplit) taken

@@ -13,6 +13,7 @@ use Rattle.lists.specs.Rows.{clearFrom}
 use Rattle.lists.specs.Tables.{laid}
 use Rattle.lists.proofs.Clear.{clear-is}
 use Rattle.stage_walk.specs.Room.{roomFor}
+use Rattle.pieces.specs.Pieces.{pieceWidth}
 
 module _ (ceiling size : ℕ) where
   pub room-low : (width : ℕ) → roomFor ceiling width size ≤ ceiling
@@ -23,13 +24,13 @@ module _ (ceiling size : ℕ) where
       go true e = omega (arith, ltb-true (size / width) ceiling e)
       go false e = omega arith
 
-  pub room-28 : 28 * roomFor ceiling 28 size ≤ size
+  pub room-pieces : pieceWidth * roomFor ceiling pieceWidth size ≤ size
   unfolding roomFor
-  room-28 = go (ltb (size / 28) ceiling) refl
+  room-pieces = go (ltb (size / pieceWidth) ceiling) refl
     where
-      go : (t : Bool) → ltb (size / 28) ceiling ≡ t → 28 * cond t (size / 28) ceiling ≤ size
-      go true e = mul-div-le size 28
-      go false e = omega (arith, ltb-false (size / 28) ceiling e, mul-div-le size 28)
+      go : (t : Bool) → ltb (size / pieceWidth) ceiling ≡ t → pieceWidth * cond t (size / pieceWidth) ceiling ≤ size
+      go true e = mul-div-le size pieceWidth
+      go false e = omega (arith, ltb-false (size / pieceWidth) ceiling e, mul-div-le size pieceWidth)
 
   pub room-12 : 12 * roomFor ceiling 12 size ≤ size
   unfolding roomFor

@@ -7,7 +7,7 @@ use native.Mathlib.Omega.{arith}
 use lib.ListN.{length, getD}
 use lib.Seq.{length-take-le, getD-take, getD-drop}
 use Rattle.lists.specs.Rows.{tabulate}
-use Rattle.pieces.specs.Pieces.{piecesIn, symbolsIn, relocsIn}
+use Rattle.pieces.specs.Pieces.{piecesIn, symbolsIn, relocsIn, pieceWidth}
 use Rattle.pieces.specs.Questions.{countOf}
 use Rattle.piece_columns.specs.Columns.{Counted, Chained, lastOf, lastsIn, prevsIn}
 use Rattle.piece_columns.proofs.Regions.{in-lasts, last-at}
@@ -23,7 +23,7 @@ use Rattle.split_obj.specs.declared.Walked.the-variants.{Accepted, Refused}
 use Rattle.split_obj.specs.Loop.{seen, Left, Tabled}
 use Rattle.stage_walk.specs.Room.{roomIn}
 use Rattle.stage_walk.specs.Lines.{walkOf, none, Within, Gives}
-use Rattle.stage_walk.proofs.Room.{room-low, room-28, room-12, room-8}
+use Rattle.stage_walk.proofs.Room.{room-low, room-pieces, room-12, room-8}
 
 -- ---- nothing is made yet, where a column has only zeros
 module _ (scratch : List ℕ) (zeros : (i : ℕ) → getD scratch i 0 ≡ 0) where
@@ -62,9 +62,9 @@ module _ (scratch : List ℕ) (zeros : (i : ℕ) → getD scratch i 0 ≡ 0) whe
             counted = none-counted pieces;
             few-pieces = omega arith;
             few-relocs = omega arith;
-            pieces-long = room-28 1024 (length pieces);
+            pieces-long = room-pieces 1024 (length pieces);
             offsets-long = room-8 4096 (length offsets);
-            most-pieces = room-low 1024 (length pieces) 28;
+            most-pieces = room-low 1024 (length pieces) pieceWidth;
             most-relocs = room-low 4096 (length offsets) 8;
           };
           entered = record {

@@ -16,10 +16,10 @@ use Rattle.obj.specs.declared.Symbol.{Symbol}
 use Rattle.obj.specs.declared.Reloc.{Reloc}
 use Rattle.obj.specs.declared.Split.{Split}
 use Rattle.obj.specs.declared.Unit as units
-use Rattle.obj.specs.Records.{sectionAt, symbolAt, splitAt, unitAt}
+use Rattle.obj.specs.Records.{sectionAt, symbolAt, partialAt, partialNumbered, splitAt, unitAt}
 use Rattle.faults.specs.Faults.{sectionBad, symbolBad, relocBad, splitBad, splitMisplaced, unitBad}
-use Rattle.tables.specs.Records.{sectionsIn, symbolsIn, splitsIn, unitsIn, noSection, noSymbol, noSplit, noUnit, numbered, imagePlaces, bytesCut, splitBefore, relocFaultAbove, sectionFault, imageFault, symbolFault, partialFault, splitFault, unitFault}
-use Rattle.tables.proofs.Lookups.{found}
+use Rattle.tables.specs.Records.{sectionsIn, symbolsIn, partialsIn, splitsIn, unitsIn, noSection, noSymbol, noSplit, noUnit, numbered, imagePlaces, bytesCut, splitBefore, relocFaultAbove, sectionFault, imageFault, symbolFault, partialFault, splitFault, unitFault}
+use Rattle.tables.proofs.Lookups.{found, partial-is}
 
 -- no number was given: the test failed
 pub no-number : (number : ℕ) (test : Bool) → 0 < number → numbered number test ≡ 0 → test ≡ false
@@ -45,6 +45,12 @@ module _ (b : List ℕ) (k : ℕ) where
   unfolding bytesCut anyOf
   bytes-cut-is image s e = rw (e, length-imagePlaces)
 
+-- a partial split's fault does not depend on its number
+same-fault : (lengths b : List ℕ) (at origin k : ℕ) → let s = partialAt origin b at in let t = partialNumbered b k at in
+    splitBad (getD lengths (s .unit) 0) (getD lengths (s .rename) 0) s ≡ splitBad (getD lengths (t .unit) 0) (getD lengths (t .rename) 0) t
+unfolding partialAt partialNumbered splitBad
+same-fault lengths b at origin k = refl
+
 module _ (lengths b places : List ℕ) (k : ℕ) (h : k < length places) where
   pub section-fault-is : {s : Section} {len r : ℕ} {bad : Bool} → s ≡ sectionAt b (getD places k 0) → len ≡ getD lengths (s .name) 0
       → bad ≡ sectionBad len s → r ≡ numbered 4 bad → r ≡ sectionFault lengths (sectionsIn b places) k
@@ -52,11 +58,12 @@ module _ (lengths b places : List ℕ) (k : ℕ) (h : k < length places) where
   section-fault-is s len bad r = let e = found (sectionAt b) places k noSection h s in rw (r, bad, len, e)
 
   -- ---- splits of a record file
-  pub partial-fault-is : {s : Split} {unit-len rename-len r : ℕ} {bad : Bool} → s ≡ splitAt b (getD places k 0) → unit-len ≡ getD lengths (s .unit) 0
-      → rename-len ≡ getD lengths (s .rename) 0 → bad ≡ splitBad unit-len rename-len s → r ≡ numbered 7 bad
-      → r ≡ partialFault lengths (splitsIn b places) k
+  pub partial-fault-is : (origin : ℕ) {s : Split} {unit-len rename-len r : ℕ} {bad : Bool} → s ≡ partialAt origin b (getD places k 0)
+      → unit-len ≡ getD lengths (s .unit) 0 → rename-len ≡ getD lengths (s .rename) 0 → bad ≡ splitBad unit-len rename-len s → r ≡ numbered 7 bad
+      → r ≡ partialFault lengths (partialsIn b places) k
   unfolding partialFault
-  partial-fault-is s unit-len rename-len bad r = let e = found (splitAt b) places k noSplit h s in rw (r, bad, unit-len, rename-len, e)
+  partial-fault-is origin s unit-len rename-len bad r =
+      let e = partial-is b places k h in rw (r, bad, unit-len, rename-len, s, e) (ap (numbered 7) (same-fault lengths b (getD places k 0) origin k))
 
   -- ---- units
   pub unit-fault-is : {u : units.Unit} {len r : ℕ} {bad : Bool} → u ≡ unitAt b (getD places k 0) → len ≡ getD lengths (u .name) 0

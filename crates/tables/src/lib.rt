@@ -6,7 +6,7 @@ ghost use lib.ListN.{length, getD, take, replicate};
 ghost use Rattle.obj.specs.Records.{stagePlaces, Held, splitWidth, partialWidth};
 ghost use Rattle.obj.specs.Answers.{meaning};
 ghost use Rattle.tables.specs.Tables.{mainCeilings, sizeCheck, recordsCheck, AllHeld};
-ghost use Rattle.tables.specs.Records.{sectionsIn, symbolsIn, relocsIn, splitsIn, unitsIn, noSection, numbered, imagePlaces, bytesCut, splitBefore, relocFaultAbove, sectionFault, imageFault, symbolFault, relocFault, partialFault, splitFault, unitFault};
+ghost use Rattle.tables.specs.Records.{sectionsIn, symbolsIn, relocsIn, partialsIn, splitsIn, unitsIn, noSection, numbered, imagePlaces, bytesCut, splitBefore, relocFaultAbove, sectionFault, imageFault, symbolFault, relocFault, partialFault, splitFault, unitFault};
 use faults::reloc_bad;
 use faults::section_bad;
 use faults::split_bad;
@@ -19,6 +19,7 @@ use obj::Reloc;
 use obj::Section;
 use obj::Split;
 use obj::place_of;
+use obj::read_partial;
 use obj::reloc_at;
 use obj::section_at;
 use obj::split_at;
@@ -330,9 +331,11 @@ pub fn check_relocs(
 // The fault of split k of a record file, or of the merge's partial list.
 fn partial_fault(lengths: &[u8], b: &[u8], places: &[u32], k: usize) -> u16
     requires { ⌜ Held partialWidth (now b) (now places) k ⌝ }
-    ensures { λ r. ⌜ r ≡ partialFault (now (lengths .entry)) (splitsIn (now (b .entry)) (now (places .entry))) k ⌝ }
+    ensures { λ r. ⌜ r ≡ partialFault (now (lengths .entry)) (partialsIn (now (b .entry)) (now (places .entry))) k ⌝ }
 {
-    let s = split_at(b, places, k);
+    // 7 does not ask for its number
+    let at = places[k] as usize;
+    let s = read_partial(b, at, 65535);
     let unit_len = length_of(lengths, s.unit as usize);
     let rename_len = length_of(lengths, s.rename as usize);
     number_if(7, split_bad(s, unit_len, rename_len))
@@ -341,7 +344,7 @@ fn partial_fault(lengths: &[u8], b: &[u8], places: &[u32], k: usize) -> u16
 // Every split of a record file or a partial list, which "is checked as records": "7 split: ..".
 pub fn check_partials(lengths: &[u8], b: &[u8], places: &[u32]) -> Answer
     requires { ⌜ AllHeld partialWidth (now b) (now places) ⌝ }
-    ensures { λ r. ⌜ meaning r ≡ recordsCheck (partialFault (now (lengths .entry)) (splitsIn (now (b .entry)) (now (places .entry)))) (length (now (places .entry))) ⌝ }
+    ensures { λ r. ⌜ meaning r ≡ recordsCheck (partialFault (now (lengths .entry)) (partialsIn (now (b .entry)) (now (places .entry)))) (length (now (places .entry))) ⌝ }
 {
     let mut i: usize = 0;
     while i < places.len() {
@@ -374,6 +377,7 @@ pub fn split_before(b: &[u8], places: &[u32], k: usize) -> Split
         alignment: 0,
         flags: 0,
         rename: 0,
+        origin: 0,
     }
 }
 

@@ -33,7 +33,7 @@ object name address size = record { name = name; section = 0; address = address;
 
 -- a split of section 0
 abbrev pub piece : (start end alignment : ℕ) → Split
-piece start end alignment = record { section = 0; start = start; end = end; unit = 0; alignment = alignment; flags = 0; rename = 65535 }
+piece start end alignment = record { section = 0; start = start; end = end; unit = 0; alignment = alignment; flags = 0; rename = 65535; origin = 65535 }
 
 abbrev pub cases : List Case
 cases =

@@ -23,7 +23,7 @@ sym address size = record { name = 0; section = 3; address = address; size = siz
 
 -- a split of section 3
 abbrev pub piece : (start end : ℕ) → Split
-piece start end = record { section = 3; start = start; end = end; unit = 0; alignment = 0; flags = 0; rename = 65535 }
+piece start end = record { section = 3; start = start; end = end; unit = 0; alignment = 0; flags = 0; rename = 65535; origin = 65535 }
 
 abbrev pub cases : List Case
 cases =

@@ -55,11 +55,12 @@ symbol name address size flags alignment = record {
 abbrev pub reloc : (address : ℕ) → Reloc
 reloc address = record { section = 0; address = address; kind = 0; target = 0; addend = pos 0; «module» = 4294967295 }
 
-abbrev pub split : (start end unit alignment flags : ℕ) → Split
-split start end unit alignment flags = record { section = 0; start = start; end = end; unit = unit; alignment = alignment; flags = flags; rename = 65535 }
+abbrev pub split : (start end unit alignment flags origin : ℕ) → Split
+split start end unit alignment flags origin =
+    record { section = 0; start = start; end = end; unit = unit; alignment = alignment; flags = flags; rename = 65535; origin = origin }
 
-abbrev pub piece : (unit number address size alignment offset : ℕ) → Piece
-piece unit number address size alignment offset = record {
+abbrev pub piece : (unit number address size alignment offset origin : ℕ) → Piece
+piece unit number address size alignment offset origin = record {
   unit = unit;
   number = number;
   section = 0;
@@ -68,6 +69,7 @@ piece unit number address size alignment offset = record {
   size = size;
   alignment = alignment;
   offset = offset;
+  origin = origin;
 }
 
 abbrev pub pieceSymbol : (unit piece symbol flags address : ℕ) → PieceSymbol
@@ -99,8 +101,8 @@ cases =
       bytes = 1 ∷ 2 ∷ 3 ∷ 4 ∷ 5 ∷ 6 ∷ 7 ∷ 8 ∷ 9 ∷ 0 ∷ 0 ∷ 0 ∷ 0 ∷ 0 ∷ 0 ∷ 0 ∷ [];
       symbols = [];
       relocs = [];
-      splits = split 4096 4104 1 0 2 ∷ split 4104 4112 2 0 0 ∷ [];
-      outcome = accepted (record { pieces = piece 0 0 4096 8 8 0 ∷ piece 1 0 4104 8 8 8 ∷ []; symbols = []; relocs = [] });
+      splits = split 4096 4104 1 0 2 65535 ∷ split 4104 4112 2 0 0 0 ∷ [];
+      outcome = accepted (record { pieces = piece 0 0 4096 8 8 0 65535 ∷ piece 1 0 4104 8 8 8 0 ∷ []; symbols = []; relocs = [] });
     }
     -- P8: "alignment 32 at 0x1008 becomes 8"
     ∷ record {
@@ -108,8 +110,8 @@ cases =
       bytes = 1 ∷ 2 ∷ 3 ∷ 4 ∷ [];
       symbols = [];
       relocs = [];
-      splits = split 4104 4108 2 32 0 ∷ [];
-      outcome = accepted (record { pieces = piece 1 0 4104 4 8 0 ∷ []; symbols = []; relocs = [] });
+      splits = split 4104 4108 2 32 0 3 ∷ [];
+      outcome = accepted (record { pieces = piece 1 0 4104 4 8 0 3 ∷ []; symbols = []; relocs = [] });
     }
     -- "at 0x1002: 75"
     ∷ record {
@@ -117,7 +119,7 @@ cases =
       bytes = 1 ∷ 2 ∷ 3 ∷ 4 ∷ [];
       symbols = [];
       relocs = [];
-      splits = split 4098 4102 2 32 0 ∷ [];
+      splits = split 4098 4102 2 32 0 3 ∷ [];
       outcome = refused 75 0 4098;
     }
     -- a linker label is left out, a symbol at the end is passed over, but the vector table's end is passed over at the start; an offset is rounded down;
@@ -127,9 +129,9 @@ cases =
       bytes = 1 ∷ 2 ∷ 3 ∷ 4 ∷ 5 ∷ 6 ∷ 0 ∷ 0 ∷ 0 ∷ 0 ∷ [];
       symbols = symbol 2 4100 2 1 0 ∷ symbol 3 4100 2 0 0 ∷ symbol 2 4104 4 7 16 ∷ symbol 4 4104 0 0 0 ∷ [];
       relocs = reloc 4100 ∷ reloc 4104 ∷ [];
-      splits = split 4098 4104 2 2 0 ∷ split 4104 4108 1 4 1 ∷ [];
+      splits = split 4098 4104 2 2 0 5 ∷ split 4104 4108 1 4 1 6 ∷ [];
       outcome = accepted (record {
-        pieces = piece 1 0 4098 6 2 0 ∷ [];
+        pieces = piece 1 0 4098 6 2 0 5 ∷ [];
         symbols = pieceSymbol 1 0 0 1 2 ∷ pieceSymbol 1 0 3 0 6 ∷ pieceSymbol 0 65535 2 6 16 ∷ [];
         relocs = pieceReloc 0 0 0 ∷ [];
       });

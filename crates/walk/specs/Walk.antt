@@ -148,6 +148,7 @@ pieceOf head n unit number alignment s = record {
   size = s .end - s .start;
   alignment = alignment;
   offset = head .offset + (s .start - head .address);
+  origin = s .origin;
 }
 
 -- what a split adds to the output, in the unit that takes its pieces: "A common split gives no piece", and so no relocations

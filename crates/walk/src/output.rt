@@ -51,6 +51,7 @@ fn piece_of(head: Section, n: u16, unit: u16, number: u16, alignment: u32, s: Sp
         size: s.end - s.start,
         alignment: alignment,
         offset: head.offset as u64 + (s.start - head.address) as u64,
+        origin: s.origin,
     }
 }
 

@@ -6,7 +6,7 @@ use super::{
 };
 use crate::{
     bytes::half_at,
-    records::{self, FIELDS, NAME, Record, SECTION, TOP, edge_words, numbered_name, packed},
+    records::{self, NAME, Record, SECTION, TOP, edge_words, numbered_name, packed},
 };
 
 type Each<'a> = &'a mut dyn FnMut(Set);
@@ -59,7 +59,7 @@ fn fields(each: Each) {
     for (kind, table) in TABLE_OF_KIND.into_iter().enumerate() {
         let width = TABLES[table].1;
         for record in 0..sample()[table].len() / width {
-            for &(at, field) in FIELDS[kind] {
+            for &(at, field) in records::stage_fields(kind) {
                 for value in edge_words(field) {
                     let mut set = sample();
                     records::put_field(&mut set[table][record * width..], at, field, value);
@@ -238,7 +238,7 @@ fn splits(each: Each) {
         set[SPLIT_TABLE].clear();
         for n in [code % 21, code / 21] {
             let (section, (start, end)) = (n as u64 / 7, places[n % 7]);
-            let rest = [(0, 2), (0, 4), (0, 1), (0xFFFF, 2)];
+            let rest = [(0, 2), (0, 4), (0, 1), (0xFFFF, 2), (n as u64, 2)];
             let fields = [&[(section, 2), (start, 4), (end, 4)], &rest[..]].concat();
             set[SPLIT_TABLE].extend(packed(&fields));
         }

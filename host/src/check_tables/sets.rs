@@ -5,7 +5,7 @@ use super::{
 };
 use crate::{
     bytes::{half_at, put_half, word_at},
-    document,
+    document::{self, image::SPLIT_BYTES},
     random::Random,
     records::{self, Maker, Record},
     stage,
@@ -35,6 +35,12 @@ pub fn of_records(records: &[Record]) -> Set {
                 let place = if head[2] == 3 { u32::MAX } else { set[IMAGE].len() as u32 };
                 set[PLACES].extend(place.to_le_bytes());
                 set[IMAGE].extend(bytes);
+            }
+            // A record of a file has no origin.
+            records::SPLIT => {
+                set[SPLIT_TABLE].extend(payload);
+                let whole = set[SPLIT_TABLE].len().next_multiple_of(SPLIT_BYTES);
+                set[SPLIT_TABLE].resize(whole, 0xFF);
             }
             _ => set[TABLE_OF_KIND[*kind as usize - 1]].extend(payload),
         }
@@ -178,7 +184,7 @@ fn set_field(set: &mut Set, table: usize, at: usize, maker: &Maker, r: &mut Rand
         IMAGE => set[table].truncate(at),
         _ => {
             let kind = TABLE_OF_KIND.iter().position(|t| *t == table).unwrap();
-            let (field, width) = r.pick(records::FIELDS[kind]);
+            let (field, width) = r.pick(records::stage_fields(kind));
             let record = &mut set[table][at..at + TABLES[table].1];
             let value = maker.edge(record, field, width, r);
             records::put_field(record, field, width, value);

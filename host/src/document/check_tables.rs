@@ -57,8 +57,8 @@ pub fn checked<'a>(tables: &Tables<'a>, limits: &Limits) -> Result<Known<'a>, Re
 /// "The merge's partial list is checked as records."
 pub fn checked_partials(partials: &[u8], known: &Known) -> Result<(), Refusal> {
     let check = || {
-        for (i, record) in whole(SPLITS, partials)?.enumerate() {
-            sound(SPLITS, i, split_faults(record, known))?;
+        for (i, record) in whole(PARTIALS, partials)?.enumerate() {
+            sound(PARTIALS, i, split_faults(record, known))?;
         }
         Ok(())
     };

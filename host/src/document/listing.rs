@@ -5,7 +5,7 @@ use std::fmt::Write;
 use super::{
     Refusal,
     check_tables::Tables,
-    image::{Image, Symbol, splits_in},
+    image::{Image, Symbol, partials_in},
     load::load,
     order::units_in,
     run::{CYCLE, Ended, Ran, Room, run},
@@ -18,7 +18,7 @@ pub fn listed(file: &[u8], room: &Room) -> Result<String, Refusal> {
     let loaded = load(file)?;
     let t = loaded.tables();
     let image = Image::of(&t);
-    let (partials, units) = (splits_in(&loaded.partials), units_in(&loaded.units));
+    let (partials, units) = (partials_in(&loaded.partials), units_in(&loaded.units));
     match run(&image, &partials, &units, room)? {
         Ended::Whole(ran) => Ok(Lines::new(&t, &image, &ran).whole()),
         Ended::Cycle(_) => Err(CYCLE),
@@ -83,11 +83,12 @@ impl<'a> Lines<'a> {
         walked.relocations.iter().filter(of_piece).for_each(|r| self.relocation(r));
     }
 
-    /// "Piece: number in its unit, name, address, size, alignment."
+    /// "Piece: number in its unit, name, address, size, alignment." "A piece line in the
+    /// listing ends with this number."
     fn piece(&mut self, piece: &Piece) {
-        let Piece { number, address, size, alignment, .. } = piece;
+        let Piece { number, address, size, alignment, origin, .. } = piece;
         let name = self.name(piece.name);
-        self.line(format_args!("piece {number} {name} {address:08X} {size} {alignment}"));
+        self.line(format_args!("piece {number} {name} {address:08X} {size} {alignment} {origin}"));
     }
 
     /// "`sym` name (`-` if empty), piece or `common`, address, size"

@@ -3,6 +3,7 @@
 //! show each condition alone.
 use std::collections::{HashMap, HashSet};
 
+use super::image::{PARTIAL_BYTES, SPLIT_BYTES};
 use crate::bytes::{half_at, word_at};
 
 /// "end above 0xF0000000": no address may pass it.
@@ -29,10 +30,14 @@ pub const NAMES: Kind = kind(1, "names", 2, 4096, 3);
 pub const SECTIONS: Kind = kind(2, "sections", 15, 64, 4);
 pub const SYMBOLS: Kind = kind(3, "symbols", 20, 4096, 5);
 pub const RELOCATIONS: Kind = kind(4, "relocations", 23, 4096, 6);
-pub const SPLITS: Kind = kind(5, "splits", 19, 1024, 7);
+pub const SPLITS: Kind = kind(5, "splits", SPLIT_BYTES, 1024, 7);
+/// A file and the merge's list hold them without an origin.
+pub const PARTIALS: Kind = kind(5, "splits", PARTIAL_BYTES, 1024, 7);
 pub const UNITS: Kind = kind(6, "units", 8, 1024, 8);
 
-pub const KINDS: [Kind; 6] = [NAMES, SECTIONS, SYMBOLS, RELOCATIONS, SPLITS, UNITS];
+/// The kinds of a file's records, and those of stage tables.
+pub const KINDS: [Kind; 6] = [NAMES, SECTIONS, SYMBOLS, RELOCATIONS, PARTIALS, UNITS];
+pub const STAGE_KINDS: [Kind; 6] = [NAMES, SECTIONS, SYMBOLS, RELOCATIONS, SPLITS, UNITS];
 
 const fn kind(kind: u16, plural: &'static str, width: usize, ceiling: usize, number: u16) -> Kind {
     Kind { kind, plural, width, ceiling, number }

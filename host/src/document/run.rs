@@ -5,7 +5,7 @@ use super::{
     check_tables::LIMITS,
     common::{places, update_common},
     gaps::{Filled, Places, fill, name_table},
-    image::{Image, Split, split_table, splits_in},
+    image::{Image, Split, partials_in, split_table},
     load::load,
     merge::merge,
     order::{Found, Unit, link_order, unit_table, units_in},
@@ -81,7 +81,7 @@ pub fn answer(file: &[u8], lent: &[usize]) -> Answer {
     };
     let t = loaded.tables();
     let image = Image::of(&t);
-    let (partials, units) = (splits_in(&loaded.partials), units_in(&loaded.units));
+    let (partials, units) = (partials_in(&loaded.partials), units_in(&loaded.units));
     match run(&image, &partials, &units, &room(&image, lent)) {
         Ok(Ended::Whole(ran)) => accepted(ran.tables(image.names.len()), lent),
         Ok(Ended::Cycle(units)) => cycle(&units, lent),

@@ -18,6 +18,7 @@ pub struct Piece {
     pub size: u32,
     pub alignment: u32,
     pub file_offset: u64,
+    pub origin: u16,
 }
 
 #[derive(Clone, Debug, Eq, PartialEq)]
@@ -48,7 +49,8 @@ pub struct Walked {
 pub type Room = [usize; 3];
 
 pub const CEILINGS: Room = [1024, 4096, 4096];
-const WIDTHS: [usize; 3] = [28, 12, 8];
+pub const PIECE_BYTES: usize = 30;
+const WIDTHS: [usize; 3] = [PIECE_BYTES, 12, 8];
 
 /// The room of lent pieces, symbols and relocations.
 pub fn room(lent: &[usize]) -> Room {
@@ -94,6 +96,7 @@ impl Piece {
         let mut record: Vec<u8> = halves.iter().flat_map(|n| n.to_le_bytes()).collect();
         record.extend(words.iter().flat_map(|n| n.to_le_bytes()));
         record.extend(self.file_offset.to_le_bytes());
+        record.extend(self.origin.to_le_bytes());
         record
     }
 }
@@ -201,6 +204,7 @@ fn take(image: &Image, split: &Split, units: &[Unit], walked: &mut Walked) -> Re
         size: end - start,
         alignment,
         file_offset: whole.file_offset as u64 + (start - whole.address) as u64,
+        origin: split.origin,
     });
     Ok(())
 }

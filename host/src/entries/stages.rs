@@ -1,7 +1,7 @@
 //! The stage entries. Each is one line below, with `linked` where libentries.a has it and
 //! `absent` where it doesn't yet: then the second reading is compared with the Rust alone.
 use crate::{
-    document::image::{Split, split_table, splits_in},
+    document::image::{SPLIT_BYTES, Split, split_table, splits_in},
     lent,
 };
 
@@ -79,7 +79,7 @@ macro_rules! call_of_mark {
 /// answer word: 0, or another where one of the two was written.
 #[allow(dead_code, reason = "while the entry is absent")]
 fn marked(records: &[u8], out: &mut [u8], mark: impl Fn(&mut [Split])) -> u64 {
-    let guards = vec![Split::read(&[0x55; 19]); !lent::exactly() as usize];
+    let guards = vec![Split::read(&[0x55; SPLIT_BYTES]); !lent::exactly() as usize];
     let mut splits = [&guards[..], &splits_in(records), &guards].concat();
     let lent = guards.len()..splits.len() - guards.len();
     mark(&mut splits[lent.clone()]);

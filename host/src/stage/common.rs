@@ -11,7 +11,7 @@ use crate::{
     document::{
         check_tables::{LIMITS, Limits, checked},
         common,
-        image::{Image, Split, split_table, splits_in},
+        image::{Image, SPLIT_BYTES, Split, split_table, splits_in},
         outputs::Answer,
     },
     entries::stages::{MARK_COMMON_SPLITS, StageEntry, UPDATE_COMMON_SPLITS},
@@ -54,7 +54,7 @@ impl Stage for UpdateCommonSplits {
         };
         let numbers =
             vec![r.pick(&[0, 0, 1, 1, 2, 0xFF]), r.pick(&[near, near, near, 0, u32::MAX])];
-        let lent = vec![room(19, maker.splits.len(), r), counts_room(1, r)];
+        let lent = vec![room(SPLIT_BYTES, maker.splits.len(), r), counts_room(1, r)];
         maker.case(numbers, lent)
     }
 
@@ -98,8 +98,8 @@ impl Stage for MarkCommonSplits {
 
     /// Whole records: it takes structs.
     fn shorten(case: &mut Case, r: &mut Random) {
-        let count = case.set[SPLIT_TABLE].len() / 19;
-        case.set[SPLIT_TABLE].truncate(19 * shorter(count, r));
+        let count = case.set[SPLIT_TABLE].len() / SPLIT_BYTES;
+        case.set[SPLIT_TABLE].truncate(SPLIT_BYTES * shorter(count, r));
         case.lent = vec![case.set[SPLIT_TABLE].len()];
     }
 
@@ -114,6 +114,7 @@ impl Stage for MarkCommonSplits {
             alignment: r.next() as u32,
             flags: r.next() as u8,
             rename: r.next() as u16,
+            origin: r.next() as u16,
         };
         let count = if r.one_in(1000) { 1024 } else { r.below(8) };
         let splits: Vec<Split> = (0..count).map(|_| split(r)).collect();

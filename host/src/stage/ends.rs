@@ -10,7 +10,7 @@ use crate::{
     document::{
         check_tables::{LIMITS, checked},
         ends,
-        image::{Image, splits_in},
+        image::{Image, SPLIT_BYTES, splits_in},
         outputs::Answer,
     },
     entries::stages::{END_FOR_SECTION, SPLIT_ALIGNMENT, StageEntry},
@@ -103,7 +103,7 @@ impl Stage for SplitAlignment {
     const STEP: &'static str = "trim";
 
     fn enlarged(case: Case, r: &mut Random) -> Case {
-        let splits = case.tables().splits.len() / 19;
+        let splits = case.tables().splits.len() / SPLIT_BYTES;
         asking_one(case, splits, r)
     }
 

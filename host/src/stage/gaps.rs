@@ -11,7 +11,7 @@ use crate::{
         check_tables::{LIMITS, checked},
         common,
         gaps::{self, Places, gap_name},
-        image::{Image, Split, splits_in},
+        image::{Image, SPLIT_BYTES, Split, splits_in},
         merge,
         outputs::Answer,
     },
@@ -173,13 +173,13 @@ pub fn with_room(mut case: Case, r: &mut Random) -> Case {
         bytes = filled.names.iter().map(Vec::len).sum();
         count = filled.splits.len();
     }
-    let mut lent = vec![2 * names + 8, bytes + 64, 19 * count + 38];
+    let mut lent = vec![2 * names + 8, bytes + 64, SPLIT_BYTES * count + 42];
     // One of the three is narrow, so that the others' ceilings are seen too.
     match r.below(6) {
         0 => lent[0] = room(2, names, r),
         1 => lent[1] = room(1, bytes, r),
-        2 => lent[2] = room(19, count, r),
-        3 => lent = vec![2 * names, bytes, 19 * count],
+        2 => lent[2] = room(SPLIT_BYTES, count, r),
+        3 => lent = vec![2 * names, bytes, SPLIT_BYTES * count],
         _ => {}
     }
     lent.push(counts_room(3, r));

@@ -7,9 +7,12 @@ use crate::{
         HEADS, IMAGE, NAME_BYTES, NAME_ENDS, PLACES, RELOCATION_TABLE, SPLIT_TABLE, SYMBOL_TABLE,
         Set, TABLES, UNIT_TABLE,
     },
-    document::{image::Split, records::KINDS},
+    document::{
+        image::{PARTIAL_BYTES, Split},
+        records::STAGE_KINDS,
+    },
     random::Random,
-    records::{FIELDS, TOP, packed, put_field},
+    records::{FIELDS, TOP, packed, put_field, stage_fields},
 };
 
 pub const LINKER_OBJECTS: [&[u8]; 5] =
@@ -226,7 +229,7 @@ impl Maker {
         self.splits.push(split);
     }
 
-    /// A random unit, alignment, flags and rename.
+    /// A random unit, alignment, flags, rename and origin.
     pub fn made_split(&self, section: usize, start: u32, end: u32, r: &mut Random) -> Split {
         let unit = r.pick(&self.units);
         let rename = if r.one_in(8) { r.pick(&self.units) } else { 0xFFFF };
@@ -234,7 +237,9 @@ impl Maker {
         let flags = flag(1, 8, r) | flag(2, 3, r) | flag(4, 10, r);
         let section = section as u16;
         let alignment = if r.one_in(3) { alignment(r) } else { 0 };
-        Split { section, start, end, unit, alignment, flags, rename }
+        let (few, any) = (r.below(8) as u16, r.next() as u16);
+        let origin = r.pick(&[0xFFFF, 0xFFFF, few, few, few, any]);
+        Split { section, start, end, unit, alignment, flags, rename, origin }
     }
 
     /// Splits of any kind in each section: equal starts, open ends, ends below starts.
@@ -341,7 +346,7 @@ pub fn counts_room(counts: usize, r: &mut Random) -> usize {
 pub fn damage(case: &mut Case, inputs: &[&str], r: &mut Random) {
     let name = r.pick(inputs);
     let at = TABLES.iter().position(|(table, _)| *table == name);
-    let width = at.map_or(19, |at| TABLES[at].1);
+    let width = at.map_or(PARTIAL_BYTES, |at| TABLES[at].1);
     let bytes = case.table_mut(name);
     let count = bytes.len() / width;
     if count == 0 {
@@ -366,7 +371,7 @@ pub fn damage(case: &mut Case, inputs: &[&str], r: &mut Random) {
 /// The last record again and again, to just above the ceiling.
 fn too_many(case: &mut Case, name: &str, r: &mut Random) {
     let named = |plural: &str| plural == name || plural == "names" && name == "name_ends";
-    let Some(kind) = KINDS.iter().find(|kind| named(kind.plural)) else {
+    let Some(kind) = STAGE_KINDS.iter().find(|kind| named(kind.plural)) else {
         return;
     };
     // The large tables seldom: they take the most time.
@@ -388,9 +393,9 @@ fn too_many(case: &mut Case, name: &str, r: &mut Random) {
 
 /// A field of the record at byte `at`, set to an edge of something.
 fn set_field(bytes: &mut [u8], name: &str, at: usize, r: &mut Random) {
-    let kind = KINDS.iter().position(|kind| kind.plural == name);
+    let kind = STAGE_KINDS.iter().position(|kind| kind.plural == name);
     let (field, width) = match (kind, name) {
-        (Some(kind), _) => r.pick(FIELDS[kind]),
+        (Some(kind), _) => r.pick(stage_fields(kind)),
         (None, "partials") => r.pick(FIELDS[4]),
         (None, "name_ends") => (0, 2),
         (None, "section_places") => (0, 4),

@@ -6,7 +6,7 @@ use super::{
 use crate::{
     check_tables::SPLIT_TABLE,
     document::{
-        image::{Split, splits_in},
+        image::{SPLIT_BYTES, Split, splits_in},
         mend,
         outputs::Answer,
     },
@@ -30,7 +30,7 @@ impl Stage for MendSplits {
         let most = splits.iter().map(|s| s.end).max().unwrap_or(0);
         overlap(&mut splits, |_| most, r);
         case.set[SPLIT_TABLE] = splits.iter().flat_map(Split::bytes).collect();
-        case.lent = vec![room(19, splits.len(), r), room(29, splits.len(), r), counts_room(2, r)];
+        case.lent = vec![room(SPLIT_BYTES, splits.len(), r), room(29, splits.len(), r), counts_room(2, r)];
         case
     }
 
@@ -47,7 +47,7 @@ impl Stage for MendSplits {
             overlap(&mut maker.splits, |section| ends[section], r);
         }
         let lines = mend::mend(&ends, &maker.splits).map_or(29, |(_, lines)| lines.len());
-        let lent = vec![room(19, maker.splits.len(), r), lines_room(lines, r), counts_room(2, r)];
+        let lent = vec![room(SPLIT_BYTES, maker.splits.len(), r), lines_room(lines, r), counts_room(2, r)];
         maker.case(vec![], lent)
     }
 

@@ -18,7 +18,7 @@ use crate::{
     document::{
         self,
         check_tables::{LIMITS, Limits, checked, checked_partials},
-        image::{Image, Split, splits_in},
+        image::{Image, SPLIT_BYTES, Split, partials_in, splits_in},
         merge,
         outputs::Answer,
     },
@@ -48,8 +48,8 @@ impl Stage for AddSplits {
         }
         let partials: Vec<Split> = (0..r.below(7)).map(|_| partial(&mut maker, r)).collect();
         let most = maker.splits.len() + partials.len();
-        let lent = vec![room(19, most, r), counts_room(1, r)];
-        let partials = partials.iter().flat_map(Split::bytes).collect();
+        let lent = vec![room(SPLIT_BYTES, most, r), counts_room(1, r)];
+        let partials = partials.iter().flat_map(Split::partial_bytes).collect();
         Case { partials, ..maker.case(vec![], lent) }
     }
 
@@ -65,7 +65,7 @@ impl Stage for AddSplits {
         }
         let (image, splits) = (Image::of(&t), splits_in(t.splits));
         let question = Question::Merge(splits.len());
-        let reading = merge::merge(&image, splits, &splits_in(&case.partials), usize::MAX);
+        let reading = merge::merge(&image, splits, &partials_in(&case.partials), usize::MAX);
         let reading = reading.map(|splits| rust::named(&splits, &image.names));
         rust::beside(case, question, reading)
     }

@@ -7,7 +7,11 @@ use crate::{
         HEADS, IMAGE, NAME_BYTES, NAME_ENDS, PLACES, RELOCATION_TABLE, SPLIT_TABLE, SYMBOL_TABLE,
         UNIT_TABLE,
     },
-    document::{image::Split, outputs::Answer},
+    document::{
+        image::{PARTIAL_BYTES, SPLIT_BYTES, Split},
+        outputs::Answer,
+        walk::PIECE_BYTES,
+    },
     records::packed,
     tally::Tally,
 };
@@ -26,7 +30,10 @@ pub fn run<S: Stage>(tally: &mut Tally) {
     for (entry, given, right) in points {
         let case = taken::<S>(given.case());
         let answer = S::right(&case);
-        let reading = shown(entry, &answer, &given.names);
+        let reading = match right.starts_with(ORIGINS) {
+            true => origins(&answer),
+            false => shown(entry, &answer, &given.names),
+        };
         if reading != right {
             let line = line::put(&S::ENTRY, &case, &answer);
             tally.difference(&line, &[format!("{right} is right, the reading gives {reading}")]);
@@ -34,6 +41,16 @@ pub fn run<S: Stage>(tally: &mut Tally) {
         compare::<S>(&case, Some(AS_WRITTEN), tally);
     }
     tally.end(&[]);
+}
+
+const ORIGINS: &str = "origins";
+
+/// The origins of the splits in the first output.
+fn origins(answer: &Answer) -> String {
+    let used = |record: &&[u8]| record.iter().any(|b| *b != 0);
+    let records = answer.outputs[0].chunks_exact(SPLIT_BYTES).take_while(used);
+    let origin = |record: &[u8]| format!(" {}", Split::read(record).origin);
+    format!("{ORIGINS}{}", records.map(origin).collect::<String>())
 }
 
 /// A refusal as number, section and address; else what the first output, or for gaps the
@@ -61,14 +78,14 @@ pub fn shown(entry: &str, answer: &Answer, names: &[String]) -> String {
         // The lines too.
         "mend_splits" => {
             let lines = String::from_utf8_lossy(&answer.outputs[1]).replace('\n', "; ");
-            format!("{lines}{}", records(19, &split).join(", "))
+            format!("{lines}{}", records(SPLIT_BYTES, &split).join(", "))
         }
         "split_obj" => {
             let piece =
                 |r: &[u8]| format!("{:X} {:X} {}", word_at(r, 8), word_at(r, 12), word_at(r, 16));
-            records(28, &piece).join(", ")
+            records(PIECE_BYTES, &piece).join(", ")
         }
-        _ => records(19, &split).join(", "),
+        _ => records(SPLIT_BYTES, &split).join(", "),
     }
 }
 
@@ -130,7 +147,8 @@ impl Given {
     fn record(&mut self, unit: &str, range: Range, alignment: u32, flags: u8) -> Vec<u8> {
         let (section, start, end) = range;
         let unit = self.name(unit) as u16;
-        Split { section, start, end, unit, alignment, flags, rename: 0xFFFF }.bytes()
+        let (rename, origin) = (0xFFFF, 0xFFFF);
+        Split { section, start, end, unit, alignment, flags, rename, origin }.bytes()
     }
 
     pub fn split(mut self, unit: &str, range: Range, alignment: u32, flags: u8) -> Self {
@@ -141,7 +159,7 @@ impl Given {
 
     fn partial(mut self, unit: &str, range: Range, alignment: u32, flags: u8) -> Self {
         let record = self.record(unit, range, alignment, flags);
-        self.case.partials.extend(record);
+        self.case.partials.extend(&record[..PARTIAL_BYTES]);
         self
     }
 
@@ -191,6 +209,7 @@ fn points() -> Vec<Point> {
         commons(),
         trims(),
         merges(),
+        merge_origins(),
         merge_ceilings(),
         mends(),
         mend_refusals(),
@@ -255,7 +274,7 @@ fn commons() -> Vec<Point> {
     let bss = || given().section(".bss", 3, 0x1000, 0x40);
     let two = || bss().split("a", (0, 0x1010, 0x1010), 0, 0).split("b", (0, 0x1010, 0x1020), 0, 1);
     let point = |g: Given, start: &[u32], right| {
-        ("update_common_splits", g.numbers(start).lent(&[38, 2]), right)
+        ("update_common_splits", g.numbers(start).lent(&[2 * SPLIT_BYTES, 2]), right)
     };
     vec![
         // By address, not by place in the table.
@@ -270,7 +289,7 @@ fn commons() -> Vec<Point> {
 fn trims() -> Vec<Point> {
     let image = || given().data(0x1000, 0x30).symbol("x", 0x1000, 4, 0);
     let first = || image().split("a", (0, 0x1000, 0x1020), 0, 0);
-    let point = |g: Given, right| ("trim_splits", g.lent(&[57, 2]), right);
+    let point = |g: Given, right| ("trim_splits", g.lent(&[3 * SPLIT_BYTES, 2]), right);
     vec![
         // Both falls go to the last split at the start.
         point(first().split("b", (0, 0x1000, 0x1030), 32, 0), "1000..1020 a, 1000..1020 b"),
@@ -284,7 +303,7 @@ fn trims() -> Vec<Point> {
 
 fn merges() -> Vec<Point> {
     let image = || given().data(0x1000, 0x40);
-    let point = |g: Given, right| ("add_splits", g.lent(&[190, 2]), right);
+    let point = |g: Given, right| ("add_splits", g.lent(&[10 * SPLIT_BYTES, 2]), right);
     let sorted =
         image().split("a", (0, 0x1000, 0x1020), 0, 0).split("b", (0, 0x1000, 0x1010), 0, 0);
     let old = || image().split("a", (0, 0x1008, 0x1010), 8, 0);
@@ -327,9 +346,49 @@ fn swallowed() -> Given {
         .partial("a", (1, 0x1000, 0x1004), 0, 0)
 }
 
+/// Document 02, (b).
+fn merge_origins() -> Vec<Point> {
+    const AUTO: u8 = 2;
+    let image = || given().data(0x1000, 0x40);
+    let point = |g: Given, right| ("add_splits", g.lent(&[10 * SPLIT_BYTES, 2]), right);
+    let range = |start, end| (0, start, end);
+    vec![
+        // "A merge that changes nothing changes no number."
+        point(
+            image()
+                .partial("a", range(0x1000, 0x1020), 0, AUTO)
+                .partial("a", range(0x1008, 0x1010), 0, 0),
+            "origins 65535",
+        ),
+        // "A joint split has the smaller of the two numbers."
+        point(
+            image()
+                .partial("a", range(0x1000, 0x1008), 0, 0)
+                .partial("b", range(0x1010, 0x1018), 0, 0)
+                .partial("a", range(0x1008, 0x1010), 0, 0),
+            "origins 0 1",
+        ),
+        // "counted from 0 among all partial split records": also the autogenerated ones.
+        point(
+            image()
+                .partial("b", range(0x1020, 0x1028), 0, AUTO)
+                .partial("a", range(0x1000, 0x1008), 0, AUTO)
+                .partial("a", range(0x1008, 0x1010), 0, 0),
+            "origins 2 65535",
+        ),
+        // A split of the table with no number gives way.
+        point(
+            image()
+                .split("a", range(0x1000, 0x1008), 0, 0)
+                .partial("a", range(0x1008, 0x1010), 0, 0),
+            "origins 0",
+        ),
+    ]
+}
+
 fn merge_ceilings() -> Vec<Point> {
     let image = || given().data(0x1000, 0x40);
-    let point = |g: Given, right| ("add_splits", g.lent(&[19, 2]), right);
+    let point = |g: Given, right| ("add_splits", g.lent(&[SPLIT_BYTES, 2]), right);
     let one = || image().split("a", (0, 0x1000, 0x1008), 0, 0);
     let bad = one().split("b", (0, 0x1008, 0x1010), 3, 0).partial("b", (0, 0, 0), 3, 0);
     vec![
@@ -342,13 +401,13 @@ fn merge_ceilings() -> Vec<Point> {
             "1000..1010 a",
         ),
         // The table is checked before the list.
-        ("add_splits", bad.lent(&[38, 2]), "refused 7 0 1"),
+        ("add_splits", bad.lent(&[2 * SPLIT_BYTES, 2]), "refused 7 0 1"),
     ]
 }
 
 fn mends() -> Vec<Point> {
     let image = || given().data(0x1000, 0x40);
-    let point = |g: Given, right| ("mend_splits", g.lent(&[57, 87, 4]), right);
+    let point = |g: Given, right| ("mend_splits", g.lent(&[3 * SPLIT_BYTES, 87, 4]), right);
     let two = |first: u32, second: u32| {
         image().split("a", (0, 0x1000, first), 0, 0).split("b", (0, 0x1010, second), 0, 0)
     };
@@ -391,35 +450,35 @@ fn mend_refusals() -> Vec<Point> {
     let above = || image().split("a", (0, 0x1041, 0), 0, 0);
     let line = "0 00001000 00000000 00001040; 1000..1040 a";
     vec![
-        lent(open(), 19, 29, line),
-        lent(open(), 19, 28, "refused 80 0 0"),
-        lent(open(), 18, 29, "refused 2 0 0"),
-        lent(above(), 19, 29, "refused 86 0 0"),
+        lent(open(), 21, 29, line),
+        lent(open(), 21, 28, "refused 80 0 0"),
+        lent(open(), 20, 29, "refused 2 0 0"),
+        lent(above(), 21, 29, "refused 86 0 0"),
         // "80 .. last": also where no line fits.
-        lent(above(), 19, 0, "refused 86 0 0"),
+        lent(above(), 21, 0, "refused 86 0 0"),
         lent(
             image().split("a", (0, 0x1040, 0), 0, 0),
-            19,
+            21,
             29,
             "0 00001040 00000000 00001040; 1040..1040 a",
         ),
-        lent(given().data(0, 0).split("a", (0, 0, 0), 0, 0), 19, 29, "refused 86 0 0"),
+        lent(given().data(0, 0).split("a", (0, 0, 0), 0, 0), 21, 29, "refused 86 0 0"),
         lent(
             given().data(0, 8).split("a", (0, 0, 4), 0, 0).split("b", (0, 0, 4), 0, 0),
-            38,
+            42,
             58,
             "refused 86 0 0",
         ),
         // 7 is asked of all records before: an end above the section's, and one out of order.
-        lent(image().split("a", (0, 0x1000, 0x1041), 0, 0), 19, 29, "refused 7 0 0"),
-        lent(above().split("b", (0, 0x1000, 0x1010), 0, 0), 38, 58, "refused 7 0 1"),
-        lent(above().split("b", (0, 0x1042, 0x1010), 3, 0), 38, 58, "refused 7 0 1"),
+        lent(image().split("a", (0, 0x1000, 0x1041), 0, 0), 21, 29, "refused 7 0 0"),
+        lent(above().split("b", (0, 0x1000, 0x1010), 0, 0), 42, 58, "refused 7 0 1"),
+        lent(above().split("b", (0, 0x1042, 0x1010), 3, 0), 42, 58, "refused 7 0 1"),
     ]
 }
 
 fn gaps() -> Vec<Point> {
     let image = || given().data(0x1000, 0x40).ones();
-    let point = |g: Given, right| ("create_gap_splits", g.lent(&[20, 200, 95, 6]), right);
+    let point = |g: Given, right| ("create_gap_splits", g.lent(&[20, 200, 105, 6]), right);
     let from_1003 = |start| {
         let first = given().data(0x1000, 0x40).ones().split("a", (0, 0x1000, 0x1003), 0, 0);
         first.split("b", (0, start, 0x1040), 8, 0)
@@ -455,19 +514,19 @@ fn gap_names() -> Vec<Point> {
     let dots = given().section("..", 1, 0x1000, 16).ones();
     vec![
         // A hand split that has the gap's name: nothing changes.
-        point(taken, &[20, 200, 95, 6], "1008..1010 auto_00_00001000_data"),
+        point(taken, &[20, 200, 105, 6], "1008..1010 auto_00_00001000_data"),
         // The name, then the split; the name is as long as the lent bytes allow.
-        point(image(), &[2, 200, 95, 6], "refused 28 0 1000"),
-        point(image(), &[4, 5 + 20, 95, 6], "refused 28 0 1000"),
-        point(image(), &[4, 5 + 21, 95, 6], "1000..1010 auto"),
-        point(image(), &[4, 5 + 21, 18, 6], "refused 27 0 1000"),
-        point(dots, &[4, 2 + 17, 95, 6], "1000..1010 auto"),
+        point(image(), &[2, 200, 105, 6], "refused 28 0 1000"),
+        point(image(), &[4, 5 + 20, 105, 6], "refused 28 0 1000"),
+        point(image(), &[4, 5 + 21, 105, 6], "1000..1010 auto"),
+        point(image(), &[4, 5 + 21, 20, 6], "refused 27 0 1000"),
+        point(dots, &[4, 2 + 17, 105, 6], "1000..1010 auto"),
         // 40 of a later section before 27 of an earlier gap.
-        point(full, &[20, 200, 19, 6], "refused 40 1 2000"),
+        point(full, &[20, 200, 21, 6], "refused 40 1 2000"),
         // More names than the lent table holds, by count and by bytes.
-        point(image().split("b", (0, 0x1000, 0), 0, 0), &[2, 200, 95, 6], "refused 2 0 1"),
-        point(image().split("b", (0, 0x1000, 0), 0, 0), &[20, 5, 95, 6], "refused 2 0 1"),
-        point(image().split("b", (0, 0x1000, 0), 0, 0), &[20, 4, 95, 6], "refused 2 0 0"),
+        point(image().split("b", (0, 0x1000, 0), 0, 0), &[2, 200, 105, 6], "refused 2 0 1"),
+        point(image().split("b", (0, 0x1000, 0), 0, 0), &[20, 5, 105, 6], "refused 2 0 1"),
+        point(image().split("b", (0, 0x1000, 0), 0, 0), &[20, 4, 105, 6], "refused 2 0 0"),
     ]
 }
 
@@ -490,7 +549,7 @@ fn orders() -> Vec<Point> {
     ]
 }
 
-const ROOM: [usize; 4] = [112, 48, 32, 6];
+const ROOM: [usize; 4] = [4 * PIECE_BYTES, 48, 32, 6];
 
 fn walks() -> Vec<Point> {
     let image = |address| given().data(address, 0x40).unit("a", None);
@@ -532,8 +591,8 @@ fn walk_order() -> Vec<Point> {
         point(misfit("a", 8), &ROOM, "refused 75 0 1006"),
         point(misfit("b", 8), &ROOM, "refused 74 0 1006"),
         point(misfit("a", 0), &ROOM, "refused 11 0 1006"),
-        point(backward(0), &[28, 48, 32, 6], "refused 11 0 1010"),
-        point(backward(1), &[28, 48, 32, 6], "1000 0 8"),
-        point(backward(1), &[27, 48, 32, 6], "refused 76 0 1000"),
+        point(backward(0), &[30, 48, 32, 6], "refused 11 0 1010"),
+        point(backward(1), &[30, 48, 32, 6], "1000 0 8"),
+        point(backward(1), &[29, 48, 32, 6], "refused 76 0 1000"),
     ]
 }

@@ -17,6 +17,7 @@ use crate::{
         load::load,
         outputs::Answer,
         records::NO_BYTES,
+        walk,
     },
     entries::stages::PIECE_BYTES,
     stored,
@@ -33,7 +34,7 @@ pub struct Piece {
 pub fn pieces(table: &[u8], count: usize) -> Vec<Piece> {
     let piece =
         |r: &[u8]| Piece { section: half_at(r, 4), address: word_at(r, 8), size: word_at(r, 12) };
-    table.chunks_exact(28).take(count).map(piece).collect()
+    table.chunks_exact(walk::PIECE_BYTES).take(count).map(piece).collect()
 }
 
 /// What was compared.
@@ -82,7 +83,7 @@ fn walked(case: &Case, counts: &mut Counts, tally: &mut Tally) {
     let answer = given::<SplitObj>(case);
     if let Some(pieces) = accepted(&answer, 0) {
         image(&Image::of(&t), &splits_in(t.splits), &pieces, counts, tally);
-        places(&t, &answer.outputs[0][..28 * pieces.len()], &pieces, tally);
+        places(&t, &answer.outputs[0][..walk::PIECE_BYTES * pieces.len()], &pieces, tally);
     }
 }
 
@@ -121,7 +122,7 @@ fn ran(case: &Case, counts: &mut Counts, tally: &mut Tally) {
     let splits = &splits_in(&answer.outputs[2])[..count];
     let t = loaded.tables();
     image(&Image::of(&t), splits, &pieces, counts, tally);
-    places(&t, &answer.outputs[4][..28 * pieces.len()], &pieces, tally);
+    places(&t, &answer.outputs[4][..walk::PIECE_BYTES * pieces.len()], &pieces, tally);
 }
 
 /// The pieces of an accepted answer whose output `at` they are; none where their count

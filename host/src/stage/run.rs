@@ -13,12 +13,13 @@ use super::{
 use crate::{
     document::{
         self, Refusal,
-        image::{Image, splits_in},
+        image::{Image, SPLIT_BYTES, partials_in},
         listing::listed,
         load::load,
         order::units_in,
         outputs::Answer,
         run::{self, CEILINGS, Ended, NO_CEILING, run},
+        walk::PIECE_BYTES,
     },
     entries::{
         self,
@@ -89,7 +90,7 @@ fn as_check_file(file: &[u8], refusal: Refusal) -> Beside {
     Beside::Differs(vec![format!("check_file gives {}", document::describe(given))])
 }
 
-const WIDTHS: [usize; 7] = [2, 1, 19, 8, 28, 12, 8];
+const WIDTHS: [usize; 7] = [2, 1, SPLIT_BYTES, 8, PIECE_BYTES, 12, 8];
 const SPLITS: usize = 2;
 
 /// How many records each output needs; nothing known where the run is refused.
@@ -97,7 +98,7 @@ fn needed(file: &[u8]) -> Option<[usize; 7]> {
     let loaded = load(file).ok()?;
     let t = loaded.tables();
     let image = Image::of(&t);
-    let (partials, units) = (splits_in(&loaded.partials), units_in(&loaded.units));
+    let (partials, units) = (partials_in(&loaded.partials), units_in(&loaded.units));
     match run(&image, &partials, &units, &NO_CEILING) {
         Ok(Ended::Whole(ran)) => {
             let added = &ran.names[image.names.len()..];

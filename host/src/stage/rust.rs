@@ -85,13 +85,25 @@ pub fn beside(case: &Case, question: Question, reading: Result<Reply, Refusal>) 
     }
 }
 
+/// A listing as document 01 has it: "Equality with the Rust leaves out this and later
+/// additions."
+fn without_origins(listing: &str) -> String {
+    let line = |line: &str| match line.rsplit_once(' ') {
+        Some((known, _)) if line.starts_with("piece ") => format!("{known}\n"),
+        _ => format!("{line}\n"),
+    };
+    listing.lines().map(line).collect()
+}
+
 /// The whole run on a file that passed its checks, and the reading's listing.
 pub fn run_beside(file: &[u8], reading: Result<String, Refusal>) -> Beside {
     let Some(asked) = answers::run(file) else {
         return Beside::NotAsked;
     };
     match (&reading, &asked) {
-        (Ok(reading), Ok(listing)) if reading == listing => Beside::Same(0, ", as the Rust"),
+        (Ok(reading), Ok(listing)) if without_origins(reading) == *listing => {
+            Beside::Same(0, ", as the Rust")
+        }
         (Err(refusal), Err((stage, stop))) if number(*stage, stop) == Some(refusal.number) => {
             Beside::Same(refusal.number, how(stop))
         }
@@ -114,7 +126,10 @@ fn how(stop: &Stop) -> &'static str {
 /// split table.
 pub fn file(case: &Case) -> Vec<u8> {
     let t = &case.tables();
-    let splits = [t.splits, &case.partials].concat();
+    // The Rust knows no origin.
+    let own = image::splits_in(t.splits);
+    let own: Vec<u8> = own.iter().flat_map(image::Split::partial_bytes).collect();
+    let splits = [&own[..], &case.partials].concat();
     let mut file = vec![];
     let mut add = |kind: u64, payload: &[&[u8]]| {
         let payload = payload.concat();
@@ -131,7 +146,7 @@ pub fn file(case: &Case) -> Vec<u8> {
         add(2, &[&head[..2], &[kind], &head[3..], section.bytes]);
     }
     for (kind, table, width) in
-        [(3, t.symbols, 20), (4, t.relocations, 23), (5, &splits, 19), (6, t.units, 8)]
+        [(3, t.symbols, 20), (4, t.relocations, 23), (5, &splits, image::PARTIAL_BYTES), (6, t.units, 8)]
     {
         for record in table.chunks_exact(width) {
             add(kind, &[record]);

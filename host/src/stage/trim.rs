@@ -9,7 +9,7 @@ use super::{
 use crate::{
     document::{
         check_tables::{LIMITS, checked},
-        image::{Image, splits_in},
+        image::{Image, SPLIT_BYTES, splits_in},
         outputs::Answer,
         trim,
     },
@@ -34,7 +34,7 @@ impl Stage for TrimSplits {
             1 | 2 => equal_starts(&mut maker, r),
             _ => maker.tidy_splits(5, 16, r),
         }
-        let lent = vec![room(19, maker.splits.len(), r), counts_room(1, r)];
+        let lent = vec![room(SPLIT_BYTES, maker.splits.len(), r), counts_room(1, r)];
         maker.case(vec![], lent)
     }
 

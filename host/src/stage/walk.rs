@@ -217,10 +217,10 @@ fn with_room(mut case: Case, r: &mut Random) -> Case {
     let walked = walk::walk(&Image::of(&t), &splits, &units_in(t.units), NO_CEILING);
     let walked = walked.unwrap_or_default();
     let needed = [walked.pieces.len(), walked.symbols.len(), walked.relocations.len()];
-    let mut lent = vec![28 * needed[0], 12 * needed[1], 8 * needed[2]];
+    let mut lent = vec![walk::PIECE_BYTES * needed[0], 12 * needed[1], 8 * needed[2]];
     // One of the three is narrow, so that the others' ceilings are seen too.
     match r.below(6) {
-        0 => lent[0] = room(28, needed[0], r),
+        0 => lent[0] = room(walk::PIECE_BYTES, needed[0], r),
         1 => lent[1] = room(12, needed[1], r),
         2 => lent[2] = room(8, needed[2], r),
         3 => {}

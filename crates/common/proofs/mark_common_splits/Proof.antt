@@ -80,7 +80,7 @@ stayed = (stay-slice (0 ∷ []) tt (plain (λ _. T.the-row)), (stay-none (λ _. 
 
 -- the default of a read outside the list, which never happens
 none : Split
-none = record { section = 0; start = 0; end = 0; unit = 0; alignment = 0; flags = 0; rename = 0 }
+none = record { section = 0; start = 0; end = 0; unit = 0; alignment = 0; flags = 0; rename = 0; origin = 0 }
 
 module _ {M : Type 1} (𝓤 : URA M) (H : Heap 𝓤) (A : Atoms 𝓤) (mem : Memory → SProp 𝓤) (run : Routine → Fun 𝓤) where
   abbrev Marked : Contract 𝓤
@@ -173,7 +173,7 @@ module _ {M : Type 1} (𝓤 : URA M) (H : Heap 𝓤) (A : Atoms 𝓤) (W : Given
         -- the place of element i, which is taken out of the row, and copied
         assigns ! (bin ! (load ! (from ! (stop !)) (look ! 18 refl)) (lit ! tt) (record { fits = scaled })) (from ! (stop !)) (store ! 16 refl (tt, record { fits = scaled })) $
         assigns ! (bin ! (load ! (from ! (fld ! refl (stop !))) (look-in ! 24 (sub ! 0 refl (whole !)))) (load ! (from ! (stop !)) (look ! 16 refl)) tt) (from ! (stop !)) (init ! 10 refl (tt, tt)) $
-        rewrite ! 10 (λ (p : ℕ). ‵ (fat fullShare tyPtr l₈ 0 (vptr b p))) (sym (place-is 24 o (s .i))) refl $
+        rewrite ! 10 (λ (p : ℕ). ‵ (fat fullShare tyPtr l₈ 0 (vptr b p))) (sym (place-is 28 o (s .i))) refl $
         elem-out ! T.the-row (Is T.the-row) (shows 𝓤 H A T.the-row) (LL.vals T.the-type T′.the-laws) (LL.tells T.the-type T′.the-laws) fullShare (s .ys) (s .i) none b o within (λ is.
         -- [0 the element; 1 what it owns; 2 the others; 3 the open borrow; 4 obs; 5 auth; 6 _11; ..]
         assigns ! (of-opd ! (load ! (from ! (hop ! (look ! 12 refl) (stop !))) (look-raw ! 0 refl))) (from ! (stop !)) (init ! 10 refl (LL.lawful T.the-type T′.the-laws 𝓤 H A W .typed e _ is .0)) $
@@ -186,7 +186,7 @@ module _ {M : Type 1} (𝓤 : URA M) (H : Heap 𝓤) (A : Atoms 𝓤) (W : Given
         land ! (from ! (stop !)) (init ! 15 refl (LL.lawful T.the-type T′.the-laws 𝓤 H A W .typed r _ is′ .0)) $
         assigns ! (bin ! (load ! (from ! (stop !)) (look ! 21 refl)) (lit ! tt) (record { fits = scaled })) (from ! (stop !)) (init ! 9 refl (tt, record { fits = scaled })) $
         assigns ! (bin ! (load ! (from ! (fld ! refl (stop !))) (look-in ! 27 (sub ! 0 refl (whole !)))) (load ! (from ! (stop !)) (look ! 9 refl)) tt) (from ! (stop !)) (init ! 7 refl (tt, tt)) $
-        rewrite ! 7 (λ (p : ℕ). ‵ (fat fullShare tyPtr l₁₁ 0 (vptr b p))) (sym (place-is 24 o (s .i))) refl $
+        rewrite ! 7 (λ (p : ℕ). ‵ (fat fullShare tyPtr l₁₁ 0 (vptr b p))) (sym (place-is 28 o (s .i))) refl $
         assigns ! (of-opd ! (load ! (from ! (stop !)) (look ! 15 refl))) (from ! (hop ! (look ! 7 refl) (stop !))) (store-raw ! 1 refl (LL.lawful T.the-type T′.the-laws 𝓤 H A W .typed r _ is′ .0)) $
         move ! (2 ∷ []) $ drop ! $ move ! (1 ∷ 0 ∷ []) $ elem-put ! T.the-row fullShare (s .ys) (s .i) r (v ∷ []) b o within $
         assigns-last ! (bin ! (load ! (from ! (stop !)) (look ! 18 refl)) (lit ! tt) (record { fits = next-fits })) (from ! (stop !)) (store ! 18 refl (tt, record { fits = next-fits })) $
@@ -199,7 +199,7 @@ module _ {M : Type 1} (𝓤 : URA M) (H : Heap 𝓤) (A : Atoms 𝓤) (W : Given
         within : s .i < length (s .ys)
         within = subst (λ (m : ℕ). s .i < m) (sym (s .len)) less
 
-        scaled : s .i * 24 < 2 ^ 64
+        scaled : s .i * 28 < 2 ^ 64
         scaled = omega (arith, room .1)
 
         next-fits : s .i + 1 < 2 ^ 64

@@ -10,8 +10,9 @@ use Rattle.tables.specs.Records.{sectionsIn}
 use Rattle.stage_tables.specs.StageTables.{stageSplits}
 use Rattle.stage_tables.proofs.Laws.{table-passed, taken-few, taken-places, taken-count}
 use Rattle.splits.specs.Columns.{columns}
-use Rattle.stage_splits.proofs.Laws.{partials-loadable}
+use Rattle.stage_splits.proofs.Laws.{partials-mergeable}
 use Rattle.entry_add_splits.specs.Entry.{fromSplits}
+use Rattle.obj.specs.Records.{splitWidth, partialWidth}
 use Rattle.entry_add_splits.proofs.Laws.{rows-long, column-room, merged-as, refused-as}
 use borrow.Author.Needs.{needs}
 use Rattle.entry_add_splits.proofs.with_columns.Statement.{statement}
@@ -91,12 +92,12 @@ slice-reshare-prefix-add-splits : tie.Need-slice-reshare-prefix-add-splits
 slice-reshare-prefix-add-splits c =
     let u = c .before .before .before .before .before .before .before .before .take-partials in
     let s = c .before .before .before .before .before .before .before .before .before .before .before .before .before .before .before .before .before .before .before .before .before .before .before .before .before .before .before .before .before .before .before .before .before .before .before .before .before .before in
-    let n = taken-few 19 _ (s .args .partials .now) _ _ (u .ensures) (ap meaning (c .before .before .before .before .enum-told4 .given .1)) in
+    let n = taken-few partialWidth _ (s .args .partials .now) _ _ (u .ensures) (ap meaning (c .before .before .before .before .enum-told4 .given .1)) in
     omega (arith, n, u .kept .1 .1 .1 .0, c .before .before .before .before .before .before .before .before .before .before .before .before .before .before .before .before .before .before .before .before .before .before .take-split-columns .kept .1 .1 .1 .1 .1 .0, s .pre .1 .places-long)
 
 slice-aggregate-add-splits : tie.Need-slice-aggregate-add-splits
 slice-aggregate-add-splits c =
-    sym (taken-count 19 _ (c .before .before .before .before .before .before .before .before .before .before .before .before .before .before .before .before .before .before .before .before .before .before .before .before .before .before .before .before .before .before .before .before .before .before .before .before .before .before .before .args .partials .now) _ _ (c .before .before .before .before .before .before .before .before .before .take-partials .ensures) (ap meaning (c .before .before .before .before .before .enum-told4 .given .1)))
+    sym (taken-count partialWidth _ (c .before .before .before .before .before .before .before .before .before .before .before .before .before .before .before .before .before .before .before .before .before .before .before .before .before .before .before .before .before .before .before .before .before .before .before .before .before .before .before .args .partials .now) _ _ (c .before .before .before .before .before .before .before .before .before .take-partials .ensures) (ap meaning (c .before .before .before .before .before .enum-told4 .given .1)))
 
 add-splits-requires : tie.Need-add-splits-requires
 add-splits-requires c κs =
@@ -110,9 +111,9 @@ add-splits-requires c κs =
         units = omega (arith, h, t .kept .1 .1 .1 .1 .1 .1 .1 .1 .0, q .units-long);
         rest = omega (arith, h, t .kept .1 .1 .1 .1 .1 .1 .1 .1 .1 .0, q .rest-long);
       },
-      table-passed 19 _ (s .args .splits .now) _ (sym (t .ensures .said) ∙ ap meaning (c .before .before .before .before .before .before .before .before .before .before .before .enum-told2 .given .1)) .1,
+      table-passed splitWidth _ (s .args .splits .now) _ (sym (t .ensures .said) ∙ ap meaning (c .before .before .before .before .before .before .before .before .before .before .before .enum-told2 .given .1)) .1,
       s .pre .0,
-      partials-loadable _ _ (s .args .partials .now) _ (omega arith) (ap meaning (c .before .before .before .before .before .enum-told4 .given .1)) (c .before .before .before .before .before .before .before .before .before .take-partials .ensures),
+      partials-mergeable _ _ (s .args .partials .now) _ (omega arith) (ap meaning (c .before .before .before .before .before .enum-told4 .given .1)) (c .before .before .before .before .before .before .before .before .before .take-partials .ensures),
     )
 
 same-length-11 : tie.Need-same-length-11
@@ -140,8 +141,8 @@ returns-3 c =
     let told = ap meaning (c .before .before .before .before .before .before .before .before .before .before .before .before .before .before .before .before .before .before .before .before .enum-told2 .given .1) in
     let told-too = ap meaning (c .before .before .before .before .before .before .before .before .before .before .before .before .before .before .enum-told4 .given .1) in (
       o .ensures .0
-          ∙ merged-as (sectionsIn (a .heads .now) (a .head-places .now)) (a .room) (columns (t .last .1 .1 .1 .1 .1 .1 .0) (t .last .1 .1 .1 .1 .1 .1 .1 .0) (t .last .1 .1 .1 .1 .1 .1 .1 .1 .0) (t .last .1 .1 .1 .1 .1 .1 .1 .1 .1 .0)) (length (a .splits .now) / 19) (stageSplits (a .splits .now)) (a .partials .now)
-          (t .ensures .taken (sym (t .ensures .said) ∙ told)) (taken-places 19 _ (a .partials .now) _ _ (u .ensures) told-too)
+          ∙ merged-as (sectionsIn (a .heads .now) (a .head-places .now)) (a .room) (columns (t .last .1 .1 .1 .1 .1 .1 .0) (t .last .1 .1 .1 .1 .1 .1 .1 .0) (t .last .1 .1 .1 .1 .1 .1 .1 .1 .0) (t .last .1 .1 .1 .1 .1 .1 .1 .1 .1 .0)) (length (a .splits .now) / splitWidth) (stageSplits (a .splits .now)) (a .partials .now)
+          (t .ensures .taken (sym (t .ensures .said) ∙ told)) (taken-places partialWidth _ (a .partials .now) _ _ (u .ensures) told-too)
           ∙ then-goes (u .ensures .said) _ told-too
           ∙ then-goes (t .ensures .said) _ told,
       o .ensures .1,

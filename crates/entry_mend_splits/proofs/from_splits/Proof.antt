@@ -11,6 +11,7 @@ use Rattle.splits.specs.Columns.{columns}
 use Rattle.stage_splits.proofs.Laws.{room-low, room-fits}
 use Rattle.mend_outputs.proofs.Laws.{gives-as, gives-stops}
 use Rattle.entry_mend_splits.specs.Entry.{fromSplits}
+use Rattle.obj.specs.Records.{splitWidth}
 use Rattle.entry_mend_splits.proofs.Laws.{places-room, rows-long, mended-gives, lines-low}
 use borrow.Author.Needs.{needs}
 use Rattle.entry_mend_splits.proofs.from_splits.Statement.{statement}
@@ -72,7 +73,7 @@ mend-table-requires c κs =
     let s = c .before .before .before .before .before .before .before .before .before .before .before .before .before .before .before .before .before .before .before .before .before .before .before .before .before .before .before in
     let e = c .before .before .before .before .before .before .before .before .before .before .before .before .before .before .before .before .before .before .room-of .ensures in
     let h = room-low (length (s .args .out .now)) in
-    let n = table-passed 19 _ (s .args .splits .now) _ (sym (t .ensures .said) ∙ ap meaning (c .before .before .before .before .before .enum-told2 .given .1)) .1 in
+    let n = table-passed splitWidth _ (s .args .splits .now) _ (sym (t .ensures .said) ∙ ap meaning (c .before .before .before .before .before .enum-told2 .given .1)) .1 in
     record {
       starts = omega (arith, e, n, h, t .kept .1 .1 .1 .1 .1 .1 .0);
       ends = omega (arith, e, n, h, t .kept .1 .1 .1 .1 .1 .1 .1 .0);
@@ -99,7 +100,7 @@ give-mended-requires c κs =
     let s = c .before .before .before .before .before .before .before .before .before .before .before .before .before .before .before .before .before .before .before .before .before .before .before .before .before .before .before .before .before .before .before .before .before .before .before .before .before in
     let e = c .before .before .before .before .before .before .before .before .before .before .before .before .before .before .before .before .before .before .before .before .before .before .before .before .before .before .before .before .room-of .ensures in
     let h = room-low (length (s .args .out .now)) in
-    let n = table-passed 19 _ (s .args .splits .now) _ (sym (t .ensures .said) ∙ ap meaning (c .before .before .before .before .before .before .before .before .before .before .before .before .before .before .before .enum-told2 .given .1)) .1 in (
+    let n = table-passed splitWidth _ (s .args .splits .now) _ (sym (t .ensures .said) ∙ ap meaning (c .before .before .before .before .before .before .before .before .before .before .before .before .before .before .before .enum-told2 .given .1)) .1 in (
       record {
         starts = omega (arith, e, n, h, t .kept .1 .1 .1 .1 .1 .1 .0);
         ends = omega (arith, e, n, h, t .kept .1 .1 .1 .1 .1 .1 .1 .0, w .kept .1 .0);

@@ -9,7 +9,7 @@ use lib.Seq.{length-take-le}
 use Rattle.lists.specs.Outcome.{accepted}
 use Rattle.lists.proofs.Outcomes.{then-goes}
 use Rattle.obj.specs.Answers.{meaning}
-use Rattle.obj.specs.Records.{sectionAt, stagePlaces}
+use Rattle.obj.specs.Records.{sectionAt, stagePlaces, splitWidth}
 use Rattle.tables.specs.Records.{sectionsIn}
 use Rattle.tables.specs.declared.Ceilings.{Ceilings}
 use Rattle.stage_tables.specs.StageTables.{stageSections, imageCheck, symbolsCheck, splitsCheck}
@@ -126,13 +126,13 @@ order-inside c =
     omega (arith, u .take-symbol-order .ensures .small, symbols-few c, u .take-symbol-order .kept .1 .1 .1 .1 .1 .1 .0, start (at-image u) .pre .1 .order-long)
 
 splits-inside : (c : tie.After-take-image-places)
-    → length (start (at-image (at-symbols (at-splits c))) .args .splits .now) / 19 ≤ length (split-places (at-splits c))
+    → length (start (at-image (at-symbols (at-splits c))) .args .splits .now) / splitWidth ≤ length (split-places (at-splits c))
 splits-inside c =
     let v = at-splits c in
     let t = at-image (at-symbols v) in
     omega (
       arith,
-      taken-few 19 _ (start t .args .splits .now) _ _ (v .take-splits .ensures) (splits-passed c),
+      taken-few splitWidth _ (start t .args .splits .now) _ _ (v .take-splits .ensures) (splits-passed c),
       few (t .before .before .main-ceilings .ensures) .of-splits,
       v .take-splits .kept .1 .1 .1 .1 .1 .0,
       start t .pre .1 .splits-long,
@@ -306,7 +306,7 @@ ask-requires c κs =
       sections-kept _ _ _ (a .image .now) (a .sections .now) (sym (t .take-image .ensures .said) ∙ image-passed u) (f .of-sections) (heads t) (images x) _ _ (heads-there u)
           (s .pre .0 .paired) (x .take-image-places .ensures) (images-long x),
       homes-taken _ _ _ (a .splits .now) (sym (v .take-splits .ensures .said) ∙ splits-passed x) (omega (arith, f .of-splits))
-          (taken-places 19 _ (a .splits .now) _ _ (v .take-splits .ensures) (splits-passed x)) (length-map (take (length (a .sections .now) / 15) (heads t)) (sectionAt (a .sections .now))),
+          (taken-places splitWidth _ (a .splits .now) _ _ (v .take-splits .ensures) (splits-passed x)) (length-map (take (length (a .sections .now) / 15) (heads t)) (sectionAt (a .sections .now))),
     )
 
 same-length-11 : tie.Need-same-length-11
@@ -337,7 +337,7 @@ returns-4 c =
     let a = start t .args in
     c .ask .ensures
     ∙ question-as (a .symbols .now) (a .sections .now) (a .image .now) (a .splits .now) (a .section-places .now) _ _ _ _ _ _ _ (a .question)
-    (u .take-symbol-order .ensures .placed (symbols-accepted v)) (heads-there u) (taken-places 19 _ (a .splits .now) _ _ (v .take-splits .ensures) (splits-passed x))
+    (u .take-symbol-order .ensures .placed (symbols-accepted v)) (heads-there u) (taken-places splitWidth _ (a .splits .now) _ _ (v .take-splits .ensures) (splits-passed x))
     (λ n h. place-is _ (a .name-lengths .now) (a .section-places .now) (a .image .now) (a .sections .now) (sym (t .take-image .ensures .said) ∙ image-passed u) (images x) _ (x .take-image-places .ensures) n (omega (arith, h, sections-few u, images-long x)))
     ∙ then-goes (splits-said v) _ (splits-passed x)
     ∙ then-goes (symbols-said u) _ (symbols-passed v)

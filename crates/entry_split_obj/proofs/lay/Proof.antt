@@ -8,6 +8,7 @@ use Rattle.stage_walk.proofs.Room.{cleared}
 use Rattle.entry_split_obj.proofs.Finish.{three-counts}
 use Rattle.pieces.proofs.Laws.{pieces-packed, symbols-packed, relocs-packed, length-piecesIn, length-symbolsIn, length-relocsIn}
 use Rattle.outputs.specs.Outputs.{countsOf, storeCount}
+use Rattle.pieces.specs.Pieces.{pieceWidth}
 use mathlib.Core.List.{[], _∷_}
 use Rattle.entry_split_obj.proofs.lay.Statement.{statement}
 use Rattle.entry_split_obj.proofs.lay.Tie as tie
@@ -69,7 +70,7 @@ returns c =
     let a = s .args in
     let m = a .made in
     record {
-      pieces-are = c .before .before .before .before .before .before .before .before .before .before .before .before .before .before .before .before .before .before .before .before .before .before .before .before .before .before .before .before .before .before .before .clear-from .ensures ∙ cleared (a .pieces .now) _ (28 * m .pieces) (pieces-packed (a .pieces .now) (λ i. c .before .before .before .before .before .before .before .before .before .before .before .before .before .before .before .before .before .before .before .before .before .before .before .before .before .before .before .before .before .before .before .before .before .before .before .before .before .slice-known .given i .fits) (m .pieces) (s .pre .pieces-fit)) (s .pre .pieces-fit);
+      pieces-are = c .before .before .before .before .before .before .before .before .before .before .before .before .before .before .before .before .before .before .before .before .before .before .before .before .before .before .before .before .before .before .before .clear-from .ensures ∙ cleared (a .pieces .now) _ (pieceWidth * m .pieces) (pieces-packed (a .pieces .now) (λ i. c .before .before .before .before .before .before .before .before .before .before .before .before .before .before .before .before .before .before .before .before .before .before .before .before .before .before .before .before .before .before .before .before .before .before .before .before .before .slice-known .given i .fits) (m .pieces) (s .pre .pieces-fit)) (s .pre .pieces-fit);
       symbols-are = c .before .before .before .before .before .before .before .before .before .before .before .before .before .before .before .before .before .before .before .before .before .before .before .before .before .before .clear-from2 .ensures ∙ cleared (a .entries .now) _ (12 * m .symbols) (symbols-packed (a .entries .now) (λ i. c .before .before .before .before .before .before .before .before .before .before .before .before .before .before .before .before .before .before .before .before .before .before .before .before .before .before .before .before .before .before .before .before .before .before .before .before .slice-known2 .given i .fits) (m .symbols) (s .pre .entries-fit)) (s .pre .entries-fit);
       relocs-are = c .before .before .before .before .before .before .before .before .before .before .before .before .before .before .before .before .before .before .before .before .before .clear-from3 .ensures ∙ cleared (a .offsets .now) _ (8 * m .relocs) (relocs-packed (a .offsets .now) (λ i. c .before .before .before .before .before .before .before .before .before .before .before .before .before .before .before .before .before .before .before .before .before .before .before .before .before .before .before .before .before .before .before .before .before .before .before .slice-known3 .given i .fits) (m .relocs) (s .pre .offsets-fit)) (s .pre .offsets-fit);
       counted = c .before .before .put-count3 .ensures

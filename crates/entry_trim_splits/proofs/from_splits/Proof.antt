@@ -7,7 +7,7 @@ use native.Mathlib.Omega.{arith}
 use lib.ListN.{length, length-map}
 use Rattle.lists.specs.Outcome.{accepted}
 use Rattle.obj.specs.Answers.{meaning}
-use Rattle.obj.specs.Records.{sectionAt}
+use Rattle.obj.specs.Records.{sectionAt, splitWidth}
 use Rattle.obj.specs.declared.Split.{Split}
 use Rattle.tables.specs.Records.{sectionsIn}
 use Rattle.stage_tables.specs.StageTables.{splitsCheck}
@@ -35,8 +35,8 @@ splits-said c =
 -- they were accepted: no more than there is room for
 splits-few : (c : tie.After-take-split-columns) → meaning (c .take-split-columns .result) ≡ accepted tt
     → let a = c .before .before .before .before .before .before .before .before .before .before .before .before .before .before .before .before .before .before .before .before .before .before .before .before .before .before .args in
-    length (a .splits .now) / 19 ≤ roomOf (length (a .out .now))
-splits-few c e = let a = c .before .before .before .before .before .before .before .before .before .before .before .before .before .before .before .before .before .before .before .before .before .before .before .before .before .before .args in table-passed 19 (roomOf (length (a .out .now))) (a .splits .now) _ (sym (splits-said c) ∙ e) .1
+    length (a .splits .now) / splitWidth ≤ roomOf (length (a .out .now))
+splits-few c e = let a = c .before .before .before .before .before .before .before .before .before .before .before .before .before .before .before .before .before .before .before .before .before .before .before .before .before .before .args in table-passed splitWidth (roomOf (length (a .out .now))) (a .splits .now) _ (sym (splits-said c) ∙ e) .1
 
 room-of-requires : tie.Need-room-of-requires
 room-of-requires c κs = search needs

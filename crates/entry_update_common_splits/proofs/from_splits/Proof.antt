@@ -14,6 +14,7 @@ use Rattle.stage_splits.proofs.Laws.{room-low, room-fits, gives-as, gives-stops
 use Rattle.common.specs.Common.{commonOf}
 use Rattle.common.specs.Sections.{bssIn}
 use Rattle.entry_update_common_splits.specs.Entry.{fromSplits}
+use Rattle.obj.specs.Records.{splitWidth}
 use borrow.Author.Needs.{needs}
 use Rattle.entry_update_common_splits.proofs.from_splits.Statement.{statement}
 use Rattle.entry_update_common_splits.proofs.from_splits.Tie as tie
@@ -33,8 +34,8 @@ splits-said c =
 -- they were accepted: no more than there is room for
 splits-few : (c : tie.After-take-split-columns) → meaning (c .take-split-columns .result) ≡ accepted tt
     → let a = start c .args in
-    length (a .splits .now) / 19 ≤ roomOf (length (a .out .now))
-splits-few c e = let a = start c .args in table-passed 19 (roomOf (length (a .out .now))) (a .splits .now) _ (sym (splits-said c) ∙ e) .1
+    length (a .splits .now) / splitWidth ≤ roomOf (length (a .out .now))
+splits-few c e = let a = start c .args in table-passed splitWidth (roomOf (length (a .out .now))) (a .splits .now) _ (sym (splits-said c) ∙ e) .1
 
 room-of-requires : tie.Need-room-of-requires
 room-of-requires c κs = search needs

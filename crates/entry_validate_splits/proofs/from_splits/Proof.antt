@@ -11,13 +11,14 @@ use Rattle.stage_tables.proofs.Laws.{table-passed}
 use Rattle.symbol_order.specs.Order.{symbolOf}
 use Rattle.validate.specs.Check.{validate}
 use Rattle.entry_validate_splits.specs.Entry.{fromSplits}
+use Rattle.obj.specs.Records.{splitWidth}
 use borrow.Author.Needs.{needs}
 use Rattle.entry_validate_splits.proofs.from_splits.Statement.{statement}
 use Rattle.entry_validate_splits.proofs.from_splits.Tie as tie
 
 -- they were accepted: no more than there is room for
-splits-few : (c : tie.After-take-split-columns) → meaning (c .take-split-columns .result) ≡ accepted tt → length (c .before .before .before .before .before .before .before .before .before .before .before .before .before .before .before .before .before .before .args .splits .now) / 19 ≤ 1024
-splits-few c e = table-passed 19 1024 (c .before .before .before .before .before .before .before .before .before .before .before .before .before .before .before .before .before .before .args .splits .now) _ (sym (c .take-split-columns .ensures .said) ∙ e) .1
+splits-few : (c : tie.After-take-split-columns) → meaning (c .take-split-columns .result) ≡ accepted tt → length (c .before .before .before .before .before .before .before .before .before .before .before .before .before .before .before .before .before .before .args .splits .now) / splitWidth ≤ 1024
+splits-few c e = table-passed splitWidth 1024 (c .before .before .before .before .before .before .before .before .before .before .before .before .before .before .before .before .before .before .args .splits .now) _ (sym (c .take-split-columns .ensures .said) ∙ e) .1
 
 take-split-columns-requires : tie.Need-take-split-columns-requires
 take-split-columns-requires c κs = search needs

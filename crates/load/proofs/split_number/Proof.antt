@@ -17,8 +17,8 @@ returns-2 c =
     let a = s .args in
     split-over _ (a .file .now) (a .at) (a .len) (a .n) (a .places .now) (a .lengths .now) (s .pre .1) (c .before .before .before .if1 .left) (c .if2 .taken)
 
-read-split-requires : tie.Need-read-split-requires
-read-split-requires c κs = search needs
+read-partial-requires : tie.Need-read-partial-requires
+read-partial-requires c κs = search needs
 
 name-length-requires : tie.Need-name-length-requires
 name-length-requires c κs = search needs
@@ -33,14 +33,14 @@ returns-3 : tie.Need-returns-3
 returns-3 c =
     let s = c .before .before .before .before .before .before .before .before .before .before .before .before in
     let a = s .args in
-    split-faulty _ (a .file .now) (a .at) (a .len) (a .n) (a .places .now) (a .lengths .now) (s .pre .1) (c .before .before .before .before .before .before .before .before .if1 .left) (c .before .before .before .before .before .if2 .left) (c .before .before .before .before .read-split .ensures)
+    split-faulty _ (a .file .now) (a .at) (a .len) (a .n) (a .places .now) (a .lengths .now) (s .pre .1) (c .before .before .before .before .before .before .before .before .if1 .left) (c .before .before .before .before .before .if2 .left) (c .before .before .before .before .read-partial .ensures)
     (c .before .before .before .name-length .ensures) (c .before .before .name-length2 .ensures) (c .before .split-bad .ensures) (c .if3 .taken)
 
 returns-4 : tie.Need-returns-4
 returns-4 c =
     let s = c .before .before .before .before .before .before .before .before .before .before .before .before in
     let a = s .args in
-    split-passes _ (a .file .now) (a .at) (a .len) (a .n) (a .places .now) (a .lengths .now) (s .pre .1) (c .before .before .before .before .before .before .before .before .if1 .left) (c .before .before .before .before .before .if2 .left) (c .before .before .before .before .read-split .ensures)
+    split-passes _ (a .file .now) (a .at) (a .len) (a .n) (a .places .now) (a .lengths .now) (s .pre .1) (c .before .before .before .before .before .before .before .before .if1 .left) (c .before .before .before .before .before .if2 .left) (c .before .before .before .before .read-partial .ensures)
     (c .before .before .before .name-length .ensures) (c .before .before .name-length2 .ensures) (c .before .split-bad .ensures) (c .if3 .left)
 
 pub split-number-spec : {M : Type 1} → statement M
@@ -49,7 +49,7 @@ split-number-spec =
     (tie.spec
     returns
     returns-2
-    read-split-requires
+    read-partial-requires
     name-length-requires
     name-length-requires-2
     split-bad-requires

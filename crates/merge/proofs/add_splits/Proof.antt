@@ -3,17 +3,18 @@
 use mathlib.Core.Path.{_≡_, refl, sym, ap, _∙_}
 use Prim.Native.Nat.{_-_, _≤_}
 use native.Mathlib.Omega.{arith}
-use lib.ListN.{length, drop}
+use lib.ListN.{length}
+use Rattle.lists.proofs.Parts.{tabulate-all}
 use Rattle.align.specs.Align.{badAlign}
 use Rattle.obj.specs.declared.Split.{Split}
-use Rattle.tables.specs.Records.{sectionsIn, splitsIn}
+use Rattle.tables.specs.Records.{sectionsIn, partialsIn}
 use Rattle.splits.specs.Columns.{columns, rows}
 use Rattle.splits.proofs.Alignment.{good-alignment}
 use Rattle.splits.proofs.Rows.{Same, same, long-same}
 use Rattle.merge.specs.Merge.{given, mergeAll}
 use Rattle.merge.specs.Answers.{merged, count}
 use Rattle.merge.specs.declared.Merged.{Merged}
-use Rattle.merge.proofs.Rounds.{places-refused, places-on, places-done}
+use Rattle.merge.proofs.Rounds.{partialsFrom, places-refused, places-on, places-done}
 use borrow.Author.Needs.{needs}
 use Rattle.merge.proofs.add_splits.Statement.{statement}
 use Rattle.merge.proofs.add_splits.Tie as tie
@@ -23,23 +24,26 @@ Inv-loop starts₀ ends₀ units₀ rest₀ n cap heads head-places partials par
     (i ≤ length partial-places)
     × (k ≤ cap)
     × Same (columns starts ends units rest) (columns starts₀ ends₀ units₀ rest₀)
-    × (mergeAll (given (sectionsIn heads head-places) cap) (rows (columns starts ends units rest) k) (splitsIn partials (drop i partial-places))
-    ≡ mergeAll (given (sectionsIn heads head-places) cap) (rows (columns starts₀ ends₀ units₀ rest₀) k₀) (splitsIn partials partial-places))
+    × (mergeAll (given (sectionsIn heads head-places) cap) (rows (columns starts ends units rest) k) (partialsFrom partials partial-places i)
+    ≡ mergeAll (given (sectionsIn heads head-places) cap) (rows (columns starts₀ ends₀ units₀ rest₀) k₀) (partialsIn partials partial-places))
 
 abbrev μ-loop : tie.MeasureT-loop
 μ-loop starts₀ ends₀ units₀ rest₀ n cap heads head-places partials partial-places k₀ i₀ starts ends units rest k i = length partial-places - i
 
 loop-holds : tie.Need-loop-holds Inv-loop μ-loop
-loop-holds c = (omega arith, c .before .before .before .before .before .before .before .before .pre .1, same _, refl)
+loop-holds c =
+    (omega arith, c .before .before .before .before .before .before .before .before .pre .1, same _, ap (mergeAll _ _) (tabulate-all _ _))
 
-split-at-requires : tie.Need-split-at-requires Inv-loop μ-loop
-split-at-requires c κs = c .before .before .before .before .before .before .before .before .before .before .pre .3 .held _ (c .loop-test .taken)
+partial-at-requires : tie.Need-partial-at-requires Inv-loop μ-loop
+partial-at-requires c κs =
+    let p = c .before .before .before .before .before .before .before .before .before .before .pre .3 in
+    (p .held _ (c .loop-test .taken), omega (arith, p .few, c .loop-test .taken))
 
 add-split-requires : tie.Need-add-split-requires Inv-loop μ-loop
 add-split-requires c κs =
     let l = c .before .before .before .before .before .before .loop in
     let q = c .before .before .before .before .before .before .before .before .before .before .before .before .before .before .before .pre in
-    let s = c .before .before .before .before .split-at in (
+    let s = c .before .before .before .before .partial-at in (
       long-same _ _ _ _ (l .inv .2) (omega arith) (q .0),
       l .inv .1,
       q .2,
@@ -66,7 +70,7 @@ returns c =
     let l = c .before .before .before .before .before .before .before .before .before .before .before .before .before .before .before .before .before .before .loop in
     let a = c .before .before .before .before .before .before .before .before .before .before .before .before .before .before .before .before .before .before .before .before .before .before .before .before .before .before .before .args in
     let o = c .before .before .before .before .before .before .before .before .before .before .before .add-split in (
-      sym (places-refused _ _ (a .partials .now) (a .partial-places .now) (l .i) (c .before .before .before .before .before .before .before .before .before .before .before .before .before .before .before .before .before .loop-test .taken) _ (c .before .before .before .before .before .before .before .before .before .before .before .before .before .before .before .before .split-at .ensures)
+      sym (places-refused (a .partials .now) (a .partial-places .now) _ _ (l .i) (c .before .before .before .before .before .before .before .before .before .before .before .before .before .before .before .before .before .loop-test .taken) _ (c .before .before .before .before .before .before .before .before .before .before .before .before .before .before .before .before .partial-at .ensures)
           (sym (o .ensures .0) ∙ ap (λ (r : Merged). merged r (columns (o .last .0) (o .last .1 .0) (o .last .1 .1 .0) (o .last .1 .1 .1 .0))) (c .before .r .given .1)))
           ∙ l .inv .3,
       omega arith,
@@ -95,7 +99,7 @@ loop-again c =
         units = o .kept .1 .1 .0 ∙ l .inv .2 .units;
         rest = o .kept .1 .1 .1 .0 ∙ l .inv .2 .rest;
       },
-      sym (places-on _ _ (a .partials .now) (a .partial-places .now) (l .i) (c .before .before .before .before .before .before .before .before .before .before .before .before .before .before .before .before .before .loop-test .taken) _ (c .before .before .before .before .before .before .before .before .before .before .before .before .before .before .before .before .split-at .ensures)
+      sym (places-on (a .partials .now) (a .partial-places .now) _ _ (l .i) (c .before .before .before .before .before .before .before .before .before .before .before .before .before .before .before .before .before .loop-test .taken) _ (c .before .before .before .before .before .before .before .before .before .before .before .before .before .before .before .before .partial-at .ensures)
           (sym (o .ensures .0) ∙ ap (λ (r : Merged). merged r (columns (o .last .0) (o .last .1 .0) (o .last .1 .1 .0) (o .last .1 .1 .1 .0))) q))
           ∙ l .inv .3,
     )
@@ -116,7 +120,7 @@ returns-2 : tie.Need-returns-2 Inv-loop μ-loop
 returns-2 c =
     let l = c .before .loop in
     let a = c .before .before .before .before .before .before .before .before .before .before .args in
-    (sym (places-done _ _ (a .partials .now) (a .partial-places .now) (l .i) (c .loop-test .left)) ∙ l .inv .3, l .inv .1)
+    (sym (places-done (a .partials .now) (a .partial-places .now) _ _ (l .i) (c .loop-test .left)) ∙ l .inv .3, l .inv .1)
 
 pub add-splits-spec : {M : Type 1} → statement M
 add-splits-spec =
@@ -125,7 +129,7 @@ add-splits-spec =
     Inv-loop
     μ-loop
     loop-holds
-    split-at-requires
+    partial-at-requires
     add-split-requires
     enum-known-r
     same-length

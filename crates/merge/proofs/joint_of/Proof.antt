@@ -35,6 +35,9 @@ add-t13 c =
     let h = bit-product (a .new .flags / 2 % 2) (a .old .flags / 2 % 2) (omega arith) (omega arith) in
     omega (arith, h)
 
+lower-number-requires : tie.Need-lower-number-requires
+lower-number-requires c κs = search needs
+
 returns : tie.Need-returns
 unfolding jointOf
 returns c = cc
@@ -49,4 +52,5 @@ joint-of-spec =
     mul-t11
     mul-t12
     add-t13
+    lower-number-requires
     returns)

@@ -1,67 +1,21 @@
--- `obj::read_split` meets its contract: each field is read at the offset that the definition gives it.
+-- `obj::read_split` meets its contract: the fields of a partial record, with the origin that stands behind them.
 use Rattle.obj.specs.Records.{splitAt}
 use borrow.Author.Needs.{needs}
 use Rattle.obj.proofs.read_split.Statement.{statement}
 use Rattle.obj.proofs.read_split.Tie as tie
 
-get16-requires : tie.Need-get16-requires
-get16-requires c κs = search needs
-
-add-get32 : tie.Need-add-get32
-add-get32 c = search needs
-
-get32-requires : tie.Need-get32-requires
-get32-requires c κs = search needs
-
-add-get32-2 : tie.Need-add-get32-2
-add-get32-2 c = search needs
-
-get32-requires-2 : tie.Need-get32-requires-2
-get32-requires-2 c κs = search needs
-
 add-get16 : tie.Need-add-get16
 add-get16 c = search needs
 
-get16-requires-2 : tie.Need-get16-requires-2
-get16-requires-2 c κs = search needs
+get16-requires : tie.Need-get16-requires
+get16-requires c κs = search needs
 
-add-get32-3 : tie.Need-add-get32-3
-add-get32-3 c = search needs
-
-get32-requires-3 : tie.Need-get32-requires-3
-get32-requires-3 c κs = search needs
-
-add-t12 : tie.Need-add-t12
-add-t12 c = search needs
-
-shared-slice-read-t14 : tie.Need-shared-slice-read-t14
-shared-slice-read-t14 c = search needs
-
-add-get16-2 : tie.Need-add-get16-2
-add-get16-2 c = search needs
-
-get16-requires-3 : tie.Need-get16-requires-3
-get16-requires-3 c κs = search needs
+read-partial-requires : tie.Need-read-partial-requires
+read-partial-requires c κs = search needs
 
 returns : tie.Need-returns
 unfolding splitAt
 returns c = (cc)
 
 pub read-split-spec : {M : Type 1} → statement M
-read-split-spec =
-    tie.close
-    (tie.spec
-    get16-requires
-    add-get32
-    get32-requires
-    add-get32-2
-    get32-requires-2
-    add-get16
-    get16-requires-2
-    add-get32-3
-    get32-requires-3
-    add-t12
-    shared-slice-read-t14
-    add-get16-2
-    get16-requires-3
-    returns)
+read-split-spec = tie.close (tie.spec add-get16 get16-requires read-partial-requires returns)

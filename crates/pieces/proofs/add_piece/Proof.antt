@@ -10,7 +10,7 @@ use Rattle.pieces.proofs.add_piece.Tie as tie
 
 -- a record's fields have their widths
 fit : (c : tie.Start) → FitsPiece (c .args .p)
-fit c = record { unit = search needs; number = search needs; section = search needs; name = search needs; address = search needs; size = search needs; alignment = search needs; offset = search needs }
+fit c = record { unit = search needs; number = search needs; section = search needs; name = search needs; address = search needs; size = search needs; alignment = search needs; offset = search needs; origin = search needs }
 
 mul-put-piece : tie.Need-mul-put-piece
 mul-put-piece c = search needs

@@ -52,6 +52,12 @@ add-get64 c = search needs
 get64-requires : tie.Need-get64-requires
 get64-requires c κs = search needs
 
+add-get16-4 : tie.Need-add-get16-4
+add-get16-4 c = search needs
+
+get16-requires-5 : tie.Need-get16-requires-5
+get16-requires-5 c κs = search needs
+
 returns : tie.Need-returns
 unfolding pieceAt
 returns c = (cc)
@@ -76,4 +82,6 @@ piece-at-spec =
     get32-requires-3
     add-get64
     get64-requires
+    add-get16-4
+    get16-requires-5
     returns)

@@ -10,6 +10,7 @@ use Rattle.run_outputs.proofs.lay_output.Tie as tie
 use Rattle.run_outputs.proofs.lay_output.Reads as reads
 use Rattle.run_outputs.proofs.lay_output.Lts as lts
 use Rattle.outputs.proofs.clear_from.Reads as clear-from-reads
+use Rattle.pieces.specs.Pieces.{pieceWidth}
 
 mul-clear-from : tie.Need-mul-clear-from
 mul-clear-from c = search needs
@@ -44,7 +45,7 @@ returns c =
     let q = c .before .before .before .before .before .before .before .before .before .before .before .before .before .before .before .before .before .before .pre in
     let m = a .made in
     record {
-      pieces-are = c .before .before .before .before .before .before .before .before .before .before .before .before .clear-from .ensures ∙ cleared (a .pieces .now) _ (28 * m .pieces) (pieces-packed (a .pieces .now) (λ i. c .before .before .before .before .before .before .before .before .before .before .before .before .before .before .before .before .before .slice-known .given i .fits) (m .pieces) (q .pieces-fit)) (q .pieces-fit);
+      pieces-are = c .before .before .before .before .before .before .before .before .before .before .before .before .clear-from .ensures ∙ cleared (a .pieces .now) _ (pieceWidth * m .pieces) (pieces-packed (a .pieces .now) (λ i. c .before .before .before .before .before .before .before .before .before .before .before .before .before .before .before .before .before .slice-known .given i .fits) (m .pieces) (q .pieces-fit)) (q .pieces-fit);
       symbols-are = c .before .before .before .before .before .before .before .clear-from2 .ensures ∙ cleared (a .entries .now) _ (12 * m .symbols) (symbols-packed (a .entries .now) (λ i. c .before .before .before .before .before .before .before .before .before .before .before .before .before .before .before .before .slice-known2 .given i .fits) (m .symbols) (q .symbols-fit)) (q .symbols-fit);
       relocs-are = c .before .before .clear-from3 .ensures ∙ cleared (a .offsets .now) _ (8 * m .relocs) (relocs-packed (a .offsets .now) (λ i. c .before .before .before .before .before .before .before .before .before .before .before .before .before .before .before .slice-known3 .given i .fits) (m .relocs) (q .relocs-fit)) (q .relocs-fit);
     }

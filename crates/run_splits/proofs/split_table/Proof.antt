@@ -6,7 +6,7 @@ use native.Mathlib.Omega.{arith}
 use lib.ListN.{length}
 use Rattle.names.specs.Names.{namesOf}
 use Rattle.loaded.specs.Tables.{tablesWith}
-use Rattle.loaded.proofs.Laws.{sections-held, partials-loadable, tables-ordered, symbols-sound}
+use Rattle.loaded.proofs.Laws.{sections-held, partials-mergeable, tables-ordered, symbols-sound}
 use Rattle.splits.proofs.Rows.{long-same}
 use Rattle.gap_splits.specs.Answers.{ceilings}
 use Rattle.run_splits.proofs.Steps.{gapsWith, table-is, splits-stay, stand-stays}
@@ -24,7 +24,7 @@ use Rattle.run_splits.proofs.trim_filled.Reads as trim-filled-reads
 merge-partials-requires : tie.Need-merge-partials-requires
 merge-partials-requires c κs =
     let q = c .before .before .before .before .before .before .before .before .before .before .before .before .before .before .before .before .before .before .before .before .before .before .before .before .before .pre in
-    (sections-common (q .0), sections-held (q .0), partials-loadable (q .0), q .4)
+    (sections-common (q .0), sections-held (q .0), partials-mergeable (q .0), q .4)
 
 -- src/lib.rt:278:9
 fill-merged-requires : tie.Need-fill-merged-requires

@@ -35,10 +35,19 @@ mul-result-3 c = search needs
 add-result-3 : tie.Need-add-result-3
 add-result-3 c = search needs
 
+cast-result-4 : tie.Need-cast-result-4
+cast-result-4 c = search needs
+
+mul-result-4 : tie.Need-mul-result-4
+mul-result-4 c = search needs
+
+add-result-4 : tie.Need-add-result-4
+add-result-4 c = search needs
+
 returns : tie.Need-returns
 returns c =
-    let b = c .before .before .before .bits-of in
-    unpacked (c .before .before .before .before .args .s) (b .result) (search needs) (search needs) (search needs) (b .ensures .1) (b .ensures .0)
+    let b = c .before .before .before .before .bits-of in
+    unpacked (c .before .before .before .before .before .args .s) (b .result) (search needs) (search needs) (search needs) (b .ensures .1) (search needs) (b .ensures .0)
 
 pub rest-of-spec : {M : Type 1} → statement M
 rest-of-spec =
@@ -54,4 +63,7 @@ rest-of-spec =
     add-result-2
     mul-result-3
     add-result-3
+    cast-result-4
+    mul-result-4
+    add-result-4
     returns)

@@ -1,6 +1,6 @@
 -- `splits::row_of` meets its contract: each part of `rest` is cut out as the definition does it.
 -- Assumes nothing.
-use Rattle.splits.specs.Columns.{rowOf, sectionIn, flagsIn, renameIn}
+use Rattle.splits.specs.Columns.{rowOf, sectionIn, flagsIn, renameIn, originIn}
 use borrow.Author.Needs.{needs}
 use Rattle.splits.proofs.row_of.Statement.{statement}
 use Rattle.splits.proofs.row_of.Tie as tie
@@ -17,6 +17,9 @@ cast-t12 c = search needs
 cast-t15 : tie.Need-cast-t15
 cast-t15 c = search needs
 
+cast-t18 : tie.Need-cast-t18
+cast-t18 c = search needs
+
 returns : tie.Need-returns
 unfolding rowOf
 returns c =
@@ -29,7 +32,8 @@ returns c =
       alignment = c .alignment-of .ensures i;
       flags = flagsIn (a .rest);
       rename = renameIn (a .rest);
+      origin = originIn (a .rest);
     }
 
 pub row-of-spec : {M : Type 1} → statement M
-row-of-spec = tie.close (tie.spec cast-t6 alignment-of-requires cast-t12 cast-t15 returns)
+row-of-spec = tie.close (tie.spec cast-t6 alignment-of-requires cast-t12 cast-t15 cast-t18 returns)

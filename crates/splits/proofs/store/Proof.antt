@@ -11,6 +11,7 @@ use Rattle.lists.proofs.Parts.{tabulate-all}
 use Rattle.obj.specs.declared.Split.{Split}
 use Rattle.splits.specs.Columns.{columns, rowAt, rows}
 use Rattle.splits.specs.Bytes.{splitBytes, tableBytes}
+use Rattle.obj.specs.Records.{splitWidth}
 use Rattle.splits.proofs.Bytes.{written-turn, written-all}
 use Rattle.splits.proofs.store.Statement.{statement}
 use Rattle.splits.proofs.store.Tie as tie
@@ -19,7 +20,7 @@ abbrev Inv-loop : tie.InvT-loop
 Inv-loop starts ends units rest n out₀ i₀ out i =
     (i ≤ n)
     × (length out ≡ length out₀)
-    × (sets out (19 * i) (tableBytes (tabulate (rowAt (columns starts ends units rest)) i (n - i))) ≡ sets out₀ 0 (tableBytes (rows (columns starts ends units rest) n)))
+    × (sets out (splitWidth * i) (tableBytes (tabulate (rowAt (columns starts ends units rest)) i (n - i))) ≡ sets out₀ 0 (tableBytes (rows (columns starts ends units rest) n)))
 
 abbrev μ-loop : tie.MeasureT-loop
 μ-loop starts ends units rest n out₀ i₀ out i = n - i
@@ -49,10 +50,10 @@ loop-again c =
     let l = c .before .before .before .before .before .before .loop in
     let a = c .before .before .before .before .before .before .before .before .before .before .before .before .args in
     let f = rowAt (columns (a .starts .now) (a .ends .now) (a .units .now) (a .rest .now)) in
-    let w = c .before .before .put-split .ensures ∙ ap (λ (s : Split). sets (l .out) (19 * l .i) (splitBytes s)) (c .before .before .before .before .row .ensures) in (
+    let w = c .before .before .put-split .ensures ∙ ap (λ (s : Split). sets (l .out) (splitWidth * l .i) (splitBytes s)) (c .before .before .before .before .row .ensures) in (
       omega arith,
       c .before .before .put-split .kept .0 ∙ l .inv .1,
-      ap (λ (b : List ℕ). sets b (19 * (l .i + 1)) (tableBytes (tabulate f (l .i + 1) (a .n - (l .i + 1))))) w
+      ap (λ (b : List ℕ). sets b (splitWidth * (l .i + 1)) (tableBytes (tabulate f (l .i + 1) (a .n - (l .i + 1))))) w
           ∙ written-turn (l .out) f (a .n) (l .i) (c .before .before .before .before .before .loop-test .taken)
           ∙ l .inv .2,
     )

@@ -12,6 +12,7 @@ use Rattle.sections.specs.Sections.{sectionsOf}
 use Rattle.splits.specs.Columns.{columns}
 use Rattle.stage_splits.proofs.Laws.{room-low, room-fits}
 use Rattle.gap_splits.specs.Answers.{ceilings}
+use Rattle.obj.specs.Records.{splitWidth}
 use Rattle.stage_gaps.proofs.Laws.{splits-stop, splits-go, rows-long}
 use borrow.Author.Needs.{needs}
 use Rattle.stage_gaps.proofs.from_splits.Statement.{statement}
@@ -74,7 +75,7 @@ fill-rows-requires c κs =
         rest-long = t .kept .1 .1 .1 .1 .1 .1 .1 .1 .1 .0 ∙ q .5 .rest-long;
       },
       q .6,
-      table-passed 19 _ (a .splits .now) _ (sym (t .ensures .said) ∙ ap meaning (c .before .before .before .before .before .before .before .before .before .before .before .before .before .before .enum-told2 .given .1)) .1,
+      table-passed splitWidth _ (a .splits .now) _ (sym (t .ensures .said) ∙ ap meaning (c .before .before .before .before .before .before .before .before .before .before .before .before .before .before .enum-told2 .given .1)) .1,
       omega (arith, e, h),
       omega (arith, e, room-fits (length (a .out .now))),
       q .8,

@@ -9,6 +9,7 @@ use Rattle.splits.specs.Columns.{columns, rowAt, rows}
 use Rattle.splits.specs.Bytes.{tableBytes}
 use Rattle.splits.proofs.Bytes.{length-tableBytes}
 use Rattle.lists.proofs.Rows.{length-tabulate}
+use Rattle.obj.specs.Records.{splitWidth}
 use borrow.Author.Needs.{needs}
 use Rattle.stage_splits.proofs.put_splits.Statement.{statement}
 use Rattle.stage_splits.proofs.put_splits.Tie as tie
@@ -33,8 +34,8 @@ returns c =
     let m = length-tableBytes l in
     let k = length-tabulate (rowAt (columns (a .starts .now) (a .ends .now) (a .units .now) (a .rest .now))) 0 (a .n) in
     c .before .before .clear-from .ensures
-    ∙ ap (clearFrom 0 (19 * a .n)) (c .before .before .before .before .before .before .store .ensures)
-    ∙ laid-after (a .out .now) (tableBytes l) (19 * a .n) (omega (arith, m, k)) (omega (arith, m, k, s .pre .1))
+    ∙ ap (clearFrom 0 (splitWidth * a .n)) (c .before .before .before .before .before .before .store .ensures)
+    ∙ laid-after (a .out .now) (tableBytes l) (splitWidth * a .n) (omega (arith, m, k)) (omega (arith, m, k, s .pre .1))
 
 pub put-splits-spec : {M : Type 1} → statement M
 put-splits-spec =

@@ -5,6 +5,7 @@ use native.Mathlib.Omega.{arith}
 use Rattle.obj.specs.Answers.{meaning}
 use Rattle.stage_tables.proofs.Laws.{taken-few, taken-places, taken-count}
 use Rattle.splits.specs.Columns.{columns}
+use Rattle.obj.specs.Records.{splitWidth}
 use Rattle.stage_splits.proofs.Laws.{splits-loadable, taken-refused, taken-rows}
 use borrow.Author.Needs.{needs}
 use Rattle.stage_splits.proofs.take_split_columns.Statement.{statement}
@@ -29,22 +30,22 @@ slice-reshare-prefix-load : tie.Need-slice-reshare-prefix-load
 slice-reshare-prefix-load c =
     let t = c .before .before .before .before in
     let s = t .before .before .before .before .before .before .before .before .before .before .before in
-    let n = taken-few 19 _ (s .args .b .now) _ _ (t .take-splits .ensures) (ap meaning (c .enum-told2 .given .1)) in
+    let n = taken-few splitWidth _ (s .args .b .now) _ _ (t .take-splits .ensures) (ap meaning (c .enum-told2 .given .1)) in
     omega (arith, n, t .take-splits .kept .1 .1 .1 .1 .1 .0, s .pre .1 .long)
 
 slice-aggregate-load : tie.Need-slice-aggregate-load
 slice-aggregate-load c =
     let t = c .before .before .before .before .before in
     let s = t .before .before .before .before .before .before .before .before .before .before .before in
-    sym (taken-count 19 _ (s .args .b .now) _ _ (t .take-splits .ensures) (ap meaning (c .before .enum-told2 .given .1)))
+    sym (taken-count splitWidth _ (s .args .b .now) _ _ (t .take-splits .ensures) (ap meaning (c .before .enum-told2 .given .1)))
 
 load-requires : tie.Need-load-requires
 load-requires c κs =
     let t = c .before .before .before .before .before .before .before .before .before in
     let s = t .before .before .before .before .before .before .before .before .before .before .before in
     let e = ap meaning (c .before .before .before .before .before .enum-told2 .given .1) in
-    let n = taken-few 19 _ (s .args .b .now) _ _ (t .take-splits .ensures) e in
-    let m = taken-count 19 _ (s .args .b .now) _ _ (t .take-splits .ensures) e in
+    let n = taken-few splitWidth _ (s .args .b .now) _ _ (t .take-splits .ensures) e in
+    let m = taken-count splitWidth _ (s .args .b .now) _ _ (t .take-splits .ensures) e in
     let q = s .pre .2 in (
       splits-loadable _ _ (s .args .b .now) _ (s .pre .1 .few) e _ (t .take-splits .ensures),
       record { starts = omega (arith, n, m, q .starts); ends = omega (arith, n, m, q .ends); units = omega (arith, n, m, q .units); rest = omega (arith, n, m, q .rest) },
@@ -72,7 +73,7 @@ returns-2 c =
     let l = c .before .before .before .before .before .before .before .before .load in
     let e = ap meaning (c .before .before .before .before .before .before .before .before .before .before .before .before .before .before .enum-told2 .given .1) in
     taken-rows (s .args .b .now) _ (columns (l .last .1 .1 .0) (l .last .1 .1 .1 .0) (l .last .1 .1 .1 .1 .0) (l .last .1 .1 .1 .1 .1 .0)) (t .take-splits .ensures .said)
-    (taken-places 19 _ (s .args .b .now) _ _ (t .take-splits .ensures) e) (l .ensures)
+    (taken-places splitWidth _ (s .args .b .now) _ _ (t .take-splits .ensures) e) (l .ensures)
 
 pub take-split-columns-spec : {M : Type 1} → statement M
 take-split-columns-spec =

@@ -6,8 +6,8 @@ use mathlib.Core.List.{List}
 use native.Mathlib.Omega.{arith}
 use lib.ListN.{length}
 use Rattle.obj.specs.Answers.{meaning}
-use Rattle.obj.specs.Records.{stagePlaces}
-use Rattle.tables.specs.Records.{splitsIn, partialFault}
+use Rattle.obj.specs.Records.{stagePlaces, partialWidth}
+use Rattle.tables.specs.Records.{partialsIn, partialFault}
 use Rattle.stage_tables.proofs.Laws.{size-refused, size-few, size-places, size-held, records-said}
 use borrow.Author.Needs.{needs}
 use Rattle.stage_tables.proofs.take_partials.Statement.{statement}
@@ -15,7 +15,7 @@ use Rattle.stage_tables.proofs.take_partials.Tie as tie
 
 -- the fault of a record, by the places of the records
 unfoldable fault : tie.Start → List ℕ → ℕ → ℕ
-fault s p = let a = s .args in partialFault (a .lengths .now) (splitsIn (a .b .now) p)
+fault s p = let a = s .args in partialFault (a .lengths .now) (partialsIn (a .b .now) p)
 
 fill-table-requires : tie.Need-fill-table-requires
 fill-table-requires c κs = search needs
@@ -30,7 +30,7 @@ returns : tie.Need-returns
 unfolding fault
 returns c =
     let s = c .before .before .before .before .before .before .before .before .before in
-    size-refused 19 _ (s .args .b .now) _ (c .before .before .before .before .fill-table .ensures) (fault s (stagePlaces 19 (length (s .args .b .now) / 19))) (ap meaning (c .enum-told .given .1))
+    size-refused partialWidth _ (s .args .b .now) _ (c .before .before .before .before .fill-table .ensures) (fault s (stagePlaces partialWidth (length (s .args .b .now) / partialWidth))) (ap meaning (c .enum-told .given .1))
 
 enum-told-2 : tie.Need-enum-told-2
 enum-told-2 c = search needs
@@ -39,15 +39,15 @@ slice-reshare-prefix-check-partials : tie.Need-slice-reshare-prefix-check-partia
 slice-reshare-prefix-check-partials c =
     let s = c .before .before .before .before .before .before .before .before .before in
     let t = c .before .before .before .before .fill-table in
-    omega (arith, size-few 19 (s .args .ceiling) (s .args .b .now) (t .last .1 .1 .1 .0) (t .ensures) (ap meaning (c .enum-told2 .given .1)), t .kept .1 .1 .1 .0, s .pre .long)
+    omega (arith, size-few partialWidth (s .args .ceiling) (s .args .b .now) (t .last .1 .1 .1 .0) (t .ensures) (ap meaning (c .enum-told2 .given .1)), t .kept .1 .1 .1 .0, s .pre .long)
 
 slice-aggregate-check-partials : tie.Need-slice-aggregate-check-partials
-slice-aggregate-check-partials c = sym (size-places 19 _ (c .before .before .before .before .before .before .before .before .before .before .args .b .now) _ (c .before .before .before .before .before .fill-table .ensures) (ap meaning (c .before .enum-told2 .given .1)))
+slice-aggregate-check-partials c = sym (size-places partialWidth _ (c .before .before .before .before .before .before .before .before .before .before .args .b .now) _ (c .before .before .before .before .before .fill-table .ensures) (ap meaning (c .before .enum-told2 .given .1)))
 
 check-partials-requires : tie.Need-check-partials-requires
 check-partials-requires c κs =
     let s = c .before .before .before .before .before .before .before .before .before .before in
-    size-held 19 _ (s .args .b .now) _ (c .before .before .before .before .before .fill-table .ensures) (ap meaning (c .before .enum-told2 .given .1)) (s .pre .few)
+    size-held partialWidth _ (s .args .b .now) _ (c .before .before .before .before .before .fill-table .ensures) (ap meaning (c .before .enum-told2 .given .1)) (s .pre .few)
 
 same-length-2 : tie.Need-same-length-2
 same-length-2 c = search needs
@@ -56,7 +56,7 @@ returns-2 : tie.Need-returns-2
 unfolding fault
 returns-2 c =
     let s = c .before .before .before .before .before .before .before .before .before .before .before in
-    records-said 19 _ (s .args .b .now) _ (c .before .before .before .before .before .before .fill-table .ensures) (ap meaning (c .before .before .enum-told2 .given .1)) (fault s) (c .check-partials .ensures)
+    records-said partialWidth _ (s .args .b .now) _ (c .before .before .before .before .before .before .fill-table .ensures) (ap meaning (c .before .before .enum-told2 .given .1)) (fault s) (c .check-partials .ensures)
 
 pub take-partials-spec : {M : Type 1} → statement M
 take-partials-spec =

@@ -6,7 +6,7 @@ use mathlib.Core.List.{List}
 use native.Mathlib.Omega.{arith}
 use lib.ListN.{length}
 use Rattle.obj.specs.Answers.{meaning}
-use Rattle.obj.specs.Records.{stagePlaces}
+use Rattle.obj.specs.Records.{stagePlaces, splitWidth}
 use Rattle.tables.specs.Records.{sectionsIn, splitsIn, splitFault}
 use Rattle.stage_tables.proofs.Laws.{size-refused, size-few, size-places, size-held, records-said}
 use borrow.Author.Needs.{needs}
@@ -30,7 +30,7 @@ returns : tie.Need-returns
 unfolding fault
 returns c =
     let s = c .before .before .before .before .before .before .before .before .before .before .before in
-    size-refused 19 _ (s .args .b .now) _ (c .before .before .before .before .fill-table .ensures) (fault s (stagePlaces 19 (length (s .args .b .now) / 19))) (ap meaning (c .enum-told .given .1))
+    size-refused splitWidth _ (s .args .b .now) _ (c .before .before .before .before .fill-table .ensures) (fault s (stagePlaces splitWidth (length (s .args .b .now) / splitWidth))) (ap meaning (c .enum-told .given .1))
 
 enum-told-2 : tie.Need-enum-told-2
 enum-told-2 c = search needs
@@ -39,15 +39,15 @@ slice-reshare-prefix-check-splits : tie.Need-slice-reshare-prefix-check-splits
 slice-reshare-prefix-check-splits c =
     let s = c .before .before .before .before .before .before .before .before .before .before .before in
     let t = c .before .before .before .before .fill-table in
-    omega (arith, size-few 19 (s .args .ceiling) (s .args .b .now) (t .last .1 .1 .1 .0) (t .ensures) (ap meaning (c .enum-told2 .given .1)), t .kept .1 .1 .1 .0, s .pre .1 .long)
+    omega (arith, size-few splitWidth (s .args .ceiling) (s .args .b .now) (t .last .1 .1 .1 .0) (t .ensures) (ap meaning (c .enum-told2 .given .1)), t .kept .1 .1 .1 .0, s .pre .1 .long)
 
 slice-aggregate-check-splits : tie.Need-slice-aggregate-check-splits
-slice-aggregate-check-splits c = sym (size-places 19 _ (c .before .before .before .before .before .before .before .before .before .before .before .before .args .b .now) _ (c .before .before .before .before .before .fill-table .ensures) (ap meaning (c .before .enum-told2 .given .1)))
+slice-aggregate-check-splits c = sym (size-places splitWidth _ (c .before .before .before .before .before .before .before .before .before .before .before .before .args .b .now) _ (c .before .before .before .before .before .fill-table .ensures) (ap meaning (c .before .enum-told2 .given .1)))
 
 check-splits-requires : tie.Need-check-splits-requires
 check-splits-requires c κs =
     let s = c .before .before .before .before .before .before .before .before .before .before .before .before in
-    (s .pre .0, size-held 19 _ (s .args .b .now) _ (c .before .before .before .before .before .fill-table .ensures) (ap meaning (c .before .enum-told2 .given .1)) (s .pre .1 .few))
+    (s .pre .0, size-held splitWidth _ (s .args .b .now) _ (c .before .before .before .before .before .fill-table .ensures) (ap meaning (c .before .enum-told2 .given .1)) (s .pre .1 .few))
 
 same-length-2 : tie.Need-same-length-2
 same-length-2 c = search needs
@@ -56,7 +56,7 @@ returns-2 : tie.Need-returns-2
 unfolding fault
 returns-2 c =
     let s = c .before .before .before .before .before .before .before .before .before .before .before .before .before in
-    records-said 19 _ (s .args .b .now) _ (c .before .before .before .before .before .before .fill-table .ensures) (ap meaning (c .before .before .enum-told2 .given .1)) (fault s) (c .check-splits .ensures)
+    records-said splitWidth _ (s .args .b .now) _ (c .before .before .before .before .before .before .fill-table .ensures) (ap meaning (c .before .before .enum-told2 .given .1)) (fault s) (c .check-splits .ensures)
 
 pub take-splits-spec : {M : Type 1} → statement M
 take-splits-spec =

@@ -16,6 +16,7 @@ use Rattle.splits.specs.Columns.{columns, rows as rowsOf}
 use Rattle.tables.specs.Records.{sectionsIn}
 use Rattle.stage_walk.specs.Room.{roomIn}
 use Rattle.stage_walk.specs.Lines.{fromSplits}
+use Rattle.obj.specs.Records.{splitWidth}
 use Rattle.stage_walk.proofs.Passed.{rows-named}
 use Rattle.stage_walk.proofs.Lines.{gives-stops, splits-go}
 use Rattle.stage_walk.proofs.from_splits.Statement.{statement}
@@ -25,8 +26,8 @@ use Rattle.stage_walk.proofs.from_splits.Tie as tie
 passed : (c : tie.After-enum-told2) → let a = c .before .before .before .before .before .before .before .before .before .before .before .before .before .before .before .before .before .before .before .before .before .before .before .before .before .before .before .before .before .before .before .before .before .before .before .before .before .before .before .before .args in splitsCheck 1024 (a .name-lengths .now) (sectionsIn (a .heads .now) (a .head-places .now)) (a .splits .now) ≡ accepted tt
 passed c = sym (c .before .before .before .before .before .before .before .before .before .before .before .before .take-split-columns .ensures .said) ∙ ap meaning (c .enum-told2 .given .1)
 
-few : (c : tie.After-enum-told2) → length (c .before .before .before .before .before .before .before .before .before .before .before .before .before .before .before .before .before .before .before .before .before .before .before .before .before .before .before .before .before .before .before .before .before .before .before .before .before .before .before .before .args .splits .now) / 19 ≤ 1024
-few c = table-passed 19 1024 (c .before .before .before .before .before .before .before .before .before .before .before .before .before .before .before .before .before .before .before .before .before .before .before .before .before .before .before .before .before .before .before .before .before .before .before .before .before .before .before .before .args .splits .now) _ (passed c) .1
+few : (c : tie.After-enum-told2) → length (c .before .before .before .before .before .before .before .before .before .before .before .before .before .before .before .before .before .before .before .before .before .before .before .before .before .before .before .before .before .before .before .before .before .before .before .before .before .before .before .before .args .splits .now) / splitWidth ≤ 1024
+few c = table-passed splitWidth 1024 (c .before .before .before .before .before .before .before .before .before .before .before .before .before .before .before .before .before .before .before .before .before .before .before .before .before .before .before .before .before .before .before .before .before .before .before .before .before .before .before .before .args .splits .now) _ (passed c) .1
 
 take-split-columns-requires : tie.Need-take-split-columns-requires
 take-split-columns-requires c κs =
@@ -119,7 +120,7 @@ returns-2 c =
     let t = c .before .before .before .before .before .before .before .before .before .before .before .before .before .before .before .before .before .before .before .before .before .before .before .before .before .before in
     let a = c .before .before .before .before .before .before .before .before .before .before .before .before .before .before .before .before .before .before .before .before .before .before .before .before .before .before .before .before .before .before .before .before .before .before .before .before .before .before .before .before .before .before .before .before .before .before .before .before .before .before .before .before .before .before .args in
     splits-go (a .name-lengths .now) (sectionsIn (a .heads .now) (a .head-places .now)) (imageOf (a .symbols .now) (a .symbol-places .now) (a .name-bytes .now) (a .name-places .now) (a .name-lengths .now)) (sectionsOf (a .heads .now) (a .head-places .now) (a .image .now) (a .image-places .now)) (relocOf (a .relocs .now) (a .reloc-places .now)) (length (a .reloc-places .now)) (a .splits .now) (a .unit-table .now)
-    (rowsOf (columns (t .take-split-columns .last .1 .1 .1 .1 .1 .1 .0) (t .take-split-columns .last .1 .1 .1 .1 .1 .1 .1 .0) (t .take-split-columns .last .1 .1 .1 .1 .1 .1 .1 .1 .0) (t .take-split-columns .last .1 .1 .1 .1 .1 .1 .1 .1 .1 .0)) (length (a .splits .now) / 19)) (roomIn (length (a .pieces .now)) (length (a .entries .now)) (length (a .offsets .now))) (w .with-units .result) (w .with-units .last .1 .1 .1 .1 .1 .1 .1 .1 .1 .1 .1 .1 .1 .1 .1 .1 .1 .1 .0) (w .with-units .last .1 .1 .1 .1 .1 .1 .1 .1 .1 .1 .1 .1 .1 .1 .1 .1 .1 .1 .1 .0) (w .with-units .last .1 .1 .1 .1 .1 .1 .1 .1 .1 .1 .1 .1 .1 .1 .1 .1 .1 .1 .1 .1 .0)
+    (rowsOf (columns (t .take-split-columns .last .1 .1 .1 .1 .1 .1 .0) (t .take-split-columns .last .1 .1 .1 .1 .1 .1 .1 .0) (t .take-split-columns .last .1 .1 .1 .1 .1 .1 .1 .1 .0) (t .take-split-columns .last .1 .1 .1 .1 .1 .1 .1 .1 .1 .0)) (length (a .splits .now) / splitWidth)) (roomIn (length (a .pieces .now)) (length (a .entries .now)) (length (a .offsets .now))) (w .with-units .result) (w .with-units .last .1 .1 .1 .1 .1 .1 .1 .1 .1 .1 .1 .1 .1 .1 .1 .1 .1 .1 .0) (w .with-units .last .1 .1 .1 .1 .1 .1 .1 .1 .1 .1 .1 .1 .1 .1 .1 .1 .1 .1 .1 .0) (w .with-units .last .1 .1 .1 .1 .1 .1 .1 .1 .1 .1 .1 .1 .1 .1 .1 .1 .1 .1 .1 .1 .0)
     (passed e) (t .take-split-columns .ensures .taken (passed e)) (w .with-units .ensures)
 
 pub from-splits-spec : {M : Type 1} → statement M

@@ -3,14 +3,14 @@
 use Prim.Native.Nat.{_-_}
 use native.Mathlib.Omega.{arith}
 use lib.ListN.{length}
-use Rattle.tables.specs.Records.{partialFault, splitsIn}
+use Rattle.tables.specs.Records.{partialFault, partialsIn}
 use Rattle.tables.proofs.Loops.{Going, going, stops, goes-on, passes-all}
 use Rattle.tables.proofs.Lookups.{held}
 use Rattle.tables.proofs.check_partials.Statement.{statement}
 use Rattle.tables.proofs.check_partials.Tie as tie
 
 abbrev Inv-loop : tie.InvT-loop
-Inv-loop lengths b places i₀ i = Going (partialFault lengths (splitsIn b places)) (length places) i
+Inv-loop lengths b places i₀ i = Going (partialFault lengths (partialsIn b places)) (length places) i
 
 abbrev μ-loop : tie.MeasureT-loop
 μ-loop lengths b places i₀ i = length places - i

@@ -5,8 +5,17 @@ use borrow.Author.Needs.{needs}
 use Rattle.tables.proofs.partial_fault.Statement.{statement}
 use Rattle.tables.proofs.partial_fault.Tie as tie
 
-split-at-requires : tie.Need-split-at-requires
-split-at-requires c κs = search needs
+mul-at : tie.Need-mul-at
+mul-at c = search needs
+
+shared-slice-read-at : tie.Need-shared-slice-read-at
+shared-slice-read-at c = search needs
+
+cast-at : tie.Need-cast-at
+cast-at c = search needs
+
+read-partial-requires : tie.Need-read-partial-requires
+read-partial-requires c κs = search needs
 
 cast-length-of : tie.Need-cast-length-of
 cast-length-of c = search needs
@@ -32,15 +41,18 @@ returns c =
     let renamed = tested .before in
     let named = renamed .before .before in
     let read = named .before .before in
-    let s = read .before .before .before .before in
-    partial-fault-is (s .args .lengths .now) (s .args .b .now) (s .args .places .now) _ (s .pre .there) (read .split-at .ensures)
+    let s = read .before .before .before .before .before in
+    partial-fault-is (s .args .lengths .now) (s .args .b .now) (s .args .places .now) _ (s .pre .there) 65535 (read .read-partial .ensures)
     (named .length-of .ensures) (renamed .length-of2 .ensures) (tested .split-bad .ensures) (c .number-if .ensures)
 
 pub partial-fault-spec : {M : Type 1} → statement M
 partial-fault-spec =
     tie.close
     (tie.spec
-    split-at-requires
+    mul-at
+    shared-slice-read-at
+    cast-at
+    read-partial-requires
     cast-length-of
     length-of-requires
     cast-length-of-2

@@ -30,7 +30,12 @@ section-or-none-requires : tie.Need-section-or-none-requires
 section-or-none-requires c κs = search needs
 
 split-before-requires : tie.Need-split-before-requires
-split-before-requires c κs = search needs
+split-before-requires c κs =
+    let renamed = c .before .before in
+    let named = renamed .before .before in
+    let read = named .before .before in
+    let s = read .before .before .before .before .before .before in
+    (s .pre .1, s .pre .2)
 
 split-bad-requires : tie.Need-split-bad-requires
 split-bad-requires c κs = search needs

@@ -44,7 +44,9 @@ returns c =
     record { is = sym e ∙ l .inv .2; past = l .inv .0; small = l .inv .1 }
 
 add-j : tie.Need-add-j Inv-loop μ-loop
-add-j c = omega (arith, c .before .before .before .before .before .before .loop-test .taken)
+add-j c =
+    let s = c .before .before .before .before .before .before .before .before .before .before .before .before in
+    omega (arith, c .before .before .before .before .before .before .loop-test .taken, s .fits .n .fits)
 
 loop-less : tie.Need-loop-less Inv-loop μ-loop
 loop-less c = omega (arith, c .before .before .before .before .before .before .loop-test .taken)

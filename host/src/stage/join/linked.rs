@@ -151,7 +151,7 @@ struct Loaded {
 /// split for each object of the libraries in `.text`, one for each other section.
 fn tables(elf: &[u8], map: &str) -> Case {
     let mut names = Names::default();
-    let mut case = Case { lent: vec![28_672, 49_152, 32_768, 6], ..Case::default() };
+    let mut case = Case { lent: vec![30_720, 49_152, 32_768, 6], ..Case::default() };
     let headers: Vec<&[u8]> =
         (0..half(elf, 48)).map(|i| &elf[word(elf, 32) + 40 * i..][..40]).collect();
     let strings = word(headers[half(elf, 50)], 16);
@@ -239,7 +239,8 @@ fn cut<'a>(
         let zeros = own.iter().rev().take_while(|byte| **byte == 0).count() as u32;
         let to = if zeros < next - from { next - zeros / 4 * 4 } else { next };
         let (unit, alignment) = (names.number(starts[i].1), alignment_of(from));
-        Split { section, start: from, end: to, unit, alignment, flags: 0, rename: 0xFFFF }
+        let (start, end, flags, rename, origin) = (from, to, 0, 0xFFFF, 0xFFFF);
+        Split { section, start, end, unit, alignment, flags, rename, origin }
     };
     (0..starts.len()).map(split).collect()
 }

@@ -10,7 +10,7 @@ use super::{
 use crate::{
     bytes::half_at,
     check_tables::{NAME_BYTES, NAME_ENDS, SPLIT_TABLE, Set, UNIT_TABLE},
-    document::{self, load::load, outputs::Answer},
+    document::{self, image::SPLIT_BYTES, load::load, outputs::Answer},
     parts,
     tally::Tally,
 };
@@ -26,17 +26,17 @@ pub trait Visit {
 }
 
 /// Outputs at document 01's ceilings.
-const SPLITS: &[usize] = &[19_456, 2];
-const NAMES_AND_SPLITS: &[usize] = &[8192, 65_535, 19_456, 6];
+const SPLITS: &[usize] = &[21_504, 2];
+const NAMES_AND_SPLITS: &[usize] = &[8192, 65_535, 21_504, 6];
 const UNITS: &[usize] = &[8192, 2];
-const PIECES: &[usize] = &[28_672, 49_152, 32_768, 6];
+const PIECES: &[usize] = &[30_720, 49_152, 32_768, 6];
 
 /// A table that takes over an output: table, output, width.
 type Taken = (usize, usize, usize);
 
-const NEW_SPLITS: &[Taken] = &[(SPLIT_TABLE, 0, 19)];
+const NEW_SPLITS: &[Taken] = &[(SPLIT_TABLE, 0, SPLIT_BYTES)];
 const NEW_NAMES_AND_SPLITS: &[Taken] =
-    &[(NAME_ENDS, 0, 2), (NAME_BYTES, 1, 1), (SPLIT_TABLE, 2, 19)];
+    &[(NAME_ENDS, 0, 2), (NAME_BYTES, 1, 1), (SPLIT_TABLE, 2, SPLIT_BYTES)];
 const NEW_UNITS: &[Taken] = &[(UNIT_TABLE, 0, 8)];
 
 /// Goes along a run until a stage refuses.

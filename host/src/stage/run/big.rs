@@ -81,7 +81,8 @@ fn row(
         let (start, alignment) = (start + width * n as u32, r.pick(&[0, 4, 4, 8]));
         let flags = r.pick(&[0, 0, 0, 0, 0, 0, 0, 2]);
         let (section, end) = (section as u16, start + width);
-        Split { section, start, end, unit, alignment, flags, rename: 0xFFFF }
+        let (rename, origin) = (0xFFFF, 0xFFFF);
+        Split { section, start, end, unit, alignment, flags, rename, origin }
     };
     (0..count).map(part).collect()
 }

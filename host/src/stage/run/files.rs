@@ -138,7 +138,7 @@ pub fn file(maker: Maker, partials: &[Split], r: &mut Random) -> Vec<u8> {
 
 /// The records by kind.
 pub fn in_order(maker: Maker, partials: &[Split]) -> Vec<u8> {
-    let partials = partials.iter().flat_map(Split::bytes).collect();
+    let partials = partials.iter().flat_map(Split::partial_bytes).collect();
     rust::file(&Case { partials, ..maker.case(vec![], vec![]) })
 }
 
@@ -184,7 +184,8 @@ pub fn one_section(name: &[u8], kind: u8, size: u32, r: &mut Random) -> Maker {
 /// A split of unit n.
 pub fn numbered(maker: &mut Maker, n: usize, start: u32, end: u32) -> Split {
     let unit = maker.name(&numbered_name(n));
-    Split { section: 0, start, end, unit, alignment: 4, flags: 0, rename: 0xFFFF }
+    let (rename, origin) = (0xFFFF, 0xFFFF);
+    Split { section: 0, start, end, unit, alignment: 4, flags: 0, rename, origin }
 }
 
 /// Splits of four bytes, so many to a stride.

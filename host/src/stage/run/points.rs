@@ -56,14 +56,15 @@ const POINTS: [(&str, &str); 26] = [
     // A split may stand before its section.
     (
         "name a\nname .data\nsplit 0 1000..1008 a\nsection .data data 1000 8 0 00*8\n",
-        "unit 0 a 8\npiece 0 .data 00001000 8 8\ntotal 1 1 8\n",
+        "unit 0 a 8\npiece 0 .data 00001000 8 8 0\ntotal 1 1 8\n",
     ),
     ("name .ctors\nsection .ctors data 100 0 0\n", "total 0 0 0\n"),
     ("name .ctors\nsection .ctors data 100 3 0 000000\n", "refused 10 0 00000100\n"),
     // The gap behind a common split isn't common.
     (
         "name .bss\nname a\nsection .bss bss 2000 24 0\nsplit 0 2000..2008 a common\n",
-        "unit 0 a 0\nunit 1 auto_00_00002008_bss 16\npiece 0 .bss 00002008 16 8\ntotal 2 1 16\n",
+        "unit 0 a 0\nunit 1 auto_00_00002008_bss 16\npiece 0 .bss 00002008 16 8 65535\n\
+         total 2 1 16\n",
     ),
     // An open split doesn't survive a run.
     (
@@ -74,13 +75,13 @@ const POINTS: [(&str, &str); 26] = [
     (
         "name .bss\nname a\nsection .bss bss 0 4026531840 0\nsection .bss bss 0 4026531840 0\n\
          split 0 0..F0000000 a\nsplit 1 0..F0000000 a\n",
-        "unit 0 a 8053063680\npiece 0 .bss 00000000 4026531840 8\n\
-         piece 1 .bss 00000000 4026531840 8\ntotal 1 2 8053063680\n",
+        "unit 0 a 8053063680\npiece 0 .bss 00000000 4026531840 8 0\n\
+         piece 1 .bss 00000000 4026531840 8 1\ntotal 1 2 8053063680\n",
     ),
     // A place behind the last split is filled by the default alignment alone.
     (
         "name .data\nname a\nsection .data data 1000 12 0 00*12\nsplit 0 1000..1009 a\n",
-        "unit 0 a 9\npiece 0 .data 00001000 9 8\ntotal 1 1 9\n",
+        "unit 0 a 9\npiece 0 .data 00001000 9 8 0\ntotal 1 1 9\n",
     ),
     (
         "name .data\nname a\nsection .data data 1000 12 0 01*12\nsplit 0 1000..1009 a\n",
@@ -95,8 +96,8 @@ const POINTS: [(&str, &str); 26] = [
     (
         "name .data\nname \"\"\nsection .data data 1000 16 0 00*16\n\
          symbol \"\" 0 1004 0 unknown\nsymbol \"\" 0 1008 0 unknown\n",
-        "unit 0 auto_00_00001000_data 8\npiece 0 .data 00001000 8 8\nsym - 0 00000004 0\n\
-         unit 1 auto_00_00001008_data 8\npiece 0 .data 00001008 8 8\nsym - 0 00000000 0\n\
+        "unit 0 auto_00_00001000_data 8\npiece 0 .data 00001000 8 8 65535\nsym - 0 00000004 0\n\
+         unit 1 auto_00_00001008_data 8\npiece 0 .data 00001008 8 8 65535\nsym - 0 00000000 0\n\
          total 2 2 16\n",
     ),
     // A gap's name that a hand split has: the gap changes nothing.
@@ -136,12 +137,12 @@ const POINTS: [(&str, &str); 26] = [
     (
         "name .data\nname a\nname r\nsection .data data 1002 6 0 00*6\nsymbol a none 0 0 unknown\n\
          relocation 0 1004 2 0 -1\nsplit 0 1002..1008 a align=2 rename=r\n",
-        "unit 0 a 6\npiece 0 r 00001002 6 2\nreloc 0 00000000 2 0 -1\ntotal 1 1 6\n",
+        "unit 0 a 6\npiece 0 r 00001002 6 2 0\nreloc 0 00000000 2 0 -1\ntotal 1 1 6\n",
     ),
     // Linker labels aren't listed, and neither is a symbol at a split's end.
     (
         "name .data\nname a\nname _f_data\nname x\nsection .data data 1000 8 0 00*8\n\
          symbol _f_data 0 1000 0 unknown\nsymbol x 0 1008 0 unknown\nsplit 0 1000..1008 a\n",
-        "unit 0 a 8\npiece 0 .data 00001000 8 8\ntotal 1 1 8\n",
+        "unit 0 a 8\npiece 0 .data 00001000 8 8 0\ntotal 1 1 8\n",
     ),
 ];

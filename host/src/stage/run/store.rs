@@ -14,7 +14,7 @@ use crate::{
 };
 
 /// All of document 01's ceilings.
-const WHOLE: [usize; 8] = [8192, 65_535, 19_456, 8192, 28_672, 49_152, 32_768, 14];
+const WHOLE: [usize; 8] = [8192, 65_535, 21_504, 8192, 30_720, 49_152, 32_768, 14];
 
 /// How many small files of a number are stored; 27 and 28 need a full table.
 fn wanted(number: u16) -> usize {

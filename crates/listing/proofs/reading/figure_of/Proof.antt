@@ -2,7 +2,7 @@
 -- Assumes nothing.
 use Prim.Native.Nat.{ℕ, _*_, _-_, _≤_}
 use native.Mathlib.Omega.{arith}
-use Rattle.pieces.specs.Pieces.{pieceAt, piecesIn}
+use Rattle.pieces.specs.Pieces.{pieceAt, piecesIn, pieceWidth}
 use Rattle.listing.proofs.Sums.{Sum, sum-first, sum-turn, sum-end}
 use Rattle.listing.proofs.reading.figure_of.Statement.{statement}
 use Rattle.listing.proofs.reading.figure_of.Tie as tie
@@ -30,11 +30,11 @@ loop-less c = let q = c .before .loop-test .taken in omega arith
 
 loop-again : tie.Need-loop-again Inv-loop μ-loop
 unfolding piecesIn
-loop-again c = let a = c .before .before .before .before .args in let q = c .before .loop-test .taken in (sum-turn (λ (i : ℕ). pieceAt (a .pieces .now) (28 * i)) (a .count) (a .unit) (c .before .before .loop .inv .0) q (c .size-in .ensures), omega arith)
+loop-again c = let a = c .before .before .before .before .args in let q = c .before .loop-test .taken in (sum-turn (λ (i : ℕ). pieceAt (a .pieces .now) (pieceWidth * i)) (a .count) (a .unit) (c .before .before .loop .inv .0) q (c .size-in .ensures), omega arith)
 
 returns : tie.Need-returns Inv-loop μ-loop
 unfolding piecesIn
-returns c = let s = c .before .before .before in let a = s .args in let h = s .pre .1 in let i = c .before .loop .inv .1 in sum-end (λ (i : ℕ). pieceAt (a .pieces .now) (28 * i)) (a .count) (a .unit) (c .before .loop .inv .0) (c .loop-test .left) (omega arith)
+returns c = let s = c .before .before .before in let a = s .args in let h = s .pre .1 in let i = c .before .loop .inv .1 in sum-end (λ (i : ℕ). pieceAt (a .pieces .now) (pieceWidth * i)) (a .count) (a .unit) (c .before .loop .inv .0) (c .loop-test .left) (omega arith)
 
 pub figure-of-spec : {M : Type 1} → statement M
 figure-of-spec =

@@ -1,0 +1,4 @@
+pub mod Forgets
+pub mod Least
+pub mod Originated
+pub mod Table

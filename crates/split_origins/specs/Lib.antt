@@ -1,0 +1,3 @@
+pub mod Traced
+pub mod Origins
+pub mod Table
