@@ -46,7 +46,7 @@ use Rattle.run_listing.proofs.Ended.{Finished, finished}
 use Rattle.run_listing.proofs.Readable.{output-below}
 use Rattle.listing.specs.Listing.{commonSize}
 use Rattle.run_totals.specs.Totals.{listed, Totals, Read}
-use Rattle.run_totals.proofs.Walked.{Fine, walk-fine, pieces-small}
+use Rattle.run_totals.proofs.Walked.{OfUnits, walk-of-units, pieces-small}
 use Rattle.run_totals.proofs.Sums.{Summable, totals-of, read-of}
 
 -- ---- the split table of a run
@@ -75,7 +75,7 @@ module _ {file : List ℕ} {t : Loaded} (u : Usable file t) (room : ℕ) (names 
 
 -- what the totals rest on, of the run of a loaded file
 record Made (file : List ℕ) (t : Loaded) (room : Counts) (r : Result) : Type 0 where
-  fine : Fine (length (map (λ (u : units.Unit). u .name) (r .units))) room (r .output)
+  fine : OfUnits (length (map (λ (u : units.Unit). u .name) (r .units))) room (r .output)
   small : All (λ p. p .size ≤ 4026531840) (r .output .pieces)
   symbols-small : All (λ y. commonSize (symbolOf file (t .symbols)) y ≤ 4026531840) (r .output .symbols)
   few : length (r .output .pieces) ≤ room .pieces
@@ -93,8 +93,8 @@ finished-made : {file : List ℕ} {t : Loaded} → Usable file t → (room : Roo
 unfolding walked
 finished-made {file} {t} u room r f = record {
   fine =
-      subst (λ (us : List units.Unit). Fine (length (map (λ (x : units.Unit). x .name) us)) (room .output) (r .output)) (sym (f .units))
-      (walk-fine _ (r .output) (f .walks));
+      subst (λ (us : List units.Unit). OfUnits (length (map (λ (x : units.Unit). x .name) us)) (room .output) (r .output)) (sym (f .units))
+      (walk-of-units _ (r .output) (f .walks));
   small = pieces-small _ 4026531840 (table-ends u (room .splits) (room .names) (f .full) (f .tabled)) (r .output) (f .walks);
   symbols-small = all-map (common-small u) (output-below u room r f .symbols);
   few = pieces-room _ (r .output) (f .walks);
@@ -117,9 +117,9 @@ names-alike b n =
     ∙ sym (length-map (stagePlaces 8 n) (λ (at : ℕ). unitAt b at .name))
 
 -- lent tables of any lengths: names and bytes of names, splits, units, and the walk's output
-module _ (file : List ℕ) (names bytes splits units a b d : ℕ) (t : Loaded) (l : loadOf mainCeilings file ≡ accepted t) where
+module _ (file : List ℕ) (names bytes splits most a b d : ℕ) (t : Loaded) (l : loadOf mainCeilings file ≡ accepted t) where
   abbrev rooms : Loaded → Rooms
-  rooms = roomsIn file names bytes splits units (roomIn a b d)
+  rooms = roomsIn file names bytes splits most (roomIn a b d)
 
   rows-made : (r : Result) → runOf file rooms ≡ accepted (done r) → Made file t (roomIn a b d) r
   unfolding roomsIn
@@ -139,7 +139,7 @@ module _ (file : List ℕ) (names bytes splits units a b d : ℕ) (t : Loaded) (
         relocs = r .output .relocs;
       })
   made-summable r m name reloc us same =
-      let f = subst (λ (k : ℕ). Fine k (roomIn a b d) (r .output)) same (m .fine) in
+      let f = subst (λ (k : ℕ). OfUnits k (roomIn a b d) (r .output)) same (m .fine) in
       record {
         units = f .pieces;
         symbol-units = f .symbols;

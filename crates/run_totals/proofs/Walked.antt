@@ -82,18 +82,18 @@ module _ (image : Image) (units unit place : ℕ) (s : Split) (listed : unit < u
   symbols-named (i ∷ l) out f = symbols-named l (addSymbol image unit place s out i) (symbol-named i out f)
 
 -- what each split keeps, of an output in the listing of so many units
-pub record Fine (units : ℕ) (room : Counts) (o : Output) : Type 0 where
+pub record OfUnits (units : ℕ) (room : Counts) (o : Output) : Type 0 where
   pub pieces : All (λ p. p .unit < units) (o .pieces)
   pub symbols : All (λ y. y .unit < units) (o .symbols)
   pub once : Once (o .symbols)
   pub few : length (o .symbols) ≤ room .symbols
 
 module _ (t : Input) where
-  abbrev FineIn : Output → Type 0
-  FineIn o = Fine (length (t .units)) (t .room) o
+  abbrev OfUnitsIn : Output → Type 0
+  OfUnitsIn o = OfUnits (length (t .units)) (t .room) o
 
-  given-fine : (n unit alignment : ℕ) (s : Split) → unit < length (t .units) → (o : Output) → FineIn o → over (t .room) (given t n unit alignment s o) ≡ false
-      → FineIn (given t n unit alignment s o)
+  given-fine : (n unit alignment : ℕ) (s : Split) → unit < length (t .units) → (o : Output) → OfUnitsIn o → over (t .room) (given t n unit alignment s o) ≡ false
+      → OfUnitsIn (given t n unit alignment s o)
   unfolding given pieceOf
   given-fine n unit alignment s h o f room = record { pieces = go (isCommon s); symbols = named .0; once = named .1; few = ltb-false _ _ (or-false _ _ (or-false _ _ room .0) .0) }
     where
@@ -111,20 +111,20 @@ module _ (t : Input) where
       let d = eqb-false (unitOf (t .units) (s .unit)) (length (t .units)) (then-inv _ _ _ _ _ _ e .0) in
       omega (arith, d, unit-le (t .units) (s .unit))
 
-  split-fine : (n current next : ℕ) (s : Split) (o o′ : Output) → onSplit t n current next s o ≡ accepted o′ → FineIn o → FineIn o′
+  split-fine : (n current next : ℕ) (s : Split) (o o′ : Output) → onSplit t n current next s o ≡ accepted o′ → OfUnitsIn o → OfUnitsIn o′
   split-fine n current next s o o′ e f = go (isSkipped s) (split-inv t n current s o o′ next e .rest)
     where
-      go : (b : Bool) → cond b (accepted o) (onKept t n current s o) ≡ accepted o′ → FineIn o′
-      go true q = subst FineIn (same-accepted q) f
+      go : (b : Bool) → cond b (accepted o) (onKept t n current s o) ≡ accepted o′ → OfUnitsIn o′
+      go true q = subst OfUnitsIn (same-accepted q) f
       go false q =
           let k = kept-inv t n current s o o′ q .passed in
-          subst FineIn (k .is) (given-fine n _ _ s (kept-listed n current s o o′ q) o f (k .room))
+          subst OfUnitsIn (k .is) (given-fine n _ _ s (kept-listed n current s o o′ q) o f (k .room))
 
   -- THEOREM: each piece and each symbol of an accepted walk is of a unit that is listed, none lists a symbol twice, and there are no more than the table holds
-  pub walk-fine : (out : Output) → walk t ≡ accepted out → FineIn out
+  pub walk-of-units : (out : Output) → walk t ≡ accepted out → OfUnitsIn out
   unfolding walk Once
-  walk-fine out e =
-      sections-keep t FineIn 0 (t .sections .count) (λ m a b s r current next o o′ q f. split-fine m current next s o o′ q f) nothing out e
+  walk-of-units out e =
+      sections-keep t OfUnitsIn 0 (t .sections .count) (λ m a b s r current next o o′ q f. split-fine m current next s o o′ q f) nothing out e
       (record { pieces = none; symbols = none; once = tt; few = zero-le })
 
   -- THEOREM: none is longer than the highest end of a split

@@ -65,6 +65,13 @@ const POINTS: [(&str, &str); 26] = [
         "name .bss\nname a\nsection .bss bss 2000 24 0\nsplit 0 2000..2008 a common\n",
         "unit 0 a 0\nunit 1 auto_00_00002008_bss 16\npiece 0 .bss 00002008 16 8\ntotal 2 1 16\n",
     ),
+    // A common symbol of known size is in its unit's figure, one of unknown size isn't.
+    (
+        "name .bss\nname a\nname x\nname y\nsection .bss bss 2000 24 0\n\
+         symbol x 0 2000 6 object\nsymbol y 0 2010 8 object known=0\n\
+         split 0 2000..2018 a common\n",
+        "unit 0 a 6\nsym x common 00000004 6\nsym y common 00000004 8\ntotal 1 0 6\n",
+    ),
     // An open split doesn't survive a run.
     (
         "name .data\nname b.c\nsection .data data 1000 16 0 00*16\nsplit 0 1008..0 b.c\n",
