@@ -44,7 +44,7 @@ fn repeated() -> Vec<(String, &'static str)> {
     ]
 }
 
-const POINTS: [(&str, &str); 26] = [
+const POINTS: [(&str, &str); 27] = [
     ("", "total 0 0 0\n"),
     // The empty name is a name that only symbols may use.
     ("name \"\"\n", "total 0 0 0\n"),
