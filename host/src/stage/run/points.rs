@@ -68,9 +68,9 @@ const POINTS: [(&str, &str); 27] = [
     // A common symbol of known size is in its unit's figure, one of unknown size isn't.
     (
         "name .bss\nname a\nname x\nname y\nsection .bss bss 2000 24 0\n\
-         symbol x 0 2000 6 object\nsymbol y 0 2010 8 object known=0\n\
+         symbol y 0 2000 8 object known=0\nsymbol x 0 2010 6 object\n\
          split 0 2000..2018 a common\n",
-        "unit 0 a 6\nsym x common 00000004 6\nsym y common 00000004 8\ntotal 1 0 6\n",
+        "unit 0 a 6\nsym y common 00000004 8\nsym x common 00000004 6\ntotal 1 0 6\n",
     ),
     // An open split doesn't survive a run.
     (
