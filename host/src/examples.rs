@@ -9,7 +9,7 @@ use oracle::answers;
 
 use crate::{
     document::{
-        listing::{listed, printed},
+        listing::{listed_as_the_rust, printed},
         load::load,
         run::CEILINGS,
     },
@@ -52,7 +52,7 @@ fn example(name: &str, tally: &mut Tally) -> Result<(), String> {
 fn lists(records: &[u8], listing: &[u8], tally: &mut Tally) -> Result<(), String> {
     // The Rust can't be given a file that the table checks refuse.
     let asked = load(records).ok().and_then(|_| answers::run(records));
-    let note = match (listed(records, &CEILINGS), asked) {
+    let note = match (listed_as_the_rust(records, &CEILINGS), asked) {
         (Ok(reading), Some(Ok(rust))) => {
             same("the Rust's listing", rust.as_bytes(), reading.as_bytes())?;
             ", as the Rust"

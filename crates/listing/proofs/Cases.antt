@@ -12,7 +12,7 @@ use Rattle.names.specs.GapName.{hex8}
 use Rattle.obj.specs.declared.Symbol.{Symbol}
 use Rattle.obj.specs.declared.Reloc.{Reloc}
 use Rattle.lines.specs.Lines.{digits, signedDecimal, shown, line}
-use Rattle.listing.specs.Listing.{Run, sizes, figures, pieceLines, symLines, relocLines, unitLines, unitsLines, listing}
+use Rattle.listing.specs.Listing.{Run, sumBy, figures, pieceLines, symLines, relocLines, unitLines, unitsLines, listing}
 
 -- lines, each ended
 unfoldable pub text : List String → List ℕ
@@ -48,19 +48,20 @@ pub example-listed :
     ∷ "piece 0 .data 00001008 8 8 0"
     ∷ "total 2 2 16"
     ∷ [])
-unfolding listing unitsLines unitLines pieceLines symLines relocLines sizes figures keepIf text codes digits line hex8
+unfolding listing unitsLines unitLines pieceLines symLines relocLines sumBy figures keepIf text codes digits line hex8
 example-listed = refl
 
--- two units whose pieces take turns; a nameless symbol, a common one, and a negative addend
+-- two units whose pieces take turns; a nameless symbol, a common one, which is in the figure, one of unknown size, which isn't, and a negative addend
 abbrev pub mixed : Run
 mixed = record {
-  name = λ k. getD (codes "a.c" ∷ codes "b.c" ∷ codes ".text" ∷ [] ∷ codes "main" ∷ codes "buffer" ∷ []) k [];
+  name = λ k. getD (codes "a.c" ∷ codes "b.c" ∷ codes ".text" ∷ [] ∷ codes "main" ∷ codes "buffer" ∷ codes "rest" ∷ []) k [];
   symbol =
       λ k.
       getD
       (record { name = 4; section = 0; address = 4096; size = 12; «size_known» = 1; kind = 1; flags = 0; alignment = 0 }
       ∷ record { name = 3; section = 0; address = 4112; size = 0; «size_known» = 0; kind = 0; flags = 0; alignment = 0 }
       ∷ record { name = 5; section = 1; address = 8192; size = 256; «size_known» = 1; kind = 2; flags = 0; alignment = 0 }
+      ∷ record { name = 6; section = 1; address = 8448; size = 64; «size_known» = 0; kind = 2; flags = 0; alignment = 0 }
       ∷ [])
       k noSymbol;
   reloc = λ k. record { section = 0; address = 4116; kind = 6; target = 2; addend = negsuc 3; «module» = 0 };
@@ -74,6 +75,7 @@ mixed = record {
       record { unit = 1; piece = 0; symbol = 0; flags = 0; address = 0 }
       ∷ record { unit = 0; piece = 1; symbol = 1; flags = 0; address = 0 }
       ∷ record { unit = 1; piece = 65535; symbol = 2; flags = 0; address = 4 }
+      ∷ record { unit = 1; piece = 65535; symbol = 3; flags = 0; address = 4 }
       ∷ [];
   relocs = record { piece = 1; relocation = 0; offset = 4 } ∷ record { piece = 2; relocation = 0; offset = 28 } ∷ [];
 }
@@ -85,13 +87,14 @@ pub mixed-listed :
     ∷ "piece 0 .text 00001010 16 4 65535"
     ∷ "sym - 0 00000000 0"
     ∷ "reloc 0 00000004 6 2 -4"
-    ∷ "unit 1 b.c 48"
+    ∷ "unit 1 b.c 304"
     ∷ "piece 0 .text 00001000 16 4 1"
     ∷ "piece 1 .text 00001020 32 4 1023"
     ∷ "sym main 0 00000000 12"
     ∷ "sym buffer common 00000004 256"
+    ∷ "sym rest common 00000004 64"
     ∷ "reloc 1 0000001C 6 2 -4"
-    ∷ "total 2 3 64"
+    ∷ "total 2 3 320"
     ∷ [])
-unfolding listing unitsLines unitLines pieceLines symLines relocLines sizes figures keepIf text codes digits signedDecimal shown line hex8
+unfolding listing unitsLines unitLines pieceLines symLines relocLines sumBy figures keepIf text codes digits signedDecimal shown line hex8
 mixed-listed = refl

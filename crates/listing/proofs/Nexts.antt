@@ -17,7 +17,7 @@ use Rattle.lines.specs.Lines.{line, unitLine, totalLine, Written}
 use Rattle.listing.specs.declared.Cursor.{Cursor}
 use Rattle.listing.specs.declared.Cursor.the-variants.{Units, Pieces, Symbols, Relocs, Total, Done}
 use Rattle.listing.specs.declared.Line.{Line}
-use Rattle.listing.specs.Listing.{Run, sizes, piecesOf}
+use Rattle.listing.specs.Listing.{Run, figure}
 use Rattle.listing.specs.Cursor.{rest, most, Valid, Before, Within, goesOn, pieceIs, symbolIs, relocIs, Sought, pieceText, symbolText, relocText, Wrote, Next}
 use Rattle.listing.specs.Tables.{Tables, runOf}
 use Rattle.listing.proofs.First.{listed}
@@ -111,19 +111,19 @@ module _ (t : Tables) {c ready : Cursor}
       }
 
       pub next-unit : (unit bytes : ℕ) → ready ≡ Units unit bytes
-          → sizes (piecesOf unit (piecesIn (t .pieces .bytes) (t .pieces .count))) ≤ most
+          → figure (runOf t) unit ≤ most
           → Wrote before after
           (unitLine unit (runOf t .name (unitAt (t .units .bytes) (getD (t .units .places) unit 0) .name))
-          (sizes (piecesOf unit (piecesIn (t .pieces .bytes) (t .pieces .count)))))
-          (Pieces unit 0 (bytes + sizes (piecesOf unit (piecesIn (t .pieces .bytes) (t .pieces .count))))) r
+          (figure (runOf t) unit))
+          (Pieces unit 0 (bytes + figure (runOf t) unit)) r
           → Next (runOf t) c before after r
       next-unit unit bytes e small w =
           finish e refl
           (unit-step (runOf t) unit bytes (let h = found e .ready in let k = units-long in omega arith)
           ∙ ap
           (λ (n : ℕ).
-          unitLine unit (runOf t .name n) (sizes (piecesOf unit (piecesIn (t .pieces .bytes) (t .pieces .count))))
-          ++ rest (runOf t) (Pieces unit 0 (bytes + sizes (piecesOf unit (piecesIn (t .pieces .bytes) (t .pieces .count))))))
+          unitLine unit (runOf t .name n) (figure (runOf t) unit)
+          ++ rest (runOf t) (Pieces unit 0 (bytes + figure (runOf t) unit)))
           (mapped (λ (at : ℕ). unitAt (t .units .bytes) at .name) (t .units .places) unit (found e .ready)))
           (line-some _)
           (record { inside = found e .ready; few = let h = found e .valid .few in omega arith })

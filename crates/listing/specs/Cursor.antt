@@ -47,9 +47,9 @@ rest t Done = []
 
 -- ---- cursors of a run
 
--- a figure of at most 65,535 pieces, each below 2^32 bytes, is no more than this; so the sum of 65,535 figures has 64 bits
+-- a figure of at most 1,024 pieces and 4,096 symbols, each below 2^32 bytes, is no more than this; so the sum of 65,535 figures has 64 bits
 abbrev pub most : ℕ
-most = 281470681677825
+most = 21990232550400
 
 pub record Before (units unit bytes : ℕ) : Type 0 where
   pub inside : unit ≤ units

@@ -1,6 +1,7 @@
 -- The listing of a run: document 01, "Unit: number, name, sum of its piece sizes. Piece: number in its unit, name, address, size, alignment. Total: units, pieces,
 -- bytes. After a unit's pieces come `sym` ..; then `reloc` ..". Pieces, symbols and relocations lie in the walk's order; the listing groups them by unit and keeps
--- that order (DECISIONS.md, 71). Each figure is summed from the piece table, in 64 bits.
+-- that order (DECISIONS.md, 71). Document 02, (c), adds the common symbols of known size to the unit's figure (DECISIONS.md, 135 and 136). Each figure is summed from
+-- the pieces and the piece symbols, in 64 bits.
 use Prim.Native.Nat.{ℕ, suc, _+_}
 use mathlib.Core.List.{List, [], _∷_, _++_}
 use mathlib.Core.Bool.{Bool, cond}
@@ -28,17 +29,33 @@ pub record Run : Type 0 where
 
 -- ---- the figures
 
--- the sum of these pieces' sizes
-unfoldable pub sizes : List Piece → ℕ
-sizes [] = 0
-sizes (p ∷ later) = p .size + sizes later
+-- the sum of what each of these adds
+unfoldable pub sumBy : {A : Type 0} → (adds : A → ℕ) → List A → ℕ
+sumBy adds [] = 0
+sumBy adds (x ∷ later) = adds x + sumBy adds later
+
+abbrev pub sizes : List Piece → ℕ
+sizes pieces = sumBy (λ (p : Piece). p .size) pieces
 
 abbrev pub piecesOf : (unit : ℕ) → List Piece → List Piece
 piecesOf unit pieces = keepIf (λ (p : Piece). eqb (p .unit) unit) pieces
 
--- "sum of its piece sizes"
+abbrev pub symbolsOf : (unit : ℕ) → List PieceSymbol → List PieceSymbol
+symbolsOf unit symbols = keepIf (λ (y : PieceSymbol). eqb (y .unit) unit) symbols
+
+-- what a listed symbol adds: "the sizes of the unit's symbols of known size that are listed as `common`"; size and size known are those of the image's symbol
+abbrev pub commonSize : (symbol : ℕ → Symbol) → PieceSymbol → ℕ
+commonSize symbol y = cond (eqb (y .piece) 65535) (cond (eqb (symbol (y .symbol) .«size_known») 1) (symbol (y .symbol) .size) 0) 0
+
+abbrev pub commons : (symbol : ℕ → Symbol) → List PieceSymbol → ℕ
+commons symbol symbols = sumBy (commonSize symbol) symbols
+
+-- "the unit figure is the pieces' sizes plus the sizes of the unit's symbols of known size that are listed as `common`, each once"
+abbrev pub figureOf : (symbol : ℕ → Symbol) → List Piece → List PieceSymbol → (unit : ℕ) → ℕ
+figureOf symbol pieces symbols unit = sizes (piecesOf unit pieces) + commons symbol (symbolsOf unit symbols)
+
 abbrev pub figure : Run → (unit : ℕ) → ℕ
-figure t unit = sizes (piecesOf unit (t .pieces))
+figure t unit = figureOf (t .symbol) (t .pieces) (t .symbols) unit
 
 -- the sum of the figures of so many units, from this one on
 unfoldable pub figures : Run → (unit : ℕ) → (units : List ℕ) → ℕ
@@ -57,9 +74,6 @@ pieceLines t (p ∷ later) = pieceLine (p .number) (t .name (p .name)) (p .addre
 -- "piece or `common`"
 abbrev pub ownerIn : Run → (place : ℕ) → Owner
 ownerIn t place = cond (eqb place 65535) owner.Common (owner.Piece (pieceIn t place .number))
-
-abbrev pub symbolsOf : (unit : ℕ) → List PieceSymbol → List PieceSymbol
-symbolsOf unit symbols = keepIf (λ (y : PieceSymbol). eqb (y .unit) unit) symbols
 
 -- name and size are those of the image's symbol
 unfoldable pub symLines : Run → List PieceSymbol → List ℕ

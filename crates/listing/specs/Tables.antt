@@ -13,8 +13,10 @@ use Rattle.units.specs.Units.{unitNames}
 use Rattle.symbol_order.specs.Order.{symbolOf}
 use Rattle.relocs.specs.Relocs.{relocOf}
 use Rattle.pieces.specs.Pieces.{pieceAt, symbolAt, relocAt, piecesIn, symbolsIn, relocsIn, pieceWidth}
+use Rattle.obj.specs.declared.Symbol.{Symbol}
 use Rattle.pieces.specs.declared.Piece.{Piece}
-use Rattle.listing.specs.Listing.{Run, sizes, piecesOf}
+use Rattle.pieces.specs.declared.PieceSymbol.{PieceSymbol}
+use Rattle.listing.specs.Listing.{Run, figureOf}
 use Rattle.listing.specs.Cursor.{most}
 
 -- a number below the base's count is a base name, else an added one
@@ -71,7 +73,8 @@ pub record Known (names more : Columns) (k : ℕ) : Type 0 where
 -- each record can be read, and its name is known
 pub record Readable (t : Tables) : Type 0 where
   pub few-units : length (t .units .places) ≤ 65535
-  pub few-pieces : t .pieces .count ≤ 65535
+  pub few-pieces : t .pieces .count ≤ 1024
+  pub few-symbols : t .«piece_symbols» .count ≤ 4096
   pub units : (k : ℕ) → k < length (t .units .places) → Held 8 (t .units .bytes) (t .units .places) k
   pub unit-names : (k : ℕ) → k < length (t .units .places) → Known (t .base) (t .added) (unitAt (t .units .bytes) (getD (t .units .places) k 0) .name)
   pub pieces : pieceWidth * t .pieces .count ≤ length (t .pieces .bytes)
@@ -92,12 +95,17 @@ pub record Name (base added : Columns) (k : ℕ) (r : List ℕ) : Type 0 where
   pub is : r ≡ nameIn base added k
   pub short : length r ≤ 128
 
--- what a piece adds to the unit's figure
-pub record Size (p : Piece) (unit r : ℕ) : Type 0 where
-  pub is : r ≡ cond (eqb (p .unit) unit) (p .size) 0
+-- what a record adds to the unit's figure, if it is the unit's
+pub record Adds (unit of adds r : ℕ) : Type 0 where
+  pub is : r ≡ cond (eqb of unit) adds 0
   pub small : r ≤ 4294967295
 
--- "sum of its piece sizes"
-pub record Summed (pieces : List Piece) (unit r : ℕ) : Type 0 where
-  pub is : r ≡ sizes (piecesOf unit pieces)
+-- the sum over so many records
+pub record Summed (count total r : ℕ) : Type 0 where
+  pub is : r ≡ total
+  pub few : r ≤ count * 4294967295
+
+-- "the unit figure"
+pub record Figure (symbol : ℕ → Symbol) (pieces : List Piece) (symbols : List PieceSymbol) (unit r : ℕ) : Type 0 where
+  pub is : r ≡ figureOf symbol pieces symbols unit
   pub few : r ≤ most

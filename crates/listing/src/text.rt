@@ -1,14 +1,14 @@
 // The line of a unit, of a piece, of a symbol, of a relocation, and the cursor behind it.
 ghost use mathlib.Core.Path.{_≡_};
-ghost use Prim.Native.Nat.{_+_, _*_, _≤_, _<_};
+ghost use Prim.Native.Nat.{ℕ, _+_, _*_, _≤_, _<_};
 ghost use lib.ListN.{length, getD};
 ghost use Rattle.obj.specs.Records.{Held, unitAt};
 ghost use Rattle.symbol_order.specs.Order.{symbolOf};
 ghost use Rattle.relocs.specs.Relocs.{relocOf};
-ghost use Rattle.pieces.specs.Pieces.{pieceAt, symbolAt, relocAt, piecesIn, pieceWidth};
+ghost use Rattle.pieces.specs.Pieces.{pieceAt, symbolAt, relocAt, piecesIn, symbolsIn, pieceWidth};
 ghost use Rattle.lines.specs.Lines.{unitLine};
 ghost use Rattle.listing.specs.declared.Cursor.the-variants.{Pieces, Symbols, Relocs};
-ghost use Rattle.listing.specs.Listing.{sizes, piecesOf};
+ghost use Rattle.listing.specs.Listing.{figureOf};
 ghost use Rattle.listing.specs.Cursor.{most, pieceText, symbolText, relocText, Wrote};
 ghost use Rattle.listing.specs.Tables.{nameIn, Known};
 use crate::Cursor;
@@ -28,7 +28,7 @@ use pieces::piece_at;
 use pieces::piece_reloc_at;
 use pieces::piece_symbol_at;
 
-// "Unit: number, name, sum of its piece sizes."
+// "Unit: number, name", and its figure.
 pub fn unit_line<'a>(
     base_bytes: &'a [u8],
     base_places: &[u32],
@@ -36,10 +36,14 @@ pub fn unit_line<'a>(
     added_bytes: &'a [u8],
     added_places: &[u32],
     added_lengths: &[u8],
+    symbols: &[u8],
+    symbol_places: &[u32],
     units: &[u8],
     unit_places: &[u32],
     pieces: &[u8],
     piece_count: usize,
+    piece_symbols: &[u8],
+    piece_symbol_count: usize,
     unit: u16,
     bytes: u64,
     out: &mut [u8],
@@ -47,7 +51,10 @@ pub fn unit_line<'a>(
     requires { ⌜
         (208 ≤ length (now out))
         × (pieceWidth * «piece_count» ≤ length (now pieces))
-        × («piece_count» ≤ 65535)
+        × («piece_count» ≤ 1024)
+        × (12 * «piece_symbol_count» ≤ length (now «piece_symbols»))
+        × («piece_symbol_count» ≤ 4096)
+        × ((k : ℕ) → k < «piece_symbol_count» → Held 20 (now symbols) (now «symbol_places») (symbolAt (now «piece_symbols») (12 * k) .symbol))
         × (unit < 65535)
         × (bytes ≤ unit * most)
         × Held 8 (now units) (now «unit_places») unit
@@ -56,12 +63,23 @@ pub fn unit_line<'a>(
     ensures { λ r. ⌜
         Wrote (now (out .entry)) (now (out .exit))
         (unitLine unit (nameIn (record { bytes = now («base_bytes» .entry); places = now («base_places» .entry); lengths = now («base_lengths» .entry) }) (record { bytes = now («added_bytes» .entry); places = now («added_places» .entry); lengths = now («added_lengths» .entry) }) (unitAt (now (units .entry)) (getD (now («unit_places» .entry)) unit 0) .name))
-        (sizes (piecesOf unit (piecesIn (now (pieces .entry)) «piece_count»))))
-        (Pieces unit 0 (bytes + sizes (piecesOf unit (piecesIn (now (pieces .entry)) «piece_count»)))) r
-        × (sizes (piecesOf unit (piecesIn (now (pieces .entry)) «piece_count»)) ≤ most)
+        (figureOf (symbolOf (now (symbols .entry)) (now («symbol_places» .entry))) (piecesIn (now (pieces .entry)) «piece_count»)
+        (symbolsIn (now («piece_symbols» .entry)) «piece_symbol_count») unit))
+        (Pieces unit 0 (bytes + figureOf (symbolOf (now (symbols .entry)) (now («symbol_places» .entry))) (piecesIn (now (pieces .entry)) «piece_count»)
+        (symbolsIn (now («piece_symbols» .entry)) «piece_symbol_count») unit)) r
+        × (figureOf (symbolOf (now (symbols .entry)) (now («symbol_places» .entry))) (piecesIn (now (pieces .entry)) «piece_count»)
+        (symbolsIn (now («piece_symbols» .entry)) «piece_symbol_count») unit ≤ most)
         ⌝ }
 {
-    let size = figure_of(pieces, piece_count, unit);
+    let size = figure_of(
+        symbols,
+        symbol_places,
+        pieces,
+        piece_count,
+        piece_symbols,
+        piece_symbol_count,
+        unit,
+    );
     let u = unit_at(units, unit_places, unit as usize);
     let number = u.name as usize;
     let name = name_of(
@@ -74,12 +92,13 @@ pub fn unit_line<'a>(
         number,
     );
     let length = write_unit(out, unit, name, size);
+    let sum = bytes + size;
     Line {
         length,
         next: Cursor::Pieces {
             unit,
             at: 0,
-            bytes: bytes + size,
+            bytes: sum,
         },
     }
 }

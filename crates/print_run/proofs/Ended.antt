@@ -66,7 +66,7 @@ module _ (file places lengths : List ℕ) (counts : load.Counts) (c : Beside) (t
         readable =
             run-readable u (roomsIn file 4096 65535 1024 units-room (roomIn a b d) (tablesIn counts places lengths)) c table units pieces entries offsets names used splits n made
             (e ∙ run-stages file _ _ l) (h .0 .packed) (h .2) (omega (arith, w .pieces, room-pieces 1024 a)) (omega (arith, w .pieces, room-low 1024 a pieceWidth))
-            (omega (arith, w .symbols, room-12 4096 b)) (omega (arith, w .relocs, room-8 4096 d));
+            (omega (arith, w .symbols, room-12 4096 b)) (omega (arith, w .symbols, room-low 4096 b 12)) (omega (arith, w .relocs, room-8 4096 d));
       }
   run-printable (Cycle n) e h loaded long lengths-long pieces-long entries-long offsets-long = tt
   run-printable (Refused number section address) e h loaded long lengths-long pieces-long entries-long offsets-long = tt

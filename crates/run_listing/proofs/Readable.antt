@@ -70,7 +70,7 @@ module _ {file : List ℕ} {t : Loaded} (u : Usable file t) (room : Rooms) (r : 
       (units-below (length (f .full .names)) (f .full .rows) (unitsIn file (t .units)) _ (room .units) (f .nodes)
       (omega (arith, few-units u, length-map (t .units) (unitAt file))) (all-map (λ s q. q .unit) homed) (f .ordered))
 
-  output-below : Below (length (f .full .names)) (length (t .symbols)) (length (t .relocations)) (r .output)
+  pub output-below : Below (length (f .full .names)) (length (t .symbols)) (length (t .relocations)) (r .output)
   unfolding walked
   output-below =
       walk-below _ (length (f .full .names)) (λ n h. omega (arith, section-named u n h, names-more u longer)) (all-map (λ s q. q .renamed) homed) (r .output) (f .walks)
@@ -84,9 +84,10 @@ pub run-readable : {file : List ℕ} {t : Loaded} (u : Usable file t) (room : Ro
     → pieceWidth * made .pieces ≤ length pieces
     → made .pieces ≤ 1024
     → 12 * made .symbols ≤ length entries
+    → made .symbols ≤ 4096
     → 8 * made .relocs ≤ length offsets
     → Readable (listedTables file t c units pieces entries offsets n made)
-run-readable {file} {t} u room c table units pieces entries offsets names used splits n made e packed w long-pieces few-pieces long-entries long-offsets =
+run-readable {file} {t} u room c table units pieces entries offsets names used splits n made e packed w long-pieces few-pieces long-entries few-entries long-offsets =
     let f = finished file t room _ (sym e) in
     let all = longer u room _ f in
     let known = name-known u (f .full .names) all c names used packed (f .added) in
@@ -94,7 +95,8 @@ run-readable {file} {t} u room c table units pieces entries offsets names used s
     let long = length-stagePlaces 8 n in
     record {
       few-units = omega (arith, w .few);
-      few-pieces = omega arith;
+      few-pieces = few-pieces;
+      few-symbols = few-entries;
       units = λ k h. record { there = h; inside = omega (arith, w .fit, stage-place 8 n k (omega arith)) };
       unit-names = λ k h. known _ (unit-at units n k h (units-named u room _ f));
       pieces = long-pieces;

@@ -36,7 +36,7 @@ pub record Below (names count most : ℕ) (o : Output) : Type 0 where
 -- ---- symbols
 
 -- an entry has its symbol's number
-entry-symbol : (unit place : ℕ) (s : Split) (i : ℕ) (y : Symbol) → entryOf unit place s i y .symbol ≡ i
+pub entry-symbol : (unit place : ℕ) (s : Split) (i : ℕ) (y : Symbol) → entryOf unit place s i y .symbol ≡ i
 unfolding entryOf
 entry-symbol unit place s i y = either (isCommon s) _ _ refl refl
   where

@@ -14,7 +14,7 @@ use crate::{
     document::{
         self, Refusal,
         image::{Image, SPLIT_BYTES, partials_in},
-        listing::listed,
+        listing::listed_as_the_rust,
         load::load,
         order::units_in,
         outputs::Answer,
@@ -77,7 +77,7 @@ impl Stage for SplitFile {
         if let Err(refusal) = load(&case.file) {
             return as_check_file(&case.file, refusal);
         }
-        rust::run_beside(&case.file, listed(&case.file, &NO_CEILING))
+        rust::run_beside(&case.file, listed_as_the_rust(&case.file, &NO_CEILING))
     }
 }
 

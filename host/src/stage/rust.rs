@@ -85,25 +85,13 @@ pub fn beside(case: &Case, question: Question, reading: Result<Reply, Refusal>) 
     }
 }
 
-/// A listing as document 01 has it: "Equality with the Rust leaves out this and later
-/// additions."
-fn without_origins(listing: &str) -> String {
-    let line = |line: &str| match line.rsplit_once(' ') {
-        Some((known, _)) if line.starts_with("piece ") => format!("{known}\n"),
-        _ => format!("{line}\n"),
-    };
-    listing.lines().map(line).collect()
-}
-
 /// The whole run on a file that passed its checks, and the reading's listing.
 pub fn run_beside(file: &[u8], reading: Result<String, Refusal>) -> Beside {
     let Some(asked) = answers::run(file) else {
         return Beside::NotAsked;
     };
     match (&reading, &asked) {
-        (Ok(reading), Ok(listing)) if without_origins(reading) == *listing => {
-            Beside::Same(0, ", as the Rust")
-        }
+        (Ok(reading), Ok(listing)) if reading == listing => Beside::Same(0, ", as the Rust"),
         (Err(refusal), Err((stage, stop))) if number(*stage, stop) == Some(refusal.number) => {
             Beside::Same(refusal.number, how(stop))
         }

@@ -33,8 +33,18 @@ unit-line-requires c κs =
     let g = c .before .before .ready .given in
     let t = tables s in
     let d = unit-ready t q (g .1) in
-    let f = r .few-units in
-    (s .pre .0, r .pieces, r .few-pieces, omega arith, unit-before t q (g .1) .few, r .units (g .0 .0) d, r .unit-names (g .0 .0) d)
+    let f = r .few-units in (
+      s .pre .0,
+      r .pieces,
+      r .few-pieces,
+      r .«piece_symbols»,
+      r .few-symbols,
+      r .symbols,
+      omega arith,
+      unit-before t q (g .1) .few,
+      r .units (g .0 .0) d,
+      r .unit-names (g .0 .0) d,
+    )
 
 enum-known-ready-2 : tie.Need-enum-known-ready-2
 enum-known-ready-2 c = c .match .keys2

@@ -44,7 +44,7 @@ fn repeated() -> Vec<(String, &'static str)> {
     ]
 }
 
-const POINTS: [(&str, &str); 26] = [
+const POINTS: [(&str, &str); 27] = [
     ("", "total 0 0 0\n"),
     // The empty name is a name that only symbols may use.
     ("name \"\"\n", "total 0 0 0\n"),
@@ -65,6 +65,13 @@ const POINTS: [(&str, &str); 26] = [
         "name .bss\nname a\nsection .bss bss 2000 24 0\nsplit 0 2000..2008 a common\n",
         "unit 0 a 0\nunit 1 auto_00_00002008_bss 16\npiece 0 .bss 00002008 16 8 65535\n\
          total 2 1 16\n",
+    ),
+    // A common symbol of known size is in its unit's figure, one of unknown size isn't.
+    (
+        "name .bss\nname a\nname x\nname y\nsection .bss bss 2000 24 0\n\
+         symbol y 0 2000 8 object known=0\nsymbol x 0 2010 6 object\n\
+         split 0 2000..2018 a common\n",
+        "unit 0 a 6\nsym y common 00000004 8\nsym x common 00000004 6\ntotal 1 0 6\n",
     ),
     // An open split doesn't survive a run.
     (

@@ -41,9 +41,10 @@ pub fn store(seed: u64) -> io::Result<()> {
          # outcome, and what the Rust does. Seed {seed}, made in host/ by\n\
          #   cargo run --release -- store {seed}\n\
          # from src/stage/run/files.rs: of its random files the first of each outcome that are\n\
-         # short, then for each way to a ceiling one of each outcome that it comes to. `stdout` has\n\
-         # what is printed for each: the Rust's listing where it gives one and no ceiling stands\n\
-         # against it, else document 01's refusal.\n"
+         # short, then for each way to a ceiling one of each outcome that it comes to, and last\n\
+         # examples/firmware.rec. `stdout` has\n\
+         # what is printed for each: the Rust's listing, with what document 02 adds, where it gives\n\
+         # one and no ceiling stands against it, else document 01's refusal.\n"
     );
     let mut listings = String::new();
     for (i, file) in chosen(seed).iter().enumerate() {
@@ -93,8 +94,12 @@ fn chosen(seed: u64) -> Vec<Vec<u8>> {
     for which in 0..files::LARGE.len() {
         chosen.extend(at_a_ceiling(which, &mut r));
     }
+    chosen.push(FIRMWARE.to_vec());
     chosen
 }
+
+/// A symbol of known size is common there.
+const FIRMWARE: &[u8] = include_bytes!("../../../../examples/firmware.rec");
 
 /// How many files are made to find the outcomes around a ceiling.
 const TRIES: usize = 20;
