@@ -1,4 +1,6 @@
 // Alignments: which are good, and the next address that has one.
+#![tactic(auto)]
+
 ghost use Rattle.std.specs.Prelude.{◌≡◌, true, ◌≤◌};
 ghost use Rattle.align.specs.Align.{good_align, bad_align, Aligned};
 

@@ -1,4 +1,6 @@
 // Numbers read from bytes, the most significant byte first, as an ELF file of ELFDATA2MSB has them.
+#![tactic(auto)]
+
 ghost use Rattle.std.specs.Prelude.{◌≡◌, ◌+◌, ◌≤◌, ◌<◌, length};
 ghost use Rattle.fields.specs.Fields.{Byte};
 ghost use Rattle.big_endian.specs.BigEndian.{be16, be32};

@@ -1,6 +1,7 @@
 // Document 01's cases through the entries' functions: for each case a line with the answer's number, section and address, and then the
 // bytes that are left in the outputs. `stdout` beside src/ has what must come out; the same cases are a theorem over the definition in
 // crates/toposort/proofs/Cases.antt.
+#![tactic(auto)]
 
 fn show_bytes(bytes: &[u8]) {
     let mut i = 0;

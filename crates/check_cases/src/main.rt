@@ -1,6 +1,7 @@
 // Record files and stage tables through the entries `check_file` and `check_tables`. `stdin` beside src/ has the cases: for each its title and its bytes, in a
 // form that is said there. For each case a line is printed: its title, the answer's number, section and address, and for a file the counts of names,
 // sections, symbols, relocations, splits and units. `stdout` has what must come out, by document 01 and the decisions.
+#![tactic(auto)]
 
 // ---- what is read
 
@@ -20,7 +21,7 @@ const COUNT: u8 = 5;
 const KEEP: u8 = 6;
 
 // How far a case is read: `high` is the first digit of a byte, 16 if none was read; table k ends at cuts[k].
-#[derive(Drop)]
+#[derive(Clone, Copy)]
 pub struct Reading {
     pub mode: u8,
     pub high: u8,

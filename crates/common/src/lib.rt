@@ -1,5 +1,7 @@
 // Marking common (document 01, Common): "Every `.bss` split from the given address on, else from the first common one on, becomes common."
 // `update_common_splits` works on the split table's columns. `mark_common_splits` is document 01's own form, "on a lent slice of split records".
+#![tactic(auto)]
+
 ghost use Rattle.std.specs.Prelude.{◌≡◌, map, ◌&&◌, eqb, ℕ, ◌/◌, ◌%◌, ◌<◌, ◌≤◌, length, take};
 ghost use Rattle.lists.specs.Rows.{keep_if};
 ghost use Rattle.lists.specs.Outcome.{accepted};
@@ -14,7 +16,7 @@ use obj::{Answer, Split, refusal, section_at};
 use splits::{rest_of, row};
 
 // The sections named `.bss`.
-#[derive(Drop)]
+#[derive(Clone, Copy)]
 pub enum Bss {
     None,
     One(u16),
@@ -22,7 +24,7 @@ pub enum Bss {
 }
 
 // Where the common splits begin.
-#[derive(Drop)]
+#[derive(Clone, Copy)]
 pub enum CommonStart {
     Nowhere,
     On(u16, u32),

@@ -1,4 +1,6 @@
 // The filling of gaps (`create_gap_splits` of util/split.rs): all gaps are found in the split table as it is, and then they enter it.
+#![tactic(auto)]
+
 ghost use Rattle.std.specs.Prelude.{◌≡◌, ◌≤◌, length};
 ghost use Rattle.names.specs.Names.{names_of};
 ghost use Rattle.names.specs.Index.{Indexed};

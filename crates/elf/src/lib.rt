@@ -1,5 +1,7 @@
 // The structures of an ELF32 file, most significant byte first, by the System V ABI: the ELF header, a section header, a symbol table entry and a string of a string
 // table, each read where it stands in lent bytes.
+#![tactic(auto)]
+
 ghost use Rattle.std.specs.Prelude.{◌≡◌, ◌+◌, ◌≤◌, length};
 ghost use Rattle.elf.specs.Elf.{header_at, section_header_at, symbol_entry_at};
 ghost use Rattle.elf.specs.Strings.{string_at, Spanned, EndedBelow};
@@ -7,7 +9,7 @@ ghost use Rattle.elf.specs.Strings.{string_at, Spanned, EndedBelow};
 use big_endian::{get_be16, get_be32};
 
 // The ELF header, 52 bytes. `magic` is e_ident[0..4] as one number, `class` e_ident[4], `order` e_ident[5]; the others are the ABI's without their `e_`, but `kind` is e_type.
-#[derive(Drop)]
+#[derive(Clone, Copy)]
 pub struct Header {
     pub magic: u32,
     pub class: u8,
@@ -28,7 +30,7 @@ pub struct Header {
 }
 
 // A section header, 40 bytes: the ABI's members without their `sh_`, but `kind` is sh_type.
-#[derive(Drop)]
+#[derive(Clone, Copy)]
 pub struct SectionHeader {
     pub name: u32,
     pub kind: u32,
@@ -43,7 +45,7 @@ pub struct SectionHeader {
 }
 
 // A symbol table entry, 16 bytes: the ABI's members without their `st_`.
-#[derive(Drop)]
+#[derive(Clone, Copy)]
 pub struct SymbolEntry {
     pub name: u32,
     pub value: u32,

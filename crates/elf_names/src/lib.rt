@@ -1,4 +1,6 @@
 // The names of an ELF file's sections and symbols, numbered by first use in a lent name table.
+#![tactic(auto)]
+
 ghost use Rattle.std.specs.Prelude.{◌≡◌, List, ℕ, ◌*◌, ◌/◌, ◌<◌, ◌+◌, ◌≤◌, length, set, replicate, eqb};
 ghost use Rattle.lists.specs.Rows.{some};
 ghost use Rattle.elf.specs.Strings.{string_at};

@@ -1,5 +1,7 @@
 // The stage entries over the C convention, "extern "C" on numbers and byte slices": each asks nothing of its caller, and its contract says
 // the answer and every byte of its outputs for every input. The header is include/mizhakkon.h.
+#![tactic(auto)]
+
 ghost use Rattle.std.specs.Prelude.{◌≡◌, map, length};
 ghost use Rattle.tables.specs.Tables.{main_ceilings};
 ghost use Rattle.load.specs.Load.{load_of};

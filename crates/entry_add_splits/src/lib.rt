@@ -1,5 +1,7 @@
 // The entry `add_splits` behind its C name: the checks of its tables, the merge of the partial list into the split table, and what is left in the lent outputs.
 // The columns are local; each function lends them on whole.
+#![tactic(auto)]
+
 ghost use Rattle.std.specs.Prelude.{◌≡◌, ◌*◌, ◌≤◌, length};
 ghost use Rattle.tables.specs.Tables.{AllHeld};
 ghost use Rattle.tables.specs.Records.{sections_in};

@@ -1,4 +1,6 @@
 // The entry `check_file` behind its C name: the loader over columns of its own, its answer as a word, and the counts of what it loaded.
+#![tactic(auto)]
+
 ghost use Rattle.std.specs.Prelude.{◌≡◌, length};
 ghost use Rattle.tables.specs.Tables.{main_ceilings};
 ghost use Rattle.outputs.specs.Outputs.{counts_of};

@@ -1,5 +1,7 @@
 // The entry `check_tables` behind its C name: every stage table, "stage tables by kind .., each for 1, 2, then its kind's number". The columns that
 // the checks fill are local; each function lends them on whole.
+#![tactic(auto)]
+
 ghost use Rattle.std.specs.Prelude.{◌≡◌, ◌≤◌, length};
 ghost use Rattle.obj.specs.Answers.{meaning, outcome_word};
 ghost use Rattle.tables.specs.Tables.{AllHeld};

@@ -1,5 +1,7 @@
 // The entry `create_gap_splits` behind its C name: the checks of its tables, the filling of gaps, and what is left in the lent outputs. The columns that the checks
 // fill are local; each function lends them on whole.
+#![tactic(auto)]
+
 ghost use Rattle.std.specs.Prelude.{◌≡◌, [], ◌∷◌, ◌++◌, ◌+◌, ◌*◌, ◌/◌, ◌≤◌, ◌<◌, length};
 ghost use Rattle.lists.specs.Outcome.{Outcome};
 ghost use Rattle.outputs.specs.Outputs.{counts_of};

@@ -1,4 +1,6 @@
 // The entry `join_pieces` behind its C name: names, section heads and pieces are checked, and the pieces' bytes are joined. Document 02, (e).
+#![tactic(auto)]
+
 ghost use Rattle.std.specs.Prelude.{◌≤◌, ◌/◌, length};
 ghost use Rattle.join_pieces.specs.Joins.{Joins};
 ghost use Rattle.kept_output.specs.Kept.{Leaves};
@@ -11,7 +13,7 @@ use obj::Answer;
 use piece_records::count_pieces;
 
 // The answer, and how many bytes were joined if it was accepted.
-#[derive(Drop)]
+#[derive(Clone, Copy)]
 pub struct Written {
     pub answer: Answer,
     pub size: u64,

@@ -1,5 +1,7 @@
 // The entry `mend_splits` behind its C name: the checks of its tables, the mending of the split table, and what is left in the lent outputs.
 // The columns are local; each stands in the lowest function that needs it.
+#![tactic(auto)]
+
 ghost use Rattle.std.specs.Prelude.{◌≡◌, ◌≤◌, length};
 ghost use Rattle.obj.specs.Answers.{meaning};
 ghost use Rattle.tables.specs.Tables.{AllHeld};

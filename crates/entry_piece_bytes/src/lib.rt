@@ -1,5 +1,7 @@
 // The entry `piece_bytes` behind its C name: where in the lent image a piece's bytes lie, so that a caller reads them there and copies nothing.
 // It asks the section heads, the places of their bytes and the piece table as `split_obj` takes and gives them.
+#![tactic(auto)]
+
 ghost use Rattle.std.specs.Prelude.{◌≡◌, length, ◌+◌, ◌≤◌};
 ghost use Rattle.lists.specs.Outcome as outcome;
 ghost use Rattle.tables.specs.Records.{image_places_of};
@@ -12,14 +14,14 @@ use pieces::{PIECE_BYTES, Piece, piece_at};
 use tables::{bytes_cut, image_place, table_size};
 
 // Where a piece's bytes lie in the image.
-#[derive(Drop)]
+#[derive(Clone, Copy)]
 pub struct Place {
     pub offset: u32,
     pub length: u32,
 }
 
 // The answer, and the place that was asked for if it was accepted.
-#[derive(Drop)]
+#[derive(Clone, Copy)]
 pub struct Found {
     pub answer: Answer,
     pub place: Place,

@@ -1,5 +1,7 @@
 // The entries `end_for_section` and `split_alignment` behind their C names: the tables, "stage tables by kind", and then one question. The columns
 // that the checks fill are local; each function lends them on whole.
+#![tactic(auto)]
+
 ghost use Rattle.std.specs.Prelude.{◌≡◌, length};
 ghost use Rattle.lists.specs.Outcome as outcome;
 ghost use Rattle.sections.specs.Image.{image_of, Tables};
@@ -18,14 +20,14 @@ use stage_tables::{take_image, take_splits};
 use tables::main_ceilings;
 
 // What is asked: the splitting end of a section, or the alignment of a split of the table.
-#[derive(Drop)]
+#[derive(Clone, Copy)]
 pub enum Question {
     End { section: u16 },
     Alignment { split: u16 },
 }
 
 // The answer, and the number that was asked for if it was accepted.
-#[derive(Drop)]
+#[derive(Clone, Copy)]
 pub struct Asked {
     pub answer: Answer,
     pub value: u32,

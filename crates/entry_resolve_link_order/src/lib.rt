@@ -1,5 +1,7 @@
 // The entry `resolve_link_order` behind its C name: the checks of its tables, the stage, and what is left in the lent outputs. The columns that the checks and
 // the stage fill are local; each function lends them on whole.
+#![tactic(auto)]
+
 ghost use Rattle.std.specs.Prelude.{◌≡◌, ◌/◌, length};
 ghost use Rattle.obj.specs.Records.{stage_places};
 ghost use Rattle.tables.specs.Records.{sections_in};

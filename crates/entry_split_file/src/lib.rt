@@ -1,4 +1,6 @@
 // The entry `split_file` behind its C name: the run of a record file over columns of its own, and what is left in the lent outputs.
+#![tactic(auto)]
+
 ghost use Rattle.run_outputs.specs.Kept.{sizes_of};
 ghost use Rattle.run_file.specs.RunFile.{Lent, Loader};
 ghost use Rattle.entry_split_file.specs.Entry.{split_file_of, Leaves};

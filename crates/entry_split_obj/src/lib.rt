@@ -1,5 +1,7 @@
 // The entry `split_obj` behind its C name: the checks of its tables, the walk, and what is left in the lent outputs. The columns that the checks fill are local;
 // each function lends them on whole. From the splits on it is stage_walk.
+#![tactic(auto)]
+
 ghost use Rattle.std.specs.Prelude.{◌≡◌, ◌*◌, ◌≤◌, ◌<◌, length};
 ghost use Rattle.tables.specs.Records.{sections_in};
 ghost use Rattle.name_table.specs.Stored as stored;

@@ -1,4 +1,6 @@
 // The entry `toposort` behind its C name: the checks of its tables, the sort, and what is left in the lent outputs.
+#![tactic(auto)]
+
 ghost use Rattle.std.specs.Prelude.{◌≡◌, ◌+◌, ◌*◌, ◌/◌, ◌≤◌, ◌<◌, length, take};
 ghost use Rattle.lists.specs.Rows.{tabulate};
 ghost use Rattle.fields.specs.Fields.{le16};
@@ -13,7 +15,7 @@ use outputs::{clear_from, put_count, put_halves};
 use toposort::{answer_of, kept};
 
 // The answer, and how many nodes stand at the front of the node table.
-#[derive(Drop)]
+#[derive(Clone, Copy)]
 pub struct Ended {
     pub answer: Answer,
     pub kept: usize,

@@ -1,5 +1,7 @@
 // The entry `update_common_splits` behind its C name: the checks of its tables, the stage, and what is left in the lent outputs. The columns that the checks
 // fill are local; each function lends them on whole.
+#![tactic(auto)]
+
 ghost use Rattle.std.specs.Prelude.{◌≡◌, ◌*◌, ◌≤◌, length};
 ghost use Rattle.tables.specs.Tables.{AllHeld};
 ghost use Rattle.tables.specs.Records.{sections_in};

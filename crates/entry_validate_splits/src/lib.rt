@@ -1,5 +1,7 @@
 // The entry `validate_splits` behind its C name: the checks of its tables, then the check of the splits. The columns that the checks fill are local; each
 // function lends them on whole.
+#![tactic(auto)]
+
 ghost use Rattle.std.specs.Prelude.{◌≡◌, length};
 ghost use Rattle.obj.specs.Answers.{meaning, outcome_word};
 ghost use Rattle.tables.specs.Tables.{AllHeld};

@@ -1,4 +1,6 @@
 // The entry `write_srecords` behind its C name: names, section heads and pieces are checked, and the joined bytes are written as S-record lines. Document 02, (n).
+#![tactic(auto)]
+
 ghost use Rattle.std.specs.Prelude.{◌≤◌, ◌/◌, length};
 ghost use Rattle.stage_tables.specs.StageTables.{stage_sections};
 ghost use Rattle.join_pieces.specs.Joins.{Joins};

@@ -1,5 +1,7 @@
 // Whether one record has its kind's fault (document 01, Tables, 4 to 8): by its fields and by numbers that the caller looks up, so the same
 // tests serve the records of a file and those of a stage table.
+#![tactic(auto)]
+
 ghost use Rattle.std.specs.Prelude.{◌≡◌};
 ghost use Rattle.faults.specs.Faults.{section_bad, symbol_bad, reloc_bad, split_bad, split_misplaced, unit_bad};
 

@@ -1,1 +1,2 @@
 // The laws of the filling of gaps, over its definition. No code.
+#![tactic(auto)]

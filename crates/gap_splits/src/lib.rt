@@ -1,5 +1,7 @@
 // Gaps enter the split table (`create_gap_splits` of util/split.rs, its second half): each gets its unit's name, which is added where it is new, and is merged as
 // any split (document 01, Gap and Merge; specs/Entering.antt). The names of the tables stay where they lie, those that are added stand beside.
+#![tactic(auto)]
+
 ghost use Rattle.std.specs.Prelude.{◌≡◌, ◌++◌, ◌/◌, ◌%◌, ◌≤◌, ◌<◌, length, get_or};
 ghost use Rattle.names.specs.Names.{names_of, Named as NamedColumns};
 ghost use Rattle.names.specs.Index.{Indexed};
@@ -17,7 +19,7 @@ use names::{append, find, name_at, write_gap_name};
 use obj::{Split, section_at};
 
 // The unit of a gap: its number, with the names that are added then and their bytes.
-#[derive(Drop)]
+#[derive(Clone, Copy)]
 pub enum UnitName {
     Number {
         unit: u16,
@@ -29,7 +31,7 @@ pub enum UnitName {
 }
 
 // What gaps leave that entered: so many names are added, with so many bytes, and so many splits are there; or the first refusal.
-#[derive(Drop)]
+#[derive(Clone, Copy)]
 pub enum Entered {
     Accepted {
         names: usize,

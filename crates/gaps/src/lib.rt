@@ -1,5 +1,7 @@
 // The search for the gaps of a split table (`create_gap_splits` of util/split.rs, its first half): all gaps of all sections are found in the table as it
 // is, and kept in two lent columns in the order in which they enter.
+#![tactic(auto)]
+
 ghost use Rattle.std.specs.Prelude.{◌≡◌, [], true, false, cond, not, ◌&&◌, ◌+◌, ◌%◌, ◌≤◌, ◌<◌, length, get_or, eqb, ltb};
 ghost use Rattle.lists.specs.Rows.{keep_if};
 ghost use Rattle.align.specs.Align.{good_align, bad_align};
@@ -24,7 +26,7 @@ use symbol_order::{key_of, number};
 use symbols::for_section_range;
 
 // Where a gap ends.
-#[derive(Drop)]
+#[derive(Clone, Copy)]
 pub enum GapEnd {
     Is(u32),
     // 41
@@ -34,7 +36,7 @@ pub enum GapEnd {
 }
 
 // "the next split's alignment"
-#[derive(Drop)]
+#[derive(Clone, Copy)]
 pub enum NextAlignment {
     Is(u32),
     // 11
@@ -42,7 +44,7 @@ pub enum NextAlignment {
 }
 
 // What a search leaves: so many gaps in the columns, or the first refusal.
-#[derive(Drop)]
+#[derive(Clone, Copy)]
 pub enum Search {
     Found(usize),
     Refused {

@@ -1,4 +1,6 @@
 // All names of an ELF file, "numbered by first use, sections first", in the lent name table.
+#![tactic(auto)]
+
 ghost use Rattle.std.specs.Prelude.{◌≡◌, [], ◌≤◌, length};
 ghost use Rattle.names.specs.Index.{Indexed};
 ghost use Rattle.import.specs.Import.{names_of};

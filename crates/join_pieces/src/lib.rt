@@ -1,5 +1,7 @@
 // Putting an image back: document 02, (e). The pieces are laid over zeros, each in its place among the sections' bytes, and then each is compared with what lies
 // there: that finds 83 in time proportional to the bytes.
+#![tactic(auto)]
+
 ghost use Rattle.std.specs.Prelude.{◌≡◌, false, not, ◌≤◌, ◌<◌, ◌/◌, length, get_or};
 ghost use Rattle.std.proofs.lemmas.List.Edits.{sets};
 ghost use Rattle.lists.specs.Rows.{some};

@@ -1,4 +1,6 @@
 // The lines of the listing, each written into a small lent buffer: no buffer holds the whole listing.
+#![tactic(auto)]
+
 mod numbers;
 
 ghost use Rattle.std.specs.Prelude.{◌≡◌, cond, ◌+◌, ◌≤◌, ◌++◌, ◌∷◌, [], length};
@@ -10,7 +12,7 @@ use names::put_bytes;
 pub use numbers::{put_decimal, put_hex8};
 
 // "piece or `common`": a piece's number in its unit.
-#[derive(Drop)]
+#[derive(Clone, Copy)]
 pub enum Owner {
     Common,
     Piece(u16),

@@ -1,4 +1,6 @@
 // The graph of the link order, in lent columns: "Units count by first split", an edge for neighbours in a section, and the chain of order numbers.
+#![tactic(auto)]
+
 ghost use Rattle.std.specs.Prelude.{◌≡◌, ◌&&◌, not, ◌++◌, map, ℕ, ◌+◌, ◌-◌, ◌%◌, ◌<◌, ◌≤◌, eqb, length, get_or, take, replicate};
 ghost use Rattle.lists.specs.Rows.{keep_if};
 ghost use Rattle.lists.specs.Sort.{All};
@@ -16,7 +18,7 @@ use splits::row;
 const NONE: u16 = 65535;
 
 // How many nodes and edges the graph has.
-#[derive(Drop)]
+#[derive(Clone, Copy)]
 pub struct Made {
     pub nodes: usize,
     pub edges: usize,

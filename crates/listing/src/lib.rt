@@ -1,4 +1,6 @@
 // The listing of a run, a line at a time: each line goes into a small lent buffer, and a cursor says where the next begins. No buffer holds the whole listing.
+#![tactic(auto)]
+
 mod reading;
 mod seek;
 mod text;
@@ -12,7 +14,7 @@ use crate::text::{piece_line, reloc_line, symbol_line, unit_line};
 use lines::write_total;
 
 // Where the next line begins, and the sum of the figures so far.
-#[derive(Drop)]
+#[derive(Clone, Copy)]
 pub enum Cursor {
     Units { unit: u16, bytes: u64 },
     Pieces { unit: u16, at: usize, bytes: u64 },
@@ -23,7 +25,7 @@ pub enum Cursor {
 }
 
 // A line of so many bytes was written; 0 at the end of the listing.
-#[derive(Drop)]
+#[derive(Clone, Copy)]
 pub struct Line {
     pub length: usize,
     pub next: Cursor,

@@ -49,7 +49,7 @@ or_cases false b e = inr e
 
 -- ---- some member passes
 module _ {A : Type 0} (p : A → Bool) where
-  pub some_by : {l : List A} {x : A} → Memᴰ x l → p x ≡ true → some p l ≡ true
+  pub some_by : {x : A} {l : List A} → Memᴰ x l → p x ≡ true → some p l ≡ true
   unfolding some
   some_by {x = x} (Memᴰ.head {x = y} {xs = l} e) h = or_left (p y) (some p l) (ap p (sym e) ∙ h)
   some_by (Memᴰ.tail {x = y} {xs = l} m) h = or_right (p y) (some p l) (some_by m h)

@@ -1,6 +1,8 @@
 // The record file: document 01, "Records and ceilings", "Refused, by place", Tables. "Records are checked in file order, .. each for 1, 2, then
 // its kind's number". Nothing is copied: what is loaded are the places of the records' payloads. Each record is decided first, over columns that
 // are only read, and then kept.
+#![tactic(auto)]
+
 ghost use Rattle.std.specs.Prelude.{◌≡◌, ◌+◌, ◌≤◌, ◌<◌, length, get_or, set, take, drop};
 ghost use Rattle.lists.specs.Rows.{clear_from};
 ghost use Rattle.fields.specs.Fields.{le16, le32};
@@ -22,7 +24,7 @@ use obj::{
 use tables::{Ceilings, length_of, section_or_none};
 
 // How many records of each kind are loaded.
-#[derive(Drop)]
+#[derive(Clone, Copy)]
 pub struct Counts {
     pub names: usize,
     pub sections: usize,
@@ -33,7 +35,7 @@ pub struct Counts {
 }
 
 // The loader's answer: the counts are zeros after a refusal.
-#[derive(Drop)]
+#[derive(Clone, Copy)]
 pub struct FileAnswer {
     pub answer: Answer,
     pub counts: Counts,

@@ -1,4 +1,6 @@
 // The tables of a loaded file: where the sections' bytes are. The laws say that what the loader found is what each stage asks.
+#![tactic(auto)]
+
 ghost use Rattle.std.specs.Prelude.{◌≡◌, ℕ, ◌+◌, ◌≤◌, ◌<◌, length, get_or, take};
 ghost use Rattle.loaded.specs.Tables.{byte_places};
 

@@ -1,5 +1,7 @@
 // Mending of a split table (`mend_splits`): ends that are 0, below their start or above the next start are replaced, with a line for each.
 // A row's new end is decided in a function over `&` columns, then set; the lines go into a lent slice.
+#![tactic(auto)]
+
 ghost use Rattle.std.specs.Prelude.{◌≡◌, ◌+◌, ◌-◌, ◌≤◌, ◌<◌, map, length, take};
 ghost use Rattle.lists.specs.Rows.{tabulate};
 ghost use Rattle.obj.specs.Answers.{meaning};
@@ -15,14 +17,14 @@ use obj::{Answer, Split, refusal, section_at};
 use splits::row;
 
 // The start of the next split of the section, or that there is none.
-#[derive(Drop)]
+#[derive(Clone, Copy)]
 pub enum Next {
     Start(u32),
     Last,
 }
 
 // A row, whether its end is replaced, and the end that it gets.
-#[derive(Drop)]
+#[derive(Clone, Copy)]
 pub struct Decided {
     pub split: Split,
     pub wrong: bool,
@@ -30,14 +32,14 @@ pub struct Decided {
 }
 
 // Whether the lines so far fit, and where they end.
-#[derive(Drop)]
+#[derive(Clone, Copy)]
 pub struct Lines {
     pub fit: bool,
     pub end: usize,
 }
 
 // What the mending of a table answers: how many bytes of lines there are, or a refusal.
-#[derive(Drop)]
+#[derive(Clone, Copy)]
 pub enum Mending {
     Accepted {
         size: usize,

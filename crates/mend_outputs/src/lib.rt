@@ -1,4 +1,6 @@
 // The outputs of `mend_splits`: the mended rows and the counts where the mending was accepted, zeros throughout after a refusal; what is lent beyond stays.
+#![tactic(auto)]
+
 ghost use Rattle.std.specs.Prelude.{◌*◌, ◌≤◌, length};
 ghost use Rattle.splits.specs.Columns.{columns, rows, Long};
 ghost use Rattle.mend.specs.Steps.{line_bytes};

@@ -1,5 +1,7 @@
 // The merge (`add_split` of the Rust): new splits into the split table, by rounds. All refusals of a round sit in `decide`, which only reads the
 // columns and says what is to be done; the loop then pushes or joins (document 01, Merge; specs/Merge.antt).
+#![tactic(auto)]
+
 ghost use Rattle.std.specs.Prelude.{◌≡◌, cond, eqb, ℕ, ◌≤◌, ◌<◌, length, get_or};
 ghost use Rattle.lists.specs.Rows.{keep_if};
 ghost use Rattle.lists.specs.Outcome.{accepted};
@@ -21,7 +23,7 @@ use split_joins::join_and_push;
 use splits::{meets, next_of_unit, row};
 
 // What a round does with the new split.
-#[derive(Drop)]
+#[derive(Clone, Copy)]
 pub enum Decision {
     Refuse {
         number: u16,
@@ -34,7 +36,7 @@ pub enum Decision {
 }
 
 // How many splits the table holds after a merge, or the first refusal.
-#[derive(Drop)]
+#[derive(Clone, Copy)]
 pub enum Merged {
     Accepted {
         n: usize,

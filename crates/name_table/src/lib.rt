@@ -1,5 +1,7 @@
 // The name table of a stage: `ends` has where each name ends in `bytes`, two bytes each; a name starts where the one before it ends. Its checks,
 // and the names as columns: "each for 1, 2, then its kind's number", "Two equal names in stage tables: 3".
+#![tactic(auto)]
+
 ghost use Rattle.std.specs.Prelude.{◌≡◌, ◌+◌, ◌*◌, ◌/◌, ◌≤◌, ◌<◌, length};
 ghost use Rattle.obj.specs.Answers.{meaning};
 ghost use Rattle.tables.specs.Tables.{records_check};

@@ -1,4 +1,6 @@
 // Names in lent bytes: comparing them, the fixed ones, finding a name's number, the name of a gap's unit, and appending a name.
+#![tactic(auto)]
+
 mod fixed;
 mod gap_name;
 mod index;

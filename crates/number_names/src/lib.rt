@@ -1,4 +1,6 @@
 // Names numbered by first use, in a lent name table: each is looked up by the index of the names, and appended where it is not there.
+#![tactic(auto)]
+
 ghost use Rattle.std.specs.Prelude.{◌≡◌, List, ◌∷◌, [], ◌++◌, ℕ, ◌+◌, ◌*◌, ◌/◌, ◌≤◌, ◌<◌, length};
 ghost use Rattle.names.specs.Names.{same_name, number_of};
 ghost use Rattle.names.specs.Index.{Found};
@@ -10,7 +12,7 @@ use name_table::{end_of, start_of};
 use names::{bucket_of, enter, number_at, put_bytes, same};
 
 // How many names stand in the table, how many bytes they have, and whether one had no place.
-#[derive(Drop)]
+#[derive(Clone, Copy)]
 pub struct Count {
     pub names: usize,
     pub used: usize,

@@ -1,4 +1,6 @@
 // The link order: the units of the splits as a graph, sorted, and the unit records in that order or on a cycle.
+#![tactic(auto)]
+
 mod records;
 
 ghost use Rattle.std.specs.Prelude.{◌≡◌, ◌/◌, ◌≤◌, length};
@@ -17,7 +19,7 @@ use records::write_records;
 use toposort::{answer_of, kept};
 
 // The answer, and how many unit records stand at the front of the unit table.
-#[derive(Drop)]
+#[derive(Clone, Copy)]
 pub struct Resolved {
     pub answer: Answer,
     pub kept: usize,

@@ -1,4 +1,6 @@
 // What an entry writes into the tables that are lent to it: numbers of two bytes, the counts, and zeros after what is kept.
+#![tactic(auto)]
+
 ghost use Rattle.std.specs.Prelude.{◌≡◌, ◌+◌, ◌*◌, ◌≤◌, length};
 ghost use Rattle.std.proofs.lemmas.List.Edits.{sets};
 ghost use Rattle.lists.specs.Rows.{clear_from};

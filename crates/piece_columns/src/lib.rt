@@ -1,6 +1,8 @@
 // Columns beside the output of the walk, so that what is asked of it is answered without looking through it: how many pieces each unit has, and for each
 // symbol the chain of its entries among the piece symbols. All start with zeros. The chains are two columns in one: the last entry of each of 4,096 symbols,
 // then for each entry the one before it.
+#![tactic(auto)]
+
 ghost use Rattle.std.specs.Prelude.{◌≡◌, [], ◌∷◌, ◌++◌, ◌+◌, ◌*◌, ◌≤◌, ◌<◌, length};
 ghost use Rattle.pieces.specs.Pieces.{pieces_in, symbols_in, piece_width};
 ghost use Rattle.pieces.specs.Questions.{count_of, has};

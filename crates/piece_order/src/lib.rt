@@ -1,5 +1,7 @@
 // The numbers of pieces by section and address: document 02, (n), compares a piece only with one before it. The sort is that of symbol_order, so the pieces' sections
 // and addresses stand in records of a symbol's width.
+#![tactic(auto)]
+
 ghost use Rattle.std.specs.Prelude.{◌≡◌, ◌+◌, ◌*◌, ◌≤◌, length, take};
 ghost use Rattle.std.proofs.lemmas.List.Edits.{sets};
 ghost use Rattle.fields.specs.Fields.{enc16, enc32};

@@ -1,5 +1,7 @@
 // Piece records, kind 7, one after another in lent bytes: document 02, (e). They are counted once, with their checks; then each pass over them goes from record to
 // record. Nothing is copied.
+#![tactic(auto)]
+
 ghost use Rattle.std.specs.Prelude.{◌≡◌, ◌+◌, ◌≤◌, length};
 ghost use Rattle.lists.specs.Outcome as outcome;
 ghost use Rattle.piece_records.specs.Records.{part_at, next_at, record_bad, count_from, counted, Lying, IsHead};
@@ -8,14 +10,14 @@ use fields::{get16, get32};
 use obj::{Answer, refusal};
 
 // How many records there are, if they were accepted.
-#[derive(Drop)]
+#[derive(Clone, Copy)]
 pub struct Counted {
     pub answer: Answer,
     pub count: u32,
 }
 
 // A piece without its bytes.
-#[derive(Drop)]
+#[derive(Clone, Copy)]
 pub struct PieceHead {
     pub section: u16,
     pub address: u32,

@@ -1,4 +1,6 @@
 // 83 where no bytes are lent to lay pieces on: the pieces by section and address, each compared with the one before it that reaches farthest. Document 02, (n).
+#![tactic(auto)]
+
 ghost use Rattle.std.specs.Prelude.{◌≡◌, map, ◌≤◌, ◌<◌, min, max, length, get_or};
 ghost use Rattle.lists.specs.Sort.{All};
 ghost use Rattle.join.specs.Join.{differ};

@@ -1,12 +1,14 @@
 // What the walk gives: pieces, their symbols and their relocations, as records of lent tables, and a piece's bytes.
 // A piece symbol's and a piece relocation's other fields are those of the image's record of that number.
+#![tactic(auto)]
+
 ghost use Rattle.std.specs.Prelude.{◌≡◌, [], ◌∷◌, ◌++◌, ◌+◌, ◌*◌, ◌-◌, ◌≤◌, min, length, take, drop};
 ghost use Rattle.std.proofs.lemmas.List.Edits.{sets};
 ghost use Rattle.pieces.specs.Pieces.{piece_width, piece_head, piece_bytes, symbol_bytes, reloc_bytes, piece_at, symbol_at, reloc_at, pieces_in, symbols_in, relocs_in};
 
 use fields::{get16, get32, get64, put16, put32, put64};
 
-#[derive(Drop)]
+#[derive(Clone, Copy)]
 pub struct Piece {
     pub unit: u16,
     pub number: u16,
@@ -19,7 +21,7 @@ pub struct Piece {
     pub origin: u16,
 }
 
-#[derive(Drop)]
+#[derive(Clone, Copy)]
 pub struct PieceSymbol {
     pub unit: u16,
     pub piece: u16,
@@ -28,7 +30,7 @@ pub struct PieceSymbol {
     pub address: u32,
 }
 
-#[derive(Drop)]
+#[derive(Clone, Copy)]
 pub struct PieceReloc {
     pub piece: u16,
     pub relocation: u16,

@@ -1,5 +1,7 @@
 // The run of a record file, printed: the listing of what it gives, or its refusal, to standard output. No buffer holds the whole listing: each line is written from a
 // buffer of 208 bytes. Writing that fails ends the printing.
+#![tactic(auto)]
+
 ghost use Rattle.std.specs.Prelude.{◌≤◌, ◌≡◌, length};
 ghost use Rattle.gap_splits.specs.Answers.{beside};
 ghost use Rattle.listing.specs.Tables.{Readable};

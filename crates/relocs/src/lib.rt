@@ -1,4 +1,6 @@
 // The relocations of a section, by number: a column made once for a section, of which those in a range are a part, found by a binary search.
+#![tactic(auto)]
+
 ghost use Rattle.std.specs.Prelude.{◌≡◌, ◌<◌, ◌≤◌, length, get_or};
 ghost use Rattle.lists.specs.Rows.{keep_if, first_in};
 ghost use Rattle.lists.specs.Sort.{between, at_least};

@@ -1,5 +1,7 @@
 // The end of the run: "orders (`resolve_link_order`, `toposort`) and walks (`split_obj`, its section loop only)", over the tables of a file that was accepted and the
 // split table that was made of it, so that no table is checked again.
+#![tactic(auto)]
+
 ghost use Rattle.std.specs.Prelude.{◌≡◌, List, [], map, ℕ, ◌/◌, ◌≤◌, ◌<◌, length};
 ghost use Rattle.lists.specs.Sort.{All};
 ghost use Rattle.obj.specs.declared.Unit as unit_records;
@@ -23,7 +25,7 @@ use walk::Counts;
 
 // What a run answers: how many names were added, with how many bytes, and how many splits, units and records of the walk there are; how many units the cycle has that
 // stands in the unit table; or a refusal.
-#[derive(Drop)]
+#[derive(Clone, Copy)]
 pub enum Ran {
     Done {
         names: usize,

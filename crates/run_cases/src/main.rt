@@ -1,5 +1,6 @@
 // Record files through the run: `stdin` beside src/ has the cases, for each its title and its bytes, in a form that is said there; `stdout` has for each its title, and
 // then what `splitlist` prints for it: the Rust's listing, or document 01's refusal.
+#![tactic(auto)]
 
 // ---- what is read
 
@@ -13,7 +14,7 @@ const COMMENT: u8 = 2;
 const COUNT: u8 = 3;
 
 // How far a case is read: `high` is the first digit of a byte, 16 if none was read; `open` says that there is a case.
-#[derive(Drop)]
+#[derive(Clone, Copy)]
 pub struct Reading {
     pub mode: u8,
     pub high: u8,

@@ -1,5 +1,7 @@
 // The run of a record file, over lent columns: load, then the stages one after another. Names stay in the file; only those of gaps' units are added, beside them. The
 // columns that a stage needs for itself are local to it.
+#![tactic(auto)]
+
 ghost use Rattle.std.specs.Prelude.{◌≡◌, ◌/◌, ◌-◌, ◌≤◌, length};
 ghost use Rattle.load.specs.Columns.{tables_in};
 ghost use Rattle.tables.specs.Tables.{main_ceilings};
@@ -24,7 +26,7 @@ use run_room::{bytes_room, names_room};
 use run_splits::split_table;
 
 // What the run answers, and how many records of each kind the file has.
-#[derive(Drop)]
+#[derive(Clone, Copy)]
 pub struct RanFile {
     pub ran: Ran,
     pub counts: Counts,

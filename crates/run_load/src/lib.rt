@@ -1,4 +1,6 @@
 // A record file made ready for the stages: loaded into lent columns, with the places of the sections' bytes and the symbol order.
+#![tactic(auto)]
+
 ghost use Rattle.std.specs.Prelude.{◌≡◌, ◌≤◌, length};
 ghost use Rattle.tables.specs.Tables.{main_ceilings};
 ghost use Rattle.load.specs.Load.{load_of};
@@ -12,7 +14,7 @@ use symbol_order::make_order;
 use tables::main_ceilings;
 
 // What was answered, how many records of each kind there are, and how many symbols the order has: it is `order[..ordered]`.
-#[derive(Drop)]
+#[derive(Clone, Copy)]
 pub struct Prepared {
     pub answer: Answer,
     pub counts: Counts,

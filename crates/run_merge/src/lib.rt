@@ -1,5 +1,7 @@
 // The first stages of the run: "It merges the partial splits in file order (`add_split`), marks common (`update_common_splits` with no start)". Heads, names and
 // partial splits are the file's own bytes; the table stands in lent columns.
+#![tactic(auto)]
+
 ghost use Rattle.std.specs.Prelude.{◌≡◌, [], ◌≤◌};
 ghost use Rattle.tables.specs.Tables.{AllHeld};
 ghost use Rattle.tables.specs.Records.{sections_in, partials_in};

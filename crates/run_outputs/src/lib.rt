@@ -1,4 +1,6 @@
 // What a run leaves in the outputs: of each table the records that its answer keeps, zeros after them, and their numbers in the counts.
+#![tactic(auto)]
+
 ghost use Rattle.std.specs.Prelude.{◌≡◌, [], ◌∷◌, ◌*◌, ◌≤◌, length};
 ghost use Rattle.lists.specs.Tables.{laid};
 ghost use Rattle.outputs.specs.Outputs.{halves, counts_of};
@@ -19,7 +21,7 @@ use stage_splits::put_splits;
 use walk::Counts;
 
 // How many records are kept in each table.
-#[derive(Drop)]
+#[derive(Clone, Copy)]
 pub struct Kept {
     pub names: usize,
     pub used: usize,

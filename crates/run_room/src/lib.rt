@@ -1,4 +1,6 @@
 // What the ceilings leave for the names that a run adds to those of its file: "4,096 names of 65,535 bytes in all", and no more than is lent for them.
+#![tactic(auto)]
+
 ghost use Rattle.std.specs.Prelude.{◌≡◌, ◌-◌, ◌≤◌, length};
 ghost use Rattle.lists.specs.Bounds.{lower as lowerOf};
 ghost use Rattle.run_room.specs.Room.{sum};

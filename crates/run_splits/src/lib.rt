@@ -1,5 +1,7 @@
 // The split table of the run: "It merges the partial splits in file order (`add_split`), marks common (`update_common_splits` with no start), fills gaps
 // (`create_gap_splits`), checks (`validate_splits`), trims (..)". All tables are those of a file that was accepted, so that none is checked again.
+#![tactic(auto)]
+
 ghost use Rattle.std.specs.Prelude.{◌≡◌, List, [], ℕ, ◌≤◌, length};
 ghost use Rattle.names.specs.Names.{names_of};
 ghost use Rattle.names.specs.Index.{Indexed};

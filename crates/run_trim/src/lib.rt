@@ -1,4 +1,6 @@
 // The run checks and trims: "checks (`validate_splits`), trims (..)". Symbols, names and sections are the file's own bytes; the table stands in lent columns.
+#![tactic(auto)]
+
 ghost use Rattle.std.specs.Prelude.{◌≡◌, ◌≤◌, length};
 ghost use Rattle.symbol_order.specs.Order.{symbol_of};
 ghost use Rattle.symbols.specs.Sound.{Sound};

@@ -1,4 +1,6 @@
 // Questions on a section: where it may be split at last, how a split in it is aligned, and its bytes.
+#![tactic(auto)]
+
 ghost use Rattle.std.specs.Prelude.{◌≡◌, reverse, ◌-◌, ◌<◌, ◌≤◌, length, drop};
 ghost use Rattle.names.specs.Names.{name_at, Named};
 ghost use Rattle.symbol_order.specs.Order.{symbol_of, Order};
@@ -15,7 +17,7 @@ use symbol_order::number;
 use symbols::{Highest, for_section, highest_in, is_sized_unstripped};
 
 // The splitting end.
-#[derive(Drop)]
+#[derive(Clone, Copy)]
 pub enum End {
     Is(u32),
     // 10
@@ -23,7 +25,7 @@ pub enum End {
 }
 
 // A split's alignment with its reason.
-#[derive(Drop)]
+#[derive(Clone, Copy)]
 pub enum Alignment {
     Given(u32),
     FromSymbol(u32),

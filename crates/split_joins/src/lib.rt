@@ -1,5 +1,7 @@
 // A join over a split's range and the push of the split, in one move, where the table is such that this is the same (document 01, Merge: "both become one"). Proved
 // equal to the two edits one after the other (specs/Joins.antt).
+#![tactic(auto)]
+
 ghost use Rattle.std.specs.Prelude.{◌≡◌, true, eqb, ℕ, ◌-◌, ◌<◌, ◌≤◌, length, get_or};
 ghost use Rattle.lists.specs.Rows.{tabulate, some};
 ghost use Rattle.splits.specs.Columns.{Good, columns, Long};

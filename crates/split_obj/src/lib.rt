@@ -1,5 +1,7 @@
 // The walk (`split_obj` of util/split.rs, its section loop): the section loop, the split loop and the halving loop stand in one function, as document 01 asks:
 // "A loop inside the split loop yields the alignment by break; a misfit leaves the section loop by label." All else is a call.
+#![tactic(auto)]
+
 ghost use Rattle.std.specs.Prelude.{◌≡◌, cond, ltb, ◌+◌, ◌-◌, ◌<◌, ◌≤◌, length, get_or};
 ghost use Rattle.splits.specs.Columns.{columns, rows as rows_of, Long};
 ghost use Rattle.splits.specs.Questions.{within};
@@ -21,7 +23,7 @@ use splits::{is_within, row};
 use walk::{Counts, Gave, Step, choose, give};
 
 // What the walk answers: how many of each it made, or a refusal.
-#[derive(Drop)]
+#[derive(Clone, Copy)]
 pub enum Walked {
     Accepted(Counts),
     Refused {

@@ -1,5 +1,7 @@
 // The split table as four columns and a count: its rows, read from packed records and written to them, and what is asked of them.
 // `rest` packs section, rename, flags, alignment and origin (specs/Columns.antt).
+#![tactic(auto)]
+
 ghost use Rattle.std.specs.Prelude.{◌≡◌, true, false, not, ◌&&◌, map, eqb, leb, ltb, ℕ, ◌+◌, ◌*◌, ◌/◌, ◌%◌, ◌<◌, ◌≤◌, length, get_or, set};
 ghost use Rattle.std.proofs.lemmas.List.Edits.{sets};
 ghost use Rattle.lists.specs.Rows.{tabulate, some};
@@ -13,7 +15,7 @@ use fields::{put16, put32};
 use obj::{PARTIAL_BYTES, SPLIT_BYTES, Split, split_at};
 
 // What a range holds: a split, a hand split, a hand split of another unit.
-#[derive(Drop)]
+#[derive(Clone, Copy)]
 pub struct Met {
     pub any: bool,
     pub hand: bool,

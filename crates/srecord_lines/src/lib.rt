@@ -1,4 +1,6 @@
 // S-record lines written into lent bytes, and the sections that share an address: the leaves of document 02, (n).
+#![tactic(auto)]
+
 ghost use Rattle.std.specs.Prelude.{◌≡◌, [], ◌∷◌, ◌+◌, ◌*◌, ◌≤◌, ◌<◌, length};
 ghost use Rattle.std.proofs.lemmas.List.Edits.{sets};
 ghost use Rattle.fields.specs.Fields.{big, bytes_of};

@@ -1,5 +1,7 @@
 // The gap stage over tables that passed: the splits in columns, the filling of gaps, and what is left in the lent outputs. The columns are local; each function lends
 // them on whole.
+#![tactic(auto)]
+
 ghost use Rattle.std.specs.Prelude.{◌≡◌, [], ◌∷◌, ◌*◌, ◌≤◌, ◌<◌, length};
 ghost use Rattle.outputs.specs.Outputs.{counts_of};
 ghost use Rattle.names.specs.Names.{names_of, Named};

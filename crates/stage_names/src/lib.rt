@@ -1,4 +1,6 @@
 // The name table of a stage that gives one back: whether the names that it is given fit into the lent outputs, and names put there with their ends.
+#![tactic(auto)]
+
 ghost use Rattle.std.specs.Prelude.{◌≡◌, ◌||◌, ◌++◌, ◌+◌, ◌*◌, ◌/◌, ◌≤◌, ◌<◌, length, leb, ltb};
 ghost use Rattle.obj.specs.Answers.{meaning, place};
 ghost use Rattle.names.specs.Names.{names_of, Named};

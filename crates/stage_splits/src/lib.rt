@@ -1,5 +1,7 @@
 // The split table of a stage that gives one back: taken into columns with all its checks, and laid into the lent output with its count; after a refusal all
 // outputs are zero. What the entries of merge, common, gap and trim have in common.
+#![tactic(auto)]
+
 ghost use Rattle.std.specs.Prelude.{◌≡◌, ◌*◌, ◌≤◌, List, length};
 ghost use Rattle.lists.specs.Outcome.{Outcome};
 ghost use Rattle.lists.specs.Tables.{laid};

@@ -1,4 +1,6 @@
 // The symbols of a stage entry: the table's checks, then the symbol order; and the places of the sections' bytes as a column.
+#![tactic(auto)]
+
 ghost use Rattle.std.specs.Prelude.{◌≤◌, length};
 ghost use Rattle.tables.specs.Tables.{AllHeld};
 ghost use Rattle.tables.specs.Records.{sections_in, image_places_of};
@@ -11,7 +13,7 @@ use stage_tables::take_symbols;
 use symbol_order::make_order;
 
 // What was answered, and how many symbols the order has: it is `order[..ordered]`.
-#[derive(Drop)]
+#[derive(Clone, Copy)]
 pub struct Taken {
     pub answer: Answer,
     pub ordered: usize,

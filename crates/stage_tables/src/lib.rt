@@ -1,5 +1,7 @@
 // The stage tables but names, each with all its checks: document 01, "each for 1, 2, then its kind's number". A table's records get their places
 // in a lent column, which the readers of `obj` then take; what the column holds at first is of no matter.
+#![tactic(auto)]
+
 ghost use Rattle.std.specs.Prelude.{◌*◌, ◌<◌, ◌≤◌, length};
 ghost use Rattle.obj.specs.Answers.{meaning};
 ghost use Rattle.tables.specs.Tables.{size_check, AllHeld};

@@ -1,5 +1,7 @@
 // The walk of all sections in columns of its own, and the tables that come right before it: the units, and the splits before them. The entry `split_obj` asks it
 // after its other tables, a run with columns that it has already.
+#![tactic(auto)]
+
 ghost use Rattle.std.specs.Prelude.{◌≡◌, ◌≤◌, ◌<◌, length};
 ghost use Rattle.tables.specs.Records.{sections_in};
 ghost use Rattle.sections.specs.Image.{image_of};

@@ -1,5 +1,7 @@
 // The questions asked of a section's symbols: each is a part of the symbol order, found by a binary search, and a short pass over it.
 // "Its first" and "its next" symbol are the first and the next number of such a part.
+#![tactic(auto)]
+
 ghost use Rattle.std.specs.Prelude.{◌≡◌, ◌<◌, ◌≤◌, length};
 ghost use Rattle.lists.specs.Rows.{keep_if, first_in as firstPlace};
 ghost use Rattle.lists.specs.Sort.{between, at_least};
@@ -11,14 +13,14 @@ use obj::{Symbol, symbol_at};
 use symbol_order::{key_in, key_of, number};
 
 // A symbol's number, where there is such a symbol.
-#[derive(Drop)]
+#[derive(Clone, Copy)]
 pub enum Found {
     At(usize),
     Nothing,
 }
 
 // The answer to a range with two ends.
-#[derive(Drop)]
+#[derive(Clone, Copy)]
 pub enum FoundIn {
     Is(Found),
     // 11
@@ -26,7 +28,7 @@ pub enum FoundIn {
 }
 
 // The highest alignment in a range with two ends, 0 if no symbol has one.
-#[derive(Drop)]
+#[derive(Clone, Copy)]
 pub enum Highest {
     Is(u32),
     // 11

@@ -1,5 +1,7 @@
 // The checks of the stage tables: document 01, "stage tables by kind (record: its number there; for 2 the first too many), each for 1, 2, then
 // its kind's number". A table is lent bytes and a column of places, as the readers of `obj` take it; names come in as a column of their lengths.
+#![tactic(auto)]
+
 ghost use Rattle.std.specs.Prelude.{◌≡◌, ◌*◌, ◌<◌, ◌≤◌, length, get_or, take, replicate};
 ghost use Rattle.obj.specs.Records.{stage_places, Held, split_width, partial_width};
 ghost use Rattle.obj.specs.Answers.{meaning};
@@ -14,7 +16,7 @@ use obj::{
 };
 
 // How many records a table of each kind may have.
-#[derive(Drop)]
+#[derive(Clone, Copy)]
 pub struct Ceilings {
     pub names: usize,
     pub sections: usize,

@@ -1,4 +1,6 @@
 // Topological sort of an edge table by depth-first search: a port of util/toposort.rs.
+#![tactic(auto)]
+
 ghost use Rattle.std.specs.Prelude.{◌≡◌, [], ◌++◌, ℕ, suc, ◌≤◌, ◌<◌, length, drop, replicate};
 ghost use Rattle.lists.specs.Outcome.{accepted};
 ghost use Rattle.toposort.specs.Search.{Graph, next_edge, bad_edge, move_of, node, parent_of, hops, climb, state_at, Reaches, searched, start};
@@ -11,20 +13,20 @@ use obj::{Answer, refusal};
 const ROOT: usize = 1024;
 
 // "A node's record holds its state: unseen, open with next edge and parent, or closed."
-#[derive(Drop)]
+#[derive(Clone, Copy)]
 pub enum State {
     Unseen,
     Open { next: u16, parent: u16 },
     Closed,
 }
 
-#[derive(Drop)]
+#[derive(Clone, Copy)]
 pub struct Node {
     pub state: State,
 }
 
 // What the sort answers; the table holds the order or the cycle.
-#[derive(Drop)]
+#[derive(Clone, Copy)]
 pub enum Sorted {
     Ordered(usize),
     Cycle(usize),
@@ -34,7 +36,7 @@ pub enum Sorted {
 
 // What an open node does next: the root has opened every node, a node has passed its last edge, or an edge is taken (where the node's next
 // edge is looked for then, and the node that the edge enters).
-#[derive(Drop)]
+#[derive(Clone, Copy)]
 pub enum Move {
     Finish,
     Close,

@@ -1,5 +1,7 @@
 // The trim of a split table (`trim_split_alignment`, then `trim_linker_generated_symbols`): first all falls are found, then they are carried out, then the
 // last splits are cut. Only ends change; starts, units and the rest stay as they are.
+#![tactic(auto)]
+
 ghost use Rattle.std.specs.Prelude.{◌≡◌, true, false, ℕ, ◌+◌, ◌-◌, ◌<◌, ◌≤◌, length, take};
 ghost use Rattle.lists.specs.Outcome.{accepted, refuse};
 ghost use Rattle.lists.specs.Rows.{tabulate};
@@ -23,7 +25,7 @@ use splits::{row, set_end};
 use symbols::{Found, FoundIn, last_in};
 
 // A number that asks a range of symbols.
-#[derive(Drop)]
+#[derive(Clone, Copy)]
 pub enum Asked {
     Is(u32),
     // 11

@@ -1,4 +1,6 @@
 // The unit that takes the pieces of a split, by its name: a column made once, with a number for each name.
+#![tactic(auto)]
+
 ghost use Rattle.std.specs.Prelude.{◌≡◌, length, get_or, replicate};
 ghost use Rattle.obj.specs.Records.{unit_at, Held};
 ghost use Rattle.units.specs.Units.{unit_names, Listed, Numbered};

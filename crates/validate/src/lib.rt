@@ -1,4 +1,6 @@
 // Check of a split table (`validate_splits`): the splits against one another and against the symbols, 50 to 53.
+#![tactic(auto)]
+
 ghost use Rattle.std.specs.Prelude.{◌≡◌, length};
 ghost use Rattle.obj.specs.Answers.{meaning};
 ghost use Rattle.symbol_order.specs.Order.{symbol_of, Order};

@@ -1,5 +1,7 @@
 // The walk (`split_obj`, its section loop), split by split: what a split asks for, and what it gives to the output. The loops over sections and splits are in
 // the crate `split_obj`.
+#![tactic(auto)]
+
 mod choice;
 mod entries;
 mod output;
@@ -10,7 +12,7 @@ pub use choice::choose;
 pub use output::give;
 
 // So many pieces, piece symbols and piece relocations.
-#[derive(Drop)]
+#[derive(Clone, Copy)]
 pub struct Counts {
     pub pieces: usize,
     pub symbols: usize,
@@ -18,7 +20,7 @@ pub struct Counts {
 }
 
 // What a split asks for.
-#[derive(Drop)]
+#[derive(Clone, Copy)]
 pub enum Step {
     // Nothing: it is skipped.
     Skip,
@@ -29,14 +31,14 @@ pub enum Step {
 }
 
 // How many entries there are now, or no room for another.
-#[derive(Drop)]
+#[derive(Clone, Copy)]
 pub enum Added {
     Now(usize),
     Full,
 }
 
 // How many there are of each after a split gave, or 11 or 76.
-#[derive(Drop)]
+#[derive(Clone, Copy)]
 pub enum Gave {
     Made(Counts),
     Fault(u16),

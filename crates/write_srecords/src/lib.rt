@@ -1,4 +1,6 @@
 // The lines of all sections, written from the front of the lent bytes on while their joined bytes are read behind: document 02, (n).
+#![tactic(auto)]
+
 ghost use Rattle.std.specs.Prelude.{◌≡◌, ◌+◌, ◌*◌, ◌≤◌, ◌<◌, ◌/◌, length, get_or, take, drop, ◌++◌};
 ghost use Rattle.std.proofs.lemmas.List.Edits.{sets};
 ghost use Rattle.join.specs.Join.{nowhere, held_by, held};

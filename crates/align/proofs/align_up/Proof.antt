@@ -11,16 +11,16 @@ use Rattle.align.proofs.Theorems.{align_up-fits}
 use Rattle.align.proofs.align_up.Statement.{statement}
 use Rattle.align.proofs.align_up.Tie as tie
 
-sub-result : tie.Need-overflow-sub-result
+sub-result : tie.Need-overflow_sub-result
 sub-result c = omega (arith, good_pos c.args.align c.requires.1)
 
-add-result : tie.Need-overflow-add-result
+add-result : tie.Need-overflow_add-result
 add-result c = omega (arith, (align_up-fits c.args.value c.args.align c.requires.1 c.requires.0).0)
 
-shr-result : tie.Need-overflow-shr-result
+shr-result : tie.Need-overflow_shr-result
 shr-result c = omega (arith, good_exponent c.args.align c.requires.1)
 
-shl-result : tie.Need-overflow-shl-result
+shl-result : tie.Need-overflow_shl-result
 shl-result c = omega (arith, good_exponent c.args.align c.requires.1)
 
 -- shifting down and up again by the exponent is dividing and multiplying by the alignment
@@ -37,5 +37,5 @@ returns c =
     let is = shifted c in
     record { is = is; near = rw is (align_up_near c.args.align c.requires.1 c.args.value).1 }
 
-pub align-up-spec : {M : Type 1} → statement M
-align-up-spec = tie.close (tie.spec sub-result add-result shr-result shl-result returns)
+pub align_up_spec : {M : Type 1} → statement M
+align_up_spec = tie.close (tie.spec sub-result add-result shr-result shl-result returns)

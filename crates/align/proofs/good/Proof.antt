@@ -9,5 +9,5 @@ returns : tie.Need-returns
 unfolding good_align
 returns c = refl
 
-pub good-spec : {M : Type 1} → statement M
-good-spec = tie.close (tie.spec returns)
+pub good_spec : {M : Type 1} → statement M
+good_spec = tie.close (tie.spec returns)

@@ -5,14 +5,14 @@ use borrow.Author.Rules.{rules}
 use Rattle.big_endian.proofs.byte32.Statement.{statement}
 use Rattle.big_endian.proofs.byte32.Tie as tie
 
-shared-slice-read-result : tie.Need-shared-slice-read-result
+shared-slice-read-result : tie.Need-bounds-s-at
 shared-slice-read-result c = search rules
 
-cast-result : tie.Need-overflow-cast-result
-cast-result c = omega (arith, c.shared-slice-known.given c.before.args.at)
+cast-result : tie.Need-overflow_cast-result
+cast-result c = omega (arith, c.shared_slice_known-1.given c.args.at)
 
 returns : tie.Need-returns
-returns c = record { is = refl; small = (c.shared-slice-known.given c.before.args.at).fits }
+returns c = record { is = refl; small = (c.shared_slice_known-1.given c.args.at).fits }
 
-pub byte32-spec : {M : Type 1} → statement M
-byte32-spec = tie.close (tie.spec shared-slice-read-result cast-result returns)
+pub byte32_spec : {M : Type 1} → statement M
+byte32_spec = tie.close (tie.spec shared-slice-read-result cast-result returns)

@@ -3,29 +3,29 @@ use borrow.Author.Rules.{rules}
 use Rattle.common.proofs.common_bss_start.Statement.{statement}
 use Rattle.common.proofs.common_bss_start.Tie as tie
 
-enum_told : tie.Need-enum-told
+enum_told : tie.Need-enum_told-1
 enum_told c = search rules
 
-enum-known-bss : tie.Need-enum-known-bss
+enum-known-bss : tie.Need-enum_known-bss
 enum-known-bss c = search rules
 
-first-start-requires : tie.Need-first-start-requires
+first-start-requires : tie.Need-first_start-requires
 first-start-requires c κs = search rules
 
-enum-told-2 : tie.Need-enum-told-2
+enum-told-2 : tie.Need-enum_told-in-Many
 enum-told-2 c = search rules
 
-returns : tie.Need-returns
-returns c = rw c.enum_told.given.1
+returns : tie.Need-returns-in-None
+returns c = rw c.in-None.is
 
-returns-2 : tie.Need-returns-2
-returns-2 c = rw c.before.before.bss.given.1 c.first_start.ensures
+returns-2 : tie.Need-returns-in-One
+returns-2 c = rw c.in-One.is c.first_start.ensures
 
-returns-3 : tie.Need-returns-3
-returns-3 c = rw c.enum-told2.given.1
+returns-3 : tie.Need-returns-in-Many
+returns-3 c = rw c.in-Many.is
 
-pub common-bss-start-spec : {M : Type 1} → statement M
-common-bss-start-spec =
+pub common_bss_start_spec : {M : Type 1} → statement M
+common_bss_start_spec =
     tie.close
     (tie.spec
     enum_told

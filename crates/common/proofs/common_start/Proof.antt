@@ -10,28 +10,28 @@ use borrow.Author.Rules.{rules}
 use Rattle.common.proofs.common_start.Statement.{statement}
 use Rattle.common.proofs.common_start.Tie as tie
 
-by_name-requires : tie.Need-by_name-requires
+by_name-requires : tie.Need-by_name-bss-requires
 by_name-requires c κs = search rules
 
-given-start-requires : tie.Need-given-start-requires
+given-start-requires : tie.Need-given_start-requires
 given-start-requires c κs = search rules
 
-returns : tie.Need-returns
+returns : tie.Need-returns-then-has_start
 unfolding common_start
 returns c =
-    let a = c.before.before.before.before.before.before.before.before.before.before.before.before.args in
-    rw c.before.if1.true (ap start_meaning c.given_start.ensures ∙ ap (λ (b : Bss). start_meaning (given_of a.start b)) c.before.before.by_name.ensures ∙ given_is a.start (bss_in a.name_bytes.now a.name_places.now a.name_lengths.now a.heads.now a.places.now))
+    let a = c.args in
+    rw c.if-has_start.true (ap start_meaning c.given_start.ensures ∙ ap (λ (b : Bss). start_meaning (given_of a.start b)) c.by_name-bss.ensures ∙ given_is a.start (bss_in a.name_bytes.now a.name_places.now a.name_lengths.now a.heads.now a.places.now))
 
-common-bss-start-requires : tie.Need-common-bss-start-requires
+common-bss-start-requires : tie.Need-common_bss_start-requires
 common-bss-start-requires c κs = search rules
 
-returns-2 : tie.Need-returns-2
+returns-2 : tie.Need-returns
 unfolding common_start
 returns-2 c =
-    let a = c.before.before.before.before.before.before.before.before.before.before.before.before.args in
-    rw c.before.if1.false (c.common_bss_start.ensures ∙ ap (λ (b : Bss). accepted (first_of b (rows (columns a.starts.now a.ends.now a.units.now a.rest.now) a.n))) c.before.before.by_name.ensures ∙ ap accepted (first_is (bss_in a.name_bytes.now a.name_places.now a.name_lengths.now a.heads.now a.places.now) (rows (columns a.starts.now a.ends.now a.units.now a.rest.now) a.n)))
+    let a = c.args in
+    rw c.if-has_start.false (c.common_bss_start.ensures ∙ ap (λ (b : Bss). accepted (first_of b (rows (columns a.starts.now a.ends.now a.units.now a.rest.now) a.n))) c.by_name-bss.ensures ∙ ap accepted (first_is (bss_in a.name_bytes.now a.name_places.now a.name_lengths.now a.heads.now a.places.now) (rows (columns a.starts.now a.ends.now a.units.now a.rest.now) a.n)))
 
-pub common-start-spec : {M : Type 1} → statement M
-common-start-spec =
+pub common_start_spec : {M : Type 1} → statement M
+common_start_spec =
     tie.close
     (tie.spec by_name-requires given-start-requires returns common-bss-start-requires returns-2)

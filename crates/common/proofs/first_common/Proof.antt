@@ -20,52 +20,52 @@ invariant-loop starts ends units rest n section i₀ i =
 abbrev decreases-loop : tie.decreases-loop
 decreases-loop starts ends units rest n section i₀ i = n - i
 
-loop-holds : tie.Need-loop-init invariant-loop decreases-loop
+loop-holds : tie.Need-loop-i-init invariant-loop decreases-loop
 loop-holds c = (omega arith, refl)
 
-mul-is-common-in : tie.Need-overflow-mul-is-common-in invariant-loop decreases-loop
+mul-is-common-in : tie.Need-offset_bounds-rest-i invariant-loop decreases-loop
 mul-is-common-in c = omega arith
 
-shared-slice-read-is-common-in : tie.Need-shared-slice-read-is-common-in invariant-loop decreases-loop
+shared-slice-read-is-common-in : tie.Need-bounds-rest-i invariant-loop decreases-loop
 shared-slice-read-is-common-in c = omega arith
 
-is-common-in-requires : tie.Need-is-common-in-requires invariant-loop decreases-loop
+is-common-in-requires : tie.Need-is_common_in-requires invariant-loop decreases-loop
 is-common-in-requires c κs = tt
 
-returns : tie.Need-returns invariant-loop decreases-loop
+returns : tie.Need-returns-then-is_common_in invariant-loop decreases-loop
 unfolding row_of
 returns c =
-    let l = c.before.before.before.before.loop in
-    let a = c.before.before.before.before.before.before.before.before.before.args in
-    let h = c.before.before.before.loop-test.true in
+    let l = c.loop-i in
+    let a = c.args in
+    let h = c.loop-i-test.true in
     let f = row_at (columns a.starts.now a.ends.now a.units.now a.rest.now) in
     record {
-      is = l.invariant.1 ∙ filter_hit (common_in a.section) f a.n l.i h (sym c.before.is_common_in.ensures ∙ c.if1.true) ∙ rw (lt-ltb l.i a.n h);
+      is = l.invariant.1 ∙ filter_hit (common_in a.section) f a.n l.i h (sym c.is_common_in.ensures ∙ c.if-is_common_in.true) ∙ rw (lt-ltb l.i a.n h);
       past = omega arith;
       small = l.invariant.0;
     }
 
-add-i : tie.Need-overflow-add-i invariant-loop decreases-loop
+add-i : tie.Need-overflow_add-i invariant-loop decreases-loop
 add-i c = omega arith
 
-loop-less : tie.Need-loop-smaller invariant-loop decreases-loop
+loop-less : tie.Need-loop-i-smaller invariant-loop decreases-loop
 loop-less c = omega arith
 
-loop-again : tie.Need-loop-preserved invariant-loop decreases-loop
+loop-again : tie.Need-loop-i-preserved invariant-loop decreases-loop
 unfolding row_of
 loop-again c =
-    let l = c.before.before.before.before.loop in
-    let a = c.before.before.before.before.before.before.before.before.before.args in
-    let h = c.before.before.before.loop-test.true in
+    let l = c.loop-i in
+    let a = c.args in
+    let h = c.loop-i-test.true in
     let f = row_at (columns a.starts.now a.ends.now a.units.now a.rest.now) in
-    let miss = filter_miss (common_in a.section) f a.n l.i h (sym c.before.is_common_in.ensures ∙ c.if1.false) in
+    let miss = filter_miss (common_in a.section) f a.n l.i h (sym c.is_common_in.ensures ∙ c.if-is_common_in.false) in
     (omega arith, l.invariant.1 ∙ miss)
 
-returns-2 : tie.Need-returns-2 invariant-loop decreases-loop
+returns-2 : tie.Need-returns invariant-loop decreases-loop
 returns-2 c =
-    let l = c.before.loop in
-    let a = c.before.before.before.before.before.before.args in
-    let h = c.loop-test.false in
+    let l = c.loop-i in
+    let a = c.args in
+    let h = c.loop-i-test.false in
     let f = row_at (columns a.starts.now a.ends.now a.units.now a.rest.now) in
     record {
       is = l.invariant.1 ∙ filter_none (common_in a.section) f a.n l.i h ∙ rw (le-ltb l.i a.n h);
@@ -73,8 +73,8 @@ returns-2 c =
       small = l.invariant.0;
     }
 
-pub first-common-spec : {M : Type 1} → statement M
-first-common-spec =
+pub first_common_spec : {M : Type 1} → statement M
+first_common_spec =
     tie.close
     (tie.spec
     invariant-loop

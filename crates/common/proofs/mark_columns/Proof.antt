@@ -13,54 +13,54 @@ invariant-loop starts ends units rest₀ n section address i₀ rest i = (i ≤ 
 abbrev decreases-loop : tie.decreases-loop
 decreases-loop starts ends units rest₀ n section address i₀ rest i = n - i
 
-loop-holds : tie.Need-loop-init invariant-loop decreases-loop
+loop-holds : tie.Need-loop-i-init invariant-loop decreases-loop
 loop-holds c = (omega arith, marking_start _ _ _ _)
 
-mul-marked-rest : tie.Need-overflow-mul-marked-rest invariant-loop decreases-loop
+mul-marked-rest : tie.Need-offset_bounds-starts-i invariant-loop decreases-loop
 mul-marked-rest c = omega arith
 
-shared-slice-read-marked-rest : tie.Need-shared-slice-read-marked-rest invariant-loop decreases-loop
+shared-slice-read-marked-rest : tie.Need-bounds-starts-i invariant-loop decreases-loop
 shared-slice-read-marked-rest c = omega arith
 
-mul-marked-rest-2 : tie.Need-overflow-mul-marked-rest-2 invariant-loop decreases-loop
+mul-marked-rest-2 : tie.Need-offset_bounds-rest-i invariant-loop decreases-loop
 mul-marked-rest-2 c = omega arith
 
-slice-read-marked-rest : tie.Need-slice-read-marked-rest invariant-loop decreases-loop
-slice-read-marked-rest c = let l = c.before.before.before.loop.invariant.1.long in omega arith
+slice-read-marked-rest : tie.Need-bounds-rest-i invariant-loop decreases-loop
+slice-read-marked-rest c = let l = c.loop-i.invariant.1.long in omega arith
 
-marked-rest-requires : tie.Need-marked-rest-requires invariant-loop decreases-loop
+marked-rest-requires : tie.Need-marked_rest-requires invariant-loop decreases-loop
 marked-rest-requires c κs = tt
 
-mul-rest : tie.Need-overflow-mul-rest invariant-loop decreases-loop
+mul-rest : tie.Need-offset_bounds-rest-i-in-loop-i invariant-loop decreases-loop
 mul-rest c = omega arith
 
-slice-write-rest : tie.Need-slice-write-rest invariant-loop decreases-loop
-slice-write-rest c = let l = c.before.before.before.before.loop.invariant.1.long in omega arith
+slice-write-rest : tie.Need-bounds-rest-i-in-loop-i invariant-loop decreases-loop
+slice-write-rest c = let l = c.loop-i.invariant.1.long in omega arith
 
-add-i : tie.Need-overflow-add-i invariant-loop decreases-loop
+add-i : tie.Need-overflow_add-i invariant-loop decreases-loop
 add-i c = omega arith
 
-loop-less : tie.Need-loop-smaller invariant-loop decreases-loop
+loop-less : tie.Need-loop-i-smaller invariant-loop decreases-loop
 loop-less c = omega arith
 
-loop-again : tie.Need-loop-preserved invariant-loop decreases-loop
+loop-again : tie.Need-loop-i-preserved invariant-loop decreases-loop
 loop-again c =
-    let l = c.before.before.before.before.loop in
-    let a = c.before.before.before.before.before.before.before.before.before.args in
+    let l = c.loop-i in
+    let a = c.args in
     (omega arith, marking_more a.section a.address a.starts.now a.rest.now l.rest l.i c.marked_rest.result (let q = l.invariant.1.long in omega arith) c.marked_rest.ensures l.invariant.1)
 
-same_length : tie.Need-same-length invariant-loop decreases-loop
-same_length c = c.before.loop.invariant.1.long
+same_length : tie.Need-shape_of-rest invariant-loop decreases-loop
+same_length c = c.loop-i.invariant.1.long
 
 returns : tie.Need-returns invariant-loop decreases-loop
 returns c =
-    let l = c.before.loop in
-    let a = c.before.before.before.before.before.before.args in
+    let l = c.loop-i in
+    let a = c.args in
     let e : l.i ≡ a.n = omega arith in
     marking_done a.section a.address a.starts.now a.rest.now a.ends.now a.units.now l.rest a.n (rw e at l.invariant.1)
 
-pub mark-columns-spec : {M : Type 1} → statement M
-mark-columns-spec =
+pub mark_columns_spec : {M : Type 1} → statement M
+mark_columns_spec =
     tie.close
     (tie.spec
     invariant-loop

@@ -5,24 +5,24 @@ use borrow.Author.Rules.{rules}
 use Rattle.common.proofs.marked_rest.Statement.{statement}
 use Rattle.common.proofs.marked_rest.Tie as tie
 
-mul-result : tie.Need-overflow-mul-result
+mul-result : tie.Need-overflow_mul-result
 mul-result c = search rules
 
-sub-result : tie.Need-overflow-sub-result
+sub-result : tie.Need-overflow_sub-result
 sub-result c = omega arith
 
-add-result : tie.Need-overflow-add-result
+add-result : tie.Need-overflow_add-result
 add-result c = omega arith
 
-returns : tie.Need-returns
+returns : tie.Need-returns-then-rest-section
 returns c =
-    let a = c.before.args in
-    λ end unit. mark_hit a.section a.address a.start end unit a.rest c.if1.true
+    let a = c.args in
+    λ end unit. mark_hit a.section a.address a.start end unit a.rest c.if-rest-section.true
 
-returns-2 : tie.Need-returns-2
+returns-2 : tie.Need-returns
 returns-2 c =
-    let a = c.before.args in
-    λ end unit. mark_miss a.section a.address a.start end unit a.rest c.if1.false
+    let a = c.args in
+    λ end unit. mark_miss a.section a.address a.start end unit a.rest c.if-rest-section.false
 
-pub marked-rest-spec : {M : Type 1} → statement M
-marked-rest-spec = tie.close (tie.spec mul-result sub-result add-result returns returns-2)
+pub marked_rest_spec : {M : Type 1} → statement M
+marked_rest_spec = tie.close (tie.spec mul-result sub-result add-result returns returns-2)

@@ -226,9 +226,9 @@ marked-rows-meets {𝓤 = 𝓤} 𝓛 mem' run 𝓣 known =
     walk_Meets 𝓛 f.ended stayed (Goes-none 𝓛 0 (λ _. Rows) yes (λ κs x f. refl), (Goes-none 𝓛 0 (λ _. u16) yes (λ κs x f. refl), (Goes-none 𝓛 0 (λ _. u32) yes (λ κs x f. refl), tt)))
     (f.clauses 𝓛 mem' run) (WpFn 𝓤 𝓛.H 𝓣.C 𝓣.Λ code.function) (WpFn-mono 𝓤 𝓛.H 𝓛.laws 𝓣 code.function) (marked-rows-walks 𝓛 mem' run 𝓣.C 𝓣.Λ (fm_of 𝓤 𝓛.H 𝓛.laws 𝓣) known)
 
-pub marked-rows-spec : {M : Type 1} → stated.statement M
+pub marked_rows_spec : {M : Type 1} → stated.statement M
 unfolding code.routine tables_of
-marked-rows-spec 𝓤 𝓛 𝓜 𝓡 =
+marked_rows_spec 𝓤 𝓛 𝓜 𝓡 =
     entered 𝓤 𝓛.H (triple_of 𝓛 f.signature (f.spec 𝓛 𝓜.mem 𝓡.run))
     (tables 𝓤 𝓛.H 𝓜 𝓡 code.env).C (tables 𝓤 𝓛.H 𝓜 𝓡 code.env).Λ #common·marked-rows code.function (code.unfolded 𝓤 𝓛.H 𝓜 𝓡)
     (marked-rows-meets 𝓛 𝓜.mem 𝓡.run (tables_of 𝓤 𝓛.H 𝓜 (tables 𝓤 𝓛.H 𝓜 𝓡 code.env))

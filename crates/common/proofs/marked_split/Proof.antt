@@ -4,19 +4,19 @@ use Rattle.common.specs.Common.{marked}
 use Rattle.common.proofs.marked_split.Statement.{statement}
 use Rattle.common.proofs.marked_split.Tie as tie
 
-mul-r : tie.Need-overflow-mul-r
+mul-r : tie.Need-overflow_mul-r
 mul-r c = search rules
 
-add_r : tie.Need-overflow-add-r
+add_r : tie.Need-overflow_add-r
 add_r c = search rules
 
-returns : tie.Need-returns
+returns : tie.Need-returns-then-s-section
 unfolding marked
-returns c = rw c.before.if1.true
+returns c = rw c.if-s-section.true
 
-returns-2 : tie.Need-returns-2
+returns-2 : tie.Need-returns
 unfolding marked
-returns-2 c = rw c.if1.false
+returns-2 c = rw c.if-s-section.false
 
-pub marked-split-spec : {M : Type 1} → statement M
-marked-split-spec = tie.close (tie.spec mul-r add_r returns returns-2)
+pub marked_split_spec : {M : Type 1} → statement M
+marked_split_spec = tie.close (tie.spec mul-r add_r returns returns-2)

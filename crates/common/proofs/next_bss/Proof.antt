@@ -20,44 +20,44 @@ invariant-loop name_bytes name_places name_lengths heads places from k₀ k =
 abbrev decreases-loop : tie.decreases-loop
 decreases-loop name_bytes name_places name_lengths heads places from k₀ k = length places - k
 
-loop-holds : tie.Need-loop-init invariant-loop decreases-loop
+loop-holds : tie.Need-loop-k-init invariant-loop decreases-loop
 loop-holds c = (omega arith, refl)
 
-is-bss-at-requires : tie.Need-is-bss-at-requires invariant-loop decreases-loop
-is-bss-at-requires c κs = (c.before.before.before.before.before.before.before.requires.0, c.loop-test.true)
+is-bss-at-requires : tie.Need-is_bss_at-requires invariant-loop decreases-loop
+is-bss-at-requires c κs = (c.requires.0, c.loop-k-test.true)
 
-returns : tie.Need-returns invariant-loop decreases-loop
+returns : tie.Need-returns-then-is_bss_at invariant-loop decreases-loop
 returns c =
-    let l = c.before.before.before.loop in
-    let a = c.before.before.before.before.before.before.before.before.before.args in
-    let h = c.before.before.loop-test.true in
+    let l = c.loop-k in
+    let a = c.args in
+    let h = c.loop-k-test.true in
     let p = bss_at a.name_bytes.now a.name_places.now a.name_lengths.now a.heads.now a.places.now in
-    record { is = l.invariant.1 ∙ filter_hit p (λ j. j) (length a.places.now) l.k h (sym c.before.is_bss_at.ensures ∙ c.if1.true) ∙ rw (lt-ltb l.k (length a.places.now) h); small = l.invariant.0 }
+    record { is = l.invariant.1 ∙ filter_hit p (λ j. j) (length a.places.now) l.k h (sym c.is_bss_at.ensures ∙ c.if-is_bss_at.true) ∙ rw (lt-ltb l.k (length a.places.now) h); small = l.invariant.0 }
 
-add-k : tie.Need-overflow-add-k invariant-loop decreases-loop
+add-k : tie.Need-overflow_add-k invariant-loop decreases-loop
 add-k c = omega arith
 
-loop-less : tie.Need-loop-smaller invariant-loop decreases-loop
+loop-less : tie.Need-loop-k-smaller invariant-loop decreases-loop
 loop-less c = omega arith
 
-loop-again : tie.Need-loop-preserved invariant-loop decreases-loop
+loop-again : tie.Need-loop-k-preserved invariant-loop decreases-loop
 loop-again c =
-    let l = c.before.before.before.loop in
-    let a = c.before.before.before.before.before.before.before.before.before.args in
-    let h = c.before.before.loop-test.true in
+    let l = c.loop-k in
+    let a = c.args in
+    let h = c.loop-k-test.true in
     let p = bss_at a.name_bytes.now a.name_places.now a.name_lengths.now a.heads.now a.places.now in
-    (omega arith, l.invariant.1 ∙ filter_miss p (λ j. j) (length a.places.now) l.k h (sym c.before.is_bss_at.ensures ∙ c.if1.false))
+    (omega arith, l.invariant.1 ∙ filter_miss p (λ j. j) (length a.places.now) l.k h (sym c.is_bss_at.ensures ∙ c.if-is_bss_at.false))
 
-returns-2 : tie.Need-returns-2 invariant-loop decreases-loop
+returns-2 : tie.Need-returns invariant-loop decreases-loop
 returns-2 c =
-    let l = c.before.loop in
-    let a = c.before.before.before.before.before.before.before.args in
-    let h = c.loop-test.false in
+    let l = c.loop-k in
+    let a = c.args in
+    let h = c.loop-k-test.false in
     let p = bss_at a.name_bytes.now a.name_places.now a.name_lengths.now a.heads.now a.places.now in
     record { is = l.invariant.1 ∙ filter_none p (λ j. j) (length a.places.now) l.k h ∙ rw (le-ltb l.k (length a.places.now) h); small = l.invariant.0 }
 
-pub next-bss-spec : {M : Type 1} → statement M
-next-bss-spec =
+pub next_bss_spec : {M : Type 1} → statement M
+next_bss_spec =
     tie.close
     (tie.spec
     invariant-loop

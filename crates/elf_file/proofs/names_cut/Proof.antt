@@ -22,46 +22,46 @@ invariant-loop table strings limit n i₀ i = (n ≡ length table / 16) × (some
 abbrev decreases-loop : tie.decreases-loop
 decreases-loop table strings limit n i₀ i = n - i
 
-ended-below-requires : tie.Need-ended-below-requires invariant-loop decreases-loop
+ended-below-requires : tie.Need-ended_below-limit-requires invariant-loop decreases-loop
 ended-below-requires c κs = tt
 
 -- symbol i was asked
-asked : (c : tie.After-read-symbol-entry invariant-loop decreases-loop)
-    → leb c.before.before.before.ended_below.result c.read_symbol_entry.result.name ≡ not (ended_at c.before.before.before.before.before.before.args.strings.now (symbol_entry_at c.before.before.before.before.before.before.args.table.now (16 * c.before.before.loop.i)).name)
+asked : (c : tie.After-read_symbol_entry-s invariant-loop decreases-loop)
+    → leb c.ended_below-limit.result c.read_symbol_entry-s.result.name ≡ not (ended_at c.args.strings.now (symbol_entry_at c.args.table.now (16 * c.loop-i.i)).name)
 asked c =
-    not_ended _ _ _ c.before.before.before.ended_below.ensures
-    ∙ ap (λ (s : SymbolEntry). not (ended_at c.before.before.before.before.before.before.args.strings.now s.name)) c.read_symbol_entry.ensures
+    not_ended _ _ _ c.ended_below-limit.ensures
+    ∙ ap (λ (s : SymbolEntry). not (ended_at c.args.strings.now s.name)) c.read_symbol_entry-s.ensures
 
-loop-holds : tie.Need-loop-init invariant-loop decreases-loop
+loop-holds : tie.Need-loop-i-init invariant-loop decreases-loop
 unfolding names_cut entries_of
 loop-holds c = (refl, refl)
 
-mul-read-symbol-entry : tie.Need-overflow-mul-read-symbol-entry invariant-loop decreases-loop
+mul-read-symbol-entry : tie.Need-overflow_mul-i invariant-loop decreases-loop
 mul-read-symbol-entry c = omega arith
 
-read-symbol-entry-requires : tie.Need-read-symbol-entry-requires invariant-loop decreases-loop
+read-symbol-entry-requires : tie.Need-read_symbol_entry-s-requires invariant-loop decreases-loop
 read-symbol-entry-requires c κs = omega arith
 
-cast-if1 : tie.Need-overflow-cast-if1 invariant-loop decreases-loop
+cast-if1 : tie.Need-overflow_cast-s invariant-loop decreases-loop
 cast-if1 c = omega arith
 
-returns : tie.Need-returns invariant-loop decreases-loop
-returns c = sym (sym c.before.before.before.before.loop.invariant.1 ∙ some_here _ _ _ _ c.before.before.before.loop-test.true (sym (asked c.before.before) ∙ le-leb _ _ c.if1.true))
+returns : tie.Need-returns-then-limit-s invariant-loop decreases-loop
+returns c = sym (sym c.loop-i.invariant.1 ∙ some_here _ _ _ _ c.loop-i-test.true (sym (asked c.before.before) ∙ le-leb _ _ c.if-limit-s.true))
 
-add-i : tie.Need-overflow-add-i invariant-loop decreases-loop
+add-i : tie.Need-overflow_add-i invariant-loop decreases-loop
 add-i c = omega arith
 
-loop-less : tie.Need-loop-smaller invariant-loop decreases-loop
+loop-less : tie.Need-loop-i-smaller invariant-loop decreases-loop
 loop-less c = omega arith
 
-loop-again : tie.Need-loop-preserved invariant-loop decreases-loop
-loop-again c = (c.before.before.before.before.loop.invariant.0, sym (some_on _ _ _ _ c.before.before.before.loop-test.true (sym (asked c.before.before) ∙ lt-leb _ _ c.if1.false)) ∙ c.before.before.before.before.loop.invariant.1)
+loop-again : tie.Need-loop-i-preserved invariant-loop decreases-loop
+loop-again c = (c.loop-i.invariant.0, sym (some_on _ _ _ _ c.loop-i-test.true (sym (asked c.before.before) ∙ lt-leb _ _ c.if-limit-s.false)) ∙ c.loop-i.invariant.1)
 
-returns-2 : tie.Need-returns-2 invariant-loop decreases-loop
-returns-2 c = sym (sym c.before.loop.invariant.1 ∙ some-over _ _ _ _ c.loop-test.false)
+returns-2 : tie.Need-returns invariant-loop decreases-loop
+returns-2 c = sym (sym c.loop-i.invariant.1 ∙ some-over _ _ _ _ c.loop-i-test.false)
 
-pub names-cut-spec : {M : Type 1} → statement M
-names-cut-spec =
+pub names_cut_spec : {M : Type 1} → statement M
+names_cut_spec =
     tie.close
     (tie.spec
     invariant-loop

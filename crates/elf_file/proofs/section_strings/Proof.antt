@@ -9,30 +9,30 @@ use borrow.Author.Rules.{rules}
 use Rattle.elf_file.proofs.section_strings.Statement.{statement}
 use Rattle.elf_file.proofs.section_strings.Tie as tie
 
-read-header-requires : tie.Need-read-header-requires
+read-header-requires : tie.Need-read_header-h-requires
 read-header-requires c κs = search rules
 
-header-table-requires : tie.Need-header-table-requires
+header-table-requires : tie.Need-header_table-requires
 header-table-requires c κs = search rules
 
-cast-section-of : tie.Need-overflow-cast-section-of
+cast-section-of : tie.Need-overflow_cast-h
 cast-section-of c = search rules
 
-section-of-requires : tie.Need-section-of-requires
+section-of-requires : tie.Need-section_of-s-requires
 section-of-requires c κs = search rules
 
-bytes-in-requires : tie.Need-bytes-in-requires
+bytes-in-requires : tie.Need-bytes_in-requires
 bytes-in-requires c κs = search rules
 
 returns : tie.Need-returns
 unfolding section_strings
 returns c =
-    let f = c.before.before.before.before.before.before.args.file.now in
+    let f = c.args.file.now in
     c.bytes_in.ensures
-    ∙ ap (λ (h : SectionHeader). section_bytes f h) (c.before.section_of.ensures ∙ ap₂ (λ (t : List ℕ) (h : Header). section_of t h.shstrndx) c.before.before.before.header_table.ensures c.before.before.before.before.read_header.ensures)
+    ∙ ap (λ (h : SectionHeader). section_bytes f h) (c.section_of-s.ensures ∙ ap₂ (λ (t : List ℕ) (h : Header). section_of t h.shstrndx) c.header_table.ensures c.read_header-h.ensures)
 
-pub section-strings-spec : {M : Type 1} → statement M
-section-strings-spec =
+pub section_strings_spec : {M : Type 1} → statement M
+section_strings_spec =
     tie.close
     (tie.spec
     read-header-requires

@@ -17,42 +17,42 @@ invariant-loop file headers strings limit n i₀ i = (n ≡ length headers / 40)
 abbrev decreases-loop : tie.decreases-loop
 decreases-loop file headers strings limit n i₀ i = n - i
 
-ended-below-requires : tie.Need-ended-below-requires invariant-loop decreases-loop
+ended-below-requires : tie.Need-ended_below-limit-requires invariant-loop decreases-loop
 ended-below-requires c κs = tt
 
 -- section i was asked
-asked : (c : tie.After-section-cut invariant-loop decreases-loop) → c.section_cut.result ≡ section_cut c.before.before.before.before.before.before.before.args.file c.before.before.before.before.before.before.before.args.strings.now (header_of c.before.before.before.before.before.before.before.args.headers.now c.before.before.before.loop.i)
-asked c = c.section_cut.ensures ∙ ap (λ (h : SectionHeader). section_cut c.before.before.before.before.before.before.before.args.file c.before.before.before.before.before.before.before.args.strings.now h) c.before.header_of.ensures
+asked : (c : tie.After-section_cut invariant-loop decreases-loop) → c.section_cut.result ≡ section_cut c.args.file c.args.strings.now (header_of c.args.headers.now c.loop-i.i)
+asked c = c.section_cut.ensures ∙ ap (λ (h : SectionHeader). section_cut c.args.file c.args.strings.now h) c.header_of.ensures
 
-loop-holds : tie.Need-loop-init invariant-loop decreases-loop
+loop-holds : tie.Need-loop-i-init invariant-loop decreases-loop
 unfolding sections_cut
 loop-holds c =
-    let a = c.before.before.before.args in
+    let a = c.args in
     (refl, ap (some (section_cut a.file a.strings.now)) (tabulate_all (header_of a.headers.now) (length a.headers.now / 40)))
 
-header-of-requires : tie.Need-header-of-requires invariant-loop decreases-loop
+header-of-requires : tie.Need-header_of-requires invariant-loop decreases-loop
 header-of-requires c κs = omega arith
 
-section-cut-requires : tie.Need-section-cut-requires invariant-loop decreases-loop
-section-cut-requires c κs = c.before.before.before.ended_below.ensures
+section-cut-requires : tie.Need-section_cut-requires invariant-loop decreases-loop
+section-cut-requires c κs = c.ended_below-limit.ensures
 
-returns : tie.Need-returns invariant-loop decreases-loop
-returns c = sym (sym c.before.before.before.before.loop.invariant.1 ∙ some_here _ _ _ _ c.before.before.before.loop-test.true (sym (asked c.before) ∙ c.if1.true))
+returns : tie.Need-returns-then-section_cut invariant-loop decreases-loop
+returns c = sym (sym c.loop-i.invariant.1 ∙ some_here _ _ _ _ c.loop-i-test.true (sym (asked c.before) ∙ c.if-section_cut.true))
 
-add-i : tie.Need-overflow-add-i invariant-loop decreases-loop
+add-i : tie.Need-overflow_add-i invariant-loop decreases-loop
 add-i c = omega arith
 
-loop-less : tie.Need-loop-smaller invariant-loop decreases-loop
+loop-less : tie.Need-loop-i-smaller invariant-loop decreases-loop
 loop-less c = omega arith
 
-loop-again : tie.Need-loop-preserved invariant-loop decreases-loop
-loop-again c = (c.before.before.before.before.loop.invariant.0, sym (some_on _ _ _ _ c.before.before.before.loop-test.true (sym (asked c.before) ∙ c.if1.false)) ∙ c.before.before.before.before.loop.invariant.1)
+loop-again : tie.Need-loop-i-preserved invariant-loop decreases-loop
+loop-again c = (c.loop-i.invariant.0, sym (some_on _ _ _ _ c.loop-i-test.true (sym (asked c.before) ∙ c.if-section_cut.false)) ∙ c.loop-i.invariant.1)
 
-returns-2 : tie.Need-returns-2 invariant-loop decreases-loop
-returns-2 c = sym (sym c.before.loop.invariant.1 ∙ some-over _ _ _ _ c.loop-test.false)
+returns-2 : tie.Need-returns invariant-loop decreases-loop
+returns-2 c = sym (sym c.loop-i.invariant.1 ∙ some-over _ _ _ _ c.loop-i-test.false)
 
-pub sections-cut-spec : {M : Type 1} → statement M
-sections-cut-spec =
+pub sections_cut_spec : {M : Type 1} → statement M
+sections_cut_spec =
     tie.close
     (tie.spec
     invariant-loop

@@ -31,93 +31,93 @@ invariant-loop headers strings name-ends₀ name-bytes₀ heads₀ chain₀ most
 abbrev decreases-loop : tie.decreases-loop
 decreases-loop headers strings name-ends₀ name-bytes₀ heads₀ chain₀ most most_bytes n seen₀ count₀ i₀ name_ends name_bytes heads chain seen count i = n - i
 
-none-seen-requires : tie.Need-none-seen-requires invariant-loop decreases-loop
+none-seen-requires : tie.Need-none_seen-seen-requires invariant-loop decreases-loop
 none-seen-requires c κs = tt
 
-loop-holds : tie.Need-loop-init invariant-loop decreases-loop
+loop-holds : tie.Need-loop-i-init invariant-loop decreases-loop
 loop-holds c =
-    let a = c.before.before.before.before.before.before.before.args in (
+    let a = c.args in (
       refl,
       refl,
       refl,
       refl,
       refl,
       refl,
-      ap length c.none_seen.ensures,
+      ap length c.none_seen-seen.ensures,
       λ names ends₀ bytes₀ h. record {
         going = record { names = names; held = h; same = ap (enter_names (record { names = a.most; bytes = a.most_bytes }) names) (sections_all a.headers.now a.strings.now) };
-        right = subst (λ (l : List ℕ). Seen a.strings.now names l) (sym c.none_seen.ensures) (seen_none a.strings.now names 64);
+        right = subst (λ (l : List ℕ). Seen a.strings.now names l) (sym c.none_seen-seen.ensures) (seen_none a.strings.now names 64);
       },
     )
 
-slice-aggregate-enter-section : tie.Need-slice-aggregate-enter-section invariant-loop decreases-loop
-slice-aggregate-enter-section c = sym c.before.before.loop.invariant.6
+slice-aggregate-enter-section : tie.Need-slice_bounds-enter_section-end invariant-loop decreases-loop
+slice-aggregate-enter-section c = sym c.loop-i.invariant.6
 
-enter-section-requires : tie.Need-enter-section-requires invariant-loop decreases-loop
+enter-section-requires : tie.Need-enter_section-count-requires invariant-loop decreases-loop
 enter-section-requires c κs =
-    let p = c.before.before.before.before.before.before.before.before.before.before.before.before.before.before.requires.0 in
-    let g = c.before.before.before.before.before.before.loop.invariant.7 p.names p.ends₀ p.bytes₀ p.held in
-    (omega arith, omega (arith, c.before.before.before.before.before.before.loop.invariant.6), record { names = g.going.names; ends₀ = p.ends₀; bytes₀ = p.bytes₀; held = g.going.held }, going_within g.going (held-within p.held c.before.before.before.before.before.before.before.before.before.before.before.before.before.before.requires.1))
+    let p = c.requires.0 in
+    let g = c.loop-i.invariant.7 p.names p.ends₀ p.bytes₀ p.held in
+    (omega arith, omega (arith, c.loop-i.invariant.6), record { names = g.going.names; ends₀ = p.ends₀; bytes₀ = p.bytes₀; held = g.going.held }, going_within g.going (held-within p.held c.requires.1))
 
-same_length : tie.Need-same-length invariant-loop decreases-loop
+same_length : tie.Need-shape_of-name_ends-then-count invariant-loop decreases-loop
 same_length c = search rules
 
-same-length-2 : tie.Need-same-length-2 invariant-loop decreases-loop
+same-length-2 : tie.Need-shape_of-name_bytes-then-count invariant-loop decreases-loop
 same-length-2 c = search rules
 
-same-length-3 : tie.Need-same-length-3 invariant-loop decreases-loop
+same-length-3 : tie.Need-shape_of-heads-then-count invariant-loop decreases-loop
 same-length-3 c = search rules
 
-same-length-4 : tie.Need-same-length-4 invariant-loop decreases-loop
+same-length-4 : tie.Need-shape_of-chain-then-count invariant-loop decreases-loop
 same-length-4 c = search rules
 
-returns : tie.Need-returns invariant-loop decreases-loop
+returns : tie.Need-returns-then-count invariant-loop decreases-loop
 returns c =
     λ names ends₀ bytes₀ h.
-    let g = c.before.before.before.before.before.before.before.before.before.before.before.before.before.before.before.before.before.loop.invariant.7 names ends₀ bytes₀ h in
-    going_stops g.going (sections_turn _ _ _ g.going.names _ c.before.before.before.before.before.before.before.before.before.before.before.before.before.before.before.before.loop-test.true)
-    (c.before.before.before.before.before.before.before.before.before.before.enter_section.ensures g.going.names ends₀ bytes₀ g.going.held g.right).entered c.if1.true
+    let g = c.loop-i.invariant.7 names ends₀ bytes₀ h in
+    going_stops g.going (sections_turn _ _ _ g.going.names _ c.loop-i-test.true)
+    (c.enter_section-count.ensures g.going.names ends₀ bytes₀ g.going.held g.right).entered c.if-count.true
 
-add-i : tie.Need-overflow-add-i invariant-loop decreases-loop
+add-i : tie.Need-overflow_add-i invariant-loop decreases-loop
 add-i c = omega arith
 
-loop-less : tie.Need-loop-smaller invariant-loop decreases-loop
+loop-less : tie.Need-loop-i-smaller invariant-loop decreases-loop
 loop-less c = omega arith
 
-loop-again : tie.Need-loop-preserved invariant-loop decreases-loop
+loop-again : tie.Need-loop-i-preserved invariant-loop decreases-loop
 loop-again c = (
-  c.before.before.before.before.before.before.before.before.before.before.before.before.before.before.before.before.before.loop.invariant.0,
-  c.if1.false,
+  c.loop-i.invariant.0,
+  c.if-count.false,
   search rules,
   search rules,
   search rules,
   search rules,
   search rules,
   λ names ends₀ bytes₀ h.
-      let g = c.before.before.before.before.before.before.before.before.before.before.before.before.before.before.before.before.before.loop.invariant.7 names ends₀ bytes₀ h in
-      seen_on g (sections_turn _ _ _ g.going.names _ c.before.before.before.before.before.before.before.before.before.before.before.before.before.before.before.before.loop-test.true) (c.before.before.before.before.before.before.before.before.before.before.enter_section.ensures g.going.names ends₀ bytes₀ g.going.held g.right) c.if1.false,
+      let g = c.loop-i.invariant.7 names ends₀ bytes₀ h in
+      seen_on g (sections_turn _ _ _ g.going.names _ c.loop-i-test.true) (c.enter_section-count.ensures g.going.names ends₀ bytes₀ g.going.held g.right) c.if-count.false,
 )
 
-same-length-5 : tie.Need-same-length-5 invariant-loop decreases-loop
+same-length-5 : tie.Need-shape_of-name_ends invariant-loop decreases-loop
 same-length-5 c = search rules
 
-same-length-6 : tie.Need-same-length-6 invariant-loop decreases-loop
+same-length-6 : tie.Need-shape_of-name_bytes invariant-loop decreases-loop
 same-length-6 c = search rules
 
-same-length-7 : tie.Need-same-length-7 invariant-loop decreases-loop
+same-length-7 : tie.Need-shape_of-heads invariant-loop decreases-loop
 same-length-7 c = search rules
 
-same-length-8 : tie.Need-same-length-8 invariant-loop decreases-loop
+same-length-8 : tie.Need-shape_of-chain invariant-loop decreases-loop
 same-length-8 c = search rules
 
-returns-2 : tie.Need-returns-2 invariant-loop decreases-loop
+returns-2 : tie.Need-returns invariant-loop decreases-loop
 returns-2 c =
     λ names ends₀ bytes₀ h.
-    let g = c.before.loop.invariant.7 names ends₀ bytes₀ h in
-    going_done g.going (sections_done _ _ _ g.going.names _ c.loop-test.false) c.before.loop.invariant.1
+    let g = c.loop-i.invariant.7 names ends₀ bytes₀ h in
+    going_done g.going (sections_done _ _ _ g.going.names _ c.loop-i-test.false) c.loop-i.invariant.1
 
-pub enter-sections-spec : {M : Type 1} → statement M
-enter-sections-spec =
+pub enter_sections_spec : {M : Type 1} → statement M
+enter_sections_spec =
     tie.close
     (tie.spec
     invariant-loop

@@ -34,103 +34,103 @@ invariant-loop table strings name-ends₀ name-bytes₀ heads₀ chain₀ most m
 abbrev decreases-loop : tie.decreases-loop
 decreases-loop table strings name-ends₀ name-bytes₀ heads₀ chain₀ most most_bytes n seen₀ count₀ i₀ name_ends name_bytes heads chain seen count i = n - i
 
-none-seen-requires : tie.Need-none-seen-requires invariant-loop decreases-loop
+none-seen-requires : tie.Need-none_seen-seen-requires invariant-loop decreases-loop
 none-seen-requires c κs = tt
 
-loop-holds : tie.Need-loop-init invariant-loop decreases-loop
+loop-holds : tie.Need-loop-i-init invariant-loop decreases-loop
 loop-holds c =
-    let a = c.before.before.before.before.before.before.before.args in (
+    let a = c.args in (
       refl,
       refl,
       refl,
       refl,
       refl,
       refl,
-      ap length c.none_seen.ensures,
+      ap length c.none_seen-seen.ensures,
       λ names ends₀ bytes₀ h. record {
         going = record { names = names; held = h; same = ap (enter_names (record { names = a.most; bytes = a.most_bytes }) names) (symbols_all a.table.now a.strings.now) };
-        right = subst (λ (l : List ℕ). Seen a.strings.now names l) (sym c.none_seen.ensures) (seen_none a.strings.now names 64);
+        right = subst (λ (l : List ℕ). Seen a.strings.now names l) (sym c.none_seen-seen.ensures) (seen_none a.strings.now names 64);
       },
       omega arith,
     )
 
-mul-read-symbol-entry : tie.Need-overflow-mul-read-symbol-entry invariant-loop decreases-loop
+mul-read-symbol-entry : tie.Need-overflow_mul-i invariant-loop decreases-loop
 mul-read-symbol-entry c = omega arith
 
-read-symbol-entry-requires : tie.Need-read-symbol-entry-requires invariant-loop decreases-loop
+read-symbol-entry-requires : tie.Need-read_symbol_entry-s-requires invariant-loop decreases-loop
 read-symbol-entry-requires c κs = omega arith
 
-slice-aggregate-enter-string : tie.Need-slice-aggregate-enter-string invariant-loop decreases-loop
-slice-aggregate-enter-string c = sym c.before.before.before.loop.invariant.6
+slice-aggregate-enter-string : tie.Need-slice_bounds-enter_string-end invariant-loop decreases-loop
+slice-aggregate-enter-string c = sym c.loop-i.invariant.6
 
-enter-string-requires : tie.Need-enter-string-requires invariant-loop decreases-loop
+enter-string-requires : tie.Need-enter_string-count-requires invariant-loop decreases-loop
 enter-string-requires c κs =
-    let p = c.before.before.before.before.before.before.before.before.before.before.before.before.before.before.before.requires.0 in
-    let g = c.before.before.before.before.before.before.before.loop.invariant.7 p.names p.ends₀ p.bytes₀ p.held in
-    (omega (arith, c.before.before.before.before.before.before.before.loop.invariant.6), record { names = g.going.names; ends₀ = p.ends₀; bytes₀ = p.bytes₀; held = g.going.held }, going_within g.going (held-within p.held c.before.before.before.before.before.before.before.before.before.before.before.before.before.before.before.requires.1))
+    let p = c.requires.0 in
+    let g = c.loop-i.invariant.7 p.names p.ends₀ p.bytes₀ p.held in
+    (omega (arith, c.loop-i.invariant.6), record { names = g.going.names; ends₀ = p.ends₀; bytes₀ = p.bytes₀; held = g.going.held }, going_within g.going (held-within p.held c.requires.1))
 
-same_length : tie.Need-same-length invariant-loop decreases-loop
+same_length : tie.Need-shape_of-name_ends-then-count invariant-loop decreases-loop
 same_length c = search rules
 
-same-length-2 : tie.Need-same-length-2 invariant-loop decreases-loop
+same-length-2 : tie.Need-shape_of-name_bytes-then-count invariant-loop decreases-loop
 same-length-2 c = search rules
 
-same-length-3 : tie.Need-same-length-3 invariant-loop decreases-loop
+same-length-3 : tie.Need-shape_of-heads-then-count invariant-loop decreases-loop
 same-length-3 c = search rules
 
-same-length-4 : tie.Need-same-length-4 invariant-loop decreases-loop
+same-length-4 : tie.Need-shape_of-chain-then-count invariant-loop decreases-loop
 same-length-4 c = search rules
 
-returns : tie.Need-returns invariant-loop decreases-loop
+returns : tie.Need-returns-then-count invariant-loop decreases-loop
 returns c =
     λ names ends₀ bytes₀ h.
-    let a = c.before.before.before.before.before.before.before.before.before.before.before.before.before.before.before.before.before.before.before.before.before.before.before.before.before.before.args in
-    let g = c.before.before.before.before.before.before.before.before.before.before.before.before.before.before.before.before.before.before.loop.invariant.7 names ends₀ bytes₀ h in
-    going_stops g.going (symbols_turn _ _ _ g.going.names _ c.before.before.before.before.before.before.before.before.before.before.before.before.before.before.before.before.before.loop-test.true)
-    (entered_so (ap (λ (s : SymbolEntry). enter_name (record { names = a.most; bytes = a.most_bytes }) g.going.names (string_at a.strings.now s.name)) c.before.before.before.before.before.before.before.before.before.before.before.before.before.before.before.before.read_symbol_entry.ensures) (c.before.before.before.before.before.before.before.before.before.before.enter_string.ensures g.going.names ends₀ bytes₀ g.going.held g.right)).entered c.if1.true
+    let a = c.args in
+    let g = c.loop-i.invariant.7 names ends₀ bytes₀ h in
+    going_stops g.going (symbols_turn _ _ _ g.going.names _ c.loop-i-test.true)
+    (entered_so (ap (λ (s : SymbolEntry). enter_name (record { names = a.most; bytes = a.most_bytes }) g.going.names (string_at a.strings.now s.name)) c.read_symbol_entry-s.ensures) (c.enter_string-count.ensures g.going.names ends₀ bytes₀ g.going.held g.right)).entered c.if-count.true
 
-add-i : tie.Need-overflow-add-i invariant-loop decreases-loop
-add-i c = omega (arith, c.before.before.before.before.before.before.before.before.before.before.before.before.before.before.before.before.before.loop-test.true, c.before.before.before.before.before.before.before.before.before.before.before.before.before.before.before.before.before.before.loop.invariant.8)
+add-i : tie.Need-overflow_add-i invariant-loop decreases-loop
+add-i c = omega (arith, c.loop-i-test.true, c.loop-i.invariant.8)
 
-loop-less : tie.Need-loop-smaller invariant-loop decreases-loop
+loop-less : tie.Need-loop-i-smaller invariant-loop decreases-loop
 loop-less c = omega arith
 
-loop-again : tie.Need-loop-preserved invariant-loop decreases-loop
+loop-again : tie.Need-loop-i-preserved invariant-loop decreases-loop
 loop-again c = (
-  c.before.before.before.before.before.before.before.before.before.before.before.before.before.before.before.before.before.before.loop.invariant.0,
-  c.if1.false,
+  c.loop-i.invariant.0,
+  c.if-count.false,
   search rules,
   search rules,
   search rules,
   search rules,
   search rules,
   λ names ends₀ bytes₀ h.
-      let a = c.before.before.before.before.before.before.before.before.before.before.before.before.before.before.before.before.before.before.before.before.before.before.before.before.before.before.args in
-      let g = c.before.before.before.before.before.before.before.before.before.before.before.before.before.before.before.before.before.before.loop.invariant.7 names ends₀ bytes₀ h in
-      seen_on g (symbols_turn _ _ _ g.going.names _ c.before.before.before.before.before.before.before.before.before.before.before.before.before.before.before.before.before.loop-test.true) (entered_so (ap (λ (s : SymbolEntry). enter_name (record { names = a.most; bytes = a.most_bytes }) g.going.names (string_at a.strings.now s.name)) c.before.before.before.before.before.before.before.before.before.before.before.before.before.before.before.before.read_symbol_entry.ensures) (c.before.before.before.before.before.before.before.before.before.before.enter_string.ensures g.going.names ends₀ bytes₀ g.going.held g.right)) c.if1.false,
-  c.before.before.before.before.before.before.before.before.before.before.before.before.before.before.before.before.before.before.loop.invariant.8,
+      let a = c.args in
+      let g = c.loop-i.invariant.7 names ends₀ bytes₀ h in
+      seen_on g (symbols_turn _ _ _ g.going.names _ c.loop-i-test.true) (entered_so (ap (λ (s : SymbolEntry). enter_name (record { names = a.most; bytes = a.most_bytes }) g.going.names (string_at a.strings.now s.name)) c.read_symbol_entry-s.ensures) (c.enter_string-count.ensures g.going.names ends₀ bytes₀ g.going.held g.right)) c.if-count.false,
+  c.loop-i.invariant.8,
 )
 
-same-length-5 : tie.Need-same-length-5 invariant-loop decreases-loop
+same-length-5 : tie.Need-shape_of-name_ends invariant-loop decreases-loop
 same-length-5 c = search rules
 
-same-length-6 : tie.Need-same-length-6 invariant-loop decreases-loop
+same-length-6 : tie.Need-shape_of-name_bytes invariant-loop decreases-loop
 same-length-6 c = search rules
 
-same-length-7 : tie.Need-same-length-7 invariant-loop decreases-loop
+same-length-7 : tie.Need-shape_of-heads invariant-loop decreases-loop
 same-length-7 c = search rules
 
-same-length-8 : tie.Need-same-length-8 invariant-loop decreases-loop
+same-length-8 : tie.Need-shape_of-chain invariant-loop decreases-loop
 same-length-8 c = search rules
 
-returns-2 : tie.Need-returns-2 invariant-loop decreases-loop
+returns-2 : tie.Need-returns invariant-loop decreases-loop
 returns-2 c =
     λ names ends₀ bytes₀ h.
-    let g = c.before.loop.invariant.7 names ends₀ bytes₀ h in
-    going_done g.going (symbols_done _ _ _ g.going.names _ c.loop-test.false) c.before.loop.invariant.1
+    let g = c.loop-i.invariant.7 names ends₀ bytes₀ h in
+    going_done g.going (symbols_done _ _ _ g.going.names _ c.loop-i-test.false) c.loop-i.invariant.1
 
-pub enter-symbols-spec : {M : Type 1} → statement M
-enter-symbols-spec =
+pub enter_symbols_spec : {M : Type 1} → statement M
+enter_symbols_spec =
     tie.close
     (tie.spec
     invariant-loop

@@ -15,32 +15,32 @@ invariant-loop seen mark i₀ i = (i ≤ length seen) × (some (λ k. eqb k mark
 abbrev decreases-loop : tie.decreases-loop
 decreases-loop seen mark i₀ i = length seen - i
 
-loop-holds : tie.Need-loop-init invariant-loop decreases-loop
+loop-holds : tie.Need-loop-i-init invariant-loop decreases-loop
 loop-holds c = (omega arith, refl)
 
-mul-if1 : tie.Need-overflow-mul-if1 invariant-loop decreases-loop
+mul-if1 : tie.Need-offset_bounds-seen-i invariant-loop decreases-loop
 mul-if1 c = omega arith
 
-shared-slice-read-if1 : tie.Need-shared-slice-read-if1 invariant-loop decreases-loop
+shared-slice-read-if1 : tie.Need-bounds-seen-i invariant-loop decreases-loop
 shared-slice-read-if1 c = omega arith
 
-returns : tie.Need-returns invariant-loop decreases-loop
-returns c = look_here _ _ _ c.before.before.before.loop.invariant.1 c.before.before.loop-test.true c.if1.true
+returns : tie.Need-returns-then-seen-i invariant-loop decreases-loop
+returns c = look_here _ _ _ c.loop-i.invariant.1 c.loop-i-test.true c.if-seen-i.true
 
-add-i : tie.Need-overflow-add-i invariant-loop decreases-loop
+add-i : tie.Need-overflow_add-i invariant-loop decreases-loop
 add-i c = omega arith
 
-loop-less : tie.Need-loop-smaller invariant-loop decreases-loop
+loop-less : tie.Need-loop-i-smaller invariant-loop decreases-loop
 loop-less c = omega arith
 
-loop-again : tie.Need-loop-preserved invariant-loop decreases-loop
-loop-again c = (omega arith, look_on _ _ _ c.before.before.before.loop.invariant.1 c.before.before.loop-test.true c.if1.false)
+loop-again : tie.Need-loop-i-preserved invariant-loop decreases-loop
+loop-again c = (omega arith, look_on _ _ _ c.loop-i.invariant.1 c.loop-i-test.true c.if-seen-i.false)
 
-returns-2 : tie.Need-returns-2 invariant-loop decreases-loop
-returns-2 c = look_over _ _ _ c.before.loop.invariant.1 c.loop-test.false
+returns-2 : tie.Need-returns invariant-loop decreases-loop
+returns-2 c = look_over _ _ _ c.loop-i.invariant.1 c.loop-i-test.false
 
-pub is-seen-spec : {M : Type 1} → statement M
-is-seen-spec =
+pub is_seen_spec : {M : Type 1} → statement M
+is_seen_spec =
     tie.close
     (tie.spec
     invariant-loop

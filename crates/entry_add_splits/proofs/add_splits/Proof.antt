@@ -5,23 +5,23 @@ use borrow.Author.Rules.{rules}
 use Rattle.entry_add_splits.proofs.add_splits.Statement.{statement}
 use Rattle.entry_add_splits.proofs.add_splits.Tie as tie
 
-checked-requires : tie.Need-checked-requires
+checked-requires : tie.Need-checked-a-requires
 checked-requires c κs = search rules
 
 finish-requires : tie.Need-finish-requires
 finish-requires c κs = search rules
 
-same_length : tie.Need-same-length
+same_length : tie.Need-shape_of-out_splits
 same_length c = search rules
 
-same-length-2 : tie.Need-same-length-2
+same-length-2 : tie.Need-shape_of-counts
 same-length-2 c = search rules
 
 returns : tie.Need-returns
 returns c =
-    let k = c.before.before.before.before.before.before.before.before.before.before.before.checked in
-    finished _ k.new.1.1.1.1.1.0 k.new.1.1.1.1.1.1.0 k.auto.1.1.1.1.1.0 k.auto.1.1.1.1.1.1.0 k.ensures c.before.before.before.before.finish.ensures
+    let k = c.checked-a in
+    finished _ k.new.1.1.1.1.1.0 k.new.1.1.1.1.1.1.0 k.auto.1.1.1.1.1.0 k.auto.1.1.1.1.1.1.0 k.ensures c.finish.ensures
 
-pub add-splits-spec : {M : Type 1} → statement M
-add-splits-spec =
+pub add_splits_spec : {M : Type 1} → statement M
+add_splits_spec =
     tie.close (tie.spec checked-requires finish-requires same_length same-length-2 returns)

@@ -16,117 +16,117 @@ use Rattle.entry_add_splits.proofs.all_tables.Statement.{statement}
 use Rattle.entry_add_splits.proofs.all_tables.Tie as tie
 
 -- the names were accepted: the columns hold them
-stored : (c : tie.After-enum-told2)
-    → let t = c.before.before.before.before.before.before.before.before.before.before.check_names in
-    let a = c.before.before.before.before.before.before.before.before.before.before.before.before.before.before.before.before.before.before.before.before.before.before.before.before.before.before.args in
+stored : (c : tie.In_default)
+    → let t = c.check_names-a in
+    let a = c.args in
     let last = t.new.1.1.1 in
     Stored a.ends.now a.bytes.now last.0 last.1.0 last.1.1.0 last.1.1.1.0 (length a.ends.now / 2)
-stored c = let s = c.before.before.before.before.before.before.before.before.before.before.check_names.ensures in s.stored (sym s.said ∙ ap meaning c.enum-told2.given.1)
+stored c = let s = c.check_names-a.ensures in s.stored (sym s.said ∙ ap meaning c.in_default.is)
 
-check-names-requires : tie.Need-check-names-requires
+check-names-requires : tie.Need-check_names-a-requires
 check-names-requires c κs = search rules
 
-enum_told : tie.Need-enum-told
+enum_told : tie.Need-enum_told-1
 enum_told c = search rules
 
-same_length : tie.Need-same-length
+same_length : tie.Need-shape_of-places-in-Refused
 same_length c = search rules
 
-same-length-2 : tie.Need-same-length-2
+same-length-2 : tie.Need-shape_of-lengths-in-Refused
 same-length-2 c = search rules
 
-same-length-3 : tie.Need-same-length-3
+same-length-3 : tie.Need-shape_of-heads-in-Refused
 same-length-3 c = search rules
 
-same-length-4 : tie.Need-same-length-4
+same-length-4 : tie.Need-shape_of-chain-in-Refused
 same-length-4 c = search rules
 
-returns : tie.Need-returns
+returns : tie.Need-returns-in-Refused
 unfolding add_splits_of
-returns c = gives_stops _ c.before.before.before.before.before.before.before.before.before.before.check_names.ensures.said (ap meaning c.enum_told.given.1)
+returns c = gives_stops _ c.check_names-a.ensures.said (ap meaning c.in-Refused.is)
 
-enum-told-2 : tie.Need-enum-told-2
+enum-told-2 : tie.Need-enum_told-in_default
 enum-told-2 c = search rules
 
-slice-reshare-prefix-named : tie.Need-slice-reshare-prefix-named
+slice-reshare-prefix-named : tie.Need-slice_bounds-named-end
 slice-reshare-prefix-named c = (stored c).named.measured
 
-slice-aggregate-named : tie.Need-slice-aggregate-named
-slice-aggregate-named c = sym (length-take-le _ _ (stored c.before).named.measured)
+slice-aggregate-named : tie.Need-slice_bounds-named-end-2
+slice-aggregate-named c = sym (length-take-le _ _ (stored c).named.measured)
 
-take-sections-requires : tie.Need-take-sections-requires
+take-sections-requires : tie.Need-take_sections-b-requires
 take-sections-requires c κs = search rules
 
-enum-told-3 : tie.Need-enum-told-3
+enum-told-3 : tie.Need-enum_told-in-Refused-b
 enum-told-3 c = search rules
 
-same-length-5 : tie.Need-same-length-5
+same-length-5 : tie.Need-shape_of-places-in-Refused-b
 same-length-5 c = search rules
 
-same-length-6 : tie.Need-same-length-6
+same-length-6 : tie.Need-shape_of-lengths-in-Refused-b
 same-length-6 c = search rules
 
-same-length-7 : tie.Need-same-length-7
+same-length-7 : tie.Need-shape_of-heads-in-Refused-b
 same-length-7 c = search rules
 
-same-length-8 : tie.Need-same-length-8
+same-length-8 : tie.Need-shape_of-chain-in-Refused-b
 same-length-8 c = search rules
 
-returns-2 : tie.Need-returns-2
+returns-2 : tie.Need-returns-in-Refused-b
 unfolding add_splits_of from_sections from_splits
 returns-2 c =
-    gives_goes (sym c.before.before.before.before.before.before.before.before.before.before.before.before.before.before.before.before.before.check_names.ensures.said ∙ ap meaning c.before.before.before.before.before.before.before.enum-told2.given.1)
-    (gives_as (lengths_as _ _ _ _ (stored c.before.before.before.before.before.before.before).sizes) (gives_stops _ c.before.before.before.before.take_sections.ensures.said (ap meaning c.enum-told3.given.1)))
+    gives_goes (sym c.check_names-a.ensures.said ∙ ap meaning c.in_default.is)
+    (gives_as (lengths_as _ _ _ _ (stored c).sizes) (gives_stops _ c.take_sections-b.ensures.said (ap meaning c.in-Refused-b.is)))
 
-enum-told-4 : tie.Need-enum-told-4
+enum-told-4 : tie.Need-enum_told-in_default-b
 enum-told-4 c = search rules
 
-slice-reshare-prefix-from-splits : tie.Need-slice-reshare-prefix-from-splits
+slice-reshare-prefix-from-splits : tie.Need-slice_bounds-from_splits-end
 slice-reshare-prefix-from-splits c =
-    let t = c.before.before.before.before.take_sections in
-    let s = c.before.before.before.before.before.before.before.before.before.before.before.before.before.before.before.before.before.before.before.before.before.before.before.before.before.before.before.before.before.before.before.before.before in
-    let n = taken_few 15 _ s.args.sections.now _ _ t.ensures (ap meaning c.enum-told4.given.1) in
-    omega (arith, n, t.auto.1.1.1.0, c.before.before.before.before.before.before.before.before.before.before.before.before.before.before.before.before.before.check_names.auto.1.1.1.0, s.requires.places_long)
+    let t = c.take_sections-b in
+    let s = c in
+    let n = taken_few 15 _ s.args.sections.now _ _ t.ensures (ap meaning c.in_default-b.is) in
+    omega (arith, n, t.auto.1.1.1.0, c.check_names-a.auto.places, s.requires.places_long)
 
-slice-aggregate-from-splits : tie.Need-slice-aggregate-from-splits
+slice-aggregate-from-splits : tie.Need-slice_bounds-from_splits-end-2
 slice-aggregate-from-splits c =
-    sym (taken-count 15 _ c.before.before.before.before.before.before.before.before.before.before.before.before.before.before.before.before.before.before.before.before.before.before.before.before.before.before.before.before.before.before.before.before.before.before.args.sections.now _ _ c.before.before.before.before.before.take_sections.ensures (ap meaning c.before.enum-told4.given.1))
+    sym (taken-count 15 _ c.args.sections.now _ _ c.take_sections-b.ensures (ap meaning c.in_default-b.is))
 
-from-splits-requires : tie.Need-from-splits-requires
+from-splits-requires : tie.Need-from_splits-requires
 from-splits-requires c κs =
-    taken-held 15 _ c.before.before.before.before.before.before.before.before.before.before.before.before.before.before.before.before.before.before.before.before.before.before.before.before.before.before.before.before.before.before.before.before.before.before.before.before.args.sections.now _ _ c.before.before.before.before.before.before.before.take_sections.ensures (ap meaning c.before.before.before.enum-told4.given.1) (omega arith)
+    taken-held 15 _ c.args.sections.now _ _ c.take_sections-b.ensures (ap meaning c.in_default-b.is) (omega arith)
 
-same-length-9 : tie.Need-same-length-9
+same-length-9 : tie.Need-shape_of-places
 same-length-9 c = search rules
 
-same-length-10 : tie.Need-same-length-10
+same-length-10 : tie.Need-shape_of-lengths
 same-length-10 c = search rules
 
-same-length-11 : tie.Need-same-length-11
+same-length-11 : tie.Need-shape_of-heads
 same-length-11 c = search rules
 
-same-length-12 : tie.Need-same-length-12
+same-length-12 : tie.Need-shape_of-chain
 same-length-12 c = search rules
 
-same-length-13 : tie.Need-same-length-13
+same-length-13 : tie.Need-shape_of-out
 same-length-13 c = search rules
 
-same-length-14 : tie.Need-same-length-14
+same-length-14 : tie.Need-shape_of-counts
 same-length-14 c = search rules
 
-returns-3 : tie.Need-returns-3
+returns-3 : tie.Need-returns
 unfolding add_splits_of from_sections from_splits
 returns-3 c =
-    let t = c.before.before.before.before.before.before.before.before.before.before.before.before.take_sections in
-    let a = c.before.before.before.before.before.before.before.before.before.before.before.before.before.before.before.before.before.before.before.before.before.before.before.before.before.before.before.before.before.before.before.before.before.before.before.before.before.before.before.before.before.args in
-    let told = ap meaning c.before.before.before.before.before.before.before.before.enum-told4.given.1 in
-    gives_goes (sym c.before.before.before.before.before.before.before.before.before.before.before.before.before.before.before.before.before.before.before.before.before.before.before.before.before.check_names.ensures.said ∙ ap meaning c.before.before.before.before.before.before.before.before.before.before.before.before.before.before.before.enum-told2.given.1)
-    (gives_as (lengths_as _ _ _ _ (stored c.before.before.before.before.before.before.before.before.before.before.before.before.before.before.before).sizes)
+    let t = c.take_sections-b in
+    let a = c.args in
+    let told = ap meaning c.in_default-b.is in
+    gives_goes (sym c.check_names-a.ensures.said ∙ ap meaning c.in_default.is)
+    (gives_as (lengths_as _ _ _ _ (stored c.before.before.before.before.before.before.before.before.before.before.before.before.before).sizes)
     (gives_goes (sym t.ensures.said ∙ told)
-    (gives_as (heads_as _ a.sections.now _ _ _ (taken_places 15 _ a.sections.now _ _ t.ensures told)) c.before.before.before.before.from_splits.ensures)))
+    (gives_as (heads_as _ a.sections.now _ _ _ (taken_places 15 _ a.sections.now _ _ t.ensures told)) c.from_splits.ensures)))
 
-pub all-tables-spec : {M : Type 1} → statement M
-all-tables-spec =
+pub all_tables_spec : {M : Type 1} → statement M
+all_tables_spec =
     tie.close
     (tie.spec
     check-names-requires

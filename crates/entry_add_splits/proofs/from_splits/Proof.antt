@@ -10,47 +10,47 @@ use borrow.Author.Rules.{rules}
 use Rattle.entry_add_splits.proofs.from_splits.Statement.{statement}
 use Rattle.entry_add_splits.proofs.from_splits.Tie as tie
 
-room-of-requires : tie.Need-room-of-requires
+room-of-requires : tie.Need-room_of-room-requires
 room-of-requires c κs = search rules
 
-slice-aggregate-with-columns : tie.Need-slice-aggregate-with-columns
+slice-aggregate-with-columns : tie.Need-slice_bounds-with_columns-end
 slice-aggregate-with-columns c = search rules
 
-slice-aggregate-with-columns-2 : tie.Need-slice-aggregate-with-columns-2
+slice-aggregate-with-columns-2 : tie.Need-slice_bounds-with_columns-end-2
 slice-aggregate-with-columns-2 c = search rules
 
-slice-aggregate-with-columns-3 : tie.Need-slice-aggregate-with-columns-3
+slice-aggregate-with-columns-3 : tie.Need-slice_bounds-with_columns-end-3
 slice-aggregate-with-columns-3 c = search rules
 
-slice-aggregate-with-columns-4 : tie.Need-slice-aggregate-with-columns-4
+slice-aggregate-with-columns-4 : tie.Need-slice_bounds-with_columns-end-4
 slice-aggregate-with-columns-4 c = search rules
 
-slice-aggregate-with-columns-5 : tie.Need-slice-aggregate-with-columns-5
+slice-aggregate-with-columns-5 : tie.Need-slice_bounds-with_columns-end-5
 slice-aggregate-with-columns-5 c = search rules
 
-with-columns-requires : tie.Need-with-columns-requires
+with-columns-requires : tie.Need-with_columns-r-requires
 with-columns-requires c κs =
-    let s = c.before.before.before.before.before.before.before.before.before.before.before.before.before in
-    let e = c.before.before.before.before.before.room_of.ensures in
+    let s = c in
+    let e = c.room_of-room.ensures in
     (s.requires, search rules, omega (arith, e, room_low (length s.args.out.now)))
 
-slice-aggregate-give-merged : tie.Need-slice-aggregate-give-merged
+slice-aggregate-give-merged : tie.Need-slice_bounds-give_merged-end
 slice-aggregate-give-merged c = search rules
 
-slice-aggregate-give-merged-2 : tie.Need-slice-aggregate-give-merged-2
+slice-aggregate-give-merged-2 : tie.Need-slice_bounds-give_merged-end-2
 slice-aggregate-give-merged-2 c = search rules
 
-slice-aggregate-give-merged-3 : tie.Need-slice-aggregate-give-merged-3
+slice-aggregate-give-merged-3 : tie.Need-slice_bounds-give_merged-end-3
 slice-aggregate-give-merged-3 c = search rules
 
-slice-aggregate-give-merged-4 : tie.Need-slice-aggregate-give-merged-4
+slice-aggregate-give-merged-4 : tie.Need-slice_bounds-give_merged-end-4
 slice-aggregate-give-merged-4 c = search rules
 
-give-merged-requires : tie.Need-give-merged-requires
+give-merged-requires : tie.Need-give_merged-requires
 give-merged-requires c κs =
-    let s = c.before.before.before.before.before.before.before.before.before.before.before.before.before.before.before.before.before.before.before.before.before.before.before.before.before in
-    let e = c.before.before.before.before.before.before.before.before.before.before.before.before.before.before.before.before.before.room_of.ensures in
-    let w = c.before.before.before.before.before.before.before.before.before.before.before.with_columns in
+    let s = c in
+    let e = c.room_of-room.ensures in
+    let w = c.with_columns-r in
     let n = w.ensures.1 in
     let h = room_low (length s.args.out.now) in (
       record {
@@ -63,22 +63,22 @@ give-merged-requires c κs =
       omega (arith, e, n, h),
     )
 
-same_length : tie.Need-same-length
+same_length : tie.Need-shape_of-out
 same_length c = search rules
 
-same-length-2 : tie.Need-same-length-2
+same-length-2 : tie.Need-shape_of-counts
 same-length-2 c = search rules
 
 returns : tie.Need-returns
 returns c =
-    let a = c.before.before.before.before.before.before.before.before.before.before.before.before.before.before.before.before.before.before.before.before.before.before.before.before.before.before.before.before.before.before.args in
+    let a = c.args in
     gives_as
-    (c.before.before.before.before.before.before.before.before.before.before.before.before.before.before.before.before.with_columns.ensures.0
-    ∙ ap (from_splits a.lengths.now (sections_in a.heads.now a.head_places.now) a.splits.now a.partials.now) c.before.before.before.before.before.before.before.before.before.before.before.before.before.before.before.before.before.before.before.before.before.before.room_of.ensures)
-    c.before.before.before.before.give_merged.ensures
+    (c.with_columns-r.ensures.0
+    ∙ ap (from_splits a.lengths.now (sections_in a.heads.now a.head_places.now) a.splits.now a.partials.now) c.room_of-room.ensures)
+    c.give_merged.ensures
 
-pub from-splits-spec : {M : Type 1} → statement M
-from-splits-spec =
+pub from_splits_spec : {M : Type 1} → statement M
+from_splits_spec =
     tie.close
     (tie.spec
     room-of-requires

@@ -18,91 +18,91 @@ use borrow.Author.Rules.{rules}
 use Rattle.entry_add_splits.proofs.with_columns.Statement.{statement}
 use Rattle.entry_add_splits.proofs.with_columns.Tie as tie
 
-take-split-columns-requires : tie.Need-take-split-columns-requires
+take-split-columns-requires : tie.Need-take_split_columns-a-requires
 take-split-columns-requires c κs =
-    let q = c.before.before.before.before.before.before.before.before.before.before.before.before.before.before.before.requires in
+    let q = c.requires in
     (q.0, column_room _ q.2 (omega arith) q.1.places_long, rows_long _ q.2 q.1)
 
-enum_told : tie.Need-enum-told
+enum_told : tie.Need-enum_told-1
 enum_told c = search rules
 
-as-merged-requires : tie.Need-as-merged-requires
+as-merged-requires : tie.Need-as_merged-requires
 as-merged-requires c κs = search rules
 
-same_length : tie.Need-same-length
+same_length : tie.Need-shape_of-places-in-Refused
 same_length c = search rules
 
-same-length-2 : tie.Need-same-length-2
+same-length-2 : tie.Need-shape_of-starts-in-Refused
 same-length-2 c = search rules
 
-same-length-3 : tie.Need-same-length-3
+same-length-3 : tie.Need-shape_of-ends-in-Refused
 same-length-3 c = search rules
 
-same-length-4 : tie.Need-same-length-4
+same-length-4 : tie.Need-shape_of-units-in-Refused
 same-length-4 c = search rules
 
-same-length-5 : tie.Need-same-length-5
+same-length-5 : tie.Need-shape_of-rest-in-Refused
 same-length-5 c = search rules
 
-returns : tie.Need-returns
+returns : tie.Need-returns-in-Refused
 unfolding from_splits
 returns c =
-    let t = c.before.before.before.before.before.before.before.before.before.before.before.before.before.take_split_columns in
-    let w = refused_as _ (columns t.new.1.1.1.1.1.1.0 t.new.1.1.1.1.1.1.1.0 t.new.1.1.1.1.1.1.1.1.0 t.new.1.1.1.1.1.1.1.1.1.0) t.ensures.said c.before.enum_told.given.1 c.as_merged.ensures in
+    let t = c.take_split_columns-a in
+    let w = refused_as _ (columns t.new.1.1.1.1.1.1.0 t.new.1.1.1.1.1.1.1.0 t.new.1.1.1.1.1.1.1.1.0 t.new.1.1.1.1.1.1.1.1.1.0) t.ensures.said c.in-Refused.is c.as_merged.ensures in
     (w.0, omega (arith, w.1))
 
-enum-told-2 : tie.Need-enum-told-2
+enum-told-2 : tie.Need-enum_told-in_default
 enum-told-2 c = search rules
 
-take-partials-requires : tie.Need-take-partials-requires
+take-partials-requires : tie.Need-take_partials-b-requires
 take-partials-requires c κs = search rules
 
-enum-told-3 : tie.Need-enum-told-3
+enum-told-3 : tie.Need-enum_told-in-Refused-b
 enum-told-3 c = search rules
 
-as-merged-requires-2 : tie.Need-as-merged-requires-2
+as-merged-requires-2 : tie.Need-as_merged-requires-in-Refused-b
 as-merged-requires-2 c κs = search rules
 
-same-length-6 : tie.Need-same-length-6
+same-length-6 : tie.Need-shape_of-places-in-Refused-b
 same-length-6 c = search rules
 
-same-length-7 : tie.Need-same-length-7
+same-length-7 : tie.Need-shape_of-starts-in-Refused-b
 same-length-7 c = search rules
 
-same-length-8 : tie.Need-same-length-8
+same-length-8 : tie.Need-shape_of-ends-in-Refused-b
 same-length-8 c = search rules
 
-same-length-9 : tie.Need-same-length-9
+same-length-9 : tie.Need-shape_of-units-in-Refused-b
 same-length-9 c = search rules
 
-same-length-10 : tie.Need-same-length-10
+same-length-10 : tie.Need-shape_of-rest-in-Refused-b
 same-length-10 c = search rules
 
-returns-2 : tie.Need-returns-2
+returns-2 : tie.Need-returns-in-Refused-b
 unfolding from_splits
 returns-2 c =
-    let t = c.before.before.before.before.before.before.before.before.before.before.before.before.before.before.before.before.before.before.before.take_split_columns in
-    let w = refused_as _ (columns t.new.1.1.1.1.1.1.0 t.new.1.1.1.1.1.1.1.0 t.new.1.1.1.1.1.1.1.1.0 t.new.1.1.1.1.1.1.1.1.1.0) c.before.before.before.before.before.take_partials.ensures.said c.before.enum-told3.given.1 c.as-merged2.ensures in
-    (w.0 ∙ then_goes t.ensures.said _ (ap meaning c.before.before.before.before.before.before.before.enum-told2.given.1), omega (arith, w.1))
+    let t = c.take_split_columns-a in
+    let w = refused_as _ (columns t.new.1.1.1.1.1.1.0 t.new.1.1.1.1.1.1.1.0 t.new.1.1.1.1.1.1.1.1.0 t.new.1.1.1.1.1.1.1.1.1.0) c.take_partials-b.ensures.said c.in-Refused-b.is c.as_merged-in-Refused-b.ensures in
+    (w.0 ∙ then_goes t.ensures.said _ (ap meaning c.in_default.is), omega (arith, w.1))
 
-enum-told-4 : tie.Need-enum-told-4
+enum-told-4 : tie.Need-enum_told-in_default-b
 enum-told-4 c = search rules
 
-slice-reshare-prefix-add-splits : tie.Need-slice-reshare-prefix-add-splits
+slice-reshare-prefix-add-splits : tie.Need-slice_bounds-add_splits-end
 slice-reshare-prefix-add-splits c =
-    let u = c.before.before.before.before.before.before.before.before.take_partials in
-    let s = c.before.before.before.before.before.before.before.before.before.before.before.before.before.before.before.before.before.before.before.before.before.before.before.before.before.before.before.before.before.before.before.before.before.before.before.before.before.before in
-    let n = taken_few partial_width _ s.args.partials.now _ _ u.ensures (ap meaning c.before.before.before.before.enum-told4.given.1) in
-    omega (arith, n, u.auto.1.1.1.0, c.before.before.before.before.before.before.before.before.before.before.before.before.before.before.before.before.before.before.before.before.before.before.take_split_columns.auto.1.1.1.1.1.0, s.requires.1.places_long)
+    let u = c.take_partials-b in
+    let s = c in
+    let n = taken_few partial_width _ s.args.partials.now _ _ u.ensures (ap meaning c.in_default-b.is) in
+    omega (arith, n, u.auto.1.1.1.0, c.take_split_columns-a.auto.places, s.requires.1.places_long)
 
-slice-aggregate-add-splits : tie.Need-slice-aggregate-add-splits
+slice-aggregate-add-splits : tie.Need-slice_bounds-add_splits-end-2
 slice-aggregate-add-splits c =
-    sym (taken-count partial_width _ c.before.before.before.before.before.before.before.before.before.before.before.before.before.before.before.before.before.before.before.before.before.before.before.before.before.before.before.before.before.before.before.before.before.before.before.before.before.before.before.args.partials.now _ _ c.before.before.before.before.before.before.before.before.before.take_partials.ensures (ap meaning c.before.before.before.before.before.enum-told4.given.1))
+    sym (taken-count partial_width _ c.args.partials.now _ _ c.take_partials-b.ensures (ap meaning c.in_default-b.is))
 
-add-splits-requires : tie.Need-add-splits-requires
+add-splits-requires : tie.Need-add_splits-requires
 add-splits-requires c κs =
-    let t = c.before.before.before.before.before.before.before.before.before.before.before.before.before.before.before.before.before.before.before.before.before.before.before.take_split_columns in
-    let s = c.before.before.before.before.before.before.before.before.before.before.before.before.before.before.before.before.before.before.before.before.before.before.before.before.before.before.before.before.before.before.before.before.before.before.before.before.before.before.before in
+    let t = c.take_split_columns-a in
+    let s = c in
     let q = s.requires.1 in
     let h = s.requires.2 in (
       record {
@@ -111,35 +111,35 @@ add-splits-requires c κs =
         units = omega (arith, h, t.auto.1.1.1.1.1.1.1.1.0, q.units_long);
         rest = omega (arith, h, t.auto.1.1.1.1.1.1.1.1.1.0, q.rest_long);
       },
-      (table_passed split_width _ s.args.splits.now _ (sym t.ensures.said ∙ ap meaning c.before.before.before.before.before.before.before.before.before.before.before.enum-told2.given.1)).1,
+      (table_passed split_width _ s.args.splits.now _ (sym t.ensures.said ∙ ap meaning c.in_default.is)).1,
       s.requires.0,
-      partials_mergeable _ _ s.args.partials.now _ (omega arith) (ap meaning c.before.before.before.before.before.enum-told4.given.1) c.before.before.before.before.before.before.before.before.before.take_partials.ensures,
+      partials_mergeable _ _ s.args.partials.now _ (omega arith) (ap meaning c.in_default-b.is) c.take_partials-b.ensures,
     )
 
-same-length-11 : tie.Need-same-length-11
+same-length-11 : tie.Need-shape_of-places
 same-length-11 c = search rules
 
-same-length-12 : tie.Need-same-length-12
+same-length-12 : tie.Need-shape_of-starts
 same-length-12 c = search rules
 
-same-length-13 : tie.Need-same-length-13
+same-length-13 : tie.Need-shape_of-ends
 same-length-13 c = search rules
 
-same-length-14 : tie.Need-same-length-14
+same-length-14 : tie.Need-shape_of-units
 same-length-14 c = search rules
 
-same-length-15 : tie.Need-same-length-15
+same-length-15 : tie.Need-shape_of-rest
 same-length-15 c = search rules
 
-returns-3 : tie.Need-returns-3
+returns-3 : tie.Need-returns
 unfolding from_splits
 returns-3 c =
-    let t = c.before.before.before.before.before.before.before.before.before.before.before.before.before.before.before.before.before.before.before.before.before.before.before.before.before.before.before.before.before.before.before.before.take_split_columns in
-    let u = c.before.before.before.before.before.before.before.before.before.before.before.before.before.before.before.before.before.before.take_partials in
-    let a = c.before.before.before.before.before.before.before.before.before.before.before.before.before.before.before.before.before.before.before.before.before.before.before.before.before.before.before.before.before.before.before.before.before.before.before.before.before.before.before.before.before.before.before.before.before.before.before.before.args in
-    let o = c.before.before.before.before.before.before.before.before.add_splits in
-    let told = ap meaning c.before.before.before.before.before.before.before.before.before.before.before.before.before.before.before.before.before.before.before.before.enum-told2.given.1 in
-    let told-too = ap meaning c.before.before.before.before.before.before.before.before.before.before.before.before.before.before.enum-told4.given.1 in (
+    let t = c.take_split_columns-a in
+    let u = c.take_partials-b in
+    let a = c.args in
+    let o = c.add_splits in
+    let told = ap meaning c.in_default.is in
+    let told-too = ap meaning c.in_default-b.is in (
       o.ensures.0
           ∙ merged_as (sections_in a.heads.now a.head_places.now) a.room (columns t.new.1.1.1.1.1.1.0 t.new.1.1.1.1.1.1.1.0 t.new.1.1.1.1.1.1.1.1.0 t.new.1.1.1.1.1.1.1.1.1.0) (length a.splits.now / split_width) (stage_splits a.splits.now) a.partials.now
           (t.ensures.taken (sym t.ensures.said ∙ told)) (taken_places partial_width _ a.partials.now _ _ u.ensures told-too)
@@ -148,8 +148,8 @@ returns-3 c =
       o.ensures.1,
     )
 
-pub with-columns-spec : {M : Type 1} → statement M
-with-columns-spec =
+pub with_columns_spec : {M : Type 1} → statement M
+with_columns_spec =
     tie.close
     (tie.spec
     take-split-columns-requires

@@ -16,100 +16,100 @@ use Rattle.entry_create_gap_splits.proofs.Passed.{sections_as, sections_short}
 use Rattle.entry_create_gap_splits.proofs.from_sections.Statement.{statement}
 use Rattle.entry_create_gap_splits.proofs.from_sections.Tie as tie
 
-take-image-requires : tie.Need-take-image-requires
+take-image-requires : tie.Need-take_image-a-requires
 take-image-requires c κs = search rules
 
-enum_told : tie.Need-enum-told
+enum_told : tie.Need-enum_told-1
 enum_told c = search rules
 
-same_length : tie.Need-same-length
+same_length : tie.Need-shape_of-heads-in-Refused
 same_length c = search rules
 
-returns : tie.Need-returns
+returns : tie.Need-returns-in-Refused
 unfolding from_sections
-returns c = gives_stops _ c.before.before.before.before.take_image.ensures.said (ap meaning c.enum_told.given.1)
+returns c = gives_stops _ c.take_image-a.ensures.said (ap meaning c.in-Refused.is)
 
-enum-told-2 : tie.Need-enum-told-2
+enum-told-2 : tie.Need-enum_told-in_default
 enum-told-2 c = search rules
 
-take-image-places-requires : tie.Need-take-image-places-requires
+take-image-places-requires : tie.Need-take_image_places-p-requires
 take-image-places-requires c κs = search rules
 
-slice-reshare-prefix-with-symbols : tie.Need-slice-reshare-prefix-with-symbols
+slice-reshare-prefix-with-symbols : tie.Need-slice_bounds-with_symbols-end
 slice-reshare-prefix-with-symbols c =
-    let t = c.before.before.before.before.before.before.before.before in
-    let s = c.before.before.before.before.before.before.before.before.before.before.before.before.before.before.before.before.before.before.before.before.before.before.before.before.before.before in
-    omega (arith, taken_few 15 64 s.args.sections.now _ _ t.take_image.ensures (ap meaning c.before.before.before.before.enum-told2.given.1), t.take_image.auto.1.1.1.1.1.0, s.requires.2)
+    let t = c in
+    let s = c in
+    omega (arith, taken_few 15 64 s.args.sections.now _ _ t.take_image-a.ensures (ap meaning c.in_default.is), t.take_image-a.auto.places, s.requires.2)
 
-slice-aggregate-with-symbols : tie.Need-slice-aggregate-with-symbols
-slice-aggregate-with-symbols c = sym (taken-count 15 64 c.before.before.before.before.before.before.before.before.before.before.before.before.before.before.before.before.before.before.before.before.before.before.before.before.before.before.before.args.sections.now _ _ c.before.before.before.before.before.before.before.before.before.take_image.ensures (ap meaning c.before.before.before.before.before.enum-told2.given.1))
+slice-aggregate-with-symbols : tie.Need-slice_bounds-with_symbols-end-2
+slice-aggregate-with-symbols c = sym (taken-count 15 64 c.args.sections.now _ _ c.take_image-a.ensures (ap meaning c.in_default.is))
 
-slice-reshare-prefix-with-symbols-2 : tie.Need-slice-reshare-prefix-with-symbols-2
-slice-reshare-prefix-with-symbols-2 c = c.before.before.before.take_image_places.ensures.inside
+slice-reshare-prefix-with-symbols-2 : tie.Need-slice_bounds-with_symbols-end-3
+slice-reshare-prefix-with-symbols-2 c = c.take_image_places-p.ensures.inside
 
-slice-aggregate-with-symbols-2 : tie.Need-slice-aggregate-with-symbols-2
-slice-aggregate-with-symbols-2 c = sym (length-take-le _ _ c.before.before.before.before.take_image_places.ensures.inside)
+slice-aggregate-with-symbols-2 : tie.Need-slice_bounds-with_symbols-end-4
+slice-aggregate-with-symbols-2 c = sym (length-take-le _ _ c.take_image_places-p.ensures.inside)
 
-with-symbols-requires : tie.Need-with-symbols-requires
+with-symbols-requires : tie.Need-with_symbols-requires
 with-symbols-requires c κs =
-    let t = c.before.before.before.before.before.before.before.before.before.before.before.before.before.before in
-    let p = c.before.before.before.before.before.before.before.before in
-    let s = c.before.before.before.before.before.before.before.before.before.before.before.before.before.before.before.before.before.before.before.before.before.before.before.before.before.before.before.before.before.before.before.before in
+    let t = c in
+    let p = c in
+    let s = c in
     let a = s.args in
-    let e = ap meaning c.before.before.before.before.before.before.before.before.before.before.enum-told2.given.1 in
-    let passed = sym t.take_image.ensures.said ∙ e in (
+    let e = ap meaning c.in_default.is in
+    let passed = sym t.take_image-a.ensures.said ∙ e in (
       s.requires.0,
       record {
-        all = taken-held 15 64 a.sections.now _ _ t.take_image.ensures e (omega arith);
+        all = taken-held 15 64 a.sections.now _ _ t.take_image-a.ensures e (omega arith);
         kept =
             sections_kept 64 a.name_lengths.now a.section_places.now a.image.now a.sections.now passed (omega arith) _ _ _ _
-            (taken_places 15 64 a.sections.now _ _ t.take_image.ensures e) s.requires.0.paired p.take_image_places.ensures (p.take_image_places.auto.1.0 ∙ s.requires.3);
+            (taken_places 15 64 a.sections.now _ _ t.take_image-a.ensures e) s.requires.0.paired p.take_image_places-p.ensures (p.take_image_places-p.auto.column ∙ s.requires.3);
         short =
             sections_short 64 a.name_lengths.now a.section_places.now a.image.now a.sections.now passed _ a.name_bytes.now a.name_places.now
-            (taken_places 15 64 a.sections.now _ _ t.take_image.ensures e);
+            (taken_places 15 64 a.sections.now _ _ t.take_image-a.ensures e);
       },
       s.requires.1,
     )
 
-same-length-2 : tie.Need-same-length-2
+same-length-2 : tie.Need-shape_of-heads
 same-length-2 c = search rules
 
-same-length-3 : tie.Need-same-length-3
+same-length-3 : tie.Need-shape_of-images
 same-length-3 c = search rules
 
-same-length-4 : tie.Need-same-length-4
+same-length-4 : tie.Need-shape_of-out_ends
 same-length-4 c = search rules
 
-same-length-5 : tie.Need-same-length-5
+same-length-5 : tie.Need-shape_of-out_bytes
 same-length-5 c = search rules
 
-same-length-6 : tie.Need-same-length-6
+same-length-6 : tie.Need-shape_of-out
 same-length-6 c = search rules
 
-same-length-7 : tie.Need-same-length-7
+same-length-7 : tie.Need-shape_of-counts
 same-length-7 c = search rules
 
-returns-2 : tie.Need-returns-2
+returns-2 : tie.Need-returns
 unfolding from_sections
 returns-2 c =
-    let t = c.before.before.before.before.before.before.before.before.before.before.before.before.before.before.before.before.before.before.before.before.before.before.before in
-    let p = c.before.before.before.before.before.before.before.before.before.before.before.before.before.before.before.before.before in
-    let s = c.before.before.before.before.before.before.before.before.before.before.before.before.before.before.before.before.before.before.before.before.before.before.before.before.before.before.before.before.before.before.before.before.before.before.before.before.before.before.before.before.before in
+    let t = c in
+    let p = c in
+    let s = c in
     let a = s.args in
-    let e = ap meaning c.before.before.before.before.before.before.before.before.before.before.before.before.before.before.before.before.before.before.before.enum-told2.given.1 in
-    let passed = sym t.take_image.ensures.said ∙ e in
+    let e = ap meaning c.in_default.is in
+    let passed = sym t.take_image-a.ensures.said ∙ e in
     gives_goes passed
     (gives_as
     (sections_as a.name_bytes.now a.name_places.now a.name_lengths.now a.sections.now a.image.now _ _ a.section_places.now a.symbols.now a.splits.now
     (ceilings (names_of a.name_bytes.now a.name_places.now a.name_lengths.now (length a.name_places.now)) a.most a.most_bytes) (length a.out.now)
-    (taken_places 15 64 a.sections.now _ _ t.take_image.ensures e)
+    (taken_places 15 64 a.sections.now _ _ t.take_image-a.ensures e)
     (λ n h.
-    place_is 64 a.name_lengths.now a.section_places.now a.image.now a.sections.now passed _ _ p.take_image_places.ensures n
-    (omega (arith, h, taken_few 15 64 a.sections.now _ _ t.take_image.ensures e, p.take_image_places.auto.1.0, s.requires.3))))
-    c.before.before.before.before.before.before.before.before.with_symbols.ensures)
+    place_is 64 a.name_lengths.now a.section_places.now a.image.now a.sections.now passed _ _ p.take_image_places-p.ensures n
+    (omega (arith, h, taken_few 15 64 a.sections.now _ _ t.take_image-a.ensures e, p.take_image_places-p.auto.column, s.requires.3))))
+    c.with_symbols.ensures)
 
-pub from-sections-spec : {M : Type 1} → statement M
-from-sections-spec =
+pub from_sections_spec : {M : Type 1} → statement M
+from_sections_spec =
     tie.close
     (tie.spec
     take-image-requires

@@ -26,103 +26,103 @@ use Rattle.entry_create_gap_splits.proofs.from_symbols.Statement.{statement}
 use Rattle.entry_create_gap_splits.proofs.from_symbols.Tie as tie
 
 -- they were accepted
-passed : (c : tie.After-enum-told2) → let a = c.before.before.before.before.before.before.before.before.before.before.before.before.before.before.before.before.before.before.before.before.before.before.before.before.before.before.before.before.before.before.args in symbols_check 4096 (length a.name_lengths.now) (sections_in a.heads.now a.head_places.now) a.symbols.now ≡ accepted tt
-passed c = sym c.before.before.before.before.before.before.before.before.take_symbol_order.ensures.said ∙ ap meaning c.enum-told2.given.1
+passed : (c : tie.In_default) → let a = c.args in symbols_check 4096 (length a.name_lengths.now) (sections_in a.heads.now a.head_places.now) a.symbols.now ≡ accepted tt
+passed c = sym c.take_symbol_order-t.ensures.said ∙ ap meaning c.in_default.is
 
-few : (c : tie.After-enum-told2) → length c.before.before.before.before.before.before.before.before.before.before.before.before.before.before.before.before.before.before.before.before.before.before.before.before.before.before.before.before.before.before.args.symbols.now / 20 ≤ 4096
-few c = (table_passed 20 4096 c.before.before.before.before.before.before.before.before.before.before.before.before.before.before.before.before.before.before.before.before.before.before.before.before.before.before.before.before.before.before.args.symbols.now _ (passed c)).1
+few : (c : tie.In_default) → length c.args.symbols.now / 20 ≤ 4096
+few c = (table_passed 20 4096 c.args.symbols.now _ (passed c)).1
 
-places-inside : (c : tie.After-enum-told2) → length c.before.before.before.before.before.before.before.before.before.before.before.before.before.before.before.before.before.before.before.before.before.before.before.before.before.before.before.before.before.before.args.symbols.now / 20 ≤ length c.before.before.before.before.before.before.before.before.take_symbol_order.new.1.1.1.1.1.0
-places-inside c = omega (arith, few c, c.before.before.before.before.before.before.before.before.take_symbol_order.auto.1.1.1.1.1.0, c.before.before.before.before.before.before.before.before.before.before.before.before.before.before.before.before.before.before.before.before.before.before.before.before.before.before.before.before.before.before.requires.3.places_long)
+places-inside : (c : tie.In_default) → length c.args.symbols.now / 20 ≤ length c.take_symbol_order-t.new.places
+places-inside c = omega (arith, few c, c.take_symbol_order-t.auto.places, c.requires.3.places_long)
 
-order-inside : (c : tie.After-enum-told2) → c.before.before.before.before.before.before.before.before.take_symbol_order.result.ordered ≤ length c.before.before.before.before.before.before.before.before.take_symbol_order.new.1.1.1.1.1.1.0
-order-inside c = omega (arith, c.before.before.before.before.before.before.before.before.take_symbol_order.ensures.small, few c, c.before.before.before.before.before.before.before.before.take_symbol_order.auto.1.1.1.1.1.1.0, c.before.before.before.before.before.before.before.before.before.before.before.before.before.before.before.before.before.before.before.before.before.before.before.before.before.before.before.before.before.before.requires.3.order_long)
+order-inside : (c : tie.In_default) → c.take_symbol_order-t.result.ordered ≤ length c.take_symbol_order-t.new.order
+order-inside c = omega (arith, c.take_symbol_order-t.ensures.small, few c, c.take_symbol_order-t.auto.order, c.requires.3.order_long)
 
-places_are : (c : tie.After-enum-told2) → take (length c.before.before.before.before.before.before.before.before.before.before.before.before.before.before.before.before.before.before.before.before.before.before.before.before.before.before.before.before.before.before.args.symbols.now / 20) c.before.before.before.before.before.before.before.before.take_symbol_order.new.1.1.1.1.1.0 ≡ stage_places 20 (length c.before.before.before.before.before.before.before.before.before.before.before.before.before.before.before.before.before.before.before.before.before.before.before.before.before.before.before.before.before.before.args.symbols.now / 20)
-places_are c = c.before.before.before.before.before.before.before.before.take_symbol_order.ensures.placed (passed c)
+places_are : (c : tie.In_default) → take (length c.args.symbols.now / 20) c.take_symbol_order-t.new.places ≡ stage_places 20 (length c.args.symbols.now / 20)
+places_are c = c.take_symbol_order-t.ensures.placed (passed c)
 
-take-symbol-order-requires : tie.Need-take-symbol-order-requires
+take-symbol-order-requires : tie.Need-take_symbol_order-t-requires
 take-symbol-order-requires c κs = search rules
 
-enum_told : tie.Need-enum-told
+enum_told : tie.Need-enum_told-1
 enum_told c = search rules
 
-same_length : tie.Need-same-length
+same_length : tie.Need-shape_of-places-in-Refused
 same_length c = search rules
 
-same-length-2 : tie.Need-same-length-2
+same-length-2 : tie.Need-shape_of-order-in-Refused
 same-length-2 c = search rules
 
-same-length-3 : tie.Need-same-length-3
+same-length-3 : tie.Need-shape_of-scratch-in-Refused
 same-length-3 c = search rules
 
-returns : tie.Need-returns
+returns : tie.Need-returns-in-Refused
 unfolding from_symbols
-returns c = gives_stops _ c.before.before.before.before.before.before.before.before.take_symbol_order.ensures.said (ap meaning c.enum_told.given.1)
+returns c = gives_stops _ c.take_symbol_order-t.ensures.said (ap meaning c.in-Refused.is)
 
-enum-told-2 : tie.Need-enum-told-2
+enum-told-2 : tie.Need-enum_told-in_default
 enum-told-2 c = search rules
 
-slice-reshare-prefix-with-splits : tie.Need-slice-reshare-prefix-with-splits
+slice-reshare-prefix-with-splits : tie.Need-slice_bounds-with_splits-end
 slice-reshare-prefix-with-splits c = places-inside c
 
-slice-aggregate-with-splits : tie.Need-slice-aggregate-with-splits
-slice-aggregate-with-splits c = sym (length-take-le _ _ (places-inside c.before))
+slice-aggregate-with-splits : tie.Need-slice_bounds-with_splits-end-2
+slice-aggregate-with-splits c = sym (length-take-le _ _ (places-inside c))
 
-slice-reshare-prefix-with-splits-2 : tie.Need-slice-reshare-prefix-with-splits-2
-slice-reshare-prefix-with-splits-2 c = order-inside c.before
+slice-reshare-prefix-with-splits-2 : tie.Need-slice_bounds-with_splits-end-3
+slice-reshare-prefix-with-splits-2 c = order-inside c
 
-slice-aggregate-with-splits-2 : tie.Need-slice-aggregate-with-splits-2
-slice-aggregate-with-splits-2 c = sym (length-take-le _ _ (order-inside c.before.before))
+slice-aggregate-with-splits-2 : tie.Need-slice_bounds-with_splits-end-4
+slice-aggregate-with-splits-2 c = sym (length-take-le _ _ (order-inside c.before))
 
-with-splits-requires : tie.Need-with-splits-requires
+with-splits-requires : tie.Need-with_splits-requires
 with-splits-requires c κs =
-    let e = c.before.before.before.before.before.before in
-    let t = c.before.before.before.before.before.before.before.before.before.before.before.before.before.before in
-    let s = c.before.before.before.before.before.before.before.before.before.before.before.before.before.before.before.before.before.before.before.before.before.before.before.before.before.before.before.before.before.before.before.before.before.before.before.before in
+    let e = c.before.before.before.before.before in
+    let t = c in
+    let s = c in
     let a = s.args in
     let count = length a.name_lengths.now in (
-      tables-taken 4096 count (sections_in a.heads.now a.head_places.now) a.symbols.now (passed e) (omega arith) _ _ _ _ _ t.take_symbol_order.result t.take_symbol_order.ensures (sym s.requires.0.paired) s.requires.0.named,
+      tables-taken 4096 count (sections_in a.heads.now a.head_places.now) a.symbols.now (passed e) (omega arith) _ _ _ _ _ t.take_symbol_order-t.result t.take_symbol_order-t.ensures (sym s.requires.0.paired) s.requires.0.named,
       rw (places_are e, length-stage_places) (symbols_sound 4096 count (sections_in a.heads.now a.head_places.now) a.symbols.now (passed e)),
       s.requires.0,
       s.requires.1,
       s.requires.2,
-      omega (arith, few e, length-take-le (length a.symbols.now / 20) t.take_symbol_order.new.1.1.1.1.1.0 (places-inside e)),
+      omega (arith, few e, length-take-le (length a.symbols.now / 20) t.take_symbol_order-t.new.places (places-inside e)),
     )
 
-same-length-4 : tie.Need-same-length-4
+same-length-4 : tie.Need-shape_of-places
 same-length-4 c = search rules
 
-same-length-5 : tie.Need-same-length-5
+same-length-5 : tie.Need-shape_of-order
 same-length-5 c = search rules
 
-same-length-6 : tie.Need-same-length-6
+same-length-6 : tie.Need-shape_of-scratch
 same-length-6 c = search rules
 
-same-length-7 : tie.Need-same-length-7
+same-length-7 : tie.Need-shape_of-out_ends
 same-length-7 c = search rules
 
-same-length-8 : tie.Need-same-length-8
+same-length-8 : tie.Need-shape_of-out_bytes
 same-length-8 c = search rules
 
-same-length-9 : tie.Need-same-length-9
+same-length-9 : tie.Need-shape_of-out
 same-length-9 c = search rules
 
-same-length-10 : tie.Need-same-length-10
+same-length-10 : tie.Need-shape_of-counts
 same-length-10 c = search rules
 
-returns-2 : tie.Need-returns-2
+returns-2 : tie.Need-returns
 unfolding from_symbols
 returns-2 c =
-    let e = c.before.before.before.before.before.before.before.before.before.before.before.before.before.before.before in
-    let a = c.before.before.before.before.before.before.before.before.before.before.before.before.before.before.before.before.before.before.before.before.before.before.before.before.before.before.before.before.before.before.before.before.before.before.before.before.before.before.before.before.before.before.before.before.before.args in
+    let e = c.before.before.before.before.before.before.before.before.before.before.before.before.before.before in
+    let a = c.args in
     let names = names_of a.name_bytes.now a.name_places.now a.name_lengths.now (length a.name_places.now) in
     gives_goes (passed e)
     (gives_as (ap (λ (l : List ℕ). from_splits a.name_lengths.now (sections_in a.heads.now a.head_places.now) (image_of a.symbols.now l a.name_bytes.now a.name_places.now a.name_lengths.now) (sections_of a.heads.now a.head_places.now a.image.now a.image_places.now) (ceilings names a.most a.most_bytes) names a.splits.now (length a.out.now)) (places_are e))
-    c.before.before.before.before.before.before.before.before.with_splits.ensures)
+    c.with_splits.ensures)
 
-pub from-symbols-spec : {M : Type 1} → statement M
-from-symbols-spec =
+pub from_symbols_spec : {M : Type 1} → statement M
+from_symbols_spec =
     tie.close
     (tie.spec
     take-symbol-order-requires

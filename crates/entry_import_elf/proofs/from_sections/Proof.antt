@@ -19,70 +19,70 @@ use borrow.Author.Rules.{rules}
 use Rattle.entry_import_elf.proofs.from_sections.Statement.{statement}
 use Rattle.entry_import_elf.proofs.from_sections.Tie as tie
 
-header-table-requires : tie.Need-header-table-requires
+header-table-requires : tie.Need-header_table-requires
 header-table-requires c κs = search rules
 
-take-sections-requires : tie.Need-take-sections-requires
+take-sections-requires : tie.Need-take_sections-m-requires
 take-sections-requires c κs = search rules
 
 smaller-requires : tie.Need-smaller-requires
 smaller-requires c κs = search rules
 
-smaller-requires-2 : tie.Need-smaller-requires-2
+smaller-requires-2 : tie.Need-smaller-room-requires
 smaller-requires-2 c κs = search rules
 
-cast-refusal : tie.Need-overflow-cast-refusal
+cast-refusal : tie.Need-overflow_cast-room
 cast-refusal c = search rules
 
 refusal-requires : tie.Need-refusal-requires
 refusal-requires c κs = search rules
 
-no-rows-requires : tie.Need-no-rows-requires
+no-rows-requires : tie.Need-no_rows-requires
 no-rows-requires c κs = search rules
 
-same_length : tie.Need-same-length
+same_length : tie.Need-shape_of-taken-then-room-m
 same_length c = search rules
 
 -- how many are taken over, and their numbers where there are no more than 64
-counted : (c : tie.After-take-sections) (names : List (List ℕ)) → c.take_sections.result ≡ length (tables_of c.before.before.before.before.before.before.before.before.before.before.before.before.before.before.before.args.file.now names).sections
+counted : (c : tie.After-take_sections-m) (names : List (List ℕ)) → c.take_sections-m.result ≡ length (tables_of c.args.file.now names).sections
 counted c names =
-    c.take_sections.ensures.is ∙ ap (λ (l : List ℕ). length (taken l)) c.before.before.header_table.ensures ∙ sym (sections_count c.before.before.before.before.before.before.before.before.before.before.before.before.before.before.before.args.file.now names)
+    c.take_sections-m.ensures.is ∙ ap (λ (l : List ℕ). length (taken l)) c.header_table.ensures ∙ sym (sections_count c.args.file.now names)
 
-numbers : (c : tie.After-take-sections) → c.take_sections.result ≤ 64 → take c.take_sections.result c.take_sections.new.1.0 ≡ taken (header_table c.before.before.before.before.before.before.before.before.before.before.before.before.before.before.before.args.file.now)
-numbers c h = c.take_sections.ensures.front (omega (arith, c.take_sections.auto.1.0, c.before.before.before.before.before.before.before.before.before.before.before.before.before.before.before.requires.2)) ∙ ap taken c.before.before.header_table.ensures
+numbers : (c : tie.After-take_sections-m) → c.take_sections-m.result ≤ 64 → take c.take_sections-m.result c.take_sections-m.new.column ≡ taken (header_table c.args.file.now)
+numbers c h = c.take_sections-m.ensures.front (omega (arith, c.take_sections-m.auto.column, c.requires.2)) ∙ ap taken c.header_table.ensures
 
 -- the room that was asked
-room_is : (c : tie.After-smaller2) → let a = c.before.before.before.before.before.before.before.before.before.before.before.before.before.before.before.before.before.before.before.args in c.smaller2.result ≡ sections_room (length a.sections.now) (length a.section_places.now)
-room_is c = c.smaller2.ensures.0 ∙ ap (least 64) c.before.smaller.ensures.0
+room_is : (c : tie.After-smaller-room) → let a = c.args in c.smaller-room.result ≡ sections_room (length a.sections.now) (length a.section_places.now)
+room_is c = c.smaller-room.ensures.0 ∙ ap (least 64) c.smaller.ensures.0
 
 -- they fit
-bounds : (c : tie.Else1)
-    → (c.before.before.before.before.before.take_sections.result ≤ 64) × (15 * c.before.before.before.before.before.take_sections.result ≤ length c.before.before.before.before.before.before.before.before.before.before.before.before.before.before.before.before.before.before.before.before.args.sections.now) × (4 * c.before.before.before.before.before.take_sections.result ≤ length c.before.before.before.before.before.before.before.before.before.before.before.before.before.before.before.before.before.before.before.before.args.section_places.now)
+bounds : (c : tie.Else-room-m)
+    → (c.take_sections-m.result ≤ 64) × (15 * c.take_sections-m.result ≤ length c.args.sections.now) × (4 * c.take_sections-m.result ≤ length c.args.section_places.now)
 bounds c =
-    let a = c.before.smaller2.ensures in
-    let b = c.before.before.smaller.ensures in
-    (omega (arith, c.if1.false, a.1), omega (arith, c.if1.false, a.2, b.1), omega (arith, c.if1.false, a.2, b.2))
+    let a = c.smaller-room.ensures in
+    let b = c.smaller.ensures in
+    (omega (arith, c.if-room-m.false, a.1), omega (arith, c.if-room-m.false, a.2, b.1), omega (arith, c.if-room-m.false, a.2, b.2))
 
-returns : tie.Need-returns
+returns : tie.Need-returns-then-room-m
 returns c =
     λ names k l.
-    let a = c.before.before.before.before.before.before.before.before.before.before.before.before.before.before.before.before.before.before.before.before.before.before.args in
-    let many = sections_many (length a.file.now) (sections_room (length a.sections.now) (length a.section_places.now)) (symbols_room (length a.symbols.now)) (tables_of a.file.now names) (counted c.before.before.before.before.before.before.before names) (omega (arith, c.before.before.if1.true, room_is c.before.before.before)) in
-    let why = ap meaning c.before.refusal.ensures in
+    let a = c.args in
+    let many = sections_many (length a.file.now) (sections_room (length a.sections.now) (length a.section_places.now)) (symbols_room (length a.symbols.now)) (tables_of a.file.now names) (counted c.before.before.before.before.before.before.before names) (omega (arith, c.if-room-m.true, room_is c.before.before.before)) in
+    let why = ap meaning c.refusal.ensures in
     rows_refused (why ∙ ap (λ (m : ℕ). refused 2 0 m) (room_is c.before.before.before) ∙ many) why c.no_rows.ensures
 
-slice-reshare-prefix-fill-sections : tie.Need-slice-reshare-prefix-fill-sections
+slice-reshare-prefix-fill-sections : tie.Need-slice_bounds-fill_sections-end
 slice-reshare-prefix-fill-sections c = search rules
 
-slice-aggregate-fill-sections : tie.Need-slice-aggregate-fill-sections
+slice-aggregate-fill-sections : tie.Need-slice_bounds-fill_sections-end-2
 slice-aggregate-fill-sections c = sym (length-take-le _ _ (slice-reshare-prefix-fill-sections c.before))
 
-fill-sections-requires : tie.Need-fill-sections-requires
+fill-sections-requires : tie.Need-fill_sections-requires
 fill-sections-requires c κs =
-    let s = c.before.before.before.before.before.before.before.before.before.before.before.before.before.before.before.before.before.before.before.before.before.before.before in
+    let s = c in
     let b = bounds c.before.before.before in
-    let m = c.before.before.before.before.before.before.before.before.take_sections.result in
-    let l = c.before.before.before.before.before.before.before.before.take_sections.new.1.0 in (
+    let m = c.take_sections-m.result in
+    let l = c.take_sections-m.new.column in (
       s.requires.0,
       s.requires.1,
       numbers_of (header_table s.args.file.now) (take m l) (numbers c.before.before.before.before.before.before.before.before b.0) (omega (arith, length-take m l, b.0)),
@@ -90,75 +90,75 @@ fill-sections-requires c κs =
       omega (arith, length-take m l, b.2),
     )
 
-mul-e : tie.Need-overflow-mul-e
+mul-e : tie.Need-overflow_mul-e
 mul-e c = search rules
 
-mul-p : tie.Need-overflow-mul-p
+mul-p : tie.Need-overflow_mul-p
 mul-p c = search rules
 
-slice-reshare-prefix-from-image : tie.Need-slice-reshare-prefix-from-image
+slice-reshare-prefix-from-image : tie.Need-slice_bounds-from_image-end
 slice-reshare-prefix-from-image c = search rules
 
 -- what stands in the outputs
-filled : (c : tie.After-fill-sections) (names : List (List ℕ))
-    → let a = c.before.before.before.before.before.before.before.before.before.before.before.before.before.before.before.before.before.before.before.before.before.before.before.before.args in let t = tables_of a.file.now names in
+filled : (c : tie.After-fill_sections) (names : List (List ℕ))
+    → let a = c.args in let t = tables_of a.file.now names in
     Known names a.ends.now a.bytes.now a.heads.now a.chain.now
-    → (c.fill_sections.new.1.1.1.1.1.1.0 ≡ sets a.sections.now 0 (sections_table t.sections))
-    × (c.fill_sections.new.1.1.1.1.1.1.1.0 ≡ sets a.section_places.now 0 (places_table t.places))
+    → (c.fill_sections.new.sections ≡ sets a.sections.now 0 (sections_table t.sections))
+    × (c.fill_sections.new.section_places ≡ sets a.section_places.now 0 (places_table t.places))
 filled c names k = c.fill_sections.ensures names k (numbers c.before.before.before.before.before.before.before.before.before (bounds c.before.before.before.before).0)
 
-slice-aggregate-from-image : tie.Need-slice-aggregate-from-image
+slice-aggregate-from-image : tie.Need-slice_bounds-from_image-end-2
 slice-aggregate-from-image c = sym (length-take-le _ _ (slice-reshare-prefix-from-image c.before))
 
-slice-reshare-prefix-from-image-2 : tie.Need-slice-reshare-prefix-from-image-2
+slice-reshare-prefix-from-image-2 : tie.Need-slice_bounds-from_image-end-3
 slice-reshare-prefix-from-image-2 c = search rules
 
-slice-aggregate-from-image-2 : tie.Need-slice-aggregate-from-image-2
+slice-aggregate-from-image-2 : tie.Need-slice_bounds-from_image-end-4
 slice-aggregate-from-image-2 c = sym (length-take-le _ _ (slice-reshare-prefix-from-image-2 c.before))
 
-slice-reshare-prefix-from-image-3 : tie.Need-slice-reshare-prefix-from-image-3
+slice-reshare-prefix-from-image-3 : tie.Need-slice_bounds-from_image-end-5
 slice-reshare-prefix-from-image-3 c = search rules
 
-slice-aggregate-from-image-3 : tie.Need-slice-aggregate-from-image-3
+slice-aggregate-from-image-3 : tie.Need-slice_bounds-from_image-end-6
 slice-aggregate-from-image-3 c = sym (length-take-le _ _ (slice-reshare-prefix-from-image-3 c.before))
 
-from-image-requires : tie.Need-from-image-requires
+from-image-requires : tie.Need-from_image-g-requires
 from-image-requires c κs =
-    let s = c.before.before.before.before.before.before.before.before.before.before.before.before.before.before.before.before.before.before.before.before.before.before.before.before.before.before.before.before.before.before.before.before.before.before in
-    let m = c.before.before.before.before.before.before.before.before.before.before.before.before.before.before.before.before.before.before.before.take_sections.result in
-    let l = c.before.before.before.before.before.before.before.before.before.before.before.before.before.before.before.before.before.before.before.take_sections.new.1.0 in
+    let s = c in
+    let m = c.take_sections-m.result in
+    let l = c.take_sections-m.new.column in
     (s.requires.0, omega (arith, length-take m l, (bounds c.before.before.before.before.before.before.before.before.before.before.before.before.before.before).0), s.requires.1, s.requires.3, s.requires.4)
 
-same-length-2 : tie.Need-same-length-2
+same-length-2 : tie.Need-shape_of-sections
 same-length-2 c = search rules
 
-same-length-3 : tie.Need-same-length-3
+same-length-3 : tie.Need-shape_of-section_places
 same-length-3 c = search rules
 
-same-length-4 : tie.Need-same-length-4
+same-length-4 : tie.Need-shape_of-symbols
 same-length-4 c = search rules
 
-same-length-5 : tie.Need-same-length-5
+same-length-5 : tie.Need-shape_of-taken
 same-length-5 c = search rules
 
-same-length-6 : tie.Need-same-length-6
+same-length-6 : tie.Need-shape_of-head_places
 same-length-6 c = search rules
 
-same-length-7 : tie.Need-same-length-7
+same-length-7 : tie.Need-shape_of-places
 same-length-7 c = search rules
 
-returns-2 : tie.Need-returns-2
+returns-2 : tie.Need-returns
 returns-2 c =
     λ names k l.
-    let a = c.before.before.before.before.before.before.before.before.before.before.before.before.before.before.before.before.before.before.before.before.before.before.before.before.before.before.before.before.before.before.before.before.before.before.before.before.before.before.before.before.before.args in
+    let a = c.args in
     let t = tables_of a.file.now names in
     let b = bounds c.before.before.before.before.before.before.before.before.before.before.before.before.before.before.before.before.before.before.before.before.before in
     let n = counted c.before.before.before.before.before.before.before.before.before.before.before.before.before.before.before.before.before.before.before.before.before.before.before.before.before.before names in
     let f = filled c.before.before.before.before.before.before.before.before.before.before.before.before.before.before.before.before.before names k in
     let ws = front a.sections.now (sections_table t.sections) f.0 (omega (arith, n, long_sections t.sections)) b.1 in
     let wp = front a.section_places.now (places_table t.places) f.1 (omega (arith, n, long_places t.places, places_count a.file.now names, sections_count a.file.now names)) b.2 in
-    let g = c.before.before.before.before.before.before.from_image.ensures names k (numbers c.before.before.before.before.before.before.before.before.before.before.before.before.before.before.before.before.before.before.before.before.before.before.before.before.before.before b.0) l ws wp in
-    let st = sections_asked (length a.file.now) (sections_room (length a.sections.now) (length a.section_places.now)) (symbols_room (length a.symbols.now)) t n (omega (arith, c.before.before.before.before.before.before.before.before.before.before.before.before.before.before.before.before.before.before.before.before.before.if1.false, room_is c.before.before.before.before.before.before.before.before.before.before.before.before.before.before.before.before.before.before.before.before.before.before)) in
+    let g = c.from_image-g.ensures names k (numbers c.before.before.before.before.before.before.before.before.before.before.before.before.before.before.before.before.before.before.before.before.before.before.before.before.before.before b.0) l ws wp in
+    let st = sections_asked (length a.file.now) (sections_room (length a.sections.now) (length a.section_places.now)) (symbols_room (length a.symbols.now)) t n (omega (arith, c.if-room-m.false, room_is c.before.before.before.before.before.before.before.before.before.before.before.before.before.before.before.before.before.before.before.before.before.before)) in
     record {
       said = g.said ∙ st;
       sections_written = λ _. f.0;
@@ -170,8 +170,8 @@ returns-2 c =
       few_symbols = g.few;
     }
 
-pub from-sections-spec : {M : Type 1} → statement M
-from-sections-spec =
+pub from_sections_spec : {M : Type 1} → statement M
+from_sections_spec =
     tie.close
     (tie.spec
     header-table-requires

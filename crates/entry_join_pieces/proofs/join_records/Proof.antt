@@ -8,39 +8,39 @@ use borrow.Author.Rules.{rules}
 use Rattle.entry_join_pieces.proofs.join_records.Statement.{statement}
 use Rattle.entry_join_pieces.proofs.join_records.Tie as tie
 
-count-pieces-requires : tie.Need-count-pieces-requires
+count-pieces-requires : tie.Need-count_pieces-c-requires
 count-pieces-requires c κs = search rules
 
-enum_told : tie.Need-enum-told
+enum_told : tie.Need-enum_told-1
 enum_told c = search rules
 
-returns : tie.Need-returns
+returns : tie.Need-returns-in-Refused
 returns c =
-    let a = c.before.before.before.before.before.before.args in
-    let k = c.before.before.count_pieces in
-    let e = c.enum_told.given.1 in
+    let a = c.args in
+    let k = c.count_pieces-c in
+    let e = c.in-Refused.is in
     joins_refused e (from_stops a.sections.now a.pieces.now _ (parts_refused a.pieces.now k.result k.ensures e)) refl
 
-enum-told-2 : tie.Need-enum-told-2
+enum-told-2 : tie.Need-enum_told-in_default
 enum-told-2 c = search rules
 
 join-requires : tie.Need-join-requires
 join-requires c κs =
-    let s = c.before.before.before.before.before.before.before in
-    let k = c.before.before.before.count_pieces in
-    (s.requires, parts_whole s.args.pieces.now k.result k.ensures c.before.enum-told2.given.1)
+    let s = c in
+    let k = c.count_pieces-c in
+    (s.requires, parts_whole s.args.pieces.now k.result k.ensures c.in_default.is)
 
-same_length : tie.Need-same-length
+same_length : tie.Need-shape_of-joined
 same_length c = search rules
 
-returns-2 : tie.Need-returns-2
+returns-2 : tie.Need-returns
 returns-2 c =
-    let a = c.before.before.before.before.before.before.before.before.before.before.args in
-    let k = c.before.before.before.before.before.before.count_pieces in
-    joins_as (from_goes a.sections.now a.pieces.now (length a.joined.now) _ (parts_accepted a.pieces.now k.result k.ensures c.before.before.before.before.enum-told2.given.1)) c.before.before.join.ensures
+    let a = c.args in
+    let k = c.count_pieces-c in
+    joins_as (from_goes a.sections.now a.pieces.now (length a.joined.now) _ (parts_accepted a.pieces.now k.result k.ensures c.in_default.is)) c.join.ensures
 
-pub join-records-spec : {M : Type 1} → statement M
-join-records-spec =
+pub join_records_spec : {M : Type 1} → statement M
+join_records_spec =
     tie.close
     (tie.spec
     count-pieces-requires

@@ -10,49 +10,49 @@ use borrow.Author.Rules.{rules}
 use Rattle.entry_join_pieces.proofs.join_tables.Statement.{statement}
 use Rattle.entry_join_pieces.proofs.join_tables.Tie as tie
 
-check-head-tables-requires : tie.Need-check-head-tables-requires
+check-head-tables-requires : tie.Need-check_head_tables-a-requires
 check-head-tables-requires c κs = search rules
 
-enum_told : tie.Need-enum-told
+enum_told : tie.Need-enum_told-1
 enum_told c = search rules
 
-returns : tie.Need-returns
+returns : tie.Need-returns-in-Refused
 returns c =
-    let a = c.before.before.before.before.before.before.before.before.args in
-    let h = c.before.before.check_head_tables.ensures in
-    let e = c.enum_told.given.1 in
+    let a = c.args in
+    let h = c.check_head_tables-a.ensures in
+    let e = c.in-Refused.is in
     writes_refused e (tables_stop a.name_ends.now a.name_bytes.now a.sections.now a.pieces.now _ (sym h ∙ ap meaning e)) refl
 
-enum-told-2 : tie.Need-enum-told-2
+enum-told-2 : tie.Need-enum_told-in_default
 enum-told-2 c = search rules
 
-base-of-requires : tie.Need-base-of-requires
+base-of-requires : tie.Need-base_of-total-requires
 base-of-requires c κs =
-    let a = c.before.before.before.before.before.before.before.before.args in
-    let few = tables_few a.name_ends.now a.name_bytes.now a.sections.now (sym c.before.before.check_head_tables.ensures ∙ ap meaning c.enum-told2.given.1) in
+    let a = c.args in
+    let few = tables_few a.name_ends.now a.name_bytes.now a.sections.now (sym c.check_head_tables-a.ensures ∙ ap meaning c.in_default.is) in
     (omega arith, few)
 
-join-records-requires : tie.Need-join-records-requires
+join-records-requires : tie.Need-join_records-b-requires
 join-records-requires c κs =
-    let a = c.before.before.before.before.before.before.before.before.before.before.args in
-    tables_few a.name_ends.now a.name_bytes.now a.sections.now (sym c.before.before.before.before.check_head_tables.ensures ∙ ap meaning c.before.before.enum-told2.given.1)
+    let a = c.args in
+    tables_few a.name_ends.now a.name_bytes.now a.sections.now (sym c.check_head_tables-a.ensures ∙ ap meaning c.in_default.is)
 
-same_length : tie.Need-same-length
+same_length : tie.Need-shape_of-joined
 same_length c = search rules
 
-returns-2 : tie.Need-returns-2
+returns-2 : tie.Need-returns
 returns-2 c =
-    let a = c.before.before.before.before.before.before.before.before.before.before.before.before.before.args in
-    let passed = sym c.before.before.before.before.before.before.before.check_head_tables.ensures ∙ ap meaning c.before.before.before.before.before.enum-told2.given.1 in
+    let a = c.args in
+    let passed = sym c.check_head_tables-a.ensures ∙ ap meaning c.in_default.is in
     let same = tables_go a.name_ends.now a.name_bytes.now a.sections.now a.pieces.now (length a.joined.now) passed in
     record {
-      joins = joins_as same c.before.before.join_records.ensures;
+      joins = joins_as same c.join_records-b.ensures;
       sized = λ bytes q.
-          c.before.before.before.before.base_of.ensures.is ∙ held_all a.sections.now ∙ sym (from_size a.sections.now a.pieces.now (length a.joined.now) bytes (same ∙ q));
+          c.base_of-total.ensures.is ∙ held_all a.sections.now ∙ sym (from_size a.sections.now a.pieces.now (length a.joined.now) bytes (same ∙ q));
     }
 
-pub join-tables-spec : {M : Type 1} → statement M
-join-tables-spec =
+pub join_tables_spec : {M : Type 1} → statement M
+join_tables_spec =
     tie.close
     (tie.spec
     check-head-tables-requires

@@ -17,63 +17,63 @@ use borrow.Author.Rules.{rules}
 use Rattle.entry_mend_splits.proofs.from_splits.Statement.{statement}
 use Rattle.entry_mend_splits.proofs.from_splits.Tie as tie
 
-room-of-requires : tie.Need-room-of-requires
+room-of-requires : tie.Need-room_of-requires
 room-of-requires c κs = search rules
 
-slice-aggregate-take-split-columns : tie.Need-slice-aggregate-take-split-columns
+slice-aggregate-take-split-columns : tie.Need-slice_bounds-take_split_columns-end
 slice-aggregate-take-split-columns c = search rules
 
-slice-aggregate-take-split-columns-2 : tie.Need-slice-aggregate-take-split-columns-2
+slice-aggregate-take-split-columns-2 : tie.Need-slice_bounds-take_split_columns-end-2
 slice-aggregate-take-split-columns-2 c = search rules
 
-slice-aggregate-take-split-columns-3 : tie.Need-slice-aggregate-take-split-columns-3
+slice-aggregate-take-split-columns-3 : tie.Need-slice_bounds-take_split_columns-end-3
 slice-aggregate-take-split-columns-3 c = search rules
 
-slice-aggregate-take-split-columns-4 : tie.Need-slice-aggregate-take-split-columns-4
+slice-aggregate-take-split-columns-4 : tie.Need-slice_bounds-take_split_columns-end-4
 slice-aggregate-take-split-columns-4 c = search rules
 
-slice-aggregate-take-split-columns-5 : tie.Need-slice-aggregate-take-split-columns-5
+slice-aggregate-take-split-columns-5 : tie.Need-slice_bounds-take_split_columns-end-5
 slice-aggregate-take-split-columns-5 c = search rules
 
-take-split-columns-requires : tie.Need-take-split-columns-requires
+take-split-columns-requires : tie.Need-take_split_columns-a-requires
 take-split-columns-requires c κs =
-    let s = c.before.before.before.before.before.before.before.before.before.before.before.before.before.before in
-    let e = c.before.before.before.before.before.room_of.ensures in
+    let s = c in
+    let e = c.room_of.ensures in
     let h = room_low (length s.args.out.now) in
     (s.requires.0, places_room _ (omega (arith, e, h)) (search rules), rows_long _ (omega (arith, e, h)) (search rules) (search rules) (search rules) (search rules))
 
-enum_told : tie.Need-enum-told
+enum_told : tie.Need-enum_told-1
 enum_told c = search rules
 
-returns : tie.Need-returns
+returns : tie.Need-returns-in-Refused
 unfolding from_splits
 returns c =
-    let a = c.before.before.before.before.before.before.before.before.before.before.before.before.before.before.before.before.before.before.before.before.before.before.args in
-    gives_as (ap (λ (room : ℕ). from_splits a.lengths.now (sections_in a.heads.now a.head_places.now) a.splits.now room (length a.lines.now)) c.before.before.before.before.before.before.before.before.before.before.before.before.before.room_of.ensures)
-    (gives_stops _ c.before.before.before.before.before.before.before.take_split_columns.ensures.said (ap meaning c.enum_told.given.1))
+    let a = c.args in
+    gives_as (ap (λ (room : ℕ). from_splits a.lengths.now (sections_in a.heads.now a.head_places.now) a.splits.now room (length a.lines.now)) c.room_of.ensures)
+    (gives_stops _ c.take_split_columns-a.ensures.said (ap meaning c.in-Refused.is))
 
-enum-told-2 : tie.Need-enum-told-2
+enum-told-2 : tie.Need-enum_told-in_default
 enum-told-2 c = search rules
 
-slice-aggregate-mend-table : tie.Need-slice-aggregate-mend-table
+slice-aggregate-mend-table : tie.Need-slice_bounds-mend_table-end
 slice-aggregate-mend-table c = search rules
 
-slice-aggregate-mend-table-2 : tie.Need-slice-aggregate-mend-table-2
+slice-aggregate-mend-table-2 : tie.Need-slice_bounds-mend_table-end-2
 slice-aggregate-mend-table-2 c = search rules
 
-slice-aggregate-mend-table-3 : tie.Need-slice-aggregate-mend-table-3
+slice-aggregate-mend-table-3 : tie.Need-slice_bounds-mend_table-end-3
 slice-aggregate-mend-table-3 c = search rules
 
-slice-aggregate-mend-table-4 : tie.Need-slice-aggregate-mend-table-4
+slice-aggregate-mend-table-4 : tie.Need-slice_bounds-mend_table-end-4
 slice-aggregate-mend-table-4 c = search rules
 
-mend-table-requires : tie.Need-mend-table-requires
+mend-table-requires : tie.Need-mend_table-r-requires
 mend-table-requires c κs =
-    let t = c.before.before.before.before.before.before.before.before.before.before.before.before.take_split_columns in
-    let s = c.before.before.before.before.before.before.before.before.before.before.before.before.before.before.before.before.before.before.before.before.before.before.before.before.before.before.before in
-    let e = c.before.before.before.before.before.before.before.before.before.before.before.before.before.before.before.before.before.before.room_of.ensures in
+    let t = c.take_split_columns-a in
+    let s = c in
+    let e = c.room_of.ensures in
     let h = room_low (length s.args.out.now) in
-    let n = (table_passed split_width _ s.args.splits.now _ (sym t.ensures.said ∙ ap meaning c.before.before.before.before.before.enum-told2.given.1)).1 in
+    let n = (table_passed split_width _ s.args.splits.now _ (sym t.ensures.said ∙ ap meaning c.in_default.is)).1 in
     record {
       starts = omega (arith, e, n, h, t.auto.1.1.1.1.1.1.0);
       ends = omega (arith, e, n, h, t.auto.1.1.1.1.1.1.1.0);
@@ -81,26 +81,26 @@ mend-table-requires c κs =
       rest = omega (arith, e, n, h, t.auto.1.1.1.1.1.1.1.1.1.0);
     }
 
-slice-aggregate-give-mended : tie.Need-slice-aggregate-give-mended
+slice-aggregate-give-mended : tie.Need-slice_bounds-give_mended-end
 slice-aggregate-give-mended c = search rules
 
-slice-aggregate-give-mended-2 : tie.Need-slice-aggregate-give-mended-2
+slice-aggregate-give-mended-2 : tie.Need-slice_bounds-give_mended-end-2
 slice-aggregate-give-mended-2 c = search rules
 
-slice-aggregate-give-mended-3 : tie.Need-slice-aggregate-give-mended-3
+slice-aggregate-give-mended-3 : tie.Need-slice_bounds-give_mended-end-3
 slice-aggregate-give-mended-3 c = search rules
 
-slice-aggregate-give-mended-4 : tie.Need-slice-aggregate-give-mended-4
+slice-aggregate-give-mended-4 : tie.Need-slice_bounds-give_mended-end-4
 slice-aggregate-give-mended-4 c = search rules
 
-give-mended-requires : tie.Need-give-mended-requires
+give-mended-requires : tie.Need-give_mended-requires
 give-mended-requires c κs =
-    let t = c.before.before.before.before.before.before.before.before.before.before.before.before.before.before.before.before.before.before.before.before.before.before.take_split_columns in
-    let w = c.before.before.before.before.before.before.before.before.before.mend_table in
-    let s = c.before.before.before.before.before.before.before.before.before.before.before.before.before.before.before.before.before.before.before.before.before.before.before.before.before.before.before.before.before.before.before.before.before.before.before.before.before in
-    let e = c.before.before.before.before.before.before.before.before.before.before.before.before.before.before.before.before.before.before.before.before.before.before.before.before.before.before.before.before.room_of.ensures in
+    let t = c.take_split_columns-a in
+    let w = c.mend_table-r in
+    let s = c in
+    let e = c.room_of.ensures in
     let h = room_low (length s.args.out.now) in
-    let n = (table_passed split_width _ s.args.splits.now _ (sym t.ensures.said ∙ ap meaning c.before.before.before.before.before.before.before.before.before.before.before.before.before.before.before.enum-told2.given.1)).1 in (
+    let n = (table_passed split_width _ s.args.splits.now _ (sym t.ensures.said ∙ ap meaning c.in_default.is)).1 in (
       record {
         starts = omega (arith, e, n, h, t.auto.1.1.1.1.1.1.0);
         ends = omega (arith, e, n, h, t.auto.1.1.1.1.1.1.1.0, w.auto.1.0);
@@ -112,28 +112,28 @@ give-mended-requires c κs =
       lines_low (columns t.new.1.1.1.1.1.1.0 t.new.1.1.1.1.1.1.1.0 t.new.1.1.1.1.1.1.1.1.0 t.new.1.1.1.1.1.1.1.1.1.0) _ (omega (arith, e, n, h)) w.ensures,
     )
 
-same_length : tie.Need-same-length
+same_length : tie.Need-shape_of-out
 same_length c = search rules
 
-same-length-2 : tie.Need-same-length-2
+same-length-2 : tie.Need-shape_of-lines
 same-length-2 c = search rules
 
-same-length-3 : tie.Need-same-length-3
+same-length-3 : tie.Need-shape_of-counts
 same-length-3 c = search rules
 
-returns-2 : tie.Need-returns-2
+returns-2 : tie.Need-returns
 returns-2 c =
-    let t = c.before.before.before.before.before.before.before.before.before.before.before.before.before.before.before.before.before.before.before.before.before.before.before.before.before.before.before.take_split_columns in
-    let w = c.before.before.before.before.before.before.before.before.before.before.before.before.before.before.mend_table in
-    let s = c.before.before.before.before.before.before.before.before.before.before.before.before.before.before.before.before.before.before.before.before.before.before.before.before.before.before.before.before.before.before.before.before.before.before.before.before.before.before.before.before.before.before in
+    let t = c.take_split_columns-a in
+    let w = c.mend_table-r in
+    let s = c in
     let a = s.args in
-    let told = ap meaning c.before.before.before.before.before.before.before.before.before.before.before.before.before.before.before.before.before.before.before.before.enum-told2.given.1 in
-    gives_as (ap (λ (room : ℕ). from_splits a.lengths.now (sections_in a.heads.now a.head_places.now) a.splits.now room (length a.lines.now)) c.before.before.before.before.before.before.before.before.before.before.before.before.before.before.before.before.before.before.before.before.before.before.before.before.before.before.before.before.before.before.before.before.before.room_of.ensures)
+    let told = ap meaning c.in_default.is in
+    gives_as (ap (λ (room : ℕ). from_splits a.lengths.now (sections_in a.heads.now a.head_places.now) a.splits.now room (length a.lines.now)) c.room_of.ensures)
     (mended_gives a.lengths.now (sections_in a.heads.now a.head_places.now) a.splits.now _ (columns t.new.1.1.1.1.1.1.0 t.new.1.1.1.1.1.1.1.0 t.new.1.1.1.1.1.1.1.1.0 t.new.1.1.1.1.1.1.1.1.1.0) (columns t.new.1.1.1.1.1.1.0 w.new.1.0 t.new.1.1.1.1.1.1.1.1.0 t.new.1.1.1.1.1.1.1.1.1.0) _ t.ensures.said told
-    (omega (arith, c.before.before.before.before.before.before.before.before.before.before.before.before.before.before.before.before.before.before.before.before.before.before.before.before.before.before.before.before.before.before.before.before.before.room_of.ensures, room_fits (length a.out.now))) s.requires.1 (t.ensures.taken (sym t.ensures.said ∙ told)) w.ensures c.before.before.before.before.give_mended.ensures)
+    (omega (arith, c.room_of.ensures, room_fits (length a.out.now))) s.requires.1 (t.ensures.taken (sym t.ensures.said ∙ told)) w.ensures c.give_mended.ensures)
 
-pub from-splits-spec : {M : Type 1} → statement M
-from-splits-spec =
+pub from_splits_spec : {M : Type 1} → statement M
+from_splits_spec =
     tie.close
     (tie.spec
     room-of-requires

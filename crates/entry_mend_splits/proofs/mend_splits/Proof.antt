@@ -5,28 +5,28 @@ use borrow.Author.Rules.{rules}
 use Rattle.entry_mend_splits.proofs.mend_splits.Statement.{statement}
 use Rattle.entry_mend_splits.proofs.mend_splits.Tie as tie
 
-checked-requires : tie.Need-checked-requires
+checked-requires : tie.Need-checked-a-requires
 checked-requires c κs = search rules
 
 finish-requires : tie.Need-finish-requires
 finish-requires c κs = search rules
 
-same_length : tie.Need-same-length
+same_length : tie.Need-shape_of-out_splits
 same_length c = search rules
 
-same-length-2 : tie.Need-same-length-2
+same-length-2 : tie.Need-shape_of-lines
 same-length-2 c = search rules
 
-same-length-3 : tie.Need-same-length-3
+same-length-3 : tie.Need-shape_of-counts
 same-length-3 c = search rules
 
 returns : tie.Need-returns
 returns c =
-    let k = c.before.before.before.before.before.before.before.before.before.before.before.before.before.before.before.before.checked in
-    leaves _ _ k.auto.1.1.1.1.0 k.auto.1.1.1.1.1.0 k.auto.1.1.1.1.1.1.0 k.ensures c.before.before.before.before.before.before.finish.ensures
+    let k = c.checked-a in
+    leaves _ _ k.auto.1.1.1.1.0 k.auto.1.1.1.1.1.0 k.auto.1.1.1.1.1.1.0 k.ensures c.finish.ensures
 
-pub mend-splits-spec : {M : Type 1} → statement M
-mend-splits-spec =
+pub mend_splits_spec : {M : Type 1} → statement M
+mend_splits_spec =
     tie.close
     (tie.spec
     checked-requires

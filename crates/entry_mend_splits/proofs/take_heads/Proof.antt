@@ -8,59 +8,59 @@ use borrow.Author.Rules.{rules}
 use Rattle.entry_mend_splits.proofs.take_heads.Statement.{statement}
 use Rattle.entry_mend_splits.proofs.take_heads.Tie as tie
 
-take-sections-requires : tie.Need-take-sections-requires
+take-sections-requires : tie.Need-take_sections-a-requires
 take-sections-requires c κs = search rules
 
-enum_told : tie.Need-enum-told
+enum_told : tie.Need-enum_told-1
 enum_told c = search rules
 
-same_length : tie.Need-same-length
+same_length : tie.Need-shape_of-places-in-Refused
 same_length c = search rules
 
-returns : tie.Need-returns
+returns : tie.Need-returns-in-Refused
 returns c =
-    let t = c.before.before.before.before.take_sections in
-    let a = c.before.before.before.before.before.before.before.before.before.before.args in
-    heads_refused a.lengths.now a.sections.now _ t.ensures _ (ap meaning c.enum_told.given.1)
+    let t = c.take_sections-a in
+    let a = c.args in
+    heads_refused a.lengths.now a.sections.now _ t.ensures _ (ap meaning c.in-Refused.is)
 
-enum-told-2 : tie.Need-enum-told-2
+enum-told-2 : tie.Need-enum_told-in_default
 enum-told-2 c = search rules
 
-slice-reshare-prefix-fill-section-ends : tie.Need-slice-reshare-prefix-fill-section-ends
+slice-reshare-prefix-fill-section-ends : tie.Need-slice_bounds-fill_section_ends-end
 slice-reshare-prefix-fill-section-ends c =
-    let t = c.before.before.before.before.take_sections in
-    let s = c.before.before.before.before.before.before.before.before.before.before in
+    let t = c.take_sections-a in
+    let s = c in
     let a = s.args in
-    omega (arith, heads_few a.lengths.now a.sections.now _ t.ensures (ap meaning c.enum-told2.given.1), t.auto.1.1.1.0, s.requires.0)
+    omega (arith, heads_few a.lengths.now a.sections.now _ t.ensures (ap meaning c.in_default.is), t.auto.1.1.1.0, s.requires.0)
 
-slice-aggregate-fill-section-ends : tie.Need-slice-aggregate-fill-section-ends
+slice-aggregate-fill-section-ends : tie.Need-slice_bounds-fill_section_ends-end-2
 slice-aggregate-fill-section-ends c =
-    let t = c.before.before.before.before.before.take_sections in
-    let a = c.before.before.before.before.before.before.before.before.before.before.before.args in
-    sym (heads_count a.lengths.now a.sections.now _ t.ensures (ap meaning c.before.enum-told2.given.1))
+    let t = c.take_sections-a in
+    let a = c.args in
+    sym (heads_count a.lengths.now a.sections.now _ t.ensures (ap meaning c.in_default.is))
 
-fill-section-ends-requires : tie.Need-fill-section-ends-requires
+fill-section-ends-requires : tie.Need-fill_section_ends-requires
 fill-section-ends-requires c κs =
-    let t = c.before.before.before.before.before.before.take_sections in
-    let s = c.before.before.before.before.before.before.before.before.before.before.before.before in
+    let t = c.take_sections-a in
+    let s = c in
     let a = s.args in
-    let told = ap meaning c.before.before.enum-told2.given.1 in
+    let told = ap meaning c.in_default.is in
     (heads_low a.lengths.now a.sections.now _ t.ensures told, omega (arith, heads_count a.lengths.now a.sections.now _ t.ensures told, heads_few a.lengths.now a.sections.now _ t.ensures told, s.requires.1))
 
-same-length-2 : tie.Need-same-length-2
+same-length-2 : tie.Need-shape_of-places
 same-length-2 c = search rules
 
-same-length-3 : tie.Need-same-length-3
+same-length-3 : tie.Need-shape_of-section_ends
 same-length-3 c = search rules
 
-returns-2 : tie.Need-returns-2
+returns-2 : tie.Need-returns
 returns-2 c =
-    let t = c.before.before.before.before.before.before.before.before.before.take_sections in
-    let a = c.before.before.before.before.before.before.before.before.before.before.before.before.before.before.before.args in
-    heads_filled a.lengths.now a.sections.now _ t.ensures (ap meaning c.before.before.before.before.before.enum-told2.given.1) _ c.before.before.fill_section_ends.ensures
+    let t = c.take_sections-a in
+    let a = c.args in
+    heads_filled a.lengths.now a.sections.now _ t.ensures (ap meaning c.in_default.is) _ c.fill_section_ends.ensures
 
-pub take-heads-spec : {M : Type 1} → statement M
-take-heads-spec =
+pub take_heads_spec : {M : Type 1} → statement M
+take_heads_spec =
     tie.close
     (tie.spec
     take-sections-requires

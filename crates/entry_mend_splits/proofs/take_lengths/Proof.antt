@@ -5,26 +5,26 @@ use borrow.Author.Rules.{rules}
 use Rattle.entry_mend_splits.proofs.take_lengths.Statement.{statement}
 use Rattle.entry_mend_splits.proofs.take_lengths.Tie as tie
 
-slice-aggregate-check-names : tie.Need-slice-aggregate-check-names
+slice-aggregate-check-names : tie.Need-slice_bounds-check_names-end
 slice-aggregate-check-names c = search rules
 
-slice-aggregate-check-names-2 : tie.Need-slice-aggregate-check-names-2
+slice-aggregate-check-names-2 : tie.Need-slice_bounds-check_names-end-2
 slice-aggregate-check-names-2 c = search rules
 
-slice-aggregate-check-names-3 : tie.Need-slice-aggregate-check-names-3
+slice-aggregate-check-names-3 : tie.Need-slice_bounds-check_names-end-3
 slice-aggregate-check-names-3 c = search rules
 
-check-names-requires : tie.Need-check-names-requires
+check-names-requires : tie.Need-check_names-requires
 check-names-requires c κs = search rules
 
-same_length : tie.Need-same-length
+same_length : tie.Need-shape_of-lengths
 same_length c = search rules
 
 returns : tie.Need-returns
-returns c = names-taken _ _ _ c.before.before.before.before.before.check_names.ensures
+returns c = names-taken _ _ _ c.check_names.ensures
 
-pub take-lengths-spec : {M : Type 1} → statement M
-take-lengths-spec =
+pub take_lengths_spec : {M : Type 1} → statement M
+take_lengths_spec =
     tie.close
     (tie.spec
     slice-aggregate-check-names

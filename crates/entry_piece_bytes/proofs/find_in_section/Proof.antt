@@ -9,35 +9,35 @@ use borrow.Author.Rules.{rules}
 use Rattle.entry_piece_bytes.proofs.find_in_section.Statement.{statement}
 use Rattle.entry_piece_bytes.proofs.find_in_section.Tie as tie
 
-cast-n : tie.Need-overflow-cast-n
+cast-n : tie.Need-overflow_cast-n
 cast-n c = search rules
 
 refused-requires : tie.Need-refused-requires
 refused-requires c κs = search rules
 
-returns : tie.Need-returns
+returns : tie.Need-returns-then-sections-n
 returns c =
-    let a = c.before.before.before.before.before.before.args in
-    c.refused.ensures ∙ sym (no_section a.sections.now (image_places_of a.places.now) (length a.image.now) a.p c.before.if1.true)
+    let a = c.args in
+    c.refused.ensures ∙ sym (no_section a.sections.now (image_places_of a.places.now) (length a.image.now) a.p c.if-sections-n.true)
 
-mul-read-section : tie.Need-overflow-mul-read-section
+mul-read-section : tie.Need-overflow_mul-n
 mul-read-section c = search rules
 
-read-section-requires : tie.Need-read-section-requires
+read-section-requires : tie.Need-read_section-requires
 read-section-requires c κs = search rules
 
-find-within-requires : tie.Need-find-within-requires
+find-within-requires : tie.Need-find_within-requires
 find-within-requires c κs = search rules
 
-returns-2 : tie.Need-returns-2
+returns-2 : tie.Need-returns
 returns-2 c =
-    let a = c.before.before.before.before.before.before.before.args in
+    let a = c.args in
     c.find_within.ensures
-    ∙ ap (λ (s : Section). within (image_places_of a.places.now) (length a.image.now) s a.p) c.before.read_section.ensures
-    ∙ sym (section_there a.sections.now (image_places_of a.places.now) (length a.image.now) a.p c.before.before.if1.false)
+    ∙ ap (λ (s : Section). within (image_places_of a.places.now) (length a.image.now) s a.p) c.read_section.ensures
+    ∙ sym (section_there a.sections.now (image_places_of a.places.now) (length a.image.now) a.p c.if-sections-n.false)
 
-pub find-in-section-spec : {M : Type 1} → statement M
-find-in-section-spec =
+pub find_in_section_spec : {M : Type 1} → statement M
+find_in_section_spec =
     tie.close
     (tie.spec
     cast-n

@@ -11,25 +11,25 @@ use Rattle.entry_piece_bytes.proofs.find_piece.Tie as tie
 refused-requires : tie.Need-refused-requires
 refused-requires c κs = search rules
 
-returns : tie.Need-returns
+returns : tie.Need-returns-then-pieces-k
 returns c =
-    let a = c.before.before.before.before.before.before.args in
-    c.refused.ensures ∙ sym (no_piece a.sections.now (image_places_of a.places.now) (length a.image.now) a.pieces.now a.which c.before.if1.true)
+    let a = c.args in
+    c.refused.ensures ∙ sym (no_piece a.sections.now (image_places_of a.places.now) (length a.image.now) a.pieces.now a.which c.if-pieces-k.true)
 
-piece-at-requires : tie.Need-piece-at-requires
+piece-at-requires : tie.Need-piece_at-requires
 piece-at-requires c κs = search rules
 
-find-in-section-requires : tie.Need-find-in-section-requires
+find-in-section-requires : tie.Need-find_in_section-requires
 find-in-section-requires c κs = search rules
 
-returns-2 : tie.Need-returns-2
+returns-2 : tie.Need-returns
 returns-2 c =
-    let a = c.before.before.before.before.before.before.before.args in
+    let a = c.args in
     c.find_in_section.ensures
-    ∙ ap (in_section a.sections.now (image_places_of a.places.now) (length a.image.now)) c.before.piece_at_lem.ensures
-    ∙ sym (piece_there a.sections.now (image_places_of a.places.now) (length a.image.now) a.pieces.now a.which c.before.before.if1.false)
+    ∙ ap (in_section a.sections.now (image_places_of a.places.now) (length a.image.now)) c.piece_at.ensures
+    ∙ sym (piece_there a.sections.now (image_places_of a.places.now) (length a.image.now) a.pieces.now a.which c.if-pieces-k.false)
 
-pub find-piece-spec : {M : Type 1} → statement M
-find-piece-spec =
+pub find_piece_spec : {M : Type 1} → statement M
+find_piece_spec =
     tie.close
     (tie.spec refused-requires returns piece-at-requires find-in-section-requires returns-2)

@@ -18,124 +18,124 @@ abbrev place_at : (offset size : ℕ) → Place
 place_at offset size = record { offset = offset; length = size }
 
 -- where the function starts
-abbrev start : tie.After-bytes-cut → tie.Start
+abbrev start : tie.After-bytes_cut → tie.Start
 start c = c.before.before.before.before.before
 
 -- the section's bytes are cut as the definition says
-cut-said : (c : tie.After-bytes-cut)
+cut-said : (c : tie.After-bytes_cut)
     → let a = (start c).args in
     c.bytes_cut.result ≡ bytes_cut (image_places_of a.places.now) (reach (length a.image.now)) a.p.section a.head
 cut-said c =
     let a = (start c).args in
-    c.bytes_cut.ensures ∙ ap (λ (m : ℕ). bytes_cut (image_places_of a.places.now) m a.p.section a.head) c.before.reach_of.ensures
+    c.bytes_cut.ensures ∙ ap (λ (m : ℕ). bytes_cut (image_places_of a.places.now) m a.p.section a.head) c.reach_of.ensures
 
 -- they are not cut, and the piece lies in its section
-whole : (c : tie.Else2)
+whole : (c : tie.Else-is_outside)
     → let a = (start c.before.before.before).args in
     bytes_cut (image_places_of a.places.now) (reach (length a.image.now)) a.p.section a.head ≡ false
-whole c = sym (cut-said c.before.before.before) ∙ c.before.before.if1.false
+whole c = sym (cut-said c.before.before.before) ∙ c.if-bytes_cut.false
 
-inside : (c : tie.Else2) → let a = (start c.before.before.before).args in outside a.head a.p ≡ false
-inside c = sym c.before.is_outside.ensures ∙ c.if2.false
+inside : (c : tie.Else-is_outside) → let a = (start c.before.before.before).args in outside a.head a.p ≡ false
+inside c = sym c.is_outside.ensures ∙ c.if-is_outside.false
 
 -- what is answered then
-said : (c : tie.Else2)
+said : (c : tie.Else-is_outside)
     → let a = (start c.before.before.before).args in
     within (image_places_of a.places.now) (length a.image.now) a.head a.p ≡ accepted (placed (get_or (image_places_of a.places.now) a.p.section 0) a.head a.p)
 said c = let a = (start c.before.before.before).args in lies (image_places_of a.places.now) (length a.image.now) a.head a.p (whole c) (inside c)
 
-cast-n : tie.Need-overflow-cast-n
+cast-n : tie.Need-overflow_cast-n
 cast-n c = search rules
 
-reach-of-requires : tie.Need-reach-of-requires
+reach-of-requires : tie.Need-reach_of-requires
 reach-of-requires c κs = search rules
 
-bytes-cut-requires : tie.Need-bytes-cut-requires
+bytes-cut-requires : tie.Need-bytes_cut-requires
 bytes-cut-requires c κs = search rules
 
-cast-refused : tie.Need-overflow-cast-refused
+cast-refused : tie.Need-overflow_cast-p
 cast-refused c = search rules
 
 refused-requires : tie.Need-refused-requires
 refused-requires c κs = search rules
 
-returns : tie.Need-returns
+returns : tie.Need-returns-then-bytes_cut
 returns c =
     let t = c.before.before.before in
     let a = (start t).args in
-    c.refused.ensures ∙ sym (cut (image_places_of a.places.now) (length a.image.now) a.head a.p (sym (cut-said t) ∙ c.before.before.if1.true))
+    c.refused.ensures ∙ sym (cut (image_places_of a.places.now) (length a.image.now) a.head a.p (sym (cut-said t) ∙ c.if-bytes_cut.true))
 
-is-outside-requires : tie.Need-is-outside-requires
+is-outside-requires : tie.Need-is_outside-requires
 is-outside-requires c κs = search rules
 
-refused-requires-2 : tie.Need-refused-requires-2
+refused-requires-2 : tie.Need-refused-requires-then-is_outside
 refused-requires-2 c κs = search rules
 
-returns-2 : tie.Need-returns-2
+returns-2 : tie.Need-returns-then-is_outside
 returns-2 c =
     let t = c.before.before.before.before in
     let a = (start t).args in
-    c.refused2.ensures
-    ∙ sym (beyond (image_places_of a.places.now) (length a.image.now) a.head a.p (sym (cut-said t) ∙ c.before.before.before.if1.false) (sym c.before.before.is_outside.ensures ∙ c.before.if2.true))
+    c.refused-then-is_outside.ensures
+    ∙ sym (beyond (image_places_of a.places.now) (length a.image.now) a.head a.p (sym (cut-said t) ∙ c.if-bytes_cut.false) (sym c.is_outside.ensures ∙ c.if-is_outside.true))
 
-returns-3 : tie.Need-returns-3
+returns-3 : tie.Need-returns-then-head-eq3
 returns-3 c =
     let t = c.before.before in
     let a = (start t.before.before.before).args in
-    ap accepted (sym (placed-none _ a.head a.p c.if3.true)) ∙ sym (said t)
+    ap accepted (sym (placed-none _ a.head a.p c.if-head-eq3.true)) ∙ sym (said t)
 
-image-place-requires : tie.Need-image-place-requires
+image-place-requires : tie.Need-image_place-start-requires
 image-place-requires c κs = search rules
 
 -- the section's bytes lie in the image from the place on, also as far as an offset reaches
-held : (c : tie.After-image-place)
+held : (c : tie.After-image_place-start)
     → let a = (start c.before.before.before.before.before.before).args in
-    (c.image_place.result + a.head.size ≤ length a.image.now) × (c.image_place.result + a.head.size ≤ 4294967295)
+    (c.image_place-start.result + a.head.size ≤ length a.image.now) × (c.image_place-start.result + a.head.size ≤ 4294967295)
 held c =
     let t = c.before.before.before in
     let a = (start t.before.before.before).args in
-    let lies = bytes_lie (image_places_of a.places.now) (reach (length a.image.now)) a.p.section a.head (whole t) c.before.if3.false in
-    (omega (arith, lies, c.image_place.ensures), omega (arith, lies, c.image_place.ensures))
+    let lies = bytes_lie (image_places_of a.places.now) (reach (length a.image.now)) a.p.section a.head (whole t) c.if-head-eq3.false in
+    (omega (arith, lies, c.image_place-start.ensures), omega (arith, lies, c.image_place-start.ensures))
 
-cast-part-of : tie.Need-overflow-cast-part-of
+cast-part-of : tie.Need-overflow_cast-start
 cast-part-of c = search rules
 
-part-of-requires : tie.Need-part-of-requires
+part-of-requires : tie.Need-part_of-part-requires
 part-of-requires c κs =
     let t = c.before.before.before in
     let a = (start t.before.before.before).args in
     ((held c).0, not_below a.head a.p (inside t), not_above a.head a.p (inside t))
 
-sub-t17 : tie.Need-overflow-sub-t17
+sub-t17 : tie.Need-overflow_sub-result
 sub-t17 c =
     let t = c.before.before.before.before.before.before in
     let a = (start t.before.before.before).args in
     not_below a.head a.p (inside t)
 
-add-t18 : tie.Need-overflow-add-t18
+add-t18 : tie.Need-overflow_add-result
 add-t18 c =
     let t = c.before.before.before.before.before.before in
     let a = (start t.before.before.before).args in
     omega (arith, (held c.before.before.before).1, not_below a.head a.p (inside t), not_above a.head a.p (inside t))
 
-cast-t19 : tie.Need-overflow-cast-t19
+cast-t19 : tie.Need-overflow_cast-result
 cast-t19 c =
     let t = c.before.before.before.before.before.before in
     let a = (start t.before.before.before).args in
-    omega (arith, c.before.before.part_of_lem.ensures, (held c.before.before.before).1, not_below a.head a.p (inside t), not_above a.head a.p (inside t))
+    omega (arith, c.part_of-part.ensures, (held c.before.before.before).1, not_below a.head a.p (inside t), not_above a.head a.p (inside t))
 
-returns-4 : tie.Need-returns-4
+returns-4 : tie.Need-returns
 returns-4 c =
     let t = c.before.before.before.before.before.before in
     let a = (start t.before.before.before).args in
-    let at = c.before.before.before in
-    ap (λ (m : ℕ). accepted (place_at (at.image_place.result + (a.p.address - a.head.address)) m)) c.before.before.part_of_lem.ensures
-    ∙ ap (λ (m : ℕ). accepted (place_at (m + (a.p.address - a.head.address)) a.p.size)) at.image_place.ensures
-    ∙ ap accepted (sym (placed-some _ a.head a.p at.before.if3.false))
+    let at = c in
+    ap (λ (m : ℕ). accepted (place_at (at.image_place-start.result + (a.p.address - a.head.address)) m)) c.part_of-part.ensures
+    ∙ ap (λ (m : ℕ). accepted (place_at (m + (a.p.address - a.head.address)) a.p.size)) at.image_place-start.ensures
+    ∙ ap accepted (sym (placed-some _ a.head a.p at.if-head-eq3.false))
     ∙ sym (said t)
 
-pub find-within-spec : {M : Type 1} → statement M
-find-within-spec =
+pub find_within_spec : {M : Type 1} → statement M
+find_within_spec =
     tie.close
     (tie.spec
     cast-n

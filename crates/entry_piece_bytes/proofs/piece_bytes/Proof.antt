@@ -4,17 +4,17 @@ use borrow.Author.Rules.{rules}
 use Rattle.entry_piece_bytes.proofs.piece_bytes.Statement.{statement}
 use Rattle.entry_piece_bytes.proofs.piece_bytes.Tie as tie
 
-find-requires : tie.Need-find-requires
+find-requires : tie.Need-find-r-requires
 find-requires c κs = search rules
 
-put-place-requires : tie.Need-put-place-requires
+put-place-requires : tie.Need-put_place-requires
 put-place-requires c κs = search rules
 
-same_length : tie.Need-same-length
+same_length : tie.Need-shape_of-place
 same_length c = search rules
 
 returns : tie.Need-returns
-returns c = leaves_as c.before.before.before.before.find.ensures c.before.before.put_place.ensures
+returns c = leaves_as c.find-r.ensures c.put_place.ensures
 
-pub piece-bytes-spec : {M : Type 1} → statement M
-piece-bytes-spec = tie.close (tie.spec find-requires put-place-requires same_length returns)
+pub piece_bytes_spec : {M : Type 1} → statement M
+piece_bytes_spec = tie.close (tie.spec find-requires put-place-requires same_length returns)

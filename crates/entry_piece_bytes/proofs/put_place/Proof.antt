@@ -14,56 +14,56 @@ use borrow.Author.Rules.{rules}
 use Rattle.entry_piece_bytes.proofs.put_place.Statement.{statement}
 use Rattle.entry_piece_bytes.proofs.put_place.Tie as tie
 
-clear-from-requires : tie.Need-clear-from-requires
+clear-from-requires : tie.Need-clear_from-requires
 clear-from-requires c κs = search rules
 
-enum_told : tie.Need-enum-told
+enum_told : tie.Need-enum_told-1
 enum_told c = search rules
 
-word-of-requires : tie.Need-word-of-requires
+word-of-requires : tie.Need-word_of-requires
 word-of-requires c κs = search rules
 
-same_length : tie.Need-same-length
+same_length : tie.Need-shape_of-out-in-Refused
 same_length c = search rules
 
-returns : tie.Need-returns
-returns c = refused_leaves c.before.before.before.before.before.before.before.before.args.r _ c.word_of.ensures c.before.before.before.before.before.before.before.before.args.out.now _ c.before.enum_told.given.1 c.before.before.before.before.before.clear_from.ensures
+returns : tie.Need-returns-in-Refused
+returns c = refused_leaves c.args.r _ c.word_of.ensures c.args.out.now _ c.in-Refused.is c.clear_from.ensures
 
-enum-told-2 : tie.Need-enum-told-2
+enum-told-2 : tie.Need-enum_told-in_default
 enum-told-2 c = search rules
 
 put32-requires : tie.Need-put32-requires
 put32-requires c κs = search rules
 
-put32-requires-2 : tie.Need-put32-requires-2
+put32-requires-2 : tie.Need-put32-requires-then-out-ge8
 put32-requires-2 c κs = search rules
 
-word-of-requires-2 : tie.Need-word-of-requires-2
+word-of-requires-2 : tie.Need-word_of-requires-2
 word-of-requires-2 c κs = search rules
 
-same-length-2 : tie.Need-same-length-2
+same-length-2 : tie.Need-shape_of-out
 same-length-2 c =
-    let cleared = c.before.before.before.before.before.before.clear_from.auto.0 in
-    ⊎_elim (λ w. ap length w.9 ∙ w.6.kept.0 ∙ w.2.kept.0 ∙ cleared) (λ w. ap length w.1 ∙ cleared) c.before.if1.branch
+    let cleared = c.clear_from.auto.out in
+    ⊎_elim (λ w. ap length w.9 ∙ w.6.kept.0 ∙ w.2.kept.0 ∙ cleared) (λ w. ap length w.1 ∙ cleared) c.if-out-ge8.branch
 
-returns-2 : tie.Need-returns-2
+returns-2 : tie.Need-returns
 returns-2 c =
-    let a = c.before.before.before.before.before.before.before.before.before.args in
-    let cleared = c.before.before.before.before.before.before.clear_from.ensures in
-    let passed = c.before.before.enum-told2.given.1 in
+    let a = c.args in
+    let cleared = c.clear_from.ensures in
+    let passed = c.in_default.is in
     ⊎_elim
     (λ w.
-    put_leaves a.r _ c.word-of2.ensures a.out.now _ passed (omega (arith, w.0.taken, c.before.before.before.before.before.before.clear_from.auto.0))
+    put_leaves a.r _ c.word_of-2.ensures a.out.now _ passed (omega (arith, w.0.taken, c.clear_from.auto.out))
     (w.9
     ∙ sets_then (clear_from 0 0 a.out.now) 0 (enc32 a.r.place.offset) 4 (enc32 a.r.place.length) w.6.ensures
     (w.2.ensures ∙ ap (λ (l : List ℕ). sets l 0 (enc32 a.r.place.offset)) cleared) refl))
     (λ w.
-    none_leaves a.r _ c.word-of2.ensures a.out.now _ passed (omega (arith, w.0.left, c.before.before.before.before.before.before.clear_from.auto.0))
+    none_leaves a.r _ c.word_of-2.ensures a.out.now _ passed (omega (arith, w.0.left, c.clear_from.auto.out))
     (w.1 ∙ cleared))
-    c.before.if1.branch
+    c.if-out-ge8.branch
 
-pub put-place-spec : {M : Type 1} → statement M
-put-place-spec =
+pub put_place_spec : {M : Type 1} → statement M
+put_place_spec =
     tie.close
     (tie.spec
     clear-from-requires

@@ -11,5 +11,5 @@ refusal-requires c κs = search rules
 returns : tie.Need-returns
 returns c = ap (found _) c.refusal.ensures
 
-pub refused-spec : {M : Type 1} → statement M
-refused-spec = tie.close (tie.spec refusal-requires returns)
+pub refused_spec : {M : Type 1} → statement M
+refused_spec = tie.close (tie.spec refusal-requires returns)

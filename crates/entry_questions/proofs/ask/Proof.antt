@@ -19,28 +19,28 @@ asked s =
     question_of (image_of a.symbols.now a.symbol_places.now a.name_bytes.now a.name_places.now a.name_lengths.now)
     (sections_of a.heads.now a.head_places.now a.image.now a.image_places.now) (length a.split_places.now) (split_of a.splits.now a.split_places.now)
 
-enum-known-question : tie.Need-enum-known-question
+enum-known-question : tie.Need-enum_known-question
 enum-known-question c = search rules
 
-splitting-end-requires : tie.Need-splitting-end-requires
-splitting-end-requires c κs = let p = c.before.before.before.before.before.before.before.before.before.before.before.before.before.before.before.requires in (p.0, p.1)
+splitting-end-requires : tie.Need-splitting_end-requires
+splitting-end-requires c κs = let p = c.requires in (p.0, p.1)
 
-enum-known-question-2 : tie.Need-enum-known-question-2
+enum-known-question-2 : tie.Need-enum_known-question-in-Alignment-1
 enum-known-question-2 c = search rules
 
 alignment-requires : tie.Need-alignment-requires
-alignment-requires c κs = let p = c.before.before.before.before.before.before.before.before.before.before.before.before.before.before.before.requires in (p.0, headed p.1, p.2)
+alignment-requires c κs = let p = c.requires in (p.0, headed p.1, p.2)
 
-returns : tie.Need-returns
+returns : tie.Need-returns-in-End
 unfolding question_of
-returns c = c.splitting_end.ensures ∙ sym (ap (asked c.before.before.before.before.before.before.before.before.before.before.before.before.before.before.before.before) c.before.before.question.given.1)
+returns c = c.splitting_end.ensures ∙ sym (ap (asked c.before.before.before.before.before.before.before.before.before.before.before.before.before.before) c.in-End.is)
 
-returns-2 : tie.Need-returns-2
+returns-2 : tie.Need-returns-in-Alignment
 unfolding question_of
-returns-2 c = c.alignment.ensures ∙ sym (ap (asked c.before.before.before.before.before.before.before.before.before.before.before.before.before.before.before.before) c.before.before.question2.given.1)
+returns-2 c = c.alignment.ensures ∙ sym (ap (asked c.before.before.before.before.before.before.before.before.before.before.before.before.before.before) c.in-Alignment.is)
 
-pub ask-spec : {M : Type 1} → statement M
-ask-spec =
+pub ask_spec : {M : Type 1} → statement M
+ask_spec =
     tie.close
     (tie.spec
     enum-known-question

@@ -10,65 +10,65 @@ use borrow.Author.Rules.{rules}
 use Rattle.entry_resolve_link_order.proofs.from_sections.Statement.{statement}
 use Rattle.entry_resolve_link_order.proofs.from_sections.Tie as tie
 
-take-sections-requires : tie.Need-take-sections-requires
-take-sections-requires c κs = record { few = omega arith; long = omega (arith, c.before.before.before.before.before.before.before.before.before.requires.1) }
+take-sections-requires : tie.Need-take_sections-a-requires
+take-sections-requires c κs = record { few = omega arith; long = omega (arith, c.requires.1) }
 
-enum_told : tie.Need-enum-told
+enum_told : tie.Need-enum_told-1
 enum_told c = search rules
 
 refused-requires : tie.Need-refused-requires
 refused-requires c κs = search rules
 
-same_length : tie.Need-same-length
+same_length : tie.Need-shape_of-head_places-in-Refused
 same_length c = search rules
 
-returns : tie.Need-returns
+returns : tie.Need-returns-in-Refused
 unfolding from_sections
-returns c = refused_table _ _ _ _ _ c.before.before.before.before.before.take_sections.ensures.said c.before.enum_told.given.1 c.refused.ensures
+returns c = refused_table _ _ _ _ _ c.take_sections-a.ensures.said c.in-Refused.is c.refused.ensures
 
-enum-told-2 : tie.Need-enum-told-2
+enum-told-2 : tie.Need-enum_told-in_default
 enum-told-2 c = search rules
 
-slice-reshare-prefix-split-tables : tie.Need-slice-reshare-prefix-split-tables
+slice-reshare-prefix-split-tables : tie.Need-slice_bounds-split_tables-end
 slice-reshare-prefix-split-tables c =
-    let s = c.before.before.before.before.before.before.before.before.before.before.before.before.before.before in
+    let s = c in
     let a = s.args in
-    let t = c.before.before.before.before.take_sections in
-    let told = ap meaning c.enum-told2.given.1 in
+    let t = c.take_sections-a in
+    let told = ap meaning c.in_default.is in
     omega (arith, taken_few 15 _ a.sections.now _ _ t.ensures told, t.auto.1.1.1.0, s.requires.1)
 
-slice-aggregate-split-tables : tie.Need-slice-aggregate-split-tables
+slice-aggregate-split-tables : tie.Need-slice_bounds-split_tables-end-2
 slice-aggregate-split-tables c =
-    let s = c.before.before.before.before.before.before.before.before.before.before.before.before.before.before.before in
+    let s = c in
     let a = s.args in
-    let t = c.before.before.before.before.before.take_sections in
-    let told = ap meaning c.before.enum-told2.given.1 in
+    let t = c.take_sections-a in
+    let told = ap meaning c.in_default.is in
     sym (taken-count 15 _ a.sections.now _ _ t.ensures told)
 
-split-tables-requires : tie.Need-split-tables-requires
+split-tables-requires : tie.Need-split_tables-requires
 split-tables-requires c κs =
-    let s = c.before.before.before.before.before.before.before.before.before.before.before.before.before.before.before.before in
+    let s = c in
     let a = s.args in
-    let t = c.before.before.before.before.before.before.take_sections in
-    let told = ap meaning c.before.before.enum-told2.given.1 in
+    let t = c.take_sections-a in
+    let told = ap meaning c.in_default.is in
     sections_taken a.lengths.now a.sections.now _ a.name_bytes.now a.name_places.now t.ensures told s.requires.0
 
-same-length-2 : tie.Need-same-length-2
+same-length-2 : tie.Need-shape_of-head_places
 same-length-2 c = search rules
 
-same-length-3 : tie.Need-same-length-3
+same-length-3 : tie.Need-shape_of-out
 same-length-3 c = search rules
 
-returns-2 : tie.Need-returns-2
+returns-2 : tie.Need-returns
 returns-2 c =
-    let s = c.before.before.before.before.before.before.before.before.before.before.before.before.before.before.before.before.before.before.before in
+    let s = c in
     let a = s.args in
-    let t = c.before.before.before.before.before.before.before.before.before.take_sections in
-    let told = ap meaning c.before.before.before.before.before.enum-told2.given.1 in
-    from_sections_as a.lengths.now a.sections.now a.name_bytes.now a.name_places.now a.split_bytes.now a.unit_bytes.now (length a.out.now) _ (taken_places 15 _ a.sections.now _ _ t.ensures told) (sym t.ensures.said ∙ told) c.before.before.split_tables.ensures
+    let t = c.take_sections-a in
+    let told = ap meaning c.in_default.is in
+    from_sections_as a.lengths.now a.sections.now a.name_bytes.now a.name_places.now a.split_bytes.now a.unit_bytes.now (length a.out.now) _ (taken_places 15 _ a.sections.now _ _ t.ensures told) (sym t.ensures.said ∙ told) c.split_tables.ensures
 
-pub from-sections-spec : {M : Type 1} → statement M
-from-sections-spec =
+pub from_sections_spec : {M : Type 1} → statement M
+from_sections_spec =
     tie.close
     (tie.spec
     take-sections-requires

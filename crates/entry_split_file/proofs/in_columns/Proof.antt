@@ -31,111 +31,111 @@ sizes_at s =
 abbrev output_of : tie.Start → Counts
 output_of s = room_in (length s.args.pieces.now) (length s.args.entries.now) (length s.args.offsets.now)
 
-room-of-requires : tie.Need-room-of-requires
+room-of-requires : tie.Need-room_of-cap-requires
 room-of-requires c κs = search rules
 
-run-file-requires : tie.Need-run-file-requires
+run-file-requires : tie.Need-run_file-r-requires
 run-file-requires c κs =
-    let s = c.before.before.before.before.before.before.before.before.before.before.before.before.before.before.before.before.before.before.before.before.before.before.before.before.before.before.before.before.before.before.before.before.before.before.before.before.before.before.before.before in
-    (s.requires.0, s.requires.1, omega (arith, c.before.before.before.before.before.before.before.before.before.before.before.before.before.before.before.before.before.room_of.ensures, room_low (length s.args.out_splits.now)))
+    let s = c in
+    (s.requires.0, s.requires.1, omega (arith, c.room_of-cap.ensures, room_low (length s.args.out_splits.now)))
 
-kept-of-requires : tie.Need-kept-of-requires
+kept-of-requires : tie.Need-kept_of-requires
 kept-of-requires c κs = search rules
 
 lay-requires : tie.Need-lay-requires
 lay-requires c κs =
-    let s = c.before.before.before.before.before.before.before.before.before.before.before.before.before.before.before.before.before.before.before.before.before.before.before.before.before.before.before.before.before.before.before.before.before.before.before.before.before.before.before.before.before.before.before.before.before.before.before.before.before.before.before.before.before.before.before.before.before.before.before.before.before.before.before.before.before.before.before.before.before.before.before.before.before.before.before.before.before.before.before.before.before.before.before.before.before.before.before.before.before.before.before in
-    let f = c.before.before.before.before.before.before.before.before.before.before.before.before.before.before.before.before.before.before.before.before.before.before.before.before.before.before.before.before.before.before.before.before.before.before.before.before.before.before.before.before.before.before.before.before.before.before.before.before.before.before.run_file in
+    let s = c in
+    let f = c.run_file-r in
     let l = s.requires.1 in
-    let cap = c.before.before.before.before.before.before.before.before.before.before.before.before.before.before.before.before.before.before.before.before.before.before.before.before.before.before.before.before.before.before.before.before.before.before.before.before.before.before.before.before.before.before.before.before.before.before.before.before.before.before.before.before.before.before.before.before.before.before.before.before.before.before.before.before.before.before.before.before.room_of.ensures in
+    let cap = c.room_of-cap.ensures in
     let low = room_low (length s.args.out_splits.now) in
-    fits_as (kept-fits _ _ _ (sizes_at s) c.before.before.before.before.before.before.before.before.before.before.before.before.before.before.before.before.before.before.before.before.before.before.before.before.before.before.before.before.before.before.before.before.before.before.before.before.before.before.before.before.before.before.before.before.before.before.before.before.before.before.before.before.before.before.before.before.before.before.before.before.before.before.before.before.before.before.before.before.room_of.result (record {
+    fits_as (kept-fits _ _ _ (sizes_at s) c.room_of-cap.result (record {
       starts = omega (arith, cap, low, l.starts_long, f.auto.1.1.1.1.1.1.1.0);
       ends = omega (arith, cap, low, l.ends_long, f.auto.1.1.1.1.1.1.1.1.0);
       units = omega (arith, cap, low, l.units_long, f.auto.1.1.1.1.1.1.1.1.1.0);
       rest = omega (arith, cap, low, l.rest_long, f.auto.1.1.1.1.1.1.1.1.1.1.0);
     }) (omega (arith, cap, low)) (omega (arith, cap, room_fits (length s.args.out_splits.now))) f.result.ran f.ensures.holds)
-    c.before.before.before.before.before.before.before.before.before.before.before.before.before.before.before.kept_of.ensures (same_sizes (length s.args.out_ends.now) (length s.args.out_bytes.now) (length s.args.out_splits.now) (length s.args.counts.now) f.auto.1.1.1.1.1.1.1.1.1.1.1.1.1.1.1.1.1.0 f.auto.1.1.1.1.1.1.1.1.1.1.1.1.1.1.1.1.1.1.0 f.auto.1.1.1.1.1.1.1.1.1.1.1.1.1.1.1.1.1.1.1.0 f.auto.1.1.1.1.1.1.1.1.1.1.1.1.1.1.1.1.1.1.1.1.0)
+    c.kept_of.ensures (same_sizes (length s.args.out_ends.now) (length s.args.out_bytes.now) (length s.args.out_splits.now) (length s.args.counts.now) f.auto.1.1.1.1.1.1.1.1.1.1.1.1.1.1.1.1.1.0 f.auto.1.1.1.1.1.1.1.1.1.1.1.1.1.1.1.1.1.1.0 f.auto.1.1.1.1.1.1.1.1.1.1.1.1.1.1.1.1.1.1.1.0 f.auto.1.1.1.1.1.1.1.1.1.1.1.1.1.1.1.1.1.1.1.1.0)
 
-word-for-requires : tie.Need-word-for-requires
+word-for-requires : tie.Need-word_for-requires
 word-for-requires c κs = search rules
 
-same_length : tie.Need-same-length
-same_length c = c.before.before.before.before.before.before.before.before.before.before.before.before.before.before.before.before.before.before.before.before.before.before.before.before.before.before.before.before.before.before.before.before.before.before.before.before.before.before.before.before.before.before.before.before.before.before.before.before.before.before.before.before.before.before.before.before.before.before.before.before.before.before.before.before.before.before.before.before.run_file.auto.1.0
+same_length : tie.Need-shape_of-places
+same_length c = c.run_file-r.auto.places
 
-same-length-2 : tie.Need-same-length-2
-same-length-2 c = c.before.before.before.before.before.before.before.before.before.before.before.before.before.before.before.before.before.before.before.before.before.before.before.before.before.before.before.before.before.before.before.before.before.before.before.before.before.before.before.before.before.before.before.before.before.before.before.before.before.before.before.before.before.before.before.before.before.before.before.before.before.before.before.before.before.before.before.before.run_file.auto.1.1.0
+same-length-2 : tie.Need-shape_of-lengths
+same-length-2 c = c.run_file-r.auto.lengths
 
-same-length-3 : tie.Need-same-length-3
-same-length-3 c = c.before.before.before.before.before.before.before.before.before.before.before.before.before.before.before.before.before.before.before.before.before.before.before.before.before.before.before.before.before.before.before.before.before.before.before.before.before.before.before.before.before.before.before.before.before.before.before.before.before.before.before.before.before.before.before.before.before.before.before.before.before.before.before.before.before.before.before.before.run_file.auto.1.1.1.0
+same-length-3 : tie.Need-shape_of-heads
+same-length-3 c = c.run_file-r.auto.heads
 
-same-length-4 : tie.Need-same-length-4
-same-length-4 c = c.before.before.before.before.before.before.before.before.before.before.before.before.before.before.before.before.before.before.before.before.before.before.before.before.before.before.before.before.before.before.before.before.before.before.before.before.before.before.before.before.before.before.before.before.before.before.before.before.before.before.before.before.before.before.before.before.before.before.before.before.before.before.before.before.before.before.before.before.run_file.auto.1.1.1.1.0
+same-length-4 : tie.Need-shape_of-chain
+same-length-4 c = c.run_file-r.auto.chain
 
-same-length-5 : tie.Need-same-length-5
-same-length-5 c = c.before.before.before.before.before.before.before.before.before.before.before.before.before.before.before.before.before.before.before.before.before.before.before.before.before.before.before.before.before.before.before.before.before.before.before.before.before.before.before.before.before.before.before.before.before.before.before.before.before.before.before.before.before.before.before.before.before.before.before.before.before.before.before.before.before.before.before.before.run_file.auto.1.1.1.1.1.0
+same-length-5 : tie.Need-shape_of-images
+same-length-5 c = c.run_file-r.auto.images
 
-same-length-6 : tie.Need-same-length-6
-same-length-6 c = c.before.before.before.before.before.before.before.before.before.before.before.before.before.before.before.before.before.before.before.before.before.before.before.before.before.before.before.before.before.before.before.before.before.before.before.before.before.before.before.before.before.before.before.before.before.before.before.before.before.before.before.before.before.before.before.before.before.before.before.before.before.before.before.before.before.before.before.before.run_file.auto.1.1.1.1.1.1.0
+same-length-6 : tie.Need-shape_of-order
+same-length-6 c = c.run_file-r.auto.order
 
-same-length-7 : tie.Need-same-length-7
-same-length-7 c = c.before.before.before.before.before.before.before.before.before.before.before.before.before.before.before.before.before.before.before.before.before.before.before.before.before.before.before.before.before.before.before.before.before.before.before.before.before.before.before.before.before.before.before.before.before.before.before.before.before.before.before.before.before.before.before.before.before.before.before.before.before.before.before.before.before.before.before.before.run_file.auto.1.1.1.1.1.1.1.0
+same-length-7 : tie.Need-shape_of-starts
+same-length-7 c = c.run_file-r.auto.starts
 
-same-length-8 : tie.Need-same-length-8
-same-length-8 c = c.before.before.before.before.before.before.before.before.before.before.before.before.before.before.before.before.before.before.before.before.before.before.before.before.before.before.before.before.before.before.before.before.before.before.before.before.before.before.before.before.before.before.before.before.before.before.before.before.before.before.before.before.before.before.before.before.before.before.before.before.before.before.before.before.before.before.before.before.run_file.auto.1.1.1.1.1.1.1.1.0
+same-length-8 : tie.Need-shape_of-ends
+same-length-8 c = c.run_file-r.auto.ends
 
-same-length-9 : tie.Need-same-length-9
-same-length-9 c = c.before.before.before.before.before.before.before.before.before.before.before.before.before.before.before.before.before.before.before.before.before.before.before.before.before.before.before.before.before.before.before.before.before.before.before.before.before.before.before.before.before.before.before.before.before.before.before.before.before.before.before.before.before.before.before.before.before.before.before.before.before.before.before.before.before.before.before.before.run_file.auto.1.1.1.1.1.1.1.1.1.0
+same-length-9 : tie.Need-shape_of-units
+same-length-9 c = c.run_file-r.auto.units
 
-same-length-10 : tie.Need-same-length-10
-same-length-10 c = c.before.before.before.before.before.before.before.before.before.before.before.before.before.before.before.before.before.before.before.before.before.before.before.before.before.before.before.before.before.before.before.before.before.before.before.before.before.before.before.before.before.before.before.before.before.before.before.before.before.before.before.before.before.before.before.before.before.before.before.before.before.before.before.before.before.before.before.before.run_file.auto.1.1.1.1.1.1.1.1.1.1.0
+same-length-10 : tie.Need-shape_of-rest
+same-length-10 c = c.run_file-r.auto.rest
 
-same-length-11 : tie.Need-same-length-11
-same-length-11 c = c.before.before.before.before.before.before.before.before.before.before.before.before.before.before.before.before.before.before.before.before.before.before.before.before.before.before.before.before.before.before.before.before.before.before.before.before.before.before.before.before.before.before.before.before.before.before.before.before.before.before.before.before.before.before.before.before.before.before.before.before.before.before.before.before.before.before.before.before.run_file.auto.1.1.1.1.1.1.1.1.1.1.1.1.0
+same-length-11 : tie.Need-shape_of-added_bytes
+same-length-11 c = c.run_file-r.auto.added_bytes
 
-same-length-12 : tie.Need-same-length-12
-same-length-12 c = c.before.before.before.before.before.before.before.before.before.before.before.before.before.before.before.before.before.before.before.before.before.before.before.before.before.before.before.before.before.before.before.before.before.before.before.before.before.before.before.before.before.before.before.before.before.before.before.before.before.before.before.before.before.before.before.before.before.before.before.before.before.before.before.before.before.before.before.before.run_file.auto.1.1.1.1.1.1.1.1.1.1.1.1.1.0
+same-length-12 : tie.Need-shape_of-added_places
+same-length-12 c = c.run_file-r.auto.added_places
 
-same-length-13 : tie.Need-same-length-13
-same-length-13 c = c.before.before.before.before.before.before.before.before.before.before.before.before.before.before.before.before.before.before.before.before.before.before.before.before.before.before.before.before.before.before.before.before.before.before.before.before.before.before.before.before.before.before.before.before.before.before.before.before.before.before.before.before.before.before.before.before.before.before.before.before.before.before.before.before.before.before.before.before.run_file.auto.1.1.1.1.1.1.1.1.1.1.1.1.1.1.0
+same-length-13 : tie.Need-shape_of-added_lengths
+same-length-13 c = c.run_file-r.auto.added_lengths
 
-same-length-14 : tie.Need-same-length-14
-same-length-14 c = c.before.before.before.before.before.before.before.before.before.before.before.before.before.before.before.before.before.lay.auto.1.1.1.1.1.1.1.1.0
+same-length-14 : tie.Need-shape_of-out_ends
+same-length-14 c = c.lay.auto.out_ends
 
-same-length-15 : tie.Need-same-length-15
-same-length-15 c = c.before.before.before.before.before.before.before.before.before.before.before.before.before.before.before.before.before.lay.auto.1.1.1.1.1.1.1.1.1.0
+same-length-15 : tie.Need-shape_of-out_bytes
+same-length-15 c = c.lay.auto.out_bytes
 
-same-length-16 : tie.Need-same-length-16
+same-length-16 : tie.Need-shape_of-out_splits
 same-length-16 c = search rules
 
-same-length-17 : tie.Need-same-length-17
-same-length-17 c = c.before.before.before.before.before.before.before.before.before.before.before.before.before.before.before.before.before.lay.auto.1.1.1.1.1.1.1.1.1.1.1.0 ∙ c.before.before.before.before.before.before.before.before.before.before.before.before.before.before.before.before.before.before.before.before.before.before.before.before.before.before.before.before.before.before.before.before.before.before.before.before.before.before.before.before.before.before.before.before.before.before.before.before.before.before.before.before.before.before.before.before.before.before.before.before.before.before.before.before.before.before.before.before.run_file.auto.1.1.1.1.1.1.1.1.1.1.1.1.1.1.1.1.1.0
+same-length-17 : tie.Need-shape_of-out_units
+same-length-17 c = c.lay.auto.out_units ∙ c.run_file-r.auto.out_units
 
-same-length-18 : tie.Need-same-length-18
-same-length-18 c = c.before.before.before.before.before.before.before.before.before.before.before.before.before.before.before.before.before.lay.auto.1.1.1.1.1.1.1.1.1.1.1.1.0 ∙ c.before.before.before.before.before.before.before.before.before.before.before.before.before.before.before.before.before.before.before.before.before.before.before.before.before.before.before.before.before.before.before.before.before.before.before.before.before.before.before.before.before.before.before.before.before.before.before.before.before.before.before.before.before.before.before.before.before.before.before.before.before.before.before.before.before.before.before.before.run_file.auto.1.1.1.1.1.1.1.1.1.1.1.1.1.1.1.1.1.1.0
+same-length-18 : tie.Need-shape_of-pieces
+same-length-18 c = c.lay.auto.pieces ∙ c.run_file-r.auto.pieces
 
-same-length-19 : tie.Need-same-length-19
-same-length-19 c = c.before.before.before.before.before.before.before.before.before.before.before.before.before.before.before.before.before.lay.auto.1.1.1.1.1.1.1.1.1.1.1.1.1.0 ∙ c.before.before.before.before.before.before.before.before.before.before.before.before.before.before.before.before.before.before.before.before.before.before.before.before.before.before.before.before.before.before.before.before.before.before.before.before.before.before.before.before.before.before.before.before.before.before.before.before.before.before.before.before.before.before.before.before.before.before.before.before.before.before.before.before.before.before.before.before.run_file.auto.1.1.1.1.1.1.1.1.1.1.1.1.1.1.1.1.1.1.1.0
+same-length-19 : tie.Need-shape_of-entries
+same-length-19 c = c.lay.auto.entries ∙ c.run_file-r.auto.entries
 
-same-length-20 : tie.Need-same-length-20
-same-length-20 c = c.before.before.before.before.before.before.before.before.before.before.before.before.before.before.before.before.before.lay.auto.1.1.1.1.1.1.1.1.1.1.1.1.1.1.0 ∙ c.before.before.before.before.before.before.before.before.before.before.before.before.before.before.before.before.before.before.before.before.before.before.before.before.before.before.before.before.before.before.before.before.before.before.before.before.before.before.before.before.before.before.before.before.before.before.before.before.before.before.before.before.before.before.before.before.before.before.before.before.before.before.before.before.before.before.before.before.run_file.auto.1.1.1.1.1.1.1.1.1.1.1.1.1.1.1.1.1.1.1.1.0
+same-length-20 : tie.Need-shape_of-offsets
+same-length-20 c = c.lay.auto.offsets ∙ c.run_file-r.auto.offsets
 
-same-length-21 : tie.Need-same-length-21
+same-length-21 : tie.Need-shape_of-counts
 same-length-21 c = search rules
 
 returns : tie.Need-returns
 returns c =
-    let s = c.before.before.before.before.before.before.before.before.before.before.before.before.before.before.before.before.before.before.before.before.before.before.before.before.before.before.before.before.before.before.before.before.before.before.before.before.before.before.before.before.before.before.before.before.before.before.before.before.before.before.before.before.before.before.before.before.before.before.before.before.before.before.before.before.before.before.before.before.before.before.before.before.before.before.before.before.before.before.before.before.before.before.before.before.before.before.before.before.before.before.before.before.before.before.before.before.before.before.before.before.before.before.before.before.before.before.before.before.before in
-    let f = c.before.before.before.before.before.before.before.before.before.before.before.before.before.before.before.before.before.before.before.before.before.before.before.before.before.before.before.before.before.before.before.before.before.before.before.before.before.before.before.before.before.before.before.before.before.before.before.before.before.before.before.before.before.before.before.before.before.before.before.before.before.before.before.before.before.before.before.before.run_file in
-    let cap = c.before.before.before.before.before.before.before.before.before.before.before.before.before.before.before.before.before.before.before.before.before.before.before.before.before.before.before.before.before.before.before.before.before.before.before.before.before.before.before.before.before.before.before.before.before.before.before.before.before.before.before.before.before.before.before.before.before.before.before.before.before.before.before.before.before.before.before.before.before.before.before.before.before.before.before.before.before.before.before.before.before.before.before.before.before.before.room_of.ensures in
+    let s = c in
+    let f = c.run_file-r in
+    let cap = c.room_of-cap.ensures in
     leaves _ _ _ _ _ _ f.result.ran _ _ _ _ _ _ _ _
     (f.ensures.is ∙ ap (λ (n : ℕ). run_of s.args.file.now (rooms_in s.args.file.now (length s.args.out_ends.now / 2) (length s.args.out_bytes.now) n (length s.args.out_units.now / 8) (output_of s))) cap)
-    c.before.before.before.before.before.before.before.before.before.before.before.before.before.before.before.before.before.before.before.before.before.before.before.before.before.before.before.before.before.before.before.before.before.kept_of.ensures
+    c.kept_of.ensures
     (same_sizes (length s.args.out_ends.now) (length s.args.out_bytes.now) (length s.args.out_splits.now) (length s.args.counts.now) f.auto.1.1.1.1.1.1.1.1.1.1.1.1.1.1.1.1.1.0 f.auto.1.1.1.1.1.1.1.1.1.1.1.1.1.1.1.1.1.1.0 f.auto.1.1.1.1.1.1.1.1.1.1.1.1.1.1.1.1.1.1.1.0 f.auto.1.1.1.1.1.1.1.1.1.1.1.1.1.1.1.1.1.1.1.1.0)
-    c.word_for.ensures c.before.before.before.before.before.before.before.before.before.before.before.before.before.before.before.before.before.lay.ensures
+    c.word_for.ensures c.lay.ensures
 
-pub in-columns-spec : {M : Type 1} → statement M
-in-columns-spec =
+pub in_columns_spec : {M : Type 1} → statement M
+in_columns_spec =
     tie.close
     (tie.spec
     room-of-requires

@@ -10,45 +10,45 @@ use Rattle.entry_split_obj.specs.Lines.{made_by}
 use Rattle.entry_split_obj.proofs.split_obj.Statement.{statement}
 use Rattle.entry_split_obj.proofs.split_obj.Tie as tie
 
-with-names-requires : tie.Need-with-names-requires
+with-names-requires : tie.Need-with_names-r-requires
 with-names-requires c κs = search rules
 
-made-of-requires : tie.Need-made-of-requires
+made-of-requires : tie.Need-made_of-requires
 made-of-requires c κs = search rules
 
 lay-requires : tie.Need-lay-requires
 lay-requires c κs =
-    let w = c.before.before.before.before.before.before.before.before.before.before.before in
-    let a = c.before.before.before.before.before.before.before.before.before.before.before.before.before.before.before.before.before.before.before.before.before.before.before.before.before.before.before.before.args in
-    subst (λ (m : Counts). Fits m (length w.with_names.new.1.1.1.1.1.1.1.1.1.0) (length w.with_names.new.1.1.1.1.1.1.1.1.1.1.0) (length w.with_names.new.1.1.1.1.1.1.1.1.1.1.1.0)) (sym c.before.before.before.before.made_of.ensures)
-    (fits_as (made_by w.with_names.result) _ _ _ _ _ _ w.with_names.auto.1.1.1.1.1.1.1.1.1.0 w.with_names.auto.1.1.1.1.1.1.1.1.1.1.0 w.with_names.auto.1.1.1.1.1.1.1.1.1.1.1.0
-    (made_fits (length a.pieces.now) (length a.entries.now) (length a.offsets.now) w.with_names.result w.with_names.ensures.within))
+    let w = c in
+    let a = c.args in
+    subst (λ (m : Counts). Fits m (length w.with_names-r.new.pieces) (length w.with_names-r.new.entries) (length w.with_names-r.new.offsets)) (sym c.made_of.ensures)
+    (fits_as (made_by w.with_names-r.result) _ _ _ _ _ _ w.with_names-r.auto.pieces w.with_names-r.auto.entries w.with_names-r.auto.offsets
+    (made_fits (length a.pieces.now) (length a.entries.now) (length a.offsets.now) w.with_names-r.result w.with_names-r.ensures.within))
 
-word-for-requires : tie.Need-word-for-requires
+word-for-requires : tie.Need-word_for-requires
 word-for-requires c κs = search rules
 
-same_length : tie.Need-same-length
-same_length c = c.before.before.before.before.before.before.before.before.before.lay.auto.1.0 ∙ c.before.before.before.before.before.before.before.before.before.before.before.before.before.before.before.before.before.before.before.before.before.with_names.auto.1.1.1.1.1.1.1.1.1.0
+same_length : tie.Need-shape_of-pieces
+same_length c = c.lay.auto.pieces ∙ c.with_names-r.auto.pieces
 
-same-length-2 : tie.Need-same-length-2
-same-length-2 c = c.before.before.before.before.before.before.before.before.before.lay.auto.1.1.0 ∙ c.before.before.before.before.before.before.before.before.before.before.before.before.before.before.before.before.before.before.before.before.before.with_names.auto.1.1.1.1.1.1.1.1.1.1.0
+same-length-2 : tie.Need-shape_of-entries
+same-length-2 c = c.lay.auto.entries ∙ c.with_names-r.auto.entries
 
-same-length-3 : tie.Need-same-length-3
-same-length-3 c = c.before.before.before.before.before.before.before.before.before.lay.auto.1.1.1.0 ∙ c.before.before.before.before.before.before.before.before.before.before.before.before.before.before.before.before.before.before.before.before.before.with_names.auto.1.1.1.1.1.1.1.1.1.1.1.0
+same-length-3 : tie.Need-shape_of-offsets
+same-length-3 c = c.lay.auto.offsets ∙ c.with_names-r.auto.offsets
 
-same-length-4 : tie.Need-same-length-4
-same-length-4 c = c.before.before.before.before.before.before.before.before.before.lay.auto.1.1.1.1.0
+same-length-4 : tie.Need-shape_of-counts
+same-length-4 c = c.lay.auto.counts
 
 returns : tie.Need-returns
 returns c =
-    let w = c.before.before.before.before.before.before.before.before.before.before.before.before.before.before.before.before.before.before.before.before.before in
-    let a = c.before.before.before.before.before.before.before.before.before.before.before.before.before.before.before.before.before.before.before.before.before.before.before.before.before.before.before.before.before.before.before.before.before.before.before.before.before.before.args in
-    leaves_at _ c.before.before.before.before.before.before.before.before.before.before.before.before.before.before.made_of.result _ _ _ w.with_names.result w.with_names.new.1.1.1.1.1.1.1.1.1.0 w.with_names.new.1.1.1.1.1.1.1.1.1.1.0 w.with_names.new.1.1.1.1.1.1.1.1.1.1.1.0 _ _ _ _ c.before.before.before.before.before.before.before.before.before.before.before.before.before.before.made_of.ensures
-    (λ d. record { pieces = w.with_names.auto.1.1.1.1.1.1.1.1.1.0 d; symbols = w.with_names.auto.1.1.1.1.1.1.1.1.1.1.0 d; relocs = w.with_names.auto.1.1.1.1.1.1.1.1.1.1.1.0 d; counts = length a.counts.now })
-    w.with_names.ensures.is c.word_for.ensures c.before.before.before.before.before.before.before.before.before.lay.ensures
+    let w = c in
+    let a = c.args in
+    leaves_at _ c.made_of.result _ _ _ w.with_names-r.result w.with_names-r.new.pieces w.with_names-r.new.entries w.with_names-r.new.offsets _ _ _ _ c.made_of.ensures
+    (λ d. record { pieces = w.with_names-r.auto.pieces d; symbols = w.with_names-r.auto.entries d; relocs = w.with_names-r.auto.offsets d; counts = length a.counts.now })
+    w.with_names-r.ensures.is c.word_for.ensures c.lay.ensures
 
-pub split-obj-spec : {M : Type 1} → statement M
-split-obj-spec =
+pub split_obj_spec : {M : Type 1} → statement M
+split_obj_spec =
     tie.close
     (tie.spec
     with-names-requires

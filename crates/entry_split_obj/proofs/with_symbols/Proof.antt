@@ -5,38 +5,38 @@ use native.Mathlib.Omega.{arith}
 use Rattle.entry_split_obj.proofs.with_symbols.Statement.{statement}
 use Rattle.entry_split_obj.proofs.with_symbols.Tie as tie
 
-slice-aggregate-from-symbols : tie.Need-slice-aggregate-from-symbols
+slice-aggregate-from-symbols : tie.Need-slice_bounds-from_symbols-end
 slice-aggregate-from-symbols c = search rules
 
-slice-aggregate-from-symbols-2 : tie.Need-slice-aggregate-from-symbols-2
+slice-aggregate-from-symbols-2 : tie.Need-slice_bounds-from_symbols-end-2
 slice-aggregate-from-symbols-2 c = search rules
 
-slice-aggregate-from-symbols-3 : tie.Need-slice-aggregate-from-symbols-3
+slice-aggregate-from-symbols-3 : tie.Need-slice_bounds-from_symbols-end-3
 slice-aggregate-from-symbols-3 c = search rules
 
-from-symbols-requires : tie.Need-from-symbols-requires
+from-symbols-requires : tie.Need-from_symbols-requires
 from-symbols-requires c κs =
-    let p = c.before.before.before.before.before.before.before.before.before.before.before.before.before.before.before.before.before.before.before.before.requires in (
+    let p = c.requires in (
       p.0,
       p.1,
       p.2,
       record { few = omega arith; places_long = search rules; order_long = search rules; scratch_long = search rules },
     )
 
-same_length : tie.Need-same-length
-same_length c = c.before.before.before.before.before.before.before.before.before.from_symbols.auto.1.1.1.1.1.1.1.1.1.1.1.1.1.1.0
+same_length : tie.Need-shape_of-pieces
+same_length c = c.from_symbols.auto.pieces
 
-same-length-2 : tie.Need-same-length-2
-same-length-2 c = c.before.before.before.before.before.before.before.before.before.from_symbols.auto.1.1.1.1.1.1.1.1.1.1.1.1.1.1.1.0
+same-length-2 : tie.Need-shape_of-entries
+same-length-2 c = c.from_symbols.auto.entries
 
-same-length-3 : tie.Need-same-length-3
-same-length-3 c = c.before.before.before.before.before.before.before.before.before.from_symbols.auto.1.1.1.1.1.1.1.1.1.1.1.1.1.1.1.1.0
+same-length-3 : tie.Need-shape_of-offsets
+same-length-3 c = c.from_symbols.auto.offsets
 
 returns : tie.Need-returns
-returns c = c.before.before.before.before.before.before.before.before.before.from_symbols.ensures
+returns c = c.from_symbols.ensures
 
-pub with-symbols-spec : {M : Type 1} → statement M
-with-symbols-spec =
+pub with_symbols_spec : {M : Type 1} → statement M
+with_symbols_spec =
     tie.close
     (tie.spec
     slice-aggregate-from-symbols

@@ -16,50 +16,50 @@ invariant-loop edges at k out₀ i₀ out i =
 abbrev decreases-loop : tie.decreases-loop
 decreases-loop edges at k out₀ i₀ out i = k - i
 
-loop-holds : tie.Need-loop-init invariant-loop decreases-loop
+loop-holds : tie.Need-loop-i-init invariant-loop decreases-loop
 loop-holds c = (omega arith, refl, refl)
 
-mul-get16 : tie.Need-overflow-mul-get16 invariant-loop decreases-loop
+mul-get16 : tie.Need-overflow_mul-i invariant-loop decreases-loop
 mul-get16 c = omega arith
 
-add-get16 : tie.Need-overflow-add-get16 invariant-loop decreases-loop
+add-get16 : tie.Need-overflow_add-i invariant-loop decreases-loop
 add-get16 c = omega arith
 
 get16-requires : tie.Need-get16-requires invariant-loop decreases-loop
 get16-requires c κs = omega arith
 
-mul-out : tie.Need-overflow-mul-out invariant-loop decreases-loop
+mul-out : tie.Need-offset_bounds-out-i invariant-loop decreases-loop
 mul-out c = omega arith
 
-slice-write-out : tie.Need-slice-write-out invariant-loop decreases-loop
+slice-write-out : tie.Need-bounds-out-i invariant-loop decreases-loop
 slice-write-out c = omega arith
 
-add-i : tie.Need-overflow-add-i invariant-loop decreases-loop
+add-i : tie.Need-overflow_add-i-in-loop-i invariant-loop decreases-loop
 add-i c = omega arith
 
-loop-less : tie.Need-loop-smaller invariant-loop decreases-loop
+loop-less : tie.Need-loop-i-smaller invariant-loop decreases-loop
 loop-less c = omega arith
 
-loop-again : tie.Need-loop-preserved invariant-loop decreases-loop
+loop-again : tie.Need-loop-i-preserved invariant-loop decreases-loop
 loop-again c =
-    let at-loop = c.before.before in
-    let start = at-loop.before.before.before in (
+    let at-loop = c in
+    let start = at-loop in (
       omega arith,
-      simp length-set at-loop.loop.invariant.1,
-      fill_turn (λ j. le16 start.args.edges.now (4 * j + start.args.at)) start.args.k _ _ _ c.before.loop-test.true
-          (let h : at-loop.loop.i < length at-loop.loop.out = omega arith in h) c.get16.ensures at-loop.loop.invariant.2,
+      simp length-set at-loop.loop-i.invariant.1,
+      fill_turn (λ j. le16 start.args.edges.now (4 * j + start.args.at)) start.args.k _ _ _ c.loop-i-test.true
+          (let h : at-loop.loop-i.i < length at-loop.loop-i.out = omega arith in h) c.get16.ensures at-loop.loop-i.invariant.2,
     )
 
-same_length : tie.Need-same-length invariant-loop decreases-loop
+same_length : tie.Need-shape_of-out invariant-loop decreases-loop
 same_length c = omega arith
 
 returns : tie.Need-returns invariant-loop decreases-loop
 returns c =
-    let at-loop = c.before in
-    (fill_done _ _ at-loop.loop.i _ (omega arith) at-loop.loop.invariant.2, at-loop.loop.invariant.1)
+    let at-loop = c in
+    (fill_done _ _ at-loop.loop-i.i _ (omega arith) at-loop.loop-i.invariant.2, at-loop.loop-i.invariant.1)
 
-pub column-spec : {M : Type 1} → statement M
-column-spec =
+pub column_spec : {M : Type 1} → statement M
+column_spec =
     tie.close
     (tie.spec
     invariant-loop

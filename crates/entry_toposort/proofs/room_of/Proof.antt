@@ -7,19 +7,19 @@ use borrow.Author.Rules.{rules}
 use Rattle.entry_toposort.proofs.room_of.Statement.{statement}
 use Rattle.entry_toposort.proofs.room_of.Tie as tie
 
-returns : tie.Need-returns
+returns : tie.Need-returns-then-size-lt1024
 returns c = record { low = omega arith; fits = omega arith; same = λ n h. refl }
 
-returns-2 : tie.Need-returns-2
+returns-2 : tie.Need-returns
 returns-2 c =
     record {
       low = omega arith;
       fits = omega arith;
       same =
           λ n h.
-          let half : n ≤ c.before.args.size / 2 = omega (arith, c.if1.false) in
+          let half : n ≤ c.args.size / 2 = omega (arith, c.if-size-lt1024.false) in
           le-ltb _ _ h ∙ sym (le-ltb _ _ half);
     }
 
-pub room-of-spec : {M : Type 1} → statement M
-room-of-spec = tie.close (tie.spec returns returns-2)
+pub room_of_spec : {M : Type 1} → statement M
+room_of_spec = tie.close (tie.spec returns returns-2)

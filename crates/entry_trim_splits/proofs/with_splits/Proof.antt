@@ -5,27 +5,27 @@ use borrow.Author.Rules.{rules}
 use Rattle.entry_trim_splits.proofs.with_splits.Statement.{statement}
 use Rattle.entry_trim_splits.proofs.with_splits.Tie as tie
 
-slice-aggregate-from-splits : tie.Need-slice-aggregate-from-splits
+slice-aggregate-from-splits : tie.Need-slice_bounds-from_splits-end
 slice-aggregate-from-splits c = search rules
 
-slice-aggregate-from-splits-2 : tie.Need-slice-aggregate-from-splits-2
+slice-aggregate-from-splits-2 : tie.Need-slice_bounds-from_splits-end-2
 slice-aggregate-from-splits-2 c = search rules
 
-slice-aggregate-from-splits-3 : tie.Need-slice-aggregate-from-splits-3
+slice-aggregate-from-splits-3 : tie.Need-slice_bounds-from_splits-end-3
 slice-aggregate-from-splits-3 c = search rules
 
-slice-aggregate-from-splits-4 : tie.Need-slice-aggregate-from-splits-4
+slice-aggregate-from-splits-4 : tie.Need-slice_bounds-from_splits-end-4
 slice-aggregate-from-splits-4 c = search rules
 
-slice-aggregate-from-splits-5 : tie.Need-slice-aggregate-from-splits-5
+slice-aggregate-from-splits-5 : tie.Need-slice_bounds-from_splits-end-5
 slice-aggregate-from-splits-5 c = search rules
 
-slice-aggregate-from-splits-6 : tie.Need-slice-aggregate-from-splits-6
+slice-aggregate-from-splits-6 : tie.Need-slice_bounds-from_splits-end-6
 slice-aggregate-from-splits-6 c = search rules
 
-from-splits-requires : tie.Need-from-splits-requires
+from-splits-requires : tie.Need-from_splits-requires
 from-splits-requires c κs =
-    let p = c.before.before.before.before.before.before.before.before.before.before.before.before.before.before.before.before.before.before.before.before.before.requires in (
+    let p = c.requires in (
       p.0,
       p.1,
       p.2,
@@ -39,17 +39,17 @@ from-splits-requires c κs =
       },
     )
 
-same_length : tie.Need-same-length
+same_length : tie.Need-shape_of-out
 same_length c = search rules
 
-same-length-2 : tie.Need-same-length-2
+same-length-2 : tie.Need-shape_of-counts
 same-length-2 c = search rules
 
 returns : tie.Need-returns
 returns c = search rules
 
-pub with-splits-spec : {M : Type 1} → statement M
-with-splits-spec =
+pub with_splits_spec : {M : Type 1} → statement M
+with_splits_spec =
     tie.close
     (tie.spec
     slice-aggregate-from-splits

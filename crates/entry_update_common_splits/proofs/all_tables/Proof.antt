@@ -16,80 +16,80 @@ use Rattle.entry_update_common_splits.proofs.all_tables.Statement.{statement}
 use Rattle.entry_update_common_splits.proofs.all_tables.Tie as tie
 
 -- the names were accepted: the columns hold them
-stored : (c : tie.After-enum-told2)
-    → let t = c.before.before.before.before.before.before.before.before.before.before in let a = t.before.before.before.before.before.before.before.before.before.before.before.before.before.before.before.args in let last = t.check_names.new.1.1.1 in
+stored : (c : tie.In_default)
+    → let t = c in let a = t.args in let last = t.check_names-a.new.1.1.1 in
     Stored a.name_ends.now a.name_bytes.now last.0 last.1.0 last.1.1.0 last.1.1.1.0 (length a.name_ends.now / 2)
-stored c = let s = c.before.before.before.before.before.before.before.before.before.before.check_names.ensures in s.stored (sym s.said ∙ ap meaning c.enum-told2.given.1)
+stored c = let s = c.check_names-a.ensures in s.stored (sym s.said ∙ ap meaning c.in_default.is)
 
-check-names-requires : tie.Need-check-names-requires
+check-names-requires : tie.Need-check_names-a-requires
 check-names-requires c κs = search rules
 
-enum_told : tie.Need-enum-told
+enum_told : tie.Need-enum_told-1
 enum_told c = search rules
 
-same_length : tie.Need-same-length
+same_length : tie.Need-shape_of-places-in-Refused
 same_length c = search rules
 
-same-length-2 : tie.Need-same-length-2
+same-length-2 : tie.Need-shape_of-lengths-in-Refused
 same-length-2 c = search rules
 
-same-length-3 : tie.Need-same-length-3
+same-length-3 : tie.Need-shape_of-heads-in-Refused
 same-length-3 c = search rules
 
-same-length-4 : tie.Need-same-length-4
+same-length-4 : tie.Need-shape_of-chain-in-Refused
 same-length-4 c = search rules
 
-returns : tie.Need-returns
+returns : tie.Need-returns-in-Refused
 unfolding update_of
-returns c = gives_stops _ c.before.before.before.before.before.before.before.before.before.before.check_names.ensures.said (ap meaning c.enum_told.given.1)
+returns c = gives_stops _ c.check_names-a.ensures.said (ap meaning c.in-Refused.is)
 
-enum-told-2 : tie.Need-enum-told-2
+enum-told-2 : tie.Need-enum_told-in_default
 enum-told-2 c = search rules
 
-slice-reshare-prefix-named-tables : tie.Need-slice-reshare-prefix-named-tables
+slice-reshare-prefix-named-tables : tie.Need-slice_bounds-named_tables-end
 slice-reshare-prefix-named-tables c = (stored c).named.placed
 
-slice-aggregate-named-tables : tie.Need-slice-aggregate-named-tables
-slice-aggregate-named-tables c = sym (length-take-le _ _ (stored c.before).named.placed)
+slice-aggregate-named-tables : tie.Need-slice_bounds-named_tables-end-2
+slice-aggregate-named-tables c = sym (length-take-le _ _ (stored c).named.placed)
 
-slice-reshare-prefix-named-tables-2 : tie.Need-slice-reshare-prefix-named-tables-2
-slice-reshare-prefix-named-tables-2 c = (stored c.before).named.measured
+slice-reshare-prefix-named-tables-2 : tie.Need-slice_bounds-named_tables-end-3
+slice-reshare-prefix-named-tables-2 c = (stored c).named.measured
 
-slice-aggregate-named-tables-2 : tie.Need-slice-aggregate-named-tables-2
-slice-aggregate-named-tables-2 c = sym (length-take-le _ _ (stored c.before.before).named.measured)
+slice-aggregate-named-tables-2 : tie.Need-slice_bounds-named_tables-end-4
+slice-aggregate-named-tables-2 c = sym (length-take-le _ _ (stored c.before).named.measured)
 
-named-tables-requires : tie.Need-named-tables-requires
-named-tables-requires c κs = names_front (stored c.before.before.before.before)
+named-tables-requires : tie.Need-named_tables-requires
+named-tables-requires c κs = names_front (stored c.before.before.before)
 
-same-length-5 : tie.Need-same-length-5
+same-length-5 : tie.Need-shape_of-places
 same-length-5 c = search rules
 
-same-length-6 : tie.Need-same-length-6
+same-length-6 : tie.Need-shape_of-lengths
 same-length-6 c = search rules
 
-same-length-7 : tie.Need-same-length-7
+same-length-7 : tie.Need-shape_of-heads
 same-length-7 c = search rules
 
-same-length-8 : tie.Need-same-length-8
+same-length-8 : tie.Need-shape_of-chain
 same-length-8 c = search rules
 
-same-length-9 : tie.Need-same-length-9
+same-length-9 : tie.Need-shape_of-out
 same-length-9 c = search rules
 
-same-length-10 : tie.Need-same-length-10
+same-length-10 : tie.Need-shape_of-counts
 same-length-10 c = search rules
 
-returns-2 : tie.Need-returns-2
+returns-2 : tie.Need-returns
 unfolding update_of
 returns-2 c =
-    let t = c.before.before.before.before.before.before.before.before.before.before.before.before.before.before.before.before.before.before.before in
-    let a = c.before.before.before.before.before.before.before.before.before.before.before.before.before.before.before.before.before.before.before.before.before.before.before.before.before.before.before.before.before.before.before.before.before.before.args in
-    let e = ap meaning c.before.before.before.before.before.before.before.before.before.enum-told2.given.1 in
-    gives_goes (sym t.check_names.ensures.said ∙ e)
-    (gives_as (names_as a.sections.now a.splits.now (not (eqb a.has_start 0)) a.start (length a.out.now) (stored c.before.before.before.before.before.before.before.before.before)) c.before.before.before.before.named_tables.ensures)
+    let t = c in
+    let a = c.args in
+    let e = ap meaning c.in_default.is in
+    gives_goes (sym t.check_names-a.ensures.said ∙ e)
+    (gives_as (names_as a.sections.now a.splits.now (not (eqb a.has_start 0)) a.start (length a.out.now) (stored c.before.before.before.before.before.before.before.before)) c.named_tables.ensures)
 
-pub all-tables-spec : {M : Type 1} → statement M
-all-tables-spec =
+pub all_tables_spec : {M : Type 1} → statement M
+all_tables_spec =
     tie.close
     (tie.spec
     check-names-requires

@@ -16,63 +16,63 @@ use borrow.Author.Rules.{rules}
 use Rattle.entry_update_common_splits.proofs.from_sections.Statement.{statement}
 use Rattle.entry_update_common_splits.proofs.from_sections.Tie as tie
 
-take-sections-requires : tie.Need-take-sections-requires
+take-sections-requires : tie.Need-take_sections-a-requires
 take-sections-requires c κs = search rules
 
-enum_told : tie.Need-enum-told
+enum_told : tie.Need-enum_told-1
 enum_told c = search rules
 
-same_length : tie.Need-same-length
+same_length : tie.Need-shape_of-places-in-Refused
 same_length c = search rules
 
-returns : tie.Need-returns
+returns : tie.Need-returns-in-Refused
 unfolding from_sections
-returns c = gives_stops _ c.before.before.before.before.take_sections.ensures.said (ap meaning c.enum_told.given.1)
+returns c = gives_stops _ c.take_sections-a.ensures.said (ap meaning c.in-Refused.is)
 
-enum-told-2 : tie.Need-enum-told-2
+enum-told-2 : tie.Need-enum_told-in_default
 enum-told-2 c = search rules
 
-slice-reshare-prefix-with-columns : tie.Need-slice-reshare-prefix-with-columns
+slice-reshare-prefix-with-columns : tie.Need-slice_bounds-with_columns-end
 slice-reshare-prefix-with-columns c =
-    let t = c.before.before.before.before in
-    let s = c.before.before.before.before.before.before.before.before.before.before.before.before.before.before in
-    let n = taken_few 15 64 s.args.sections.now _ _ t.take_sections.ensures (ap meaning c.enum-told2.given.1) in
-    omega (arith, n, t.take_sections.auto.1.1.1.0, s.requires.1)
+    let t = c in
+    let s = c in
+    let n = taken_few 15 64 s.args.sections.now _ _ t.take_sections-a.ensures (ap meaning c.in_default.is) in
+    omega (arith, n, t.take_sections-a.auto.places, s.requires.1)
 
-slice-aggregate-with-columns : tie.Need-slice-aggregate-with-columns
+slice-aggregate-with-columns : tie.Need-slice_bounds-with_columns-end-2
 slice-aggregate-with-columns c =
-    sym (taken-count 15 64 c.before.before.before.before.before.before.before.before.before.before.before.before.before.before.before.args.sections.now _ _ c.before.before.before.before.before.take_sections.ensures (ap meaning c.before.enum-told2.given.1))
+    sym (taken-count 15 64 c.args.sections.now _ _ c.take_sections-a.ensures (ap meaning c.in_default.is))
 
-with-columns-requires : tie.Need-with-columns-requires
+with-columns-requires : tie.Need-with_columns-requires
 with-columns-requires c κs =
-    let t = c.before.before.before.before.before.before.before in
-    let s = c.before.before.before.before.before.before.before.before.before.before.before.before.before.before.before.before.before in
-    let e = ap meaning c.before.before.before.enum-told2.given.1 in
-    (sections_of_lem s.args.sections.now _ s.requires.0 t.take_sections.ensures e, taken-held 15 64 s.args.sections.now _ _ t.take_sections.ensures e (omega arith))
+    let t = c in
+    let s = c in
+    let e = ap meaning c.in_default.is in
+    (sections_of_lem s.args.sections.now _ s.requires.0 t.take_sections-a.ensures e, taken-held 15 64 s.args.sections.now _ _ t.take_sections-a.ensures e (omega arith))
 
-same-length-2 : tie.Need-same-length-2
+same-length-2 : tie.Need-shape_of-places
 same-length-2 c = search rules
 
-same-length-3 : tie.Need-same-length-3
+same-length-3 : tie.Need-shape_of-out
 same-length-3 c = search rules
 
-same-length-4 : tie.Need-same-length-4
+same-length-4 : tie.Need-shape_of-counts
 same-length-4 c = search rules
 
-returns-2 : tie.Need-returns-2
+returns-2 : tie.Need-returns
 unfolding from_sections
 returns-2 c =
-    let t = c.before.before.before.before.before.before.before.before.before.before.before.before in
-    let a = c.before.before.before.before.before.before.before.before.before.before.before.before.before.before.before.before.before.before.before.before.before.before.args in
-    let e = ap meaning c.before.before.before.before.before.before.before.before.enum-told2.given.1 in
-    gives_goes (sym t.take_sections.ensures.said ∙ e)
+    let t = c in
+    let a = c.args in
+    let e = ap meaning c.in_default.is in
+    gives_goes (sym t.take_sections-a.ensures.said ∙ e)
     (gives_as
     (ap (λ (l : List ℕ). from_splits a.name_lengths.now (sections_in a.sections.now l) (bss_in a.name_bytes.now a.name_places.now a.name_lengths.now a.sections.now l) a.splits.now a.has_start a.start (length a.out.now))
-    (taken_places 15 64 a.sections.now _ _ t.take_sections.ensures e))
-    c.before.before.before.before.with_columns.ensures)
+    (taken_places 15 64 a.sections.now _ _ t.take_sections-a.ensures e))
+    c.with_columns.ensures)
 
-pub from-sections-spec : {M : Type 1} → statement M
-from-sections-spec =
+pub from_sections_spec : {M : Type 1} → statement M
+from_sections_spec =
     tie.close
     (tie.spec
     take-sections-requires

@@ -14,68 +14,68 @@ use Rattle.entry_validate_splits.proofs.from_names.Statement.{statement}
 use Rattle.entry_validate_splits.proofs.from_names.Tie as tie
 
 -- the names were accepted: the columns hold them
-stored : (c : tie.After-enum-told2)
-    → let t = c.before.before.before.before.before.before.before.before.before.before in let a = c.before.before.before.before.before.before.before.before.before.before.before.before.before.before.before.before.before.before.before.before.before.before.before.before.args in let last = t.check_names.new.1.1.1 in
+stored : (c : tie.In_default)
+    → let t = c in let a = c.args in let last = t.check_names-a.new.1.1.1 in
     Stored a.name_ends.now a.name_bytes.now last.0 last.1.0 last.1.1.0 last.1.1.1.0 (length a.name_ends.now / 2)
-stored c = let s = c.before.before.before.before.before.before.before.before.before.before.check_names.ensures in s.stored (sym s.said ∙ ap meaning c.enum-told2.given.1)
+stored c = let s = c.check_names-a.ensures in s.stored (sym s.said ∙ ap meaning c.in_default.is)
 
-check-names-requires : tie.Need-check-names-requires
+check-names-requires : tie.Need-check_names-a-requires
 check-names-requires c κs = search rules
 
-enum_told : tie.Need-enum-told
+enum_told : tie.Need-enum_told-1
 enum_told c = search rules
 
-same_length : tie.Need-same-length
+same_length : tie.Need-shape_of-places-in-Refused
 same_length c = search rules
 
-same-length-2 : tie.Need-same-length-2
+same-length-2 : tie.Need-shape_of-lengths-in-Refused
 same-length-2 c = search rules
 
-same-length-3 : tie.Need-same-length-3
+same-length-3 : tie.Need-shape_of-heads-in-Refused
 same-length-3 c = search rules
 
-same-length-4 : tie.Need-same-length-4
+same-length-4 : tie.Need-shape_of-chain-in-Refused
 same-length-4 c = search rules
 
-returns : tie.Need-returns
+returns : tie.Need-returns-in-Refused
 unfolding validate_of
-returns c = then_stops c.before.before.before.before.before.before.before.before.before.before.check_names.ensures.said _ (ap meaning c.enum_told.given.1)
+returns c = then_stops c.check_names-a.ensures.said _ (ap meaning c.in-Refused.is)
 
-enum-told-2 : tie.Need-enum-told-2
+enum-told-2 : tie.Need-enum_told-in_default
 enum-told-2 c = search rules
 
-slice-reshare-prefix-with-sections : tie.Need-slice-reshare-prefix-with-sections
+slice-reshare-prefix-with-sections : tie.Need-slice_bounds-with_sections-end
 slice-reshare-prefix-with-sections c = (stored c).named.measured
 
-slice-aggregate-with-sections : tie.Need-slice-aggregate-with-sections
-slice-aggregate-with-sections c = sym (length-take-le _ _ (stored c.before).named.measured)
+slice-aggregate-with-sections : tie.Need-slice_bounds-with_sections-end-2
+slice-aggregate-with-sections c = sym (length-take-le _ _ (stored c).named.measured)
 
-with-sections-requires : tie.Need-with-sections-requires
+with-sections-requires : tie.Need-with_sections-requires
 with-sections-requires c κs = search rules
 
-same-length-5 : tie.Need-same-length-5
+same-length-5 : tie.Need-shape_of-places
 same-length-5 c = search rules
 
-same-length-6 : tie.Need-same-length-6
+same-length-6 : tie.Need-shape_of-lengths
 same-length-6 c = search rules
 
-same-length-7 : tie.Need-same-length-7
+same-length-7 : tie.Need-shape_of-heads
 same-length-7 c = search rules
 
-same-length-8 : tie.Need-same-length-8
+same-length-8 : tie.Need-shape_of-chain
 same-length-8 c = search rules
 
-returns-2 : tie.Need-returns-2
+returns-2 : tie.Need-returns
 unfolding validate_of from_splits
 returns-2 c =
-    let t = c.before.before.before.before.before.before.before.before.before.before.before.before in
-    let a = c.before.before.before.before.before.before.before.before.before.before.before.before.before.before.before.before.before.before.before.before.before.before.before.before.before.before.args in
+    let t = c in
+    let a = c.args in
     c.with_sections.ensures
-    ∙ names_as _ _ _ _ _ _ a.sections.now a.symbols.now a.splits.now (stored c.before.before)
-    ∙ then_goes t.check_names.ensures.said _ (ap meaning c.before.before.enum-told2.given.1)
+    ∙ names_as _ _ _ _ _ _ a.sections.now a.symbols.now a.splits.now (stored c)
+    ∙ then_goes t.check_names-a.ensures.said _ (ap meaning c.in_default.is)
 
-pub from-names-spec : {M : Type 1} → statement M
-from-names-spec =
+pub from_names_spec : {M : Type 1} → statement M
+from_names_spec =
     tie.close
     (tie.spec
     check-names-requires

@@ -13,50 +13,50 @@ use borrow.Author.Rules.{rules}
 use Rattle.entry_validate_splits.proofs.from_sections.Statement.{statement}
 use Rattle.entry_validate_splits.proofs.from_sections.Tie as tie
 
-take-sections-requires : tie.Need-take-sections-requires
+take-sections-requires : tie.Need-take_sections-a-requires
 take-sections-requires c κs = search rules
 
-enum_told : tie.Need-enum-told
+enum_told : tie.Need-enum_told-1
 enum_told c = search rules
 
-same_length : tie.Need-same-length
+same_length : tie.Need-shape_of-places-in-Refused
 same_length c = search rules
 
-returns : tie.Need-returns
+returns : tie.Need-returns-in-Refused
 unfolding from_sections
-returns c = then_stops c.before.before.before.before.take_sections.ensures.said _ (ap meaning c.enum_told.given.1)
+returns c = then_stops c.take_sections-a.ensures.said _ (ap meaning c.in-Refused.is)
 
-enum-told-2 : tie.Need-enum-told-2
+enum-told-2 : tie.Need-enum_told-in_default
 enum-told-2 c = search rules
 
-slice-reshare-prefix-with-symbols : tie.Need-slice-reshare-prefix-with-symbols
+slice-reshare-prefix-with-symbols : tie.Need-slice_bounds-with_symbols-end
 slice-reshare-prefix-with-symbols c =
-    let t = c.before.before.before.before in
-    let s = c.before.before.before.before.before.before.before.before.before.before.before in
-    let n = taken_few 15 64 s.args.sections.now _ _ t.take_sections.ensures (ap meaning c.enum-told2.given.1) in
-    omega (arith, n, t.take_sections.auto.1.1.1.0, s.requires)
+    let t = c in
+    let s = c in
+    let n = taken_few 15 64 s.args.sections.now _ _ t.take_sections-a.ensures (ap meaning c.in_default.is) in
+    omega (arith, n, t.take_sections-a.auto.places, s.requires)
 
-slice-aggregate-with-symbols : tie.Need-slice-aggregate-with-symbols
-slice-aggregate-with-symbols c = sym (taken-count 15 64 c.before.before.before.before.before.before.before.before.before.before.before.before.args.sections.now _ _ c.before.before.before.before.before.take_sections.ensures (ap meaning c.before.enum-told2.given.1))
+slice-aggregate-with-symbols : tie.Need-slice_bounds-with_symbols-end-2
+slice-aggregate-with-symbols c = sym (taken-count 15 64 c.args.sections.now _ _ c.take_sections-a.ensures (ap meaning c.in_default.is))
 
-with-symbols-requires : tie.Need-with-symbols-requires
-with-symbols-requires c κs = taken-held 15 64 c.before.before.before.before.before.before.before.before.before.before.before.before.args.sections.now _ _ c.before.before.before.before.before.take_sections.ensures (ap meaning c.before.enum-told2.given.1) (omega arith)
+with-symbols-requires : tie.Need-with_symbols-requires
+with-symbols-requires c κs = taken-held 15 64 c.args.sections.now _ _ c.take_sections-a.ensures (ap meaning c.in_default.is) (omega arith)
 
-same-length-2 : tie.Need-same-length-2
+same-length-2 : tie.Need-shape_of-places
 same-length-2 c = search rules
 
-returns-2 : tie.Need-returns-2
+returns-2 : tie.Need-returns
 unfolding from_sections
 returns-2 c =
-    let t = c.before.before.before.before.before.before in
-    let a = c.before.before.before.before.before.before.before.before.before.before.before.before.before.args in
-    let e = ap meaning c.before.before.enum-told2.given.1 in
+    let t = c in
+    let a = c.args in
+    let e = ap meaning c.in_default.is in
     c.with_symbols.ensures
-    ∙ ap (λ (l : List ℕ). from_symbols a.name_lengths.now (sections_in a.sections.now l) a.symbols.now a.splits.now) (taken_places 15 64 a.sections.now _ _ t.take_sections.ensures e)
-    ∙ then_goes t.take_sections.ensures.said _ e
+    ∙ ap (λ (l : List ℕ). from_symbols a.name_lengths.now (sections_in a.sections.now l) a.symbols.now a.splits.now) (taken_places 15 64 a.sections.now _ _ t.take_sections-a.ensures e)
+    ∙ then_goes t.take_sections-a.ensures.said _ e
 
-pub from-sections-spec : {M : Type 1} → statement M
-from-sections-spec =
+pub from_sections_spec : {M : Type 1} → statement M
+from_sections_spec =
     tie.close
     (tie.spec
     take-sections-requires

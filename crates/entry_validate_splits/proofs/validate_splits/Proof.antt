@@ -10,11 +10,11 @@ use Rattle.entry_validate_splits.proofs.validate_splits.Tie as tie
 checked-requires : tie.Need-checked-requires
 checked-requires c κs = search rules
 
-word-of-requires : tie.Need-word-of-requires
+word-of-requires : tie.Need-word_of-requires
 word-of-requires c κs = search rules
 
 returns : tie.Need-returns
-returns c = c.word_of.ensures ∙ word_means c.before.checked.result ∙ ap outcome_word c.before.checked.ensures
+returns c = c.word_of.ensures ∙ word_means c.checked.result ∙ ap outcome_word c.checked.ensures
 
-pub validate-splits-spec : {M : Type 1} → statement M
-validate-splits-spec = tie.close (tie.spec checked-requires word-of-requires returns)
+pub validate_splits_spec : {M : Type 1} → statement M
+validate_splits_spec = tie.close (tie.spec checked-requires word-of-requires returns)

@@ -7,18 +7,18 @@ use borrow.Author.Rules.{rules}
 use Rattle.faults.proofs.section_bad.Statement.{statement}
 use Rattle.faults.proofs.section_bad.Tie as tie
 
-cast-result : tie.Need-overflow-cast-result
+cast-result : tie.Need-overflow_cast-result
 cast-result c = search rules
 
-cast-result-2 : tie.Need-overflow-cast-result-2
+cast-result-2 : tie.Need-overflow_cast-result-2
 cast-result-2 c = search rules
 
-add-result : tie.Need-overflow-add-result
+add-result : tie.Need-overflow_add-result
 add-result c = search rules
 
 returns : tie.Need-returns
 unfolding section_bad any_of
 returns c = refl
 
-pub section-bad-spec : {M : Type 1} → statement M
-section-bad-spec = tie.close (tie.spec cast-result cast-result-2 add-result returns)
+pub section_bad_spec : {M : Type 1} → statement M
+section_bad_spec = tie.close (tie.spec cast-result cast-result-2 add-result returns)

@@ -11,7 +11,7 @@ bad-requires c κs = search rules
 
 returns : tie.Need-returns
 unfolding split_bad any_of
-returns c = rw c.before.before.before.bad.ensures
+returns c = rw c.bad.ensures
 
-pub split-bad-spec : {M : Type 1} → statement M
-split-bad-spec = tie.close (tie.spec bad-requires returns)
+pub split_bad_spec : {M : Type 1} → statement M
+split_bad_spec = tie.close (tie.spec bad-requires returns)

@@ -6,31 +6,31 @@ use borrow.Author.Rules.{rules}
 use Rattle.faults.proofs.symbol_bad.Statement.{statement}
 use Rattle.faults.proofs.symbol_bad.Tie as tie
 
-cast-result : tie.Need-overflow-cast-result
+cast-result : tie.Need-overflow_cast-result
 cast-result c = search rules
 
-cast-result-2 : tie.Need-overflow-cast-result-2
+cast-result-2 : tie.Need-overflow_cast-result-2
 cast-result-2 c = search rules
 
-cast-result-3 : tie.Need-overflow-cast-result-3
+cast-result-3 : tie.Need-overflow_cast-result-3
 cast-result-3 c = search rules
 
-cast-result-4 : tie.Need-overflow-cast-result-4
+cast-result-4 : tie.Need-overflow_cast-result-4
 cast-result-4 c = search rules
 
-add-result : tie.Need-overflow-add-result
+add-result : tie.Need-overflow_add-result
 add-result c = search rules
 
-cast-result-5 : tie.Need-overflow-cast-result-5
+cast-result-5 : tie.Need-overflow_cast-result-5
 cast-result-5 c = search rules
 
-cast-result-6 : tie.Need-overflow-cast-result-6
+cast-result-6 : tie.Need-overflow_cast-result-6
 cast-result-6 c = search rules
 
-cast-result-7 : tie.Need-overflow-cast-result-7
+cast-result-7 : tie.Need-overflow_cast-result-7
 cast-result-7 c = search rules
 
-add-result-2 : tie.Need-overflow-add-result-2
+add-result-2 : tie.Need-overflow_add-result-2
 add-result-2 c = search rules
 
 bad-requires : tie.Need-bad-requires
@@ -40,8 +40,8 @@ returns : tie.Need-returns
 unfolding symbol_bad any_of
 returns c = rw c.bad.ensures
 
-pub symbol-bad-spec : {M : Type 1} → statement M
-symbol-bad-spec =
+pub symbol_bad_spec : {M : Type 1} → statement M
+symbol_bad_spec =
     tie.close
     (tie.spec
     cast-result

@@ -10,5 +10,5 @@ returns : tie.Need-returns
 unfolding unit_bad any_of
 returns c = refl
 
-pub unit-bad-spec : {M : Type 1} → statement M
-unit-bad-spec = tie.close (tie.spec returns)
+pub unit_bad_spec : {M : Type 1} → statement M
+unit_bad_spec = tie.close (tie.spec returns)

@@ -11,36 +11,36 @@ use Rattle.fields.proofs.Signed.{distance, word_below, number, word}
 use Rattle.fields.proofs.bits32.Statement.{statement}
 use Rattle.fields.proofs.bits32.Tie as tie
 
-sub-result : tie.Need-overflow-sub-result
-sub-result c = rw (distance w32 c.before.args.z c.before.ranges.z c.if1.true) (record { sfits = c.before.ranges.z.sfits })
+sub-result : tie.Need-overflow_sub-result
+sub-result c = rw (distance w32 c.args.z c.ranges.z c.if-z-lt0.true) (record { sfits = c.ranges.z.sfits })
 
 -- what is read of -1 less the number
-read : (c : tie.Then1) → to_z w32 (of_z w32 (negsuc 0 -ℤ to_z w32 (of_z w32 c.before.args.z))) ≡ pos (mag c.before.args.z)
-read c = to_z-of_z (sub-result c) ∙ distance w32 c.before.args.z c.before.ranges.z c.if1.true
+read : (c : tie.Then-z-lt0) → to_z w32 (of_z w32 (negsuc 0 -ℤ to_z w32 (of_z w32 c.args.z))) ≡ pos (mag c.args.z)
+read c = to_z-of_z (sub-result c) ∙ distance w32 c.args.z c.ranges.z c.if-z-lt0.true
 
-cast-result : tie.Need-overflow-cast-result
-cast-result c = let h = c.before.ranges.z.sfits in rw (read c) (tt, omega arith)
+cast-result : tie.Need-overflow_cast-result
+cast-result c = let h = c.ranges.z.sfits in rw (read c) (tt, omega arith)
 
-sub-result-2 : tie.Need-overflow-sub-result-2
-sub-result-2 c = let h = c.before.ranges.z.sfits in rw (read c) (omega arith)
+sub-result-2 : tie.Need-overflow_sub-result-then-z-lt0
+sub-result-2 c = let h = c.ranges.z.sfits in rw (read c) (omega arith)
 
-returns : tie.Need-returns
+returns : tie.Need-returns-then-z-lt0
 returns c =
-    let h = c.before.ranges.z.sfits in
-    let e = word_below w32 c.before.args.z c.before.ranges.z c.if1.true in
+    let h = c.ranges.z.sfits in
+    let e = word_below w32 c.args.z c.ranges.z c.if-z-lt0.true in
     rw (read c) (omega arith)
 
-cast-result-2 : tie.Need-overflow-cast-result-2
+cast-result-2 : tie.Need-overflow_cast-result-2
 cast-result-2 c =
-    let h = c.before.ranges.z.sfits in
-    rw (number w32 c.before.args.z c.before.ranges.z c.if1.false) (tt, omega arith)
+    let h = c.ranges.z.sfits in
+    rw (number w32 c.args.z c.ranges.z c.if-z-lt0.false) (tt, omega arith)
 
-returns-2 : tie.Need-returns-2
+returns-2 : tie.Need-returns
 returns-2 c =
-    let e = word w32 c.before.args.z c.before.ranges.z c.if1.false in
-    rw (number w32 c.before.args.z c.before.ranges.z c.if1.false) (omega arith)
+    let e = word w32 c.args.z c.ranges.z c.if-z-lt0.false in
+    rw (number w32 c.args.z c.ranges.z c.if-z-lt0.false) (omega arith)
 
-pub bits32-spec : {M : Type 1} → statement M
-bits32-spec =
+pub bits32_spec : {M : Type 1} → statement M
+bits32_spec =
     tie.close
     (tie.spec sub-result cast-result sub-result-2 returns cast-result-2 returns-2)

@@ -16,7 +16,7 @@ number32-requires c κs = search rules
 
 returns : tie.Need-returns
 returns c =
-    to_z-of_z {w = w32} (record { sfits = c.number32.type-inv }) ∙ c.number32.ensures ∙ ap signed32 c.before.get32.ensures
+    to_z-of_z {w = w32} (record { sfits = c.number32.type_inv }) ∙ c.number32.ensures ∙ ap signed32 c.get32.ensures
 
-pub get-i32-spec : {M : Type 1} → statement M
-get-i32-spec = tie.close (tie.spec get32-requires number32-requires returns)
+pub get_i32_spec : {M : Type 1} → statement M
+get_i32_spec = tie.close (tie.spec get32-requires number32-requires returns)

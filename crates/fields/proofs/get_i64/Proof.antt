@@ -16,7 +16,7 @@ number64-requires c κs = search rules
 
 returns : tie.Need-returns
 returns c =
-    to_z-of_z {w = w64} (record { sfits = c.number64.type-inv }) ∙ c.number64.ensures ∙ ap signed64 c.before.get64.ensures
+    to_z-of_z {w = w64} (record { sfits = c.number64.type_inv }) ∙ c.number64.ensures ∙ ap signed64 c.get64.ensures
 
-pub get-i64-spec : {M : Type 1} → statement M
-get-i64-spec = tie.close (tie.spec get64-requires number64-requires returns)
+pub get_i64_spec : {M : Type 1} → statement M
+get_i64_spec = tie.close (tie.spec get64-requires number64-requires returns)

@@ -13,28 +13,28 @@ use Rattle.fields.proofs.Signed.{number_below}
 use Rattle.fields.proofs.number64.Statement.{statement}
 use Rattle.fields.proofs.number64.Tie as tie
 
-cast-result : tie.Need-overflow-cast-result
+cast-result : tie.Need-overflow_cast-result
 cast-result c = search rules
 
-returns : tie.Need-returns
+returns : tie.Need-returns-then-v-lt9223372036854775808
 returns c = search rules
 
-sub-result : tie.Need-overflow-sub-result
+sub-result : tie.Need-overflow_sub-result
 sub-result c = search rules
 
-cast-result-2 : tie.Need-overflow-cast-result-2
+cast-result-2 : tie.Need-overflow_cast-result-2
 cast-result-2 c = search rules
 
 -- the number of a word of the upper half
-upper : (c : tie.Else1) → negsuc 0 -ℤ to_z w64 (18446744073709551615 - c.before.args.v) ≡ signed64 c.before.args.v
-upper c = number_below w64 c.before.args.v (18446744073709551615 - c.before.args.v) (omega arith) (omega arith)
+upper : (c : tie.Else-v-lt9223372036854775808) → negsuc 0 -ℤ to_z w64 (18446744073709551615 - c.args.v) ≡ signed64 c.args.v
+upper c = number_below w64 c.args.v (18446744073709551615 - c.args.v) (omega arith) (omega arith)
 
-sub-result-2 : tie.Need-overflow-sub-result-2
-sub-result-2 c = rw (upper c) (sfits_to_z c.before.ranges.v)
+sub-result-2 : tie.Need-overflow_sub-result-2
+sub-result-2 c = rw (upper c) (sfits_to_z c.ranges.v)
 
-returns-2 : tie.Need-returns-2
+returns-2 : tie.Need-returns
 returns-2 c = to_z-of_z (sub-result-2 c) ∙ upper c
 
-pub number64-spec : {M : Type 1} → statement M
-number64-spec =
+pub number64_spec : {M : Type 1} → statement M
+number64_spec =
     tie.close (tie.spec cast-result returns sub-result cast-result-2 sub-result-2 returns-2)

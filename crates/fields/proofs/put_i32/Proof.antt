@@ -15,17 +15,17 @@ bits32-requires c κs = search rules
 put32-requires : tie.Need-put32-requires
 put32-requires c κs = search rules
 
-same_length : tie.Need-same-length
+same_length : tie.Need-shape_of-b
 same_length c = search rules
 
 returns : tie.Need-returns
 returns c =
-    let stored = c.before.before in
-    let word = stored.before in
-    let start = word.before.before.before in
+    let stored = c in
+    let word = stored in
+    let start = word in
     let a = start.args in
     let e = word.bits32.ensures ∙ ap word32 (to_z-of_z start.ranges.v) in
     stored.put32.ensures ∙ ap (λ (v : ℕ). sets a.b.now a.at (enc32 v)) e
 
-pub put-i32-spec : {M : Type 1} → statement M
-put-i32-spec = tie.close (tie.spec bits32-requires put32-requires same_length returns)
+pub put_i32_spec : {M : Type 1} → statement M
+put_i32_spec = tie.close (tie.spec bits32-requires put32-requires same_length returns)

@@ -6,17 +6,17 @@ use Rattle.gap_splits.specs.Answers.{as_entered}
 use Rattle.gap_splits.proofs.as_entered.Statement.{statement}
 use Rattle.gap_splits.proofs.as_entered.Tie as tie
 
-enum-known-r : tie.Need-enum-known-r
+enum-known-r : tie.Need-enum_known-r
 enum-known-r c = search rules
 
-enum-known-r-2 : tie.Need-enum-known-r-2
+enum-known-r-2 : tie.Need-enum_known-r-in-Refused-1
 enum-known-r-2 c = search rules
 
-returns : tie.Need-returns
-returns c = let a = c.before.before.before.args in sym (ap (as_entered a.names a.used) c.before.r.given.1)
+returns : tie.Need-returns-in-Accepted
+returns c = let a = c.args in sym (ap (as_entered a.names a.used) c.in-Accepted.is)
 
-returns-2 : tie.Need-returns-2
-returns-2 c = let a = c.before.before.before.args in sym (ap (as_entered a.names a.used) c.before.r2.given.1)
+returns-2 : tie.Need-returns-in-Refused
+returns-2 c = let a = c.args in sym (ap (as_entered a.names a.used) c.in-Refused.is)
 
-pub as-entered-spec : {M : Type 1} → statement M
-as-entered-spec = tie.close (tie.spec enum-known-r enum-known-r-2 returns returns-2)
+pub as_entered_spec : {M : Type 1} → statement M
+as_entered_spec = tie.close (tie.spec enum-known-r enum-known-r-2 returns returns-2)

@@ -26,10 +26,10 @@ invariant-loop starts₀ ends₀ units₀ rest₀ n cap heads head_places name_b
 abbrev decreases-loop : tie.decreases-loop
 decreases-loop starts₀ ends₀ units₀ rest₀ n cap heads head_places name_bytes name_places name_lengths buckets chain added-bytes₀ added-places₀ added-lengths₀ most most_bytes keys gap_ends count k₀ names₀ used₀ i₀ starts ends units rest added_bytes added_places added_lengths k names used i = count - i
 
-loop-holds : tie.Need-loop-init invariant-loop decreases-loop
+loop-holds : tie.Need-loop-i-init invariant-loop decreases-loop
 loop-holds c =
-    let a = c.before.before.before.before.before.before.before.before.before.before.before.before.before.before.before.before.args in
-    let q = c.before.before.before.before.before.before.before.before.before.before.before.before.before.before.before.before.requires in
+    let a = c.args in
+    let q = c.requires in
     let nm = section_names a.heads.now a.head_places.now a.name_bytes.now a.name_places.now a.name_lengths.now in
     let g = given (sections_in a.heads.now a.head_places.now) a.cap in
     let base = names_of a.name_bytes.now a.name_places.now a.name_lengths.now (length a.name_places.now) in
@@ -37,43 +37,43 @@ loop-holds c =
     let t₀ = columns a.starts.now a.ends.now a.units.now a.rest.now in
     starts nm g base a.most a.most_bytes a.cap a.keys.now a.gap_ends.now a.count c₀ t₀ a.n q.1 q.4
 
-section-of-requires : tie.Need-section-of-requires invariant-loop decreases-loop
+section-of-requires : tie.Need-section_of-section-requires invariant-loop decreases-loop
 section-of-requires c κs =
-    let q = c.before.before.before.before.before.before.before.before.before.before.before.before.before.before.before.before.before.before.requires in
-    let t = c.loop-test.true in
+    let q = c.requires in
+    let t = c.loop-i-test.true in
     let s = section_here _ _ _ _ q.5 _ t in
     (omega (arith, q.5.long_keys, t), omega (arith, s, q.3.few))
 
-start-of-requires : tie.Need-start-of-requires invariant-loop decreases-loop
+start-of-requires : tie.Need-start_of-start-requires invariant-loop decreases-loop
 start-of-requires c κs =
-    let q = c.before.before.before.before.before.before.before.before.before.before.before.before.before.before.before.before.before.before.before.requires in
-    omega (arith, q.5.long_keys, c.before.loop-test.true)
+    let q = c.requires in
+    omega (arith, q.5.long_keys, c.loop-i-test.true)
 
-mul-end : tie.Need-overflow-mul-end invariant-loop decreases-loop
+mul-end : tie.Need-offset_bounds-gap_ends-i invariant-loop decreases-loop
 mul-end c =
-    let q = c.before.before.before.before.before.before.before.before.before.before.before.before.before.before.before.before.before.before.before.before.requires in
-    omega (arith, q.5.long_ends, c.before.before.loop-test.true, c.before.before.before.before.before.before.before.before.before.before.before.before.before.before.before.before.before.before.before.before.well-formed.1.1.1.1.1.1.1.1.1.1.1.1.1.1.1.1.1.1.1.0)
+    let q = c.requires in
+    omega (arith, q.5.long_ends, c.loop-i-test.true, c.well-formed.1.1.1.1.1.1.1.1.1.1.1.1.1.1.1.1.1.1.1.0)
 
-shared-slice-read-end : tie.Need-shared-slice-read-end invariant-loop decreases-loop
+shared-slice-read-end : tie.Need-bounds-gap_ends-i invariant-loop decreases-loop
 shared-slice-read-end c =
-    let q = c.before.before.before.before.before.before.before.before.before.before.before.before.before.before.before.before.before.before.before.before.before.requires in
-    omega (arith, q.5.long_ends, c.before.before.before.loop-test.true)
+    let q = c.requires in
+    omega (arith, q.5.long_ends, c.loop-i-test.true)
 
-enter-gap-requires : tie.Need-enter-gap-requires invariant-loop decreases-loop
+enter-gap-requires : tie.Need-enter_gap-r-requires invariant-loop decreases-loop
 enter-gap-requires c κs =
-    let a = c.before.before.before.before.before.before.before.before.before.before.before.before.before.before.before.before.before.before.before.before.before.before.before.before.before.before.before.before.args in
-    let q = c.before.before.before.before.before.before.before.before.before.before.before.before.before.before.before.before.before.before.before.before.before.before.before.before.before.before.before.before.requires in
+    let a = c.args in
+    let q = c.requires in
     let nm = section_names a.heads.now a.head_places.now a.name_bytes.now a.name_places.now a.name_lengths.now in
     let g = given (sections_in a.heads.now a.head_places.now) a.cap in
     let base = names_of a.name_bytes.now a.name_places.now a.name_lengths.now (length a.name_places.now) in
     let c₀ = beside a.added_bytes.now a.added_places.now a.added_lengths.now in
     let t₀ = columns a.starts.now a.ends.now a.units.now a.rest.now in
-    let l = c.before.before.before.before.before.before.before.before.before.before.before.loop in
+    let l = c.loop-i in
     let cl = beside l.added_bytes l.added_places l.added_lengths in
     let tl = columns l.starts l.ends l.units l.rest in
-    let t = c.before.before.before.before.before.before.before.before.before.before.loop-test.true in
-    let es = c.before.before.before.before.before.before.before.before.before.section_of.ensures in
-    let ef = c.before.before.before.before.before.before.before.before.start_of_lem.ensures in (
+    let t = c.loop-i-test.true in
+    let es = c.section_of-section.ensures in
+    let ef = c.start_of-start.ensures in (
       long_same tl t₀ a.cap a.cap l.invariant.same_table (omega arith) q.0,
       l.invariant.fits,
       q.2,
@@ -83,84 +83,84 @@ enter-gap-requires c κs =
       absent_here nm g base a.most a.most_bytes a.cap a.keys.now a.gap_ends.now a.count cl l.names l.i es ef (l.invariant.fresh l.i (omega arith) t),
     )
 
-enum-known-r : tie.Need-enum-known-r invariant-loop decreases-loop
+enum-known-r : tie.Need-enum_known-r invariant-loop decreases-loop
 enum-known-r c = search rules
 
-same_length : tie.Need-same-length invariant-loop decreases-loop
-same_length c = c.before.before.before.before.before.before.before.before.before.before.before.before.before.before.before.before.before.enter_gap.auto.0 ∙ c.before.before.before.before.before.before.before.before.before.before.before.before.before.before.before.before.before.before.before.before.before.before.before.before.before.before.before.before.before.loop.invariant.same_table.starts
+same_length : tie.Need-shape_of-starts-in-Refused invariant-loop decreases-loop
+same_length c = c.enter_gap-r.auto.starts ∙ c.loop-i.invariant.same_table.starts
 
-same-length-2 : tie.Need-same-length-2 invariant-loop decreases-loop
-same-length-2 c = c.before.before.before.before.before.before.before.before.before.before.before.before.before.before.before.before.before.enter_gap.auto.1.0 ∙ c.before.before.before.before.before.before.before.before.before.before.before.before.before.before.before.before.before.before.before.before.before.before.before.before.before.before.before.before.before.loop.invariant.same_table.ends
+same-length-2 : tie.Need-shape_of-ends-in-Refused invariant-loop decreases-loop
+same-length-2 c = c.enter_gap-r.auto.ends ∙ c.loop-i.invariant.same_table.ends
 
-same-length-3 : tie.Need-same-length-3 invariant-loop decreases-loop
-same-length-3 c = c.before.before.before.before.before.before.before.before.before.before.before.before.before.before.before.before.before.enter_gap.auto.1.1.0 ∙ c.before.before.before.before.before.before.before.before.before.before.before.before.before.before.before.before.before.before.before.before.before.before.before.before.before.before.before.before.before.loop.invariant.same_table.units
+same-length-3 : tie.Need-shape_of-units-in-Refused invariant-loop decreases-loop
+same-length-3 c = c.enter_gap-r.auto.units ∙ c.loop-i.invariant.same_table.units
 
-same-length-4 : tie.Need-same-length-4 invariant-loop decreases-loop
-same-length-4 c = c.before.before.before.before.before.before.before.before.before.before.before.before.before.before.before.before.before.enter_gap.auto.1.1.1.0 ∙ c.before.before.before.before.before.before.before.before.before.before.before.before.before.before.before.before.before.before.before.before.before.before.before.before.before.before.before.before.before.loop.invariant.same_table.rest
+same-length-4 : tie.Need-shape_of-rest-in-Refused invariant-loop decreases-loop
+same-length-4 c = c.enter_gap-r.auto.rest ∙ c.loop-i.invariant.same_table.rest
 
-same-length-5 : tie.Need-same-length-5 invariant-loop decreases-loop
-same-length-5 c = c.before.before.before.before.before.before.before.before.before.before.before.before.before.before.before.before.before.enter_gap.auto.1.1.1.1.1.1.1.1.1.1.1.1.1.0 ∙ c.before.before.before.before.before.before.before.before.before.before.before.before.before.before.before.before.before.before.before.before.before.before.before.before.before.before.before.before.before.loop.invariant.same_bytes
+same-length-5 : tie.Need-shape_of-added_bytes-in-Refused invariant-loop decreases-loop
+same-length-5 c = c.enter_gap-r.auto.added_bytes ∙ c.loop-i.invariant.same_bytes
 
-same-length-6 : tie.Need-same-length-6 invariant-loop decreases-loop
-same-length-6 c = c.before.before.before.before.before.before.before.before.before.before.before.before.before.before.before.before.before.enter_gap.auto.1.1.1.1.1.1.1.1.1.1.1.1.1.1.0 ∙ c.before.before.before.before.before.before.before.before.before.before.before.before.before.before.before.before.before.before.before.before.before.before.before.before.before.before.before.before.before.loop.invariant.same_places
+same-length-6 : tie.Need-shape_of-added_places-in-Refused invariant-loop decreases-loop
+same-length-6 c = c.enter_gap-r.auto.added_places ∙ c.loop-i.invariant.same_places
 
-same-length-7 : tie.Need-same-length-7 invariant-loop decreases-loop
-same-length-7 c = c.before.before.before.before.before.before.before.before.before.before.before.before.before.before.before.before.before.enter_gap.auto.1.1.1.1.1.1.1.1.1.1.1.1.1.1.1.0 ∙ c.before.before.before.before.before.before.before.before.before.before.before.before.before.before.before.before.before.before.before.before.before.before.before.before.before.before.before.before.before.loop.invariant.same_lengths
+same-length-7 : tie.Need-shape_of-added_lengths-in-Refused invariant-loop decreases-loop
+same-length-7 c = c.enter_gap-r.auto.added_lengths ∙ c.loop-i.invariant.same_lengths
 
-returns : tie.Need-returns invariant-loop decreases-loop
+returns : tie.Need-returns-in-Refused invariant-loop decreases-loop
 returns c =
-    let a = c.before.before.before.before.before.before.before.before.before.before.before.before.before.before.before.before.before.before.before.before.before.before.before.before.before.before.before.before.before.before.before.before.before.before.before.before.before.before.before.before.before.before.before.before.before.before.args in
-    let q = c.before.before.before.before.before.before.before.before.before.before.before.before.before.before.before.before.before.before.before.before.before.before.before.before.before.before.before.before.before.before.before.before.before.before.before.before.before.before.before.before.before.before.before.before.before.before.requires in
+    let a = c.args in
+    let q = c.requires in
     let nm = section_names a.heads.now a.head_places.now a.name_bytes.now a.name_places.now a.name_lengths.now in
     let g = given (sections_in a.heads.now a.head_places.now) a.cap in
     let base = names_of a.name_bytes.now a.name_places.now a.name_lengths.now (length a.name_places.now) in
     let c₀ = beside a.added_bytes.now a.added_places.now a.added_lengths.now in
     let t₀ = columns a.starts.now a.ends.now a.units.now a.rest.now in
-    let l = c.before.before.before.before.before.before.before.before.before.before.before.before.before.before.before.before.before.before.before.before.before.before.before.before.before.before.before.before.before.loop in
+    let l = c.loop-i in
     let cl = beside l.added_bytes l.added_places l.added_lengths in
     let tl = columns l.starts l.ends l.units l.rest in
-    let o = c.before.before.before.before.before.before.before.before.before.before.before.before.before.before.before.before.before.enter_gap in
+    let o = c.enter_gap-r in
     let c' = beside o.new.1.1.1.1.1.1.1.1.1.1.1.1.1.0 o.new.1.1.1.1.1.1.1.1.1.1.1.1.1.1.0 o.new.1.1.1.1.1.1.1.1.1.1.1.1.1.1.1.0 in
     let t' = columns o.new.0 o.new.1.0 o.new.1.1.0 o.new.1.1.1.0 in
-    let t = c.before.before.before.before.before.before.before.before.before.before.before.before.before.before.before.before.before.before.before.before.before.before.before.before.before.before.before.before.loop-test.true in
-    let here = gap_here a.keys.now a.gap_ends.now l.i c.before.before.before.before.before.before.before.before.before.before.before.before.before.before.before.before.before.before.before.before.before.before.before.before.before.before.before.section_of.ensures c.before.before.before.before.before.before.before.before.before.before.before.before.before.before.before.before.before.before.before.before.before.before.before.before.before.before.start_of_lem.ensures in
+    let t = c.loop-i-test.true in
+    let here = gap_here a.keys.now a.gap_ends.now l.i c.section_of-section.ensures c.start_of-start.ensures in
     let k = c.before.r.given in (
       refused_here nm g base a.most a.most_bytes a.cap a.keys.now a.gap_ends.now a.count c₀ t₀ a.n cl tl l.k l.names l.used l.i l.invariant t c' t' k.0.0 k.0.1.0 k.0.1.1.0 here o.ensures.is k.1,
       stand_none c' a.most a.most_bytes o.ensures.stand.room,
       zero-le,
     )
 
-enum-known-r-2 : tie.Need-enum-known-r-2 invariant-loop decreases-loop
+enum-known-r-2 : tie.Need-enum_known-r-in-Accepted-1 invariant-loop decreases-loop
 enum-known-r-2 c = search rules
 
-add-i : tie.Need-overflow-add-i invariant-loop decreases-loop
+add-i : tie.Need-overflow_add-i invariant-loop decreases-loop
 add-i c =
-    let t = c.before.before.before.before.before.before.before.before.before.before.before.before.before.before.before.before.before.before.before.before.before.before.before.before.before.before.before.before.loop-test.true in
-    let q = c.before.before.before.before.before.before.before.before.before.before.before.before.before.before.before.before.before.before.before.before.before.before.before.before.before.before.before.before.before.before.before.before.before.before.before.before.before.before.before.before.before.before.before.before.before.before.requires in
-    omega (arith, t, q.5.long_keys, c.before.before.before.before.before.before.before.before.before.before.before.before.before.before.before.before.before.before.before.before.before.before.before.before.before.before.before.before.before.before.before.before.before.before.before.before.before.before.before.before.before.before.before.before.before.before.well-formed.1.1.1.1.1.1.1.1.1.1.1.1.1.1.1.1.1.1.0)
+    let t = c.loop-i-test.true in
+    let q = c.requires in
+    omega (arith, t, q.5.long_keys, c.well-formed.1.1.1.1.1.1.1.1.1.1.1.1.1.1.1.1.1.1.0)
 
-loop-less : tie.Need-loop-smaller invariant-loop decreases-loop
+loop-less : tie.Need-loop-i-smaller invariant-loop decreases-loop
 loop-less c =
-    let t = c.before.before.before.before.before.before.before.before.before.before.before.before.before.before.before.before.before.before.before.before.before.before.before.before.before.before.before.before.loop-test.true in
+    let t = c.loop-i-test.true in
     omega (arith, t)
 
-loop-again : tie.Need-loop-preserved invariant-loop decreases-loop
+loop-again : tie.Need-loop-i-preserved invariant-loop decreases-loop
 loop-again c =
-    let a = c.before.before.before.before.before.before.before.before.before.before.before.before.before.before.before.before.before.before.before.before.before.before.before.before.before.before.before.before.before.before.before.before.before.before.before.before.before.before.before.before.before.before.before.before.before.before.args in
-    let q = c.before.before.before.before.before.before.before.before.before.before.before.before.before.before.before.before.before.before.before.before.before.before.before.before.before.before.before.before.before.before.before.before.before.before.before.before.before.before.before.before.before.before.before.before.before.before.requires in
+    let a = c.args in
+    let q = c.requires in
     let nm = section_names a.heads.now a.head_places.now a.name_bytes.now a.name_places.now a.name_lengths.now in
     let g = given (sections_in a.heads.now a.head_places.now) a.cap in
     let base = names_of a.name_bytes.now a.name_places.now a.name_lengths.now (length a.name_places.now) in
     let c₀ = beside a.added_bytes.now a.added_places.now a.added_lengths.now in
     let t₀ = columns a.starts.now a.ends.now a.units.now a.rest.now in
-    let l = c.before.before.before.before.before.before.before.before.before.before.before.before.before.before.before.before.before.before.before.before.before.before.before.before.before.before.before.before.before.loop in
+    let l = c.loop-i in
     let cl = beside l.added_bytes l.added_places l.added_lengths in
     let tl = columns l.starts l.ends l.units l.rest in
-    let o = c.before.before.before.before.before.before.before.before.before.before.before.before.before.before.before.before.before.enter_gap in
+    let o = c.enter_gap-r in
     let c' = beside o.new.1.1.1.1.1.1.1.1.1.1.1.1.1.0 o.new.1.1.1.1.1.1.1.1.1.1.1.1.1.1.0 o.new.1.1.1.1.1.1.1.1.1.1.1.1.1.1.1.0 in
     let t' = columns o.new.0 o.new.1.0 o.new.1.1.0 o.new.1.1.1.0 in
-    let t = c.before.before.before.before.before.before.before.before.before.before.before.before.before.before.before.before.before.before.before.before.before.before.before.before.before.before.before.before.loop-test.true in
-    let here = gap_here a.keys.now a.gap_ends.now l.i c.before.before.before.before.before.before.before.before.before.before.before.before.before.before.before.before.before.before.before.before.before.before.before.before.before.before.before.section_of.ensures c.before.before.before.before.before.before.before.before.before.before.before.before.before.before.before.before.before.before.before.before.before.before.before.before.before.before.start_of_lem.ensures in
+    let t = c.loop-i-test.true in
+    let here = gap_here a.keys.now a.gap_ends.now l.i c.section_of-section.ensures c.start_of-start.ensures in
     let k = c.before.r2.given in
     goes_on nm g base a.most a.most_bytes a.cap a.keys.now a.gap_ends.now a.count c₀ t₀ a.n cl tl l.k l.names l.used l.i l.invariant t (length a.head_places.now) q.5 q.3.few c' t' k.0.0 k.0.1.0 k.0.1.1.0 here o.ensures k.1
     (record {
@@ -171,43 +171,43 @@ loop-again c =
     })
     (o.auto.1.1.1.1.1.1.1.1.1.1.1.1.1.0 ∙ l.invariant.same_bytes) (o.auto.1.1.1.1.1.1.1.1.1.1.1.1.1.1.0 ∙ l.invariant.same_places) (o.auto.1.1.1.1.1.1.1.1.1.1.1.1.1.1.1.0 ∙ l.invariant.same_lengths)
 
-same-length-8 : tie.Need-same-length-8 invariant-loop decreases-loop
-same-length-8 c = c.before.loop.invariant.same_table.starts
+same-length-8 : tie.Need-shape_of-starts invariant-loop decreases-loop
+same-length-8 c = c.loop-i.invariant.same_table.starts
 
-same-length-9 : tie.Need-same-length-9 invariant-loop decreases-loop
-same-length-9 c = c.before.loop.invariant.same_table.ends
+same-length-9 : tie.Need-shape_of-ends invariant-loop decreases-loop
+same-length-9 c = c.loop-i.invariant.same_table.ends
 
-same-length-10 : tie.Need-same-length-10 invariant-loop decreases-loop
-same-length-10 c = c.before.loop.invariant.same_table.units
+same-length-10 : tie.Need-shape_of-units invariant-loop decreases-loop
+same-length-10 c = c.loop-i.invariant.same_table.units
 
-same-length-11 : tie.Need-same-length-11 invariant-loop decreases-loop
-same-length-11 c = c.before.loop.invariant.same_table.rest
+same-length-11 : tie.Need-shape_of-rest invariant-loop decreases-loop
+same-length-11 c = c.loop-i.invariant.same_table.rest
 
-same-length-12 : tie.Need-same-length-12 invariant-loop decreases-loop
-same-length-12 c = c.before.loop.invariant.same_bytes
+same-length-12 : tie.Need-shape_of-added_bytes invariant-loop decreases-loop
+same-length-12 c = c.loop-i.invariant.same_bytes
 
-same-length-13 : tie.Need-same-length-13 invariant-loop decreases-loop
-same-length-13 c = c.before.loop.invariant.same_places
+same-length-13 : tie.Need-shape_of-added_places invariant-loop decreases-loop
+same-length-13 c = c.loop-i.invariant.same_places
 
-same-length-14 : tie.Need-same-length-14 invariant-loop decreases-loop
-same-length-14 c = c.before.loop.invariant.same_lengths
+same-length-14 : tie.Need-shape_of-added_lengths invariant-loop decreases-loop
+same-length-14 c = c.loop-i.invariant.same_lengths
 
-returns-2 : tie.Need-returns-2 invariant-loop decreases-loop
+returns-2 : tie.Need-returns invariant-loop decreases-loop
 returns-2 c =
-    let a = c.before.before.before.before.before.before.before.before.before.before.before.before.before.before.before.before.before.before.args in
-    let q = c.before.before.before.before.before.before.before.before.before.before.before.before.before.before.before.before.before.before.requires in
+    let a = c.args in
+    let q = c.requires in
     let nm = section_names a.heads.now a.head_places.now a.name_bytes.now a.name_places.now a.name_lengths.now in
     let g = given (sections_in a.heads.now a.head_places.now) a.cap in
     let base = names_of a.name_bytes.now a.name_places.now a.name_lengths.now (length a.name_places.now) in
     let c₀ = beside a.added_bytes.now a.added_places.now a.added_lengths.now in
     let t₀ = columns a.starts.now a.ends.now a.units.now a.rest.now in
-    let l = c.before.loop in
+    let l = c.loop-i in
     let cl = beside l.added_bytes l.added_places l.added_lengths in
     let tl = columns l.starts l.ends l.units l.rest in
-    (all_entered nm g base a.most a.most_bytes a.cap a.keys.now a.gap_ends.now a.count c₀ t₀ a.n cl tl l.k l.names l.used l.i l.invariant c.loop-test.false, l.invariant.stand, l.invariant.fits)
+    (all_entered nm g base a.most a.most_bytes a.cap a.keys.now a.gap_ends.now a.count c₀ t₀ a.n cl tl l.k l.names l.used l.i l.invariant c.loop-i-test.false, l.invariant.stand, l.invariant.fits)
 
-pub enter-gaps-spec : {M : Type 1} → statement M
-enter-gaps-spec =
+pub enter_gaps_spec : {M : Type 1} → statement M
+enter_gaps_spec =
     tie.close
     (tie.spec
     invariant-loop

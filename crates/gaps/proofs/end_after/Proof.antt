@@ -4,21 +4,21 @@ use borrow.Author.Rules.{rules}
 use Rattle.gaps.proofs.end_after.Statement.{statement}
 use Rattle.gaps.proofs.end_after.Tie as tie
 
-returns : tie.Need-returns
-returns c = rw (ne_eqb c.before.args.own 0 c.if1.true)
+returns : tie.Need-returns-then-own-ne0
+returns c = rw (ne_eqb c.args.own 0 c.if-own-ne0.true)
 
-mul-result : tie.Need-overflow-mul-result
+mul-result : tie.Need-offset_bounds-starts-i
 mul-result c = search rules
 
-shared-slice-read-result : tie.Need-shared-slice-read-result
+shared-slice-read-result : tie.Need-bounds-starts-i
 shared-slice-read-result c = search rules
 
-returns-2 : tie.Need-returns-2
-returns-2 c = rw (eq-eqb c.before.before.before.args.own 0 c.before.before.if1.false, lt-ltb c.before.before.before.args.i c.before.before.before.args.n c.before.if2.true)
+returns-2 : tie.Need-returns-then-i-n
+returns-2 c = rw (eq-eqb c.args.own 0 c.if-own-ne0.false, lt-ltb c.args.i c.args.n c.if-i-n.true)
 
-returns-3 : tie.Need-returns-3
-returns-3 c = rw (eq-eqb c.before.before.args.own 0 c.before.if1.false, le-ltb c.before.before.args.i c.before.before.args.n c.if2.false)
+returns-3 : tie.Need-returns
+returns-3 c = rw (eq-eqb c.args.own 0 c.if-own-ne0.false, le-ltb c.args.i c.args.n c.if-i-n.false)
 
-pub end-after-spec : {M : Type 1} → statement M
-end-after-spec =
+pub end_after_spec : {M : Type 1} → statement M
+end_after_spec =
     tie.close (tie.spec returns mul-result shared-slice-read-result returns-2 returns-3)

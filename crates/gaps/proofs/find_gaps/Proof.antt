@@ -29,86 +29,86 @@ sections_at s = let a = s.args in sections_of a.heads.now a.head_places.now a.im
 abbrev columns_at : tie.Start invariant-loop decreases-loop → Columns
 columns_at s = let a = s.args in columns a.starts.now a.ends.now a.units.now a.rest.now
 
-loop-holds : tie.Need-loop-init invariant-loop decreases-loop
+loop-holds : tie.Need-loop-k-init invariant-loop decreases-loop
 loop-holds c = let s = c.before.before.before.before.before.before.before.before.before.before.before.before.before.before.before.before.before in (search_start (image_at s) (sections_at s) (columns_at s) s.args.n s.args.keys.now s.args.gap_ends.now, refl, s.requires.4)
 
-gaps-of-requires : tie.Need-gaps-of-requires invariant-loop decreases-loop
+gaps-of-requires : tie.Need-gaps_of-search-requires invariant-loop decreases-loop
 gaps-of-requires c κs =
     let s = c.before.before.before.before.before.before.before.before.before.before.before.before.before.before.before.before.before.before.before.before.before.before in
     let p = s.requires in
-    let l = c.before.before.before.before.loop in (
+    let l = c.loop-k in (
       p.0,
       p.1,
       record { symbols = p.0.symbols; markable = λ i h. omega (arith, p.0.names.named i h, p.5, l.invariant.1); clean = l.invariant.2 },
       p.2,
       p.3,
-      c.before.before.before.loop-test.true,
-      search_space (image_at s) (sections_at s) (columns_at s) s.args.n s.args.keys.now s.args.gap_ends.now l.keys l.gap_ends l.found l.k l.invariant.0 c.before.before.before.loop-test.true p.6,
+      c.loop-k-test.true,
+      search_space (image_at s) (sections_at s) (columns_at s) s.args.n s.args.keys.now s.args.gap_ends.now l.keys l.gap_ends l.found l.k l.invariant.0 c.loop-k-test.true p.6,
     )
 
-enum-known-search : tie.Need-enum-known-search invariant-loop decreases-loop
+enum-known-search : tie.Need-enum_known-search invariant-loop decreases-loop
 enum-known-search c = search rules
 
-add-k : tie.Need-overflow-add-k invariant-loop decreases-loop
-add-k c = omega (arith, c.before.before.before.before.before.before.before.before.before.before.before.before.before.before.before.before.before.before.before.before.before.before.before.before.before.before.before.before.before.before.before.before.requires.1.few, c.before.before.before.before.before.before.before.before.before.before.before.before.before.loop-test.true)
+add-k : tie.Need-overflow_add-k invariant-loop decreases-loop
+add-k c = omega (arith, c.requires.1.few, c.loop-k-test.true)
 
-loop-less : tie.Need-loop-smaller invariant-loop decreases-loop
-loop-less c = omega (arith, c.before.before.before.before.before.before.before.before.before.before.before.before.before.loop-test.true)
+loop-less : tie.Need-loop-k-smaller invariant-loop decreases-loop
+loop-less c = omega (arith, c.loop-k-test.true)
 
-loop-again : tie.Need-loop-preserved invariant-loop decreases-loop
+loop-again : tie.Need-loop-k-preserved invariant-loop decreases-loop
 loop-again c =
-    let s = c.before.before.before.before.before.before.before.before.before.before.before.before.before.before.before.before.before.before.before.before.before.before.before.before.before.before.before.before.before.before.before.before in
-    let l = c.before.before.before.before.before.before.before.before.before.before.before.before.before.before.loop in
-    let g = c.before.before.before.before.before.before.before.before.before.gaps_of in (
-      search_on (image_at s) (sections_at s) (columns_at s) s.args.n s.args.keys.now s.args.gap_ends.now l.keys l.gap_ends l.found l.k l.invariant.0 c.before.before.before.before.before.before.before.before.before.before.before.before.before.loop-test.true s.requires.2
-          g.new.1.1.1.1.1.1.1.1.1.1.1.1.1.1.1.1.0 g.new.1.1.1.1.1.1.1.1.1.1.1.1.1.1.1.1.1.0 c.before.search.given.0.0
+    let s = c.before.before.before.before.before.before.before.before.before.before.before.before.before.before.before.before.before.before.before.before.before.before.before.before.before.before.before.before.before.before in
+    let l = c.loop-k in
+    let g = c.gaps_of-search in (
+      search_on (image_at s) (sections_at s) (columns_at s) s.args.n s.args.keys.now s.args.gap_ends.now l.keys l.gap_ends l.found l.k l.invariant.0 c.loop-k-test.true s.requires.2
+          g.new.1.1.1.1.1.1.1.1.1.1.1.1.1.1.1.1.0 g.new.1.1.1.1.1.1.1.1.1.1.1.1.1.1.1.1.1.0 c.in-Found.more
           g.auto.1.1.1.1.1.1.1.1.1.1.1.1.1.1.1.1.0 g.auto.1.1.1.1.1.1.1.1.1.1.1.1.1.1.1.1.1.0
-          (sym (ap (searched g.new.1.1.1.1.1.1.1.1.1.1.1.1.1.1.1.1.0 g.new.1.1.1.1.1.1.1.1.1.1.1.1.1.1.1.1.1.0) c.before.search.given.1) ∙ g.ensures.0),
+          (sym (ap (searched g.new.1.1.1.1.1.1.1.1.1.1.1.1.1.1.1.1.0 g.new.1.1.1.1.1.1.1.1.1.1.1.1.1.1.1.1.1.0) c.in-Found.is) ∙ g.ensures.0),
       g.auto.1.1.1.1.1.1.1.1.1.1.1.1.1.1.1.0 ∙ l.invariant.1,
       g.ensures.1,
     )
 
-enum_told : tie.Need-enum-told invariant-loop decreases-loop
+enum_told : tie.Need-enum_told-1 invariant-loop decreases-loop
 enum_told c = search rules
 
-same_length : tie.Need-same-length invariant-loop decreases-loop
-same_length c = c.before.before.before.before.before.before.before.before.gaps_of.auto.1.1.1.1.1.1.1.1.1.1.1.1.1.1.1.0 ∙ c.before.before.before.before.before.before.before.before.before.before.before.before.before.loop.invariant.1
+same_length : tie.Need-shape_of-marks-in-Refused invariant-loop decreases-loop
+same_length c = c.gaps_of-search.auto.marks ∙ c.loop-k.invariant.1
 
-same-length-2 : tie.Need-same-length-2 invariant-loop decreases-loop
-same-length-2 c = c.before.before.before.before.before.before.before.before.gaps_of.auto.1.1.1.1.1.1.1.1.1.1.1.1.1.1.1.1.0 ∙ c.before.before.before.before.before.before.before.before.before.before.before.before.before.loop.invariant.0.same_keys
+same-length-2 : tie.Need-shape_of-keys-in-Refused invariant-loop decreases-loop
+same-length-2 c = c.gaps_of-search.auto.keys ∙ c.loop-k.invariant.0.same_keys
 
-same-length-3 : tie.Need-same-length-3 invariant-loop decreases-loop
-same-length-3 c = c.before.before.before.before.before.before.before.before.gaps_of.auto.1.1.1.1.1.1.1.1.1.1.1.1.1.1.1.1.1.0 ∙ c.before.before.before.before.before.before.before.before.before.before.before.before.before.loop.invariant.0.same_ends
+same-length-3 : tie.Need-shape_of-gap_ends-in-Refused invariant-loop decreases-loop
+same-length-3 c = c.gaps_of-search.auto.gap_ends ∙ c.loop-k.invariant.0.same_ends
 
-returns : tie.Need-returns invariant-loop decreases-loop
+returns : tie.Need-returns-in-Refused invariant-loop decreases-loop
 returns c =
-    let s = c.before.before.before.before.before.before.before.before.before.before.before.before.before.before.before.before.before.before.before.before.before.before.before.before.before.before.before.before.before.before.before in
-    let l = c.before.before.before.before.before.before.before.before.before.before.before.before.before.loop in
-    let g = c.before.before.before.before.before.before.before.before.gaps_of in
+    let s = c.before.before.before.before.before.before.before.before.before.before.before.before.before.before.before.before.before.before.before.before.before.before.before.before.before.before.before.before.before.before in
+    let l = c.loop-k in
+    let g = c.gaps_of-search in
     let found = searched g.new.1.1.1.1.1.1.1.1.1.1.1.1.1.1.1.1.0 g.new.1.1.1.1.1.1.1.1.1.1.1.1.1.1.1.1.1.0 in (
-      ap found c.enum_told.given.1
-          ∙ search_refused (image_at s) (sections_at s) (columns_at s) s.args.n s.args.keys.now s.args.gap_ends.now l.keys l.gap_ends l.found l.k l.invariant.0 c.before.before.before.before.before.before.before.before.before.before.before.before.loop-test.true _ _ _
-          (sym (ap found c.enum_told.given.1) ∙ g.ensures.0),
+      ap found c.in-Refused.is
+          ∙ search_refused (image_at s) (sections_at s) (columns_at s) s.args.n s.args.keys.now s.args.gap_ends.now l.keys l.gap_ends l.found l.k l.invariant.0 c.loop-k-test.true _ _ _
+          (sym (ap found c.in-Refused.is) ∙ g.ensures.0),
       g.ensures.1,
     )
 
-same-length-4 : tie.Need-same-length-4 invariant-loop decreases-loop
-same-length-4 c = c.before.loop.invariant.1
+same-length-4 : tie.Need-shape_of-marks invariant-loop decreases-loop
+same-length-4 c = c.loop-k.invariant.1
 
-same-length-5 : tie.Need-same-length-5 invariant-loop decreases-loop
-same-length-5 c = c.before.loop.invariant.0.same_keys
+same-length-5 : tie.Need-shape_of-keys invariant-loop decreases-loop
+same-length-5 c = c.loop-k.invariant.0.same_keys
 
-same-length-6 : tie.Need-same-length-6 invariant-loop decreases-loop
-same-length-6 c = c.before.loop.invariant.0.same_ends
+same-length-6 : tie.Need-shape_of-gap_ends invariant-loop decreases-loop
+same-length-6 c = c.loop-k.invariant.0.same_ends
 
-returns-2 : tie.Need-returns-2 invariant-loop decreases-loop
+returns-2 : tie.Need-returns invariant-loop decreases-loop
 returns-2 c =
     let s = c.before.before.before.before.before.before.before.before.before.before.before.before.before.before.before.before.before.before.before in
-    let l = c.before.loop in
-    (search_done (image_at s) (sections_at s) (columns_at s) s.args.n s.args.keys.now s.args.gap_ends.now l.keys l.gap_ends l.found l.k l.invariant.0 c.loop-test.false, l.invariant.2)
+    let l = c.loop-k in
+    (search_done (image_at s) (sections_at s) (columns_at s) s.args.n s.args.keys.now s.args.gap_ends.now l.keys l.gap_ends l.found l.k l.invariant.0 c.loop-k-test.false, l.invariant.2)
 
-pub find-gaps-spec : {M : Type 1} → statement M
-find-gaps-spec =
+pub find_gaps_spec : {M : Type 1} → statement M
+find_gaps_spec =
     tie.close
     (tie.spec
     invariant-loop

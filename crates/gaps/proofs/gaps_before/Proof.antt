@@ -12,53 +12,53 @@ use borrow.Author.Rules.{rules}
 use Rattle.gaps.proofs.gaps_before.Statement.{statement}
 use Rattle.gaps.proofs.gaps_before.Tie as tie
 
-next-alignment-requires : tie.Need-next-alignment-requires
-next-alignment-requires c κs = c.before.before.before.before.before.before.requires.0.symbols
+next-alignment-requires : tie.Need-next_alignment-next-requires
+next-alignment-requires c κs = c.requires.0.symbols
 
-enum-known-next : tie.Need-enum-known-next
+enum-known-next : tie.Need-enum_known-next
 enum-known-next c = search rules
 
 -- the next split's alignment, as the definition has it
-is : (c : tie.After-next) → let a = c.before.before.before.before.before.before.before.before.before.args in accepted c.next.given.0.0 ≡ alignment_of_next (symbol_of a.b.now a.places.now) (length a.places.now) a.section a.least a.s
-is c = sym (ap (next_meaning c.before.before.before.before.before.before.before.before.before.args.section c.before.before.before.before.before.before.before.before.before.args.s.start) c.next.given.1) ∙ c.before.before.next_alignment.ensures
+is : (c : tie.In-Is-2) → let a = c.args in accepted c.in-Is.alignment ≡ alignment_of_next (symbol_of a.b.now a.places.now) (length a.places.now) a.section a.least a.s
+is c = sym (ap (next_meaning c.args.section c.args.s.start) c.in-Is.is) ∙ c.next_alignment-next.ensures
 
-returns : tie.Need-returns
+returns : tie.Need-returns-then-s-current
 returns c =
-    let s = c.before.before.before.before.before.before.before.before.before.before.before.before in
+    let s = c in
     let a = s.args in
     let before = gaps_in a.keys.now a.gap_ends.now a.count in
-    (sym (ap (into before) (before_below _ _ _ _ _ _ _ (is c.before.before.before) c.if1.true) ∙ into-stops before _ _ _), s.requires.0.clean)
+    (sym (ap (into before) (before_below _ _ _ _ _ _ _ (is c) c.if-s-current.true) ∙ into-stops before _ _ _), s.requires.0.clean)
 
-gaps-to-requires : tie.Need-gaps-to-requires
-gaps-to-requires c κs = let p = c.before.before.before.before.before.before.before.before.before.before.before.before.before.before.before.requires in (p.0, p.1, c.before.before.before.if1.false, p.3, next_good _ _ _ _ c.before.before.before.before.before.before.before.before.before.before.before.before.before.before.before.args.current c.before.before.before.before.before.before.before.before.before.before.before.before.before.before.before.args.s _ (is c.before.before.before.before.before.before) p.2 p.5 p.4)
+gaps-to-requires : tie.Need-gaps_to-requires
+gaps-to-requires c κs = let p = c.requires in (p.0, p.1, c.if-s-current.false, p.3, next_good _ _ _ _ c.args.current c.args.s _ (is c) p.2 p.5 p.4)
 
-enum_told : tie.Need-enum-told
+enum_told : tie.Need-enum_told-1
 enum_told c = search rules
 
-same_length : tie.Need-same-length
+same_length : tie.Need-shape_of-marks
 same_length c = search rules
 
-same-length-2 : tie.Need-same-length-2
+same-length-2 : tie.Need-shape_of-keys
 same-length-2 c = search rules
 
-same-length-3 : tie.Need-same-length-3
+same-length-3 : tie.Need-shape_of-gap_ends
 same-length-3 c = search rules
 
-returns-2 : tie.Need-returns-2
+returns-2 : tie.Need-returns-else-s-current
 returns-2 c =
-    let a = c.before.before.before.before.before.before.before.before.before.before.before.before.before.before.before.before.before.before.before.before.before.before.args in
-    (c.before.before.before.before.before.before.gaps_to.ensures.0 ∙ ap (into (gaps_in a.keys.now a.gap_ends.now a.count)) (sym (before_on _ _ _ _ _ _ _ (is c.before.before.before.before.before.before.before.before.before.before.before.before.before) c.before.before.before.before.before.before.before.before.before.before.if1.false)), c.before.before.before.before.before.before.gaps_to.ensures.1)
+    let a = c.args in
+    (c.gaps_to.ensures.0 ∙ ap (into (gaps_in a.keys.now a.gap_ends.now a.count)) (sym (before_on _ _ _ _ _ _ _ (is c) c.if-s-current.false)), c.gaps_to.ensures.1)
 
-returns-3 : tie.Need-returns-3
+returns-3 : tie.Need-returns-in-Backwards
 returns-3 c =
-    let s = c.before.before.before.before.before.before.before.before.before in
+    let s = c in
     let a = s.args in
     let before = gaps_in a.keys.now a.gap_ends.now a.count in
-    let e = sym (ap (next_meaning a.section a.s.start) c.enum_told.given.1) ∙ c.before.before.next_alignment.ensures in
+    let e = sym (ap (next_meaning a.section a.s.start) c.in-Backwards.is) ∙ c.next_alignment-next.ensures in
     (sym (ap (into before) (before_backwards _ _ _ _ a.current _ e) ∙ into-stops before _ _ _), s.requires.0.clean)
 
-pub gaps-before-spec : {M : Type 1} → statement M
-gaps-before-spec =
+pub gaps_before_spec : {M : Type 1} → statement M
+gaps_before_spec =
     tie.close
     (tie.spec
     next-alignment-requires

@@ -6,5 +6,5 @@ use Rattle.gaps.proofs.is_stripped.Tie as tie
 returns : tie.Need-returns
 returns c = refl
 
-pub is-stripped-spec : {M : Type 1} → statement M
-is-stripped-spec = tie.close (tie.spec returns)
+pub is_stripped_spec : {M : Type 1} → statement M
+is_stripped_spec = tie.close (tie.spec returns)

@@ -4,14 +4,14 @@ use borrow.Author.Rules.{rules}
 use Rattle.gaps.proofs.misses.Statement.{statement}
 use Rattle.gaps.proofs.misses.Tie as tie
 
-returns : tie.Need-returns
-returns c = rw (eq-eqb c.before.args.alignment 0 c.if1.true)
+returns : tie.Need-returns-then-alignment-eq0
+returns c = rw (eq-eqb c.args.alignment 0 c.if-alignment-eq0.true)
 
-rem-result : tie.Need-nonzero-rem-result
+rem-result : tie.Need-nonzero_rem-result
 rem-result c = search rules
 
-returns-2 : tie.Need-returns-2
-returns-2 c = rw (ne_eqb c.before.args.alignment 0 c.if1.false)
+returns-2 : tie.Need-returns
+returns-2 c = rw (ne_eqb c.args.alignment 0 c.if-alignment-eq0.false)
 
-pub misses-spec : {M : Type 1} → statement M
-misses-spec = tie.close (tie.spec returns rem-result returns-2)
+pub misses_spec : {M : Type 1} → statement M
+misses_spec = tie.close (tie.spec returns rem-result returns-2)

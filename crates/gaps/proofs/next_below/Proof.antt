@@ -20,53 +20,53 @@ invariant-loop starts ends units rest n section end at i₀ i =
 abbrev decreases-loop : tie.decreases-loop
 decreases-loop starts ends units rest n section end at i₀ i = n - i
 
-loop-holds : tie.Need-loop-init invariant-loop decreases-loop
+loop-holds : tie.Need-loop-i-init invariant-loop decreases-loop
 loop-holds c = (omega arith, omega arith, refl)
 
-mul-if1 : tie.Need-overflow-mul-if1 invariant-loop decreases-loop
+mul-if1 : tie.Need-offset_bounds-rest-i invariant-loop decreases-loop
 mul-if1 c = omega arith
 
-shared-slice-read-if1 : tie.Need-shared-slice-read-if1 invariant-loop decreases-loop
+shared-slice-read-if1 : tie.Need-bounds-rest-i invariant-loop decreases-loop
 shared-slice-read-if1 c = omega arith
 
-mul-if1-2 : tie.Need-overflow-mul-if1-2 invariant-loop decreases-loop
+mul-if1-2 : tie.Need-offset_bounds-starts-i invariant-loop decreases-loop
 mul-if1-2 c = omega arith
 
-shared-slice-read-if1-2 : tie.Need-shared-slice-read-if1-2 invariant-loop decreases-loop
+shared-slice-read-if1-2 : tie.Need-bounds-starts-i invariant-loop decreases-loop
 shared-slice-read-if1-2 c = omega arith
 
-returns : tie.Need-returns invariant-loop decreases-loop
+returns : tie.Need-returns-then-rest-i invariant-loop decreases-loop
 unfolding row_of
 returns c =
-    let l = c.before.before.before.before.loop in
-    let a = c.before.before.before.before.before.args in
-    let h = c.before.before.before.loop-test.true in
+    let l = c.loop-i in
+    let a = c.args in
+    let h = c.loop-i-test.true in
     let f = row_at (columns a.starts.now a.ends.now a.units.now a.rest.now) in
     record {
-      is = l.invariant.2 ∙ filter_hit (below a.section a.end) f a.n l.i h c.if1.true ∙ rw (lt-ltb l.i a.n h);
+      is = l.invariant.2 ∙ filter_hit (below a.section a.end) f a.n l.i h c.if-rest-i.true ∙ rw (lt-ltb l.i a.n h);
       past = omega arith;
       small = omega arith;
     }
 
-add-i : tie.Need-overflow-add-i invariant-loop decreases-loop
+add-i : tie.Need-overflow_add-i invariant-loop decreases-loop
 add-i c = omega arith
 
-loop-less : tie.Need-loop-smaller invariant-loop decreases-loop
+loop-less : tie.Need-loop-i-smaller invariant-loop decreases-loop
 loop-less c = omega arith
 
-loop-again : tie.Need-loop-preserved invariant-loop decreases-loop
+loop-again : tie.Need-loop-i-preserved invariant-loop decreases-loop
 unfolding row_of
 loop-again c =
-    let l = c.before.before.before.before.loop in
-    let a = c.before.before.before.before.before.args in
+    let l = c.loop-i in
+    let a = c.args in
     let f = row_at (columns a.starts.now a.ends.now a.units.now a.rest.now) in
-    (omega arith, omega arith, l.invariant.2 ∙ filter_miss (below a.section a.end) f a.n l.i c.before.before.before.loop-test.true c.if1.false)
+    (omega arith, omega arith, l.invariant.2 ∙ filter_miss (below a.section a.end) f a.n l.i c.loop-i-test.true c.if-rest-i.false)
 
-returns-2 : tie.Need-returns-2 invariant-loop decreases-loop
+returns-2 : tie.Need-returns invariant-loop decreases-loop
 returns-2 c =
-    let l = c.before.loop in
-    let a = c.before.before.args in
-    let h = c.loop-test.false in
+    let l = c.loop-i in
+    let a = c.args in
+    let h = c.loop-i-test.false in
     let f = row_at (columns a.starts.now a.ends.now a.units.now a.rest.now) in
     record {
       is = l.invariant.2 ∙ filter_none (below a.section a.end) f a.n l.i h ∙ rw (le-ltb l.i a.n h);
@@ -74,8 +74,8 @@ returns-2 c =
       small = omega arith;
     }
 
-pub next-below-spec : {M : Type 1} → statement M
-next-below-spec =
+pub next_below_spec : {M : Type 1} → statement M
+next_below_spec =
     tie.close
     (tie.spec
     invariant-loop

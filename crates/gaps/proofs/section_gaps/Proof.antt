@@ -30,149 +30,149 @@ decreases-loop b places order marks₀ keys₀ gap-ends₀ count starts ends uni
 abbrev columns_at : tie.Start invariant-loop decreases-loop → Columns
 columns_at s = let a = s.args in columns a.starts.now a.ends.now a.units.now a.rest.now
 
-next-below-requires : tie.Need-next-below-requires invariant-loop decreases-loop
-next-below-requires c κs = (c.before.before.before.before.before.before.before.before.before.before.requires.3, omega arith)
+next-below-requires : tie.Need-next_below-i-requires invariant-loop decreases-loop
+next-below-requires c κs = (c.requires.3, omega arith)
 
-loop-holds : tie.Need-loop-init invariant-loop decreases-loop
-loop-holds c = let s = c.before.before.before.before.before.before.before.before.before.before.before in let p = s.requires in (walk_start _ _ _ s.args.least _ _ _ _ _ _ _ _ c.next_below.ensures p.1, refl, p.0.clean)
+loop-holds : tie.Need-loop-i-init invariant-loop decreases-loop
+loop-holds c = let s = c in let p = s.requires in (walk_start _ _ _ s.args.least _ _ _ _ _ _ _ _ c.next_below-i.ensures p.1, refl, p.0.clean)
 
 -- the tables as they are lent at each turn
-lent : (c : tie.At-loop invariant-loop decreases-loop) → let a = c.before.before.before.before.before.before.before.before.before.before.before.before.args in Lent a.b.now a.places.now a.order.now c.loop.marks
+lent : (c : tie.At-loop-i invariant-loop decreases-loop) → let a = c.args in Lent a.b.now a.places.now a.order.now c.loop-i.marks
 lent c =
-    let s = c.before.before.before.before.before.before.before.before.before.before.before.before in
+    let s = c in
     let a = s.args in
     record {
       symbols = s.requires.0.symbols;
-      markable = still_markable (symbol_of a.b.now a.places.now) (length a.places.now) a.marks.now c.loop.marks s.requires.0.markable c.loop.invariant.1;
-      clean = c.loop.invariant.2;
+      markable = still_markable (symbol_of a.b.now a.places.now) (length a.places.now) a.marks.now c.loop-i.marks s.requires.0.markable c.loop-i.invariant.1;
+      clean = c.loop-i.invariant.2;
     }
 
 -- a split is left, and the splitting end is not reached
-there : (c : tie.In-loop invariant-loop decreases-loop) → c.before.loop.i < c.before.before.before.before.before.before.before.before.before.before.before.before.before.args.n
-there c = ltb-true c.before.loop.i c.before.before.before.before.before.before.before.before.before.before.before.before.before.args.n (both (ltb c.before.loop.i c.before.before.before.before.before.before.before.before.before.before.before.before.before.args.n) (ltb c.before.loop.current c.before.before.before.before.before.before.before.before.before.before.before.before.before.args.end) c.loop-test.true).0
+there : (c : tie.In-loop-i invariant-loop decreases-loop) → c.loop-i.i < c.args.n
+there c = ltb-true c.loop-i.i c.args.n (both (ltb c.loop-i.i c.args.n) (ltb c.loop-i.current c.args.end) c.loop-i-test.true).0
 
-before_end : (c : tie.In-loop invariant-loop decreases-loop) → c.before.loop.current < c.before.before.before.before.before.before.before.before.before.before.before.before.before.args.end
-before_end c = ltb-true c.before.loop.current c.before.before.before.before.before.before.before.before.before.before.before.before.before.args.end (both (ltb c.before.loop.i c.before.before.before.before.before.before.before.before.before.before.before.before.before.args.n) (ltb c.before.loop.current c.before.before.before.before.before.before.before.before.before.before.before.before.before.args.end) c.loop-test.true).1
+before_end : (c : tie.In-loop-i invariant-loop decreases-loop) → c.loop-i.current < c.args.end
+before_end c = ltb-true c.loop-i.current c.args.end (both (ltb c.loop-i.i c.args.n) (ltb c.loop-i.current c.args.end) c.loop-i-test.true).1
 
-row-requires : tie.Need-row-requires invariant-loop decreases-loop
+row-requires : tie.Need-row-s-requires invariant-loop decreases-loop
 row-requires c κs =
-    let p = c.before.before.before.before.before.before.before.before.before.before.before.before.before.requires.3 in
+    let p = c.requires.3 in
     let h = there (c) in
     record { starts = omega (arith, p.starts, h); ends = omega (arith, p.ends, h); units = omega (arith, p.units, h); rest = omega (arith, p.rest, h) }
 
-gaps-before-requires : tie.Need-gaps-before-requires invariant-loop decreases-loop
+gaps-before-requires : tie.Need-gaps_before-search-requires invariant-loop decreases-loop
 gaps-before-requires c κs =
-    let s = c.before.before.before.before.before.before.before.before.before.before.before.before.before.before.before.before.before in
+    let s = c in
     let p = s.requires in
-    let l = c.before.before.before.before.before.loop in
+    let l = c.loop-i in
     let h = there c.before.before.before.before in
-    let low = walk_low _ _ _ _ _ _ _ _ _ _ _ p.2 p.5 _ _ _ _ _ l.invariant.0 h _ c.before.before.before.row.ensures in (
+    let low = walk_low _ _ _ _ _ _ _ _ _ _ _ p.2 p.5 _ _ _ _ _ l.invariant.0 h _ c.row-s.ensures in (
       lent c.before.before.before.before.before,
-      walk_room _ _ _ _ _ _ _ _ _ _ _ p.2 p.5 _ _ _ _ _ l.invariant.0 h _ c.before.before.before.row.ensures,
+      walk_room _ _ _ _ _ _ _ _ _ _ _ p.2 p.5 _ _ _ _ _ l.invariant.0 h _ c.row-s.ensures,
       p.2,
       omega (arith, low, p.4),
-      walk_aligned _ _ _ _ _ _ _ _ _ _ _ p.2 p.5 _ _ _ _ _ l.invariant.0 h _ c.before.before.before.row.ensures,
+      walk_aligned _ _ _ _ _ _ _ _ _ _ _ p.2 p.5 _ _ _ _ _ l.invariant.0 h _ c.row-s.ensures,
       p.5,
     )
 
-enum-known-search : tie.Need-enum-known-search invariant-loop decreases-loop
+enum-known-search : tie.Need-enum_known-search invariant-loop decreases-loop
 enum-known-search c = search rules
 
-add-next-below : tie.Need-overflow-add-next-below invariant-loop decreases-loop
-add-next-below c = omega (arith, c.before.before.before.before.before.before.before.before.before.before.before.before.before.before.before.before.before.before.before.before.before.before.before.before.before.before.before.ranges.n, there c.before.before.before.before.before.before.before.before.before.before.before.before.before.before)
+add-next-below : tie.Need-overflow_add-i invariant-loop decreases-loop
+add-next-below c = omega (arith, c.ranges.n, there c.before.before.before.before.before.before.before.before.before.before.before.before)
 
-next-below-requires-2 : tie.Need-next-below-requires-2 invariant-loop decreases-loop
-next-below-requires-2 c κs = (c.before.before.before.before.before.before.before.before.before.before.before.before.before.before.before.before.before.before.before.before.before.before.before.before.before.before.before.requires.3, omega (arith, there c.before.before.before.before.before.before.before.before.before.before.before.before.before.before))
+next-below-requires-2 : tie.Need-next_below-i-requires-in-Found invariant-loop decreases-loop
+next-below-requires-2 c κs = (c.requires.3, omega (arith, there c.before.before.before.before.before.before.before.before.before.before.before.before))
 
-end-after-requires : tie.Need-end-after-requires invariant-loop decreases-loop
-end-after-requires c κs = c.before.before.before.before.before.before.before.before.before.before.before.before.before.before.before.before.before.before.before.before.before.before.before.before.before.before.before.before.requires.3.starts
+end-after-requires : tie.Need-end_after-current-requires invariant-loop decreases-loop
+end-after-requires c κs = c.requires.3.starts
 
-loop-less : tie.Need-loop-smaller invariant-loop decreases-loop
-loop-less c = omega (arith, there c.before.before.before.before.before.before.before.before.before.before.before.before.before.before.before.before, c.before.next-below2.ensures.past, c.before.next-below2.ensures.small)
+loop-less : tie.Need-loop-i-smaller invariant-loop decreases-loop
+loop-less c = omega (arith, there c.before.before.before.before.before.before.before.before.before.before.before.before.before.before, c.next_below-i-in-Found.ensures.past, c.next_below-i-in-Found.ensures.small)
 
-loop-again : tie.Need-loop-preserved invariant-loop decreases-loop
+loop-again : tie.Need-loop-i-preserved invariant-loop decreases-loop
 loop-again c =
-    let s = c.before.before.before.before.before.before.before.before.before.before.before.before.before.before.before.before.before.before.before.before.before.before.before.before.before.before.before.before.before in
+    let s = c in
     let p = s.requires in
-    let l = c.before.before.before.before.before.before.before.before.before.before.before.before.before.before.before.before.before.loop in
-    let g = c.before.before.before.before.before.before.before.before.before.before.before.gaps_before in (
-      walk_on _ _ _ _ _ _ _ _ _ _ _ p.2 p.5 _ _ _ _ _ l.invariant.0 (there c.before.before.before.before.before.before.before.before.before.before.before.before.before.before.before.before) _ c.before.before.before.before.before.before.before.before.before.before.before.before.before.before.before.row.ensures (before_end c.before.before.before.before.before.before.before.before.before.before.before.before.before.before.before.before)
-          g.new.1.1.1.1.0 g.new.1.1.1.1.1.0 c.before.before.before.search.given.0.0 c.end_after.result c.before.next-below2.result
+    let l = c.loop-i in
+    let g = c.gaps_before-search in (
+      walk_on _ _ _ _ _ _ _ _ _ _ _ p.2 p.5 _ _ _ _ _ l.invariant.0 (there c.before.before.before.before.before.before.before.before.before.before.before.before.before.before) _ c.row-s.ensures (before_end c.before.before.before.before.before.before.before.before.before.before.before.before.before.before)
+          g.new.1.1.1.1.0 g.new.1.1.1.1.1.0 c.in-Found.more c.end_after-current.result c.next_below-i-in-Found.result
           g.auto.1.1.1.1.0 g.auto.1.1.1.1.1.0
-          (sym (ap (searched g.new.1.1.1.1.0 g.new.1.1.1.1.1.0) c.before.before.before.search.given.1) ∙ g.ensures.0)
-          c.before.next-below2.ensures c.end_after.ensures,
+          (sym (ap (searched g.new.1.1.1.1.0 g.new.1.1.1.1.1.0) c.in-Found.is) ∙ g.ensures.0)
+          c.next_below-i-in-Found.ensures c.end_after-current.ensures,
       g.auto.1.1.1.0 ∙ l.invariant.1,
       g.ensures.1,
     )
 
-enum_told : tie.Need-enum-told invariant-loop decreases-loop
+enum_told : tie.Need-enum_told-1 invariant-loop decreases-loop
 enum_told c = search rules
 
-same_length : tie.Need-same-length invariant-loop decreases-loop
-same_length c = c.before.before.before.before.before.before.before.before.gaps_before.auto.1.1.1.0 ∙ c.before.before.before.before.before.before.before.before.before.before.before.before.before.before.loop.invariant.1
+same_length : tie.Need-shape_of-marks-in-Refused invariant-loop decreases-loop
+same_length c = c.gaps_before-search.auto.marks ∙ c.loop-i.invariant.1
 
-same-length-2 : tie.Need-same-length-2 invariant-loop decreases-loop
-same-length-2 c = c.before.before.before.before.before.before.before.before.gaps_before.auto.1.1.1.1.0 ∙ c.before.before.before.before.before.before.before.before.before.before.before.before.before.before.loop.invariant.0.same_keys
+same-length-2 : tie.Need-shape_of-keys-in-Refused invariant-loop decreases-loop
+same-length-2 c = c.gaps_before-search.auto.keys ∙ c.loop-i.invariant.0.same_keys
 
-same-length-3 : tie.Need-same-length-3 invariant-loop decreases-loop
-same-length-3 c = c.before.before.before.before.before.before.before.before.gaps_before.auto.1.1.1.1.1.0 ∙ c.before.before.before.before.before.before.before.before.before.before.before.before.before.before.loop.invariant.0.same_ends
+same-length-3 : tie.Need-shape_of-gap_ends-in-Refused invariant-loop decreases-loop
+same-length-3 c = c.gaps_before-search.auto.gap_ends ∙ c.loop-i.invariant.0.same_ends
 
-returns : tie.Need-returns invariant-loop decreases-loop
+returns : tie.Need-returns-in-Refused invariant-loop decreases-loop
 returns c =
-    let s = c.before.before.before.before.before.before.before.before.before.before.before.before.before.before.before.before.before.before.before.before.before.before.before.before.before.before in
+    let s = c in
     let p = s.requires in
-    let l = c.before.before.before.before.before.before.before.before.before.before.before.before.before.before.loop in
-    let g = c.before.before.before.before.before.before.before.before.gaps_before in
+    let l = c.loop-i in
+    let g = c.gaps_before-search in
     let found = searched g.new.1.1.1.1.0 g.new.1.1.1.1.1.0 in (
-      ap found c.enum_told.given.1
-          ∙ walk_refused _ _ _ _ _ _ _ _ _ _ _ p.2 p.5 _ _ _ _ _ l.invariant.0 (there c.before.before.before.before.before.before.before.before.before.before.before.before.before) _ c.before.before.before.before.before.before.before.before.before.before.before.before.row.ensures (before_end c.before.before.before.before.before.before.before.before.before.before.before.before.before) _ _ _
-          (sym (ap found c.enum_told.given.1) ∙ g.ensures.0),
+      ap found c.in-Refused.is
+          ∙ walk_refused _ _ _ _ _ _ _ _ _ _ _ p.2 p.5 _ _ _ _ _ l.invariant.0 (there c.before.before.before.before.before.before.before.before.before.before.before.before) _ c.row-s.ensures (before_end c.before.before.before.before.before.before.before.before.before.before.before.before) _ _ _
+          (sym (ap found c.in-Refused.is) ∙ g.ensures.0),
       g.ensures.1,
     )
 
-same-length-4 : tie.Need-same-length-4 invariant-loop decreases-loop
-same-length-4 c = c.before.before.loop.invariant.1
+same-length-4 : tie.Need-shape_of-marks-then-end-current invariant-loop decreases-loop
+same-length-4 c = c.loop-i.invariant.1
 
-same-length-5 : tie.Need-same-length-5 invariant-loop decreases-loop
-same-length-5 c = c.before.before.loop.invariant.0.same_keys
+same-length-5 : tie.Need-shape_of-keys-then-end-current invariant-loop decreases-loop
+same-length-5 c = c.loop-i.invariant.0.same_keys
 
-same-length-6 : tie.Need-same-length-6 invariant-loop decreases-loop
-same-length-6 c = c.before.before.loop.invariant.0.same_ends
+same-length-6 : tie.Need-shape_of-gap_ends-then-end-current invariant-loop decreases-loop
+same-length-6 c = c.loop-i.invariant.0.same_ends
 
-returns-2 : tie.Need-returns-2 invariant-loop decreases-loop
-returns-2 c = let s = c.before.before.before.before.before.before.before.before.before.before.before.before.before.before in let l = c.before.before.loop in (walk_done _ _ _ _ _ _ _ _ _ _ _ s.requires.2 s.requires.5 _ _ _ _ _ l.invariant.0 c.if1.true, l.invariant.2)
+returns-2 : tie.Need-returns-then-end-current invariant-loop decreases-loop
+returns-2 c = let s = c in let l = c.loop-i in (walk_done _ _ _ _ _ _ _ _ _ _ _ s.requires.2 s.requires.5 _ _ _ _ _ l.invariant.0 c.if-end-current.true, l.invariant.2)
 
 -- no split is left
-all-passed : (c : tie.Else1 invariant-loop decreases-loop) → c.before.before.before.before.before.before.before.before.before.before.before.before.before.before.args.n ≤ c.before.before.loop.i
-all-passed c = go (lt_or_ge c.before.before.loop.i c.before.before.before.before.before.before.before.before.before.before.before.before.before.before.args.n)
+all-passed : (c : tie.Else-end-current invariant-loop decreases-loop) → c.args.n ≤ c.loop-i.i
+all-passed c = go (lt_or_ge c.loop-i.i c.args.n)
   where
     go : (c.before.before.loop.i < c.before.before.before.before.before.before.before.before.before.before.before.before.before.before.args.n) ⊎ (c.before.before.before.before.before.before.before.before.before.before.before.before.before.before.args.n ≤ c.before.before.loop.i) → c.before.before.before.before.before.before.before.before.before.before.before.before.before.before.args.n ≤ c.before.before.loop.i
     go (inl h) = absurd (omega (arith, c.if1.false, ltb-false c.before.before.loop.current c.before.before.before.before.before.before.before.before.before.before.before.before.before.before.args.end (and_false (ltb c.before.before.loop.i c.before.before.before.before.before.before.before.before.before.before.before.before.before.before.args.n) (ltb c.before.before.loop.current c.before.before.before.before.before.before.before.before.before.before.before.before.before.before.args.end) c.before.loop-test.false (lt-ltb c.before.before.loop.i c.before.before.before.before.before.before.before.before.before.before.before.before.before.before.args.n h))))
     go (inr h) = h
 
-gaps-to-requires : tie.Need-gaps-to-requires invariant-loop decreases-loop
+gaps-to-requires : tie.Need-gaps_to-requires invariant-loop decreases-loop
 gaps-to-requires c κs =
-    let s = c.before.before.before.before.before.before.before.before.before.before.before.before.before.before.before.before.before in
-    let h = c.before.before.before.if1.false in
-    (lent c.before.before.before.before.before, space_before _ _ _ _ _ _ _ _ _ _ (omega arith) c.before.before.before.before.before.loop.invariant.0.space, omega (arith, h), s.requires.4, s.requires.5)
+    let s = c in
+    let h = c.if-end-current.false in
+    (lent c.before.before.before.before.before, space_before _ _ _ _ _ _ _ _ _ _ (omega arith) c.loop-i.invariant.0.space, omega (arith, h), s.requires.4, s.requires.5)
 
-same-length-7 : tie.Need-same-length-7 invariant-loop decreases-loop
-same-length-7 c = c.before.before.before.before.before.before.gaps_to.auto.1.1.1.0 ∙ c.before.before.before.before.before.before.before.before.before.before.before.before.loop.invariant.1
+same-length-7 : tie.Need-shape_of-marks invariant-loop decreases-loop
+same-length-7 c = c.gaps_to.auto.marks ∙ c.loop-i.invariant.1
 
-same-length-8 : tie.Need-same-length-8 invariant-loop decreases-loop
-same-length-8 c = c.before.before.before.before.before.before.gaps_to.auto.1.1.1.1.0 ∙ c.before.before.before.before.before.before.before.before.before.before.before.before.loop.invariant.0.same_keys
+same-length-8 : tie.Need-shape_of-keys invariant-loop decreases-loop
+same-length-8 c = c.gaps_to.auto.keys ∙ c.loop-i.invariant.0.same_keys
 
-same-length-9 : tie.Need-same-length-9 invariant-loop decreases-loop
-same-length-9 c = c.before.before.before.before.before.before.gaps_to.auto.1.1.1.1.1.0 ∙ c.before.before.before.before.before.before.before.before.before.before.before.before.loop.invariant.0.same_ends
+same-length-9 : tie.Need-shape_of-gap_ends invariant-loop decreases-loop
+same-length-9 c = c.gaps_to.auto.gap_ends ∙ c.loop-i.invariant.0.same_ends
 
-returns-3 : tie.Need-returns-3 invariant-loop decreases-loop
+returns-3 : tie.Need-returns invariant-loop decreases-loop
 returns-3 c =
-    let s = c.before.before.before.before.before.before.before.before.before.before.before.before.before.before.before.before.before.before.before.before.before.before.before.before in
-    let l = c.before.before.before.before.before.before.before.before.before.before.before.before.loop in
-    (c.before.before.before.before.before.before.gaps_to.ensures.0 ∙ walk_last _ _ _ _ _ _ _ _ _ _ _ s.requires.2 s.requires.5 _ _ _ _ _ l.invariant.0 (all-passed c.before.before.before.before.before.before.before.before.before.before), c.before.before.before.before.before.before.gaps_to.ensures.1)
+    let s = c in
+    let l = c.loop-i in
+    (c.gaps_to.ensures.0 ∙ walk_last _ _ _ _ _ _ _ _ _ _ _ s.requires.2 s.requires.5 _ _ _ _ _ l.invariant.0 (all-passed c.before.before.before.before.before.before.before.before.before.before), c.gaps_to.ensures.1)
 
-pub section-gaps-spec : {M : Type 1} → statement M
-section-gaps-spec =
+pub section_gaps_spec : {M : Type 1} → statement M
+section_gaps_spec =
     tie.close
     (tie.spec
     invariant-loop

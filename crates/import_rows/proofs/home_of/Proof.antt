@@ -18,50 +18,50 @@ invariant-loop taken shndx number i₀ i = (i ≤ length taken) × (first_in (λ
 abbrev decreases-loop : tie.decreases-loop
 decreases-loop taken shndx number i₀ i = length taken - i
 
-returns : tie.Need-returns invariant-loop decreases-loop
+returns : tie.Need-returns-then-shndx invariant-loop decreases-loop
 unfolding reserved
-returns c = home_reserved _ _ c.if1.true
+returns c = home_reserved _ _ c.if-shndx.true
 
-loop-holds : tie.Need-loop-init invariant-loop decreases-loop
+loop-holds : tie.Need-loop-i-init invariant-loop decreases-loop
 loop-holds c = (omega arith, omega arith)
 
-mul-if2 : tie.Need-overflow-mul-if2 invariant-loop decreases-loop
+mul-if2 : tie.Need-offset_bounds-taken-i invariant-loop decreases-loop
 mul-if2 c = omega arith
 
-shared-slice-read-if2 : tie.Need-shared-slice-read-if2 invariant-loop decreases-loop
+shared-slice-read-if2 : tie.Need-bounds-taken-i invariant-loop decreases-loop
 shared-slice-read-if2 c = omega arith
 
-cast-result : tie.Need-overflow-cast-result invariant-loop decreases-loop
+cast-result : tie.Need-overflow_cast-result invariant-loop decreases-loop
 cast-result c = omega arith
 
-returns-2 : tie.Need-returns-2 invariant-loop decreases-loop
+returns-2 : tie.Need-returns-then-taken-i invariant-loop decreases-loop
 unfolding reserved
 returns-2 c =
-    let a = c.before.before.before.before.before.args in
-    let z = first_here (λ k. eqb k a.shndx) a.taken.now c.before.before.before.loop.i c.before.before.loop-test.true (eq-eqb _ _ c.if2.true) in
-    home_there _ _ c.before.before.before.before.if1.false (omega (arith, z, c.before.before.before.loop.invariant.1)) c.before.before.loop-test.true
+    let a = c.args in
+    let z = first_here (λ k. eqb k a.shndx) a.taken.now c.loop-i.i c.loop-i-test.true (eq-eqb _ _ c.if-taken-i.true) in
+    home_there _ _ c.if-shndx.false (omega (arith, z, c.loop-i.invariant.1)) c.loop-i-test.true
 
-add-i : tie.Need-overflow-add-i invariant-loop decreases-loop
+add-i : tie.Need-overflow_add-i invariant-loop decreases-loop
 add-i c = omega arith
 
-loop-less : tie.Need-loop-smaller invariant-loop decreases-loop
+loop-less : tie.Need-loop-i-smaller invariant-loop decreases-loop
 loop-less c = omega arith
 
-loop-again : tie.Need-loop-preserved invariant-loop decreases-loop
+loop-again : tie.Need-loop-i-preserved invariant-loop decreases-loop
 loop-again c =
-    let a = c.before.before.before.before.before.args in
-    let z = first_on (λ k. eqb k a.shndx) a.taken.now c.before.before.before.loop.i c.before.before.loop-test.true (ne_eqb _ _ c.if2.false) in
-    (omega arith, omega (arith, z, c.before.before.before.loop.invariant.1))
+    let a = c.args in
+    let z = first_on (λ k. eqb k a.shndx) a.taken.now c.loop-i.i c.loop-i-test.true (ne_eqb _ _ c.if-taken-i.false) in
+    (omega arith, omega (arith, z, c.loop-i.invariant.1))
 
-returns-3 : tie.Need-returns-3 invariant-loop decreases-loop
+returns-3 : tie.Need-returns invariant-loop decreases-loop
 unfolding reserved
 returns-3 c =
-    let a = c.before.before.before.args in
-    let z = first-over (λ k. eqb k a.shndx) a.taken.now c.before.loop.i c.loop-test.false in
-    home_none _ _ c.before.before.if1.false (omega (arith, z, c.before.loop.invariant.1))
+    let a = c.args in
+    let z = first-over (λ k. eqb k a.shndx) a.taken.now c.loop-i.i c.loop-i-test.false in
+    home_none _ _ c.if-shndx.false (omega (arith, z, c.loop-i.invariant.1))
 
-pub home-of-spec : {M : Type 1} → statement M
-home-of-spec =
+pub home_of_spec : {M : Type 1} → statement M
+home_of_spec =
     tie.close
     (tie.spec
     invariant-loop

@@ -17,42 +17,42 @@ invariant-loop sections b n at₀ i₀ at i = (i ≤ n) × Whole (n - i) b at ×
 abbrev decreases-loop : tie.decreases-loop
 decreases-loop sections b n at₀ i₀ at i = n - i
 
-loop-holds : tie.Need-loop-init invariant-loop decreases-loop
-loop-holds c = let s = c.before.before in (omega arith, whole_start _ _ s.requires, ap (some _) (parts-start _ _))
+loop-holds : tie.Need-loop-i-init invariant-loop decreases-loop
+loop-holds c = let s = c in (omega arith, whole_start _ _ s.requires, ap (some _) (parts-start _ _))
 
-is-outside-requires : tie.Need-is-outside-requires invariant-loop decreases-loop
-is-outside-requires c κs = (whole_turn _ _ _ _ c.loop-test.true c.before.loop.invariant.1).0
+is-outside-requires : tie.Need-is_outside-requires invariant-loop decreases-loop
+is-outside-requires c κs = (whole_turn _ _ _ _ c.loop-i-test.true c.loop-i.invariant.1).0
 
-returns : tie.Need-returns invariant-loop decreases-loop
+returns : tie.Need-returns-then-is_outside invariant-loop decreases-loop
 returns c =
-    let t = c.before.before in
-    let l = t.before.loop in
-    sym (sym l.invariant.2 ∙ some_hit _ _ _ _ _ t.loop-test.true (sym c.before.is_outside.ensures ∙ c.if1.true))
+    let t = c in
+    let l = t.loop-i in
+    sym (sym l.invariant.2 ∙ some_hit _ _ _ _ _ t.loop-i-test.true (sym c.is_outside.ensures ∙ c.if-is_outside.true))
 
-next-at-requires : tie.Need-next-at-requires invariant-loop decreases-loop
-next-at-requires c κs = let t = c.before.before in (whole_turn _ _ _ _ t.loop-test.true t.before.loop.invariant.1).0
+next-at-requires : tie.Need-next_at-at-requires invariant-loop decreases-loop
+next-at-requires c κs = let t = c in (whole_turn _ _ _ _ t.loop-i-test.true t.loop-i.invariant.1).0
 
-add-i : tie.Need-overflow-add-i invariant-loop decreases-loop
+add-i : tie.Need-overflow_add-i invariant-loop decreases-loop
 add-i c = omega arith
 
-loop-less : tie.Need-loop-smaller invariant-loop decreases-loop
+loop-less : tie.Need-loop-i-smaller invariant-loop decreases-loop
 loop-less c = omega arith
 
-loop-again : tie.Need-loop-preserved invariant-loop decreases-loop
+loop-again : tie.Need-loop-i-preserved invariant-loop decreases-loop
 loop-again c =
-    let t = c.before.before.before in
-    let l = t.before.loop in
-    let a = c.before.before.before.before.before.before.before.args in
-    let w = whole_turn _ _ _ _ t.loop-test.true l.invariant.1 in
+    let t = c in
+    let l = t.loop-i in
+    let a = c.args in
+    let w = whole_turn _ _ _ _ t.loop-i-test.true l.invariant.1 in
     subst (λ (k : ℕ). (l.i + 1 ≤ a.n) × Whole (a.n - (l.i + 1)) a.b.now k × (some (outside (stage_sections a.sections.now)) (parts_at (a.n - (l.i + 1)) a.b.now k) ≡ some (outside (stage_sections a.sections.now)) (parts_at a.n a.b.now 0)))
-    (sym c.next_at.ensures)
-    (omega arith, w.1, sym (some_miss _ _ _ _ _ t.loop-test.true (sym c.before.before.is_outside.ensures ∙ c.before.if1.false)) ∙ l.invariant.2)
+    (sym c.next_at-at.ensures)
+    (omega arith, w.1, sym (some_miss _ _ _ _ _ t.loop-i-test.true (sym c.is_outside.ensures ∙ c.if-is_outside.false)) ∙ l.invariant.2)
 
-returns-2 : tie.Need-returns-2 invariant-loop decreases-loop
-returns-2 c = sym (sym c.before.loop.invariant.2 ∙ some_ended _ _ _ _ _ c.loop-test.false)
+returns-2 : tie.Need-returns invariant-loop decreases-loop
+returns-2 c = sym (sym c.loop-i.invariant.2 ∙ some_ended _ _ _ _ _ c.loop-i-test.false)
 
-pub any-outside-spec : {M : Type 1} → statement M
-any-outside-spec =
+pub any_outside_spec : {M : Type 1} → statement M
+any_outside_spec =
     tie.close
     (tie.spec
     invariant-loop

@@ -16,29 +16,29 @@ invariant-loop sections k sum₀ i₀ sum i = (i ≤ k) × (sum ≡ held (take i
 abbrev decreases-loop : tie.decreases-loop
 decreases-loop sections k sum₀ i₀ sum i = k - i
 
-loop-holds : tie.Need-loop-init invariant-loop decreases-loop
-loop-holds c = (omega arith, sym (held_none c.before.args.sections.now), omega arith)
+loop-holds : tie.Need-loop-i-init invariant-loop decreases-loop
+loop-holds c = (omega arith, sym (held_none c.args.sections.now), omega arith)
 
-held-by-requires : tie.Need-held-by-requires invariant-loop decreases-loop
+held-by-requires : tie.Need-held_by-requires invariant-loop decreases-loop
 held-by-requires c κs = omega arith
 
-cast-sum : tie.Need-overflow-cast-sum invariant-loop decreases-loop
+cast-sum : tie.Need-overflow_cast-sum invariant-loop decreases-loop
 cast-sum c = omega arith
 
-add-sum : tie.Need-overflow-add-sum invariant-loop decreases-loop
+add-sum : tie.Need-overflow_add-sum invariant-loop decreases-loop
 add-sum c = omega arith
 
-add-i : tie.Need-overflow-add-i invariant-loop decreases-loop
+add-i : tie.Need-overflow_add-i invariant-loop decreases-loop
 add-i c = omega arith
 
-loop-less : tie.Need-loop-smaller invariant-loop decreases-loop
+loop-less : tie.Need-loop-i-smaller invariant-loop decreases-loop
 loop-less c = omega arith
 
-loop-again : tie.Need-loop-preserved invariant-loop decreases-loop
+loop-again : tie.Need-loop-i-preserved invariant-loop decreases-loop
 loop-again c =
-    let t = c.before in
-    let l = t.before.loop in
-    let s = c.before.before.before.before.args.sections.now in (
+    let t = c in
+    let l = t.loop-i in
+    let s = c.args.sections.now in (
       omega arith,
       ap₂ (λ (a b : ℕ). a + b) l.invariant.1 c.held_by.ensures ∙ sym (held_turn s l.i (omega arith)),
       omega arith,
@@ -46,13 +46,13 @@ loop-again c =
 
 returns : tie.Need-returns invariant-loop decreases-loop
 returns c =
-    let l = c.before.loop in
-    let a = c.before.before.before.args in
+    let l = c.loop-i in
+    let a = c.args in
     let end : l.i ≡ a.k = omega arith in
     record { is = l.invariant.1 ∙ ap (λ (k : ℕ). held (take k (stage_sections a.sections.now))) end; small = omega arith }
 
-pub base-of-spec : {M : Type 1} → statement M
-base-of-spec =
+pub base_of_spec : {M : Type 1} → statement M
+base_of_spec =
     tie.close
     (tie.spec
     invariant-loop

@@ -13,43 +13,43 @@ use Rattle.join.specs.Laying.{unlike}
 use Rattle.join_pieces.proofs.is_unlike.Statement.{statement}
 use Rattle.join_pieces.proofs.is_unlike.Tie as tie
 
-spot-of-requires : tie.Need-spot-of-requires
+spot-of-requires : tie.Need-spot_of-spot-requires
 spot-of-requires c κs = search rules
 
-bytes-at-requires : tie.Need-bytes-at-requires
+bytes-at-requires : tie.Need-bytes_at-bytes-requires
 bytes-at-requires c κs = search rules
 
-add-end : tie.Need-overflow-add-end
+add-end : tie.Need-overflow_add-end
 add-end c =
-    let s = c.before.before.before.before.before in
+    let s = c in
     let a = s.args in
     let p = part_at a.b.now a.at in
     let f = spot-fits (stage_sections a.sections.now) p (inside (stage_sections a.sections.now) p s.requires.0.home) in
-    omega (arith, f, c.before.spot_of_lem.ensures, ap length c.bytes_at.ensures, s.requires.1)
+    omega (arith, f, c.spot_of-spot.ensures, ap length c.bytes_at-bytes.ensures, s.requires.1)
 
-sub-unequal : tie.Need-overflow-sub-unequal
+sub-unequal : tie.Need-slice_bounds-unequal-count
 sub-unequal c = search rules
 
-part-unequal-start : tie.Need-slice-bounds-unequal-start
+part-unequal-start : tie.Need-slice_bounds-unequal-start
 part-unequal-start c = search rules
 
-part-unequal-end : tie.Need-slice-bounds-unequal-end
+part-unequal-end : tie.Need-slice_bounds-unequal-end
 part-unequal-end c =
-    let s = c.before.before.before.before.before in
+    let s = c in
     let a = s.args in
     let p = part_at a.b.now a.at in
     let f = spot-fits (stage_sections a.sections.now) p (inside (stage_sections a.sections.now) p s.requires.0.home) in
-    omega (arith, f, c.before.spot_of_lem.ensures, ap length c.bytes_at.ensures, s.requires.1)
+    omega (arith, f, c.spot_of-spot.ensures, ap length c.bytes_at-bytes.ensures, s.requires.1)
 
 unequal-requires : tie.Need-unequal-requires
 unequal-requires c κs = search rules
 
 returns : tie.Need-returns
 unfolding unlike
-returns c = c.unequal.ensures ∙ ap not (part_same c.before.before.before.before.before.before.before.args.out.now c.before.before.bytes_at.ensures c.before.before.before.spot_of_lem.ensures)
+returns c = c.unequal.ensures ∙ ap not (part_same c.args.out.now c.bytes_at-bytes.ensures c.spot_of-spot.ensures)
 
-pub is-unlike-spec : {M : Type 1} → statement M
-is-unlike-spec =
+pub is_unlike_spec : {M : Type 1} → statement M
+is_unlike_spec =
     tie.close
     (tie.spec
     spot-of-requires

@@ -13,31 +13,31 @@ use lib.Seq.{length-take-le}
 use Rattle.join_pieces.proofs.lay_over_zeros.Statement.{statement}
 use Rattle.join_pieces.proofs.lay_over_zeros.Tie as tie
 
-slice-relend-prefix-clear-from : tie.Need-slice-relend-prefix-clear-from
+slice-relend-prefix-clear-from : tie.Need-slice_bounds-clear_from-end
 slice-relend-prefix-clear-from c = search rules
 
-slice-aggregate-clear-from : tie.Need-slice-aggregate-clear-from
-slice-aggregate-clear-from c = let s = c.before.before.before.before in sym (length-take-le _ _ s.requires.4)
+slice-aggregate-clear-from : tie.Need-slice_bounds-clear_from-end-2
+slice-aggregate-clear-from c = let s = c in sym (length-take-le _ _ s.requires.4)
 
-clear-from-requires : tie.Need-clear-from-requires
+clear-from-requires : tie.Need-clear_from-requires
 clear-from-requires c κs = search rules
 
-lay-pieces-requires : tie.Need-lay-pieces-requires
+lay-pieces-requires : tie.Need-lay_pieces-requires
 lay-pieces-requires c κs = search rules
 
-same_length : tie.Need-same-length
+same_length : tie.Need-shape_of-out
 same_length c = search rules
 
 returns : tie.Need-returns
 returns c =
-    let s = c.before.before.before.before.before.before.before.before.before.before.before in
+    let s = c in
     let a = s.args in
-    c.before.before.lay_pieces.ensures
+    c.lay_pieces.ensures
     ∙ ap (λ (l : List ℕ). laid_over (stage_sections a.sections.now) (parts_at a.n a.b.now 0) (l ++ drop a.total a.out.now))
-    (c.before.before.before.before.before.before.clear_from.ensures ∙ clear_all 0 _ ∙ ap (λ (k : ℕ). replicate k 0) (length-take-le _ _ s.requires.4))
+    (c.clear_from.ensures ∙ clear_all 0 _ ∙ ap (λ (k : ℕ). replicate k 0) (length-take-le _ _ s.requires.4))
 
-pub lay-over-zeros-spec : {M : Type 1} → statement M
-lay-over-zeros-spec =
+pub lay_over_zeros_spec : {M : Type 1} → statement M
+lay_over_zeros_spec =
     tie.close
     (tie.spec
     slice-relend-prefix-clear-from

@@ -13,28 +13,28 @@ use mathlib.Core.List.{List}
 use Rattle.join_pieces.proofs.lay_piece.Statement.{statement}
 use Rattle.join_pieces.proofs.lay_piece.Tie as tie
 
-spot-of-requires : tie.Need-spot-of-requires
+spot-of-requires : tie.Need-spot_of-spot-requires
 spot-of-requires c κs = search rules
 
-bytes-at-requires : tie.Need-bytes-at-requires
+bytes-at-requires : tie.Need-bytes_at-requires
 bytes-at-requires c κs = search rules
 
-put-bytes-requires : tie.Need-put-bytes-requires
+put-bytes-requires : tie.Need-put_bytes-requires
 put-bytes-requires c κs =
-    let s = c.before.before.before.before.before.before in
+    let s = c in
     let a = s.args in
     let p = part_at a.b.now a.at in
     let f = spot-fits (stage_sections a.sections.now) p (inside (stage_sections a.sections.now) p s.requires.0.home) in
-    omega (arith, f, c.before.before.spot_of_lem.ensures, ap length c.bytes_at.ensures, s.requires.1)
+    omega (arith, f, c.spot_of-spot.ensures, ap length c.bytes_at.ensures, s.requires.1)
 
-same_length : tie.Need-same-length
+same_length : tie.Need-shape_of-out
 same_length c = search rules
 
 returns : tie.Need-returns
 returns c =
-    let a = c.before.before.before.before.before.before.before.before.before.args in
-    c.before.before.put_bytes.ensures ∙ ap₂ (λ (k : ℕ) (l : List ℕ). sets a.out.now k l) c.before.before.before.before.before.spot_of_lem.ensures c.before.before.before.bytes_at.ensures
+    let a = c.args in
+    c.put_bytes.ensures ∙ ap₂ (λ (k : ℕ) (l : List ℕ). sets a.out.now k l) c.spot_of-spot.ensures c.bytes_at.ensures
 
-pub lay-piece-spec : {M : Type 1} → statement M
-lay-piece-spec =
+pub lay_piece_spec : {M : Type 1} → statement M
+lay_piece_spec =
     tie.close (tie.spec spot-of-requires bytes-at-requires put-bytes-requires same_length returns)

@@ -17,40 +17,40 @@ invariant-loop x y any₀ i₀ any i = (i ≤ length x) × (length x ≡ length 
 abbrev decreases-loop : tie.decreases-loop
 decreases-loop x y any₀ i₀ any i = length x - i
 
-returns : tie.Need-returns invariant-loop decreases-loop
-returns c = sym (ap not (other_lengths _ _ c.if1.true))
+returns : tie.Need-returns-then-x-y invariant-loop decreases-loop
+returns c = sym (ap not (other_lengths _ _ c.if-x-y.true))
 
-loop-holds : tie.Need-loop-init invariant-loop decreases-loop
+loop-holds : tie.Need-loop-i-init invariant-loop decreases-loop
 loop-holds c = (omega arith, omega arith, refl)
 
-shared-slice-read-any : tie.Need-shared-slice-read-any invariant-loop decreases-loop
+shared-slice-read-any : tie.Need-bounds-x-i invariant-loop decreases-loop
 shared-slice-read-any c = omega arith
 
-shared-slice-read-any-2 : tie.Need-shared-slice-read-any-2 invariant-loop decreases-loop
+shared-slice-read-any-2 : tie.Need-bounds-y-i invariant-loop decreases-loop
 shared-slice-read-any-2 c = omega arith
 
-add-i : tie.Need-overflow-add-i invariant-loop decreases-loop
+add-i : tie.Need-overflow_add-i invariant-loop decreases-loop
 add-i c = omega arith
 
-loop-less : tie.Need-loop-smaller invariant-loop decreases-loop
+loop-less : tie.Need-loop-i-smaller invariant-loop decreases-loop
 loop-less c = omega arith
 
-loop-again : tie.Need-loop-preserved invariant-loop decreases-loop
+loop-again : tie.Need-loop-i-preserved invariant-loop decreases-loop
 loop-again c =
-    let t = c.before.before in
-    let l = t.before.loop in (
+    let t = c in
+    let l = t.loop-i in (
       omega arith,
       omega arith,
-      unequal_turn _ _ l.any l.i t.loop-test.true (omega arith) ∙ l.invariant.2,
+      unequal_turn _ _ l.any l.i t.loop-i-test.true (omega arith) ∙ l.invariant.2,
     )
 
-returns-2 : tie.Need-returns-2 invariant-loop decreases-loop
+returns-2 : tie.Need-returns invariant-loop decreases-loop
 returns-2 c =
-    let l = c.before.loop in
-    unequal_ended _ _ l.any l.i c.loop-test.false (omega arith) ∙ l.invariant.2
+    let l = c.loop-i in
+    unequal_ended _ _ l.any l.i c.loop-i-test.false (omega arith) ∙ l.invariant.2
 
-pub unequal-spec : {M : Type 1} → statement M
-unequal-spec =
+pub unequal_spec : {M : Type 1} → statement M
+unequal_spec =
     tie.close
     (tie.spec
     invariant-loop

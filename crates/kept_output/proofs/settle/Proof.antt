@@ -6,44 +6,44 @@ use borrow.Author.Rules.{rules}
 use Rattle.kept_output.proofs.settle.Statement.{statement}
 use Rattle.kept_output.proofs.settle.Tie as tie
 
-enum_told : tie.Need-enum-told
+enum_told : tie.Need-enum_told-1
 enum_told c = search rules
 
-clear-from-requires : tie.Need-clear-from-requires
+clear-from-requires : tie.Need-clear_from-requires
 clear-from-requires c κs = search rules
 
-clear-from-requires-2 : tie.Need-clear-from-requires-2
+clear-from-requires-2 : tie.Need-clear_from-requires-in-Refused
 clear-from-requires-2 c κs = search rules
 
-word-of-requires : tie.Need-word-of-requires
+word-of-requires : tie.Need-word_of-requires
 word-of-requires c κs = search rules
 
-same_length : tie.Need-same-length
+same_length : tie.Need-shape_of-out-in-Refused
 same_length c = search rules
 
-same-length-2 : tie.Need-same-length-2
+same-length-2 : tie.Need-shape_of-size-in-Refused
 same-length-2 c = search rules
 
-returns : tie.Need-returns
-returns c = settles_refused _ c.word_of.ensures c.before.before.before.before.before.before.before.before.before.enum_told.given.1 c.before.before.before.before.before.before.before.clear_from.ensures c.before.before.before.clear-from2.ensures
+returns : tie.Need-returns-in-Refused
+returns c = settles_refused _ c.word_of.ensures c.in-Refused.is c.clear_from.ensures c.clear_from-in-Refused.ensures
 
-enum-told-2 : tie.Need-enum-told-2
+enum-told-2 : tie.Need-enum_told-in_default
 enum-told-2 c = search rules
 
-put-size-requires : tie.Need-put-size-requires
+put-size-requires : tie.Need-put_size-requires
 put-size-requires c κs = search rules
 
-word-of-requires-2 : tie.Need-word-of-requires-2
+word-of-requires-2 : tie.Need-word_of-requires-2
 word-of-requires-2 c κs = search rules
 
-same-length-3 : tie.Need-same-length-3
+same-length-3 : tie.Need-shape_of-size
 same-length-3 c = search rules
 
-returns-2 : tie.Need-returns-2
-returns-2 c = settles_accepted _ c.word-of2.ensures c.before.before.before.before.before.enum-told2.given.1 refl c.before.before.before.put_size.ensures
+returns-2 : tie.Need-returns
+returns-2 c = settles_accepted _ c.word_of-2.ensures c.in_default.is refl c.put_size.ensures
 
-pub settle-spec : {M : Type 1} → statement M
-settle-spec =
+pub settle_spec : {M : Type 1} → statement M
+settle_spec =
     tie.close
     (tie.spec
     enum_told

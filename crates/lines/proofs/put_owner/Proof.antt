@@ -5,43 +5,39 @@ use borrow.Author.Rules.{rules}
 use Rattle.lines.proofs.put_owner.Statement.{statement}
 use Rattle.lines.proofs.put_owner.Tie as tie
 
-enum_told : tie.Need-enum-told
+enum_told : tie.Need-enum_told-1
 enum_told c = search rules
 
-slice-aggregate-put-field : tie.Need-slice-aggregate-put-field
-slice-aggregate-put-field c = search rules
-
-put-field-requires : tie.Need-put-field-requires
+put-field-requires : tie.Need-put_field-requires
 put-field-requires c κs = search rules
 
-enum-known-owner : tie.Need-enum-known-owner
+enum-known-owner : tie.Need-enum_known-owner
 enum-known-owner c = search rules
 
-cast-put-decimal : tie.Need-overflow-cast-put-decimal
+cast-put-decimal : tie.Need-overflow_cast-number
 cast-put-decimal c = search rules
 
-put-decimal-requires : tie.Need-put-decimal-requires
+put-decimal-requires : tie.Need-put_decimal-requires
 put-decimal-requires c κs = search rules
 
-same_length : tie.Need-same-length
+same_length : tie.Need-shape_of-out-in-Common
 same_length c = search rules
 
-returns : tie.Need-returns
+returns : tie.Need-returns-in-Common
 unfolding codes
-returns c = rw c.before.before.before.before.before.enum_told.given.1 c.before.before.put_field.ensures
+returns c = rw c.in-Common.is c.put_field.ensures
 
-same-length-2 : tie.Need-same-length-2
+same-length-2 : tie.Need-shape_of-out-in-Piece
 same-length-2 c = search rules
 
-returns-2 : tie.Need-returns-2
-returns-2 c = rw c.before.before.before.before.before.owner.given.1 c.before.before.put_decimal.ensures
+returns-2 : tie.Need-returns-in-Piece
+returns-2 c = rw c.in-Piece.is c.put_decimal.ensures
 
-pub put-owner-spec : {M : Type 1} → statement M
-put-owner-spec =
+pub put_owner_spec : {M : Type 1} → statement M
+put_owner_spec =
     tie.close
     (tie.spec
     enum_told
-    slice-aggregate-put-field
     put-field-requires
     enum-known-owner
     cast-put-decimal

@@ -9,75 +9,72 @@ use borrow.Author.Rules.{rules}
 use Rattle.lines.proofs.write_piece.Statement.{statement}
 use Rattle.lines.proofs.write_piece.Tie as tie
 
-slice-aggregate-put-field : tie.Need-slice-aggregate-put-field
-slice-aggregate-put-field c = search rules
-
-put-field-requires : tie.Need-put-field-requires
+put-field-requires : tie.Need-put_field-at-requires
 put-field-requires c κs = omega arith
 
-put-decimal-requires : tie.Need-put-decimal-requires
+put-decimal-requires : tie.Need-put_decimal-at-requires
 unfolding codes
 put-decimal-requires c κs =
-    let s = c.before.before.before.before.before.before.before.before in
+    let s = c in
     let h = s.requires.0 in
     let n = s.requires.1 in
-    let q0 = text_step (codes "piece") 32 5 (omega arith) c.before.before.before.put_field.ensures in
+    let q0 = text_step (codes "piece") 32 5 (omega arith) c.put_field-at.ensures in
     let f0 = q0.few in let l0 = q0.long in
     omega arith
 
-put-field-requires-2 : tie.Need-put-field-requires-2
+put-field-requires-2 : tie.Need-put_field-at-requires-2
 unfolding codes
 put-field-requires-2 c κs =
-    let s = c.before.before.before.before.before.before.before.before.before.before.before.before in
+    let s = c in
     let h = s.requires.0 in
     let n = s.requires.1 in
-    let q0 = text_step (codes "piece") 32 5 (omega arith) c.before.before.before.before.before.before.before.put_field.ensures in
-    let q1 = short_step s.args.number 32 (omega arith) c.before.before.before.put_decimal.ensures in
+    let q0 = text_step (codes "piece") 32 5 (omega arith) c.put_field-at.ensures in
+    let q1 = short_step s.args.number 32 (omega arith) c.put_decimal-at.ensures in
     let f0 = q0.few in let l0 = q0.long in
     let f1 = q1.few in let l1 = q1.long in
     omega arith
 
-put-hex8-requires : tie.Need-put-hex8-requires
+put-hex8-requires : tie.Need-put_hex8-at-requires
 unfolding codes
 put-hex8-requires c κs =
-    let s = c.before.before.before.before.before.before.before.before.before.before.before.before.before.before.before.before in
+    let s = c in
     let h = s.requires.0 in
     let n = s.requires.1 in
-    let q0 = text_step (codes "piece") 32 5 (omega arith) c.before.before.before.before.before.before.before.before.before.before.before.put_field.ensures in
-    let q1 = short_step s.args.number 32 (omega arith) c.before.before.before.before.before.before.before.put_decimal.ensures in
-    let q2 = text_step s.args.name.now 32 128 s.requires.1 c.before.before.before.put-field2.ensures in
+    let q0 = text_step (codes "piece") 32 5 (omega arith) c.put_field-at.ensures in
+    let q1 = short_step s.args.number 32 (omega arith) c.put_decimal-at.ensures in
+    let q2 = text_step s.args.name.now 32 128 s.requires.1 c.put_field-at-2.ensures in
     let f0 = q0.few in let l0 = q0.long in
     let f1 = q1.few in let l1 = q1.long in
     let f2 = q2.few in let l2 = q2.long in
     omega arith
 
-put-decimal-requires-2 : tie.Need-put-decimal-requires-2
+put-decimal-requires-2 : tie.Need-put_decimal-at-requires-2
 unfolding codes
 put-decimal-requires-2 c κs =
-    let s = c.before.before.before.before.before.before.before.before.before.before.before.before.before.before.before.before.before.before.before.before in
+    let s = c in
     let h = s.requires.0 in
     let n = s.requires.1 in
-    let q0 = text_step (codes "piece") 32 5 (omega arith) c.before.before.before.before.before.before.before.before.before.before.before.before.before.before.before.put_field.ensures in
-    let q1 = short_step s.args.number 32 (omega arith) c.before.before.before.before.before.before.before.before.before.before.before.put_decimal.ensures in
-    let q2 = text_step s.args.name.now 32 128 s.requires.1 c.before.before.before.before.before.before.before.put-field2.ensures in
-    let q3 = hex_step s.args.address 32 c.before.before.before.put_hex8.ensures in
+    let q0 = text_step (codes "piece") 32 5 (omega arith) c.put_field-at.ensures in
+    let q1 = short_step s.args.number 32 (omega arith) c.put_decimal-at.ensures in
+    let q2 = text_step s.args.name.now 32 128 s.requires.1 c.put_field-at-2.ensures in
+    let q3 = hex_step s.args.address 32 c.put_hex8-at.ensures in
     let f0 = q0.few in let l0 = q0.long in
     let f1 = q1.few in let l1 = q1.long in
     let f2 = q2.few in let l2 = q2.long in
     let f3 = q3.few in let l3 = q3.long in
     omega arith
 
-put-decimal-requires-3 : tie.Need-put-decimal-requires-3
+put-decimal-requires-3 : tie.Need-put_decimal-at-requires-3
 unfolding codes
 put-decimal-requires-3 c κs =
-    let s = c.before.before.before.before.before.before.before.before.before.before.before.before.before.before.before.before.before.before.before.before.before.before.before.before in
+    let s = c in
     let h = s.requires.0 in
     let n = s.requires.1 in
-    let q0 = text_step (codes "piece") 32 5 (omega arith) c.before.before.before.before.before.before.before.before.before.before.before.before.before.before.before.before.before.before.before.put_field.ensures in
-    let q1 = short_step s.args.number 32 (omega arith) c.before.before.before.before.before.before.before.before.before.before.before.before.before.before.before.put_decimal.ensures in
-    let q2 = text_step s.args.name.now 32 128 s.requires.1 c.before.before.before.before.before.before.before.before.before.before.before.put-field2.ensures in
-    let q3 = hex_step s.args.address 32 c.before.before.before.before.before.before.before.put_hex8.ensures in
-    let q4 = word-step s.args.size 32 (omega arith) c.before.before.before.put-decimal2.ensures in
+    let q0 = text_step (codes "piece") 32 5 (omega arith) c.put_field-at.ensures in
+    let q1 = short_step s.args.number 32 (omega arith) c.put_decimal-at.ensures in
+    let q2 = text_step s.args.name.now 32 128 s.requires.1 c.put_field-at-2.ensures in
+    let q3 = hex_step s.args.address 32 c.put_hex8-at.ensures in
+    let q4 = word-step s.args.size 32 (omega arith) c.put_decimal-at-2.ensures in
     let f0 = q0.few in let l0 = q0.long in
     let f1 = q1.few in let l1 = q1.long in
     let f2 = q2.few in let l2 = q2.long in
@@ -85,19 +82,19 @@ put-decimal-requires-3 c κs =
     let f4 = q4.few in let l4 = q4.long in
     omega arith
 
-put-decimal-requires-4 : tie.Need-put-decimal-requires-4
+put-decimal-requires-4 : tie.Need-put_decimal-requires
 unfolding codes
 put-decimal-requires-4 d κs =
-    let c = d.before.before.before.before in
-    let s = c.before.before.before.before.before.before.before.before.before.before.before.before.before.before.before.before.before.before.before.before.before.before.before.before in
+    let c = d in
+    let s = c in
     let h = s.requires.0 in
     let n = s.requires.1 in
-    let q0 = text_step (codes "piece") 32 5 (omega arith) c.before.before.before.before.before.before.before.before.before.before.before.before.before.before.before.before.before.before.before.put_field.ensures in
-    let q1 = short_step s.args.number 32 (omega arith) c.before.before.before.before.before.before.before.before.before.before.before.before.before.before.before.put_decimal.ensures in
-    let q2 = text_step s.args.name.now 32 128 s.requires.1 c.before.before.before.before.before.before.before.before.before.before.before.put-field2.ensures in
-    let q3 = hex_step s.args.address 32 c.before.before.before.before.before.before.before.put_hex8.ensures in
-    let q4 = word-step s.args.size 32 (omega arith) c.before.before.before.put-decimal2.ensures in
-    let q5 = word-step s.args.alignment 32 (omega arith) d.before.before.before.put-decimal3.ensures in
+    let q0 = text_step (codes "piece") 32 5 (omega arith) c.put_field-at.ensures in
+    let q1 = short_step s.args.number 32 (omega arith) c.put_decimal-at.ensures in
+    let q2 = text_step s.args.name.now 32 128 s.requires.1 c.put_field-at-2.ensures in
+    let q3 = hex_step s.args.address 32 c.put_hex8-at.ensures in
+    let q4 = word-step s.args.size 32 (omega arith) c.put_decimal-at-2.ensures in
+    let q5 = word-step s.args.alignment 32 (omega arith) d.put_decimal-at-3.ensures in
     let f0 = q0.few in let l0 = q0.long in
     let f1 = q1.few in let l1 = q1.long in
     let f2 = q2.few in let l2 = q2.long in
@@ -106,21 +103,21 @@ put-decimal-requires-4 d κs =
     let f5 = q5.few in let l5 = q5.long in
     omega arith
 
-same_length : tie.Need-same-length
+same_length : tie.Need-shape_of-out
 same_length c = search rules
 
 returns : tie.Need-returns
 unfolding codes line
 returns d =
-    let c = d.before.before.before.before in
-    let s = c.before.before.before.before.before.before.before.before.before.before.before.before.before.before.before.before.before.before.before.before.before.before.before.before.before.before.before in
-    let q0 = text_step (codes "piece") 32 5 (omega arith) c.before.before.before.before.before.before.before.before.before.before.before.before.before.before.before.before.before.before.before.before.before.before.put_field.ensures in
-    let q1 = short_step s.args.number 32 (omega arith) c.before.before.before.before.before.before.before.before.before.before.before.before.before.before.before.before.before.before.put_decimal.ensures in
-    let q2 = text_step s.args.name.now 32 128 s.requires.1 c.before.before.before.before.before.before.before.before.before.before.before.before.before.before.put-field2.ensures in
-    let q3 = hex_step s.args.address 32 c.before.before.before.before.before.before.before.before.before.before.put_hex8.ensures in
-    let q4 = word-step s.args.size 32 (omega arith) c.before.before.before.before.before.before.put-decimal2.ensures in
-    let q5 = word-step s.args.alignment 32 (omega arith) c.before.before.put-decimal3.ensures in
-    let q6 = short_step s.args.origin 10 (omega arith) d.before.before.put-decimal4.ensures in
+    let c = d in
+    let s = c in
+    let q0 = text_step (codes "piece") 32 5 (omega arith) c.put_field-at.ensures in
+    let q1 = short_step s.args.number 32 (omega arith) c.put_decimal-at.ensures in
+    let q2 = text_step s.args.name.now 32 128 s.requires.1 c.put_field-at-2.ensures in
+    let q3 = hex_step s.args.address 32 c.put_hex8-at.ensures in
+    let q4 = word-step s.args.size 32 (omega arith) c.put_decimal-at-2.ensures in
+    let q5 = word-step s.args.alignment 32 (omega arith) c.put_decimal-at-3.ensures in
+    let q6 = short_step s.args.origin 10 (omega arith) d.put_decimal.ensures in
     let f0 = q0.few in
     let f1 = q1.few in
     let f2 = q2.few in
@@ -129,20 +126,19 @@ returns d =
     let f5 = q5.few in
     let f6 = q6.few in
     written _
-    (put_more (codes "piece") 32 c.before.before.before.before.before.before.before.before.before.before.before.before.before.before.before.before.before.before.before.before.before.before.put_field.ensures
-    (put_more (decimal s.args.number) 32 c.before.before.before.before.before.before.before.before.before.before.before.before.before.before.before.before.before.before.put_decimal.ensures
-    (put_more (s.args.name.now) 32 c.before.before.before.before.before.before.before.before.before.before.before.before.before.before.put-field2.ensures
-    (put_more (hex8 s.args.address) 32 c.before.before.before.before.before.before.before.before.before.before.put_hex8.ensures
-    (put_more (decimal s.args.size) 32 c.before.before.before.before.before.before.put-decimal2.ensures
-    (put_more (decimal s.args.alignment) 32 c.before.before.put-decimal3.ensures
-    d.before.before.put-decimal4.ensures))))))
+    (put_more (codes "piece") 32 c.put_field-at.ensures
+    (put_more (decimal s.args.number) 32 c.put_decimal-at.ensures
+    (put_more (s.args.name.now) 32 c.put_field-at-2.ensures
+    (put_more (hex8 s.args.address) 32 c.put_hex8-at.ensures
+    (put_more (decimal s.args.size) 32 c.put_decimal-at-2.ensures
+    (put_more (decimal s.args.alignment) 32 c.put_decimal-at-3.ensures
+    d.put_decimal.ensures))))))
     (omega arith)
 
-pub write-piece-spec : {M : Type 1} → statement M
-write-piece-spec =
+pub write_piece_spec : {M : Type 1} → statement M
+write_piece_spec =
     tie.close
     (tie.spec
-    slice-aggregate-put-field
     put-field-requires
     put-decimal-requires
     put-field-requires-2

@@ -15,36 +15,36 @@ invariant-loop column₀ i₀ column i = (i ≤ length column₀) × (length col
 abbrev decreases-loop : tie.decreases-loop
 decreases-loop column₀ i₀ column i = length column₀ - i
 
-loop-holds : tie.Need-loop-init invariant-loop decreases-loop
+loop-holds : tie.Need-loop-i-init invariant-loop decreases-loop
 loop-holds c = (omega arith, refl, refl)
 
-mul-column : tie.Need-overflow-mul-column invariant-loop decreases-loop
+mul-column : tie.Need-offset_bounds-column-i invariant-loop decreases-loop
 mul-column c = omega arith
 
-slice-write-column : tie.Need-slice-write-column invariant-loop decreases-loop
+slice-write-column : tie.Need-bounds-column-i invariant-loop decreases-loop
 slice-write-column c = omega arith
 
-add-i : tie.Need-overflow-add-i invariant-loop decreases-loop
+add-i : tie.Need-overflow_add-i invariant-loop decreases-loop
 add-i c = omega arith
 
-loop-less : tie.Need-loop-smaller invariant-loop decreases-loop
+loop-less : tie.Need-loop-i-smaller invariant-loop decreases-loop
 loop-less c = omega arith
 
-loop-again : tie.Need-loop-preserved invariant-loop decreases-loop
+loop-again : tie.Need-loop-i-preserved invariant-loop decreases-loop
 loop-again c = (
   omega arith,
   simp length-set (omega arith),
-  ap (λ (t : List ℕ). set t c.before.loop.i 65535) c.before.loop.invariant.2 ∙ fill_more c.before.loop.i 65535 c.before.before.args.column.now (omega arith),
+  ap (λ (t : List ℕ). set t c.loop-i.i 65535) c.loop-i.invariant.2 ∙ fill_more c.loop-i.i 65535 c.args.column.now (omega arith),
 )
 
-same_length : tie.Need-same-length invariant-loop decreases-loop
-same_length c = c.before.loop.invariant.1
+same_length : tie.Need-shape_of-column invariant-loop decreases-loop
+same_length c = c.loop-i.invariant.1
 
 returns : tie.Need-returns invariant-loop decreases-loop
-returns c = filled c.before.loop.i 65535 c.before.before.args.column.now _ (omega arith) (omega arith) c.before.loop.invariant.2
+returns c = filled c.loop-i.i 65535 c.args.column.now _ (omega arith) (omega arith) c.loop-i.invariant.2
 
-pub blank-spec : {M : Type 1} → statement M
-blank-spec =
+pub blank_spec : {M : Type 1} → statement M
+blank_spec =
     tie.close
     (tie.spec
     invariant-loop

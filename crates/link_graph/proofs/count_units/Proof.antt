@@ -20,107 +20,107 @@ invariant-loop us column₀ nodes₀ i₀ m₀ column nodes i m =
 abbrev decreases-loop : tie.decreases-loop
 decreases-loop us column₀ nodes₀ i₀ m₀ column nodes i m = length us - i
 
-loop-holds : tie.Need-loop-init invariant-loop decreases-loop
+loop-holds : tie.Need-loop-i-init invariant-loop decreases-loop
 loop-holds c = (refl, refl, omega arith, omega arith, refl, marked_blank _ c.requires.blank)
 
-mul-unit : tie.Need-overflow-mul-unit invariant-loop decreases-loop
+mul-unit : tie.Need-offset_bounds-us-i invariant-loop decreases-loop
 mul-unit c = omega arith
 
-shared-slice-read-unit : tie.Need-shared-slice-read-unit invariant-loop decreases-loop
+shared-slice-read-unit : tie.Need-bounds-us-i invariant-loop decreases-loop
 shared-slice-read-unit c = omega arith
 
-cast-unit : tie.Need-overflow-cast-unit invariant-loop decreases-loop
-cast-unit c = omega (arith, c.shared-slice-known.given c.before.before.loop.i)
+cast-unit : tie.Need-overflow_cast-unit invariant-loop decreases-loop
+cast-unit c = omega (arith, c.shared_slice_known-1.given c.loop-i.i)
 
-mul-if1 : tie.Need-overflow-mul-if1 invariant-loop decreases-loop
-mul-if1 c = omega (arith, c.shared-slice-known.given c.before.before.loop.i)
+mul-if1 : tie.Need-offset_bounds-column-unit invariant-loop decreases-loop
+mul-if1 c = omega (arith, c.shared_slice_known-1.given c.loop-i.i)
 
-slice-read-if1 : tie.Need-slice-read-if1 invariant-loop decreases-loop
-slice-read-if1 c = let l = c.before.before.before.loop in let h = all_at l.i 0 c.before.before.before.before.requires.named c.before.before.loop-test.true in omega (arith, l.invariant.0)
+slice-read-if1 : tie.Need-bounds-column-unit invariant-loop decreases-loop
+slice-read-if1 c = let l = c.loop-i in let h = all_at l.i 0 c.requires.named c.loop-i-test.true in omega (arith, l.invariant.0)
 
-cast-column : tie.Need-overflow-cast-column invariant-loop decreases-loop
-cast-column c = let l = c.before.before.before.before.loop in omega (arith, c.before.before.before.before.before.requires.few, l.invariant.3)
+cast-column : tie.Need-overflow_cast-column invariant-loop decreases-loop
+cast-column c = let l = c.loop-i in omega (arith, c.requires.few, l.invariant.3)
 
-mul-column : tie.Need-overflow-mul-column invariant-loop decreases-loop
-mul-column c = omega (arith, c.before.before.shared-slice-known.given c.before.before.before.before.loop.i)
+mul-column : tie.Need-offset_bounds-column-unit-then-column-unit invariant-loop decreases-loop
+mul-column c = omega (arith, c.shared_slice_known-1.given c.loop-i.i)
 
-slice-write-column : tie.Need-slice-write-column invariant-loop decreases-loop
-slice-write-column c = let l = c.before.before.before.before.loop in let h = all_at l.i 0 c.before.before.before.before.before.requires.named c.before.before.before.loop-test.true in omega (arith, l.invariant.0)
+slice-write-column : tie.Need-bounds-column-unit-then-column-unit invariant-loop decreases-loop
+slice-write-column c = let l = c.loop-i in let h = all_at l.i 0 c.requires.named c.loop-i-test.true in omega (arith, l.invariant.0)
 
-mul-nodes : tie.Need-overflow-mul-nodes invariant-loop decreases-loop
+mul-nodes : tie.Need-offset_bounds-us-i-then-column-unit invariant-loop decreases-loop
 mul-nodes c = omega arith
 
-shared-slice-read-nodes : tie.Need-shared-slice-read-nodes invariant-loop decreases-loop
+shared-slice-read-nodes : tie.Need-bounds-us-i-then-column-unit invariant-loop decreases-loop
 shared-slice-read-nodes c = omega arith
 
-mul-nodes-2 : tie.Need-overflow-mul-nodes-2 invariant-loop decreases-loop
+mul-nodes-2 : tie.Need-offset_bounds-nodes-m invariant-loop decreases-loop
 mul-nodes-2 c = omega arith
 
-slice-write-nodes : tie.Need-slice-write-nodes invariant-loop decreases-loop
+slice-write-nodes : tie.Need-bounds-nodes-m invariant-loop decreases-loop
 slice-write-nodes c = omega arith
 
-add-m : tie.Need-overflow-add-m invariant-loop decreases-loop
+add-m : tie.Need-overflow_add-m invariant-loop decreases-loop
 add-m c = omega arith
 
-add-i : tie.Need-overflow-add-i invariant-loop decreases-loop
+add-i : tie.Need-overflow_add-i invariant-loop decreases-loop
 add-i c = omega arith
 
-loop-less : tie.Need-loop-smaller invariant-loop decreases-loop
+loop-less : tie.Need-loop-i-smaller-then-column-unit invariant-loop decreases-loop
 loop-less c = omega arith
 
-loop-again : tie.Need-loop-preserved invariant-loop decreases-loop
+loop-again : tie.Need-loop-i-preserved-then-column-unit invariant-loop decreases-loop
 loop-again c =
-    let l = c.before.before.before.before.before.loop in
-    let s = c.before.before.before.before.before.before in
+    let l = c.loop-i in
+    let s = c in
     let us = s.args.us.now in
-    let inside : get_or us l.i 0 < length l.column = omega (arith, all_at l.i 0 s.requires.named c.before.before.before.before.loop-test.true, l.invariant.0) in
+    let inside : get_or us l.i 0 < length l.column = omega (arith, all_at l.i 0 s.requires.named c.loop-i-test.true, l.invariant.0) in
     let few : l.m ≤ 65535 = omega (arith, s.requires.few, l.invariant.3) in
     let room : l.m < length l.nodes = omega (arith, s.requires.room, l.invariant.1, l.invariant.3) in (
       simp length-set l.invariant.0,
       simp length-set l.invariant.1,
       omega arith,
       omega arith,
-      new_counted us l.nodes l.column l.i l.m c.before.before.before.before.loop-test.true l.invariant.5 (get_or us l.i 0) refl inside few room c.before.if1.true ∙ l.invariant.4,
-      new_marked us l.nodes l.column l.i l.m c.before.before.before.before.loop-test.true l.invariant.5 (get_or us l.i 0) refl inside few room c.before.if1.true,
+      new_counted us l.nodes l.column l.i l.m c.loop-i-test.true l.invariant.5 (get_or us l.i 0) refl inside few room c.if-column-unit.true ∙ l.invariant.4,
+      new_marked us l.nodes l.column l.i l.m c.loop-i-test.true l.invariant.5 (get_or us l.i 0) refl inside few room c.if-column-unit.true,
     )
 
-add-i-2 : tie.Need-overflow-add-i-2 invariant-loop decreases-loop
+add-i-2 : tie.Need-overflow_add-i-else-column-unit invariant-loop decreases-loop
 add-i-2 c = omega arith
 
-loop-less-2 : tie.Need-loop-smaller-2 invariant-loop decreases-loop
+loop-less-2 : tie.Need-loop-i-smaller invariant-loop decreases-loop
 loop-less-2 c = omega arith
 
-loop-again-2 : tie.Need-loop-preserved-2 invariant-loop decreases-loop
+loop-again-2 : tie.Need-loop-i-preserved invariant-loop decreases-loop
 loop-again-2 c =
-    let l = c.before.before.before.before.loop in
-    let s = c.before.before.before.before.before in
+    let l = c.loop-i in
+    let s = c in
     let us = s.args.us.now in
-    let inside : get_or us l.i 0 < length l.column = omega (arith, all_at l.i 0 s.requires.named c.before.before.before.loop-test.true, l.invariant.0) in
+    let inside : get_or us l.i 0 < length l.column = omega (arith, all_at l.i 0 s.requires.named c.loop-i-test.true, l.invariant.0) in
     let few : l.m ≤ 65535 = omega (arith, s.requires.few, l.invariant.3) in (
       l.invariant.0,
       l.invariant.1,
       omega arith,
       omega arith,
-      old_counted us l.nodes l.column l.i l.m c.before.before.before.loop-test.true l.invariant.5 (get_or us l.i 0) refl inside few c.if1.false ∙ l.invariant.4,
+      old_counted us l.nodes l.column l.i l.m c.loop-i-test.true l.invariant.5 (get_or us l.i 0) refl inside few c.if-column-unit.false ∙ l.invariant.4,
       l.invariant.5,
     )
 
-same_length : tie.Need-same-length invariant-loop decreases-loop
-same_length c = c.before.loop.invariant.0
+same_length : tie.Need-shape_of-column invariant-loop decreases-loop
+same_length c = c.loop-i.invariant.0
 
-same-length-2 : tie.Need-same-length-2 invariant-loop decreases-loop
-same-length-2 c = c.before.loop.invariant.1
+same-length-2 : tie.Need-shape_of-nodes invariant-loop decreases-loop
+same-length-2 c = c.loop-i.invariant.1
 
 returns : tie.Need-returns invariant-loop decreases-loop
 returns c =
-    let l = c.before.loop in
-    let us = c.before.before.args.us.now in
+    let l = c.loop-i in
+    let us = c.args.us.now in
     let all : take l.m l.nodes ≡ counted [] us =
-    sym (ap (counted (take l.m l.nodes)) (drop_of_length-le us c.loop-test.false) ∙ count_end (take l.m l.nodes)) ∙ l.invariant.4 in
+    sym (ap (counted (take l.m l.nodes)) (drop_of_length-le us c.loop-i-test.false) ∙ count_end (take l.m l.nodes)) ∙ l.invariant.4 in
     record { is = all; marked = subst (Marked l.column) all l.invariant.5; small = omega arith }
 
-pub count-units-spec : {M : Type 1} → statement M
-count-units-spec =
+pub count_units_spec : {M : Type 1} → statement M
+count_units_spec =
     tie.close
     (tie.spec
     invariant-loop

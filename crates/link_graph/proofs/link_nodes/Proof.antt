@@ -18,54 +18,54 @@ invariant-loop s from₀ to₀ e i₀ k₀ from to i k =
 abbrev decreases-loop : tie.decreases-loop
 decreases-loop s from₀ to₀ e i₀ k₀ from to i k = length s - i
 
-loop-holds : tie.Need-loop-init invariant-loop decreases-loop
+loop-holds : tie.Need-loop-i-init invariant-loop decreases-loop
 loop-holds c = (refl, refl, omega arith, omega arith, refl, refl)
 
-add-loop : tie.Need-overflow-add-loop invariant-loop decreases-loop
+add-loop : tie.Need-overflow_add-i invariant-loop decreases-loop
 add-loop c = omega arith
 
-mul-from : tie.Need-overflow-mul-from invariant-loop decreases-loop
+mul-from : tie.Need-offset_bounds-s-i invariant-loop decreases-loop
 mul-from c = omega arith
 
-shared-slice-read-from : tie.Need-shared-slice-read-from invariant-loop decreases-loop
+shared-slice-read-from : tie.Need-bounds-s-i invariant-loop decreases-loop
 shared-slice-read-from c = omega arith
 
-mul-from-2 : tie.Need-overflow-mul-from-2 invariant-loop decreases-loop
+mul-from-2 : tie.Need-offset_bounds-from-k invariant-loop decreases-loop
 mul-from-2 c = omega arith
 
-slice-write-from : tie.Need-slice-write-from invariant-loop decreases-loop
+slice-write-from : tie.Need-bounds-from-k invariant-loop decreases-loop
 slice-write-from c = omega arith
 
-add-to : tie.Need-overflow-add-to invariant-loop decreases-loop
+add-to : tie.Need-overflow_add-to invariant-loop decreases-loop
 add-to c = omega arith
 
-mul-to : tie.Need-overflow-mul-to invariant-loop decreases-loop
+mul-to : tie.Need-offset_bounds-s-i-in-loop-i invariant-loop decreases-loop
 mul-to c = omega arith
 
-shared-slice-read-to : tie.Need-shared-slice-read-to invariant-loop decreases-loop
+shared-slice-read-to : tie.Need-bounds-s-i-in-loop-i invariant-loop decreases-loop
 shared-slice-read-to c = omega arith
 
-mul-to-2 : tie.Need-overflow-mul-to-2 invariant-loop decreases-loop
+mul-to-2 : tie.Need-offset_bounds-to-k invariant-loop decreases-loop
 mul-to-2 c = omega arith
 
-slice-write-to : tie.Need-slice-write-to invariant-loop decreases-loop
+slice-write-to : tie.Need-bounds-to-k invariant-loop decreases-loop
 slice-write-to c = omega arith
 
-add-k : tie.Need-overflow-add-k invariant-loop decreases-loop
+add-k : tie.Need-overflow_add-k invariant-loop decreases-loop
 add-k c = omega arith
 
-add-i : tie.Need-overflow-add-i invariant-loop decreases-loop
+add-i : tie.Need-overflow_add-i-in-loop-i invariant-loop decreases-loop
 add-i c = omega arith
 
-loop-less : tie.Need-loop-smaller invariant-loop decreases-loop
+loop-less : tie.Need-loop-i-smaller invariant-loop decreases-loop
 loop-less c = omega arith
 
-loop-again : tie.Need-loop-preserved invariant-loop decreases-loop
+loop-again : tie.Need-loop-i-preserved invariant-loop decreases-loop
 loop-again c =
-    let s = c.before.before.before.before in
-    let l = c.before.before.before.loop in
+    let s = c in
+    let l = c.loop-i in
     let nodes = s.args.s.now in
-    let taken = c.before.before.loop-test.true in (
+    let taken = c.loop-i-test.true in (
       simp length-set l.invariant.0,
       simp length-set l.invariant.1,
       omega arith,
@@ -74,23 +74,23 @@ loop-again c =
       link_written (λ (x : UnitEdge). x.to) nodes l.i taken l.to l.k (get_or nodes (l.i + 1) 0) (omega arith) refl ∙ l.invariant.5,
     )
 
-same_length : tie.Need-same-length invariant-loop decreases-loop
-same_length c = c.before.loop.invariant.0
+same_length : tie.Need-shape_of-from invariant-loop decreases-loop
+same_length c = c.loop-i.invariant.0
 
-same-length-2 : tie.Need-same-length-2 invariant-loop decreases-loop
-same-length-2 c = c.before.loop.invariant.1
+same-length-2 : tie.Need-shape_of-to invariant-loop decreases-loop
+same-length-2 c = c.loop-i.invariant.1
 
 returns : tie.Need-returns invariant-loop decreases-loop
 returns c =
-    let l = c.before.loop in
-    let nodes = c.before.before.args.s.now in (
-      sym (links_end (λ (x : UnitEdge). x.from) nodes l.i c.loop-test.false (take l.k l.from)) ∙ l.invariant.4,
-      sym (links_end (λ (x : UnitEdge). x.to) nodes l.i c.loop-test.false (take l.k l.to)) ∙ l.invariant.5,
+    let l = c.loop-i in
+    let nodes = c.args.s.now in (
+      sym (links_end (λ (x : UnitEdge). x.from) nodes l.i c.loop-i-test.false (take l.k l.from)) ∙ l.invariant.4,
+      sym (links_end (λ (x : UnitEdge). x.to) nodes l.i c.loop-i-test.false (take l.k l.to)) ∙ l.invariant.5,
       omega arith,
     )
 
-pub link-nodes-spec : {M : Type 1} → statement M
-link-nodes-spec =
+pub link_nodes_spec : {M : Type 1} → statement M
+link_nodes_spec =
     tie.close
     (tie.spec
     invariant-loop

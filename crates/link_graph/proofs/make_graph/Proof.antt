@@ -15,15 +15,15 @@ use Rattle.link_graph.proofs.make_graph.Tie as tie
 blank-requires : tie.Need-blank-requires
 blank-requires c κs = search rules
 
-slice-aggregate-count-units : tie.Need-slice-aggregate-count-units
-slice-aggregate-count-units c = let s = c.before.before.before.before.before.before.before.before.before.before.before.before.before.before.before.before.before.before.before.before.before in sym (length-take-le _ _ s.requires.0.long.units)
+slice-aggregate-count-units : tie.Need-slice_bounds-count_units-end
+slice-aggregate-count-units c = let s = c in sym (length-take-le _ _ s.requires.0.long.units)
 
-count-units-requires : tie.Need-count-units-requires
+count-units-requires : tie.Need-count_units-m-requires
 count-units-requires c κs =
-    let s = c.before.before.before.before.before.before.before.before.before.before.before.before.before.before.before.before.before.before.before.before.before.before.before in
+    let s = c in
     let a = s.args in
     let col = columns a.starts.now a.ends.now a.units.now a.rest.now in
-    let b = c.before.before.before.before.before.blank in
+    let b = c.blank in
     let long = length-take-le a.n a.units.now s.requires.0.long.units in
     record {
       few = omega (arith, s.requires.0.few);
@@ -32,13 +32,13 @@ count-units-requires c κs =
       blank = b.ensures ∙ ap (λ (k : ℕ). replicate k 65535) (sym b.auto.0);
     }
 
-make-edges-requires : tie.Need-make-edges-requires
+make-edges-requires : tie.Need-make_edges-e-requires
 make-edges-requires c κs =
-    let s = c.before.before.before.before.before.before.before.before.before.before.before.before.before.before.before.before.before.before.before.before.before.before.before.before.before.before.before.before.before.before.before.before in
+    let s = c in
     let a = s.args in
     let col = columns a.starts.now a.ends.now a.units.now a.rest.now in
-    let b = c.before.before.before.before.before.before.before.before.before.before.before.before.before.before.blank in
-    let u = c.before.before.before.before.before.before.before.before.count_units in
+    let b = c.blank in
+    let u = c.count_units-m in
     let same : length u.new.1.0 ≡ length a.column.now = u.auto.1.0 ∙ b.auto.0 in (
       s.requires.0,
       record {
@@ -51,28 +51,28 @@ make-edges-requires c κs =
       },
     )
 
-same_length : tie.Need-same-length
+same_length : tie.Need-shape_of-numbers
 same_length c = search rules
 
-same-length-2 : tie.Need-same-length-2
+same-length-2 : tie.Need-shape_of-column
 same-length-2 c = search rules
 
-same-length-3 : tie.Need-same-length-3
+same-length-3 : tie.Need-shape_of-nodes
 same-length-3 c = search rules
 
-same-length-4 : tie.Need-same-length-4
+same-length-4 : tie.Need-shape_of-from
 same-length-4 c = search rules
 
-same-length-5 : tie.Need-same-length-5
+same-length-5 : tie.Need-shape_of-to
 same-length-5 c = search rules
 
 returns : tie.Need-returns
 returns c =
-    let s = c.before.before.before.before.before.before.before.before.before.before.before.before.before.before.before.before.before.before.before.before.before.before.before.before.before.before.before.before.before.before.before.before.before.before.before.before.before.before.before in
+    let s = c in
     let a = s.args in
     let col = columns a.starts.now a.ends.now a.units.now a.rest.now in
-    let u = c.before.before.before.before.before.before.before.before.before.before.before.before.before.before.before.count_units in
-    let e = c.before.before.before.before.before.before.make_edges in
+    let u = c.count_units-m in
+    let e = c.make_edges-e in
     record {
       nodes_are = u.ensures.is ∙ counted-nodes col a.n s.requires.0.long.units;
       starts = e.ensures.starts;
@@ -81,8 +81,8 @@ returns c =
       few_edges = e.ensures.small;
     }
 
-pub make-graph-spec : {M : Type 1} → statement M
-make-graph-spec =
+pub make_graph_spec : {M : Type 1} → statement M
+make_graph_spec =
     tie.close
     (tie.spec
     blank-requires

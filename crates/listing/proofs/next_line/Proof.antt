@@ -19,17 +19,17 @@ tables s = record {
   piece_relocs = record { bytes = s.args.piece_relocs.now; count = s.args.piece_reloc_count };
 }
 
-seek-requires : tie.Need-seek-requires
-seek-requires c κs = let s = c.before.before.before.before.before.before.before.before.before.before.before.before.before.before.before.before in let r = s.requires.2 in (r.few_units, r.pieces, r.piece_symbols, r.piece_relocs, s.requires.1)
+seek-requires : tie.Need-seek-ready-requires
+seek-requires c κs = let s = c in let r = s.requires.2 in (r.few_units, r.pieces, r.piece_symbols, r.piece_relocs, s.requires.1)
 
-enum-known-ready : tie.Need-enum-known-ready
-enum-known-ready c = c.match.keys1
+enum-known-ready : tie.Need-enum_known-ready
+enum-known-ready c = c.in-Units.in-Units-own.keys1
 
-unit-line-requires : tie.Need-unit-line-requires
+unit-line-requires : tie.Need-unit_line-requires
 unit-line-requires c κs =
-    let s = c.before.before.before.before.before.before.before.before.before.before.before.before.before.before.before.before.before.before.before.before.before in
+    let s = c.before.before.before.before.before.before.before.before.before.before.before.before.before.before.before.before.before.before.before in
     let r = s.requires.2 in
-    let q = c.before.before.before.before.seek.ensures in
+    let q = c.seek-ready.ensures in
     let g = c.before.before.ready.given in
     let t = tables s in
     let d = unit_ready t q g.1 in
@@ -46,14 +46,14 @@ unit-line-requires c κs =
       r.unit_names g.0.0 d,
     )
 
-enum-known-ready-2 : tie.Need-enum-known-ready-2
-enum-known-ready-2 c = c.match.keys2
+enum-known-ready-2 : tie.Need-enum_known-ready-in-Pieces-1
+enum-known-ready-2 c = c.in-Pieces.in-Pieces-own.keys2
 
-piece-line-requires : tie.Need-piece-line-requires
+piece-line-requires : tie.Need-piece_line-requires
 piece-line-requires c κs =
-    let s = c.before.before.before.before.before.before.before.before.before.before.before.before.before.before.before.before.before.before.before.before.before in
+    let s = c.before.before.before.before.before.before.before.before.before.before.before.before.before.before.before.before.before.before.before in
     let r = s.requires.2 in
-    let q = c.before.before.before.before.seek.ensures in
+    let q = c.seek-ready.ensures in
     let g = c.before.before.ready2.given in
     let t = tables s in
     let d = piece_ready t q g.1 in
@@ -61,99 +61,99 @@ piece-line-requires c κs =
     let f = r.few_pieces in
     (s.requires.0, omega arith, omega arith, r.piece_names g.0.1.0 d)
 
-enum-known-ready-3 : tie.Need-enum-known-ready-3
-enum-known-ready-3 c = c.match.keys3
+enum-known-ready-3 : tie.Need-enum_known-ready-in-Symbols-1
+enum-known-ready-3 c = c.in-Symbols.in-Symbols-own.keys3
 
-symbol-line-requires : tie.Need-symbol-line-requires
+symbol-line-requires : tie.Need-symbol_line-requires
 symbol-line-requires c κs =
-    let s = c.before.before.before.before.before.before.before.before.before.before.before.before.before.before.before.before.before.before.before.before.before in
+    let s = c.before.before.before.before.before.before.before.before.before.before.before.before.before.before.before.before.before.before.before in
     let r = s.requires.2 in
-    let q = c.before.before.before.before.seek.ensures in
+    let q = c.seek-ready.ensures in
     let g = c.before.before.ready3.given in
     let t = tables s in
     let d = symbol_ready t q g.1 in
     let h = r.piece_symbols in
     (s.requires.0, r.pieces, omega arith, omega arith, r.symbols g.0.1.0 d, r.symbol_names g.0.1.0 d)
 
-enum-known-ready-4 : tie.Need-enum-known-ready-4
-enum-known-ready-4 c = c.match.keys4
+enum-known-ready-4 : tie.Need-enum_known-ready-in-Relocs-1
+enum-known-ready-4 c = c.in-Relocs.in-Relocs-own.keys4
 
-reloc-line-requires : tie.Need-reloc-line-requires
+reloc-line-requires : tie.Need-reloc_line-requires
 reloc-line-requires c κs =
-    let s = c.before.before.before.before.before.before.before.before.before.before.before.before.before.before.before.before.before.before.before.before.before in
+    let s = c.before.before.before.before.before.before.before.before.before.before.before.before.before.before.before.before.before.before.before in
     let r = s.requires.2 in
-    let q = c.before.before.before.before.seek.ensures in
+    let q = c.seek-ready.ensures in
     let g = c.before.before.ready4.given in
     let t = tables s in
     let d = reloc_ready t q g.1 in
     let h = r.piece_relocs in
     (s.requires.0, r.pieces, omega arith, omega arith, r.relocs g.0.1.0 d)
 
-enum-known-ready-5 : tie.Need-enum-known-ready-5
-enum-known-ready-5 c = c.match.keys5
+enum-known-ready-5 : tie.Need-enum_known-ready-in-Total-1
+enum-known-ready-5 c = c.in-Total.in-Total-own.keys5
 
-cast-write-total : tie.Need-overflow-cast-write-total
-cast-write-total c = let s = c.before.before.before.before.before.before.before.before.before.before.before.before.before.before.before.before.before.before.before.before.before in let h = s.requires.2.few_units in omega arith
+cast-write-total : tie.Need-overflow_cast-unit_places
+cast-write-total c = let s = c in let h = s.requires.2.few_units in omega arith
 
-cast-write-total-2 : tie.Need-overflow-cast-write-total-2
-cast-write-total-2 c = let s = c.before.before.before.before.before.before.before.before.before.before.before.before.before.before.before.before.before.before.before.before.before in let h = s.requires.2.few_pieces in omega arith
+cast-write-total-2 : tie.Need-overflow_cast-piece_count
+cast-write-total-2 c = let s = c in let h = s.requires.2.few_pieces in omega arith
 
-write-total-requires : tie.Need-write-total-requires
-write-total-requires c κs = c.before.before.before.before.before.before.before.before.before.before.before.before.before.before.before.before.before.before.before.before.before.requires.0
+write-total-requires : tie.Need-write_total-length-requires
+write-total-requires c κs = c.requires.0
 
-enum_told : tie.Need-enum-told
-enum_told c = c.match.keys6
+enum_told : tie.Need-enum_told-1
+enum_told c = c.in-Done.in-Done-own.keys6
 
-same_length : tie.Need-same-length
-same_length c = c.before.before.unit_line.ensures.0.written.long
+same_length : tie.Need-shape_of-out-in-Units
+same_length c = c.unit_line.ensures.0.written.long
 
-returns : tie.Need-returns
+returns : tie.Need-returns-in-Units
 returns c =
     let g = c.before.before.before.before.before.ready.given in
-    let t = tables c.before.before.before.before.before.before.before.before.before.before.before.before.before.before.before.before.before.before.before.before.before.before.before.before in
-    next_unit t c.before.before.before.before.before.before.before.seek.ensures g.0.0 g.0.1.0 g.1 c.before.before.unit_line.ensures.1 c.before.before.unit_line.ensures.0
+    let t = tables c.before.before.before.before.before.before.before.before.before.before.before.before.before.before.before.before.before.before.before.before.before.before in
+    next_unit t c.seek-ready.ensures g.0.0 g.0.1.0 g.1 c.unit_line.ensures.1 c.unit_line.ensures.0
 
-same-length-2 : tie.Need-same-length-2
-same-length-2 c = c.before.before.piece_line.ensures.written.long
+same-length-2 : tie.Need-shape_of-out-in-Pieces
+same-length-2 c = c.piece_line.ensures.written.long
 
-returns-2 : tie.Need-returns-2
+returns-2 : tie.Need-returns-in-Pieces
 returns-2 c =
     let g = c.before.before.before.before.before.ready2.given in
-    let t = tables c.before.before.before.before.before.before.before.before.before.before.before.before.before.before.before.before.before.before.before.before.before.before.before.before in
-    next_piece t c.before.before.before.before.before.before.before.seek.ensures g.0.0 g.0.1.0 g.0.1.1.0 g.1 c.before.before.piece_line.ensures
+    let t = tables c.before.before.before.before.before.before.before.before.before.before.before.before.before.before.before.before.before.before.before.before.before.before in
+    next_piece t c.seek-ready.ensures g.0.0 g.0.1.0 g.0.1.1.0 g.1 c.piece_line.ensures
 
-same-length-3 : tie.Need-same-length-3
-same-length-3 c = c.before.before.symbol_line.ensures.written.long
+same-length-3 : tie.Need-shape_of-out-in-Symbols
+same-length-3 c = c.symbol_line.ensures.written.long
 
-returns-3 : tie.Need-returns-3
+returns-3 : tie.Need-returns-in-Symbols
 returns-3 c =
     let g = c.before.before.before.before.before.ready3.given in
-    let t = tables c.before.before.before.before.before.before.before.before.before.before.before.before.before.before.before.before.before.before.before.before.before.before.before.before in
-    next_symbol t c.before.before.before.before.before.before.before.seek.ensures g.0.0 g.0.1.0 g.0.1.1.0 g.1 c.before.before.symbol_line.ensures
+    let t = tables c.before.before.before.before.before.before.before.before.before.before.before.before.before.before.before.before.before.before.before.before.before.before in
+    next_symbol t c.seek-ready.ensures g.0.0 g.0.1.0 g.0.1.1.0 g.1 c.symbol_line.ensures
 
-same-length-4 : tie.Need-same-length-4
-same-length-4 c = c.before.before.reloc_line.ensures.written.long
+same-length-4 : tie.Need-shape_of-out-in-Relocs
+same-length-4 c = c.reloc_line.ensures.written.long
 
-returns-4 : tie.Need-returns-4
+returns-4 : tie.Need-returns-in-Relocs
 returns-4 c =
     let g = c.before.before.before.before.before.ready4.given in
-    let t = tables c.before.before.before.before.before.before.before.before.before.before.before.before.before.before.before.before.before.before.before.before.before.before.before.before in
-    next_reloc t c.before.before.before.before.before.before.before.seek.ensures g.0.0 g.0.1.0 g.0.1.1.0 g.1 c.before.before.reloc_line.ensures
+    let t = tables c.before.before.before.before.before.before.before.before.before.before.before.before.before.before.before.before.before.before.before.before.before.before in
+    next_reloc t c.seek-ready.ensures g.0.0 g.0.1.0 g.0.1.1.0 g.1 c.reloc_line.ensures
 
-same-length-5 : tie.Need-same-length-5
-same-length-5 c = c.before.before.write_total.ensures.long
+same-length-5 : tie.Need-shape_of-out-in-Total
+same-length-5 c = c.write_total-length.ensures.long
 
-returns-5 : tie.Need-returns-5
+returns-5 : tie.Need-returns-in-Total
 returns-5 c =
     let g = c.before.before.before.before.before.ready5.given in
-    let t = tables c.before.before.before.before.before.before.before.before.before.before.before.before.before.before.before.before.before.before.before.before.before.before.before.before in
-    next_total t c.before.before.before.before.before.before.before.seek.ensures g.0.0 g.1 c.before.before.write_total.ensures
+    let t = tables c.before.before.before.before.before.before.before.before.before.before.before.before.before.before.before.before.before.before.before.before.before.before in
+    next_total t c.seek-ready.ensures g.0.0 g.1 c.write_total-length.ensures
 
-returns-6 : tie.Need-returns-6
-returns-6 c = next_done (tables c.before.before.before.before.before.before.before.before.before.before.before.before.before.before.before.before.before.before.before) c.before.before.seek.ensures c.enum_told.given.1
+returns-6 : tie.Need-returns-in-Done
+returns-6 c = next_done (tables c.before.before.before.before.before.before.before.before.before.before.before.before.before.before.before.before.before.before) c.seek-ready.ensures c.in-Done.is
 
-pub next-line-spec : {M : Type 1} → statement M
-next-line-spec =
+pub next_line_spec : {M : Type 1} → statement M
+next_line_spec =
     tie.close
     (tie.spec
     seek-requires

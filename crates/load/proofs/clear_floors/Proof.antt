@@ -15,36 +15,36 @@ invariant-loop places₀ i₀ places i = (length places ≡ length places₀) ×
 abbrev decreases-loop : tie.decreases-loop
 decreases-loop places₀ i₀ places i = length places - i
 
-loop-holds : tie.Need-loop-init invariant-loop decreases-loop
+loop-holds : tie.Need-loop-i-init invariant-loop decreases-loop
 loop-holds c = (refl, refl)
 
-mul-places : tie.Need-overflow-mul-places invariant-loop decreases-loop
+mul-places : tie.Need-offset_bounds-places-i invariant-loop decreases-loop
 mul-places c = omega arith
 
-slice-write-places : tie.Need-slice-write-places invariant-loop decreases-loop
+slice-write-places : tie.Need-bounds-places-i invariant-loop decreases-loop
 slice-write-places c = omega arith
 
-add-i : tie.Need-overflow-add-i invariant-loop decreases-loop
+add-i : tie.Need-overflow_add-i invariant-loop decreases-loop
 add-i c = omega arith
 
-loop-less : tie.Need-loop-smaller invariant-loop decreases-loop
+loop-less : tie.Need-loop-i-smaller invariant-loop decreases-loop
 loop-less c = simp length-set (omega arith)
 
-loop-again : tie.Need-loop-preserved invariant-loop decreases-loop
+loop-again : tie.Need-loop-i-preserved invariant-loop decreases-loop
 loop-again c =
-    let l = c.before in (
-      simp length-set l.loop.invariant.0,
-      sym (clear_turn 0 _ _ c.loop-test.true) ∙ l.loop.invariant.1,
+    let l = c in (
+      simp length-set l.loop-i.invariant.0,
+      sym (clear_turn 0 _ _ c.loop-i-test.true) ∙ l.loop-i.invariant.1,
     )
 
-same_length : tie.Need-same-length invariant-loop decreases-loop
-same_length c = c.before.loop.invariant.0
+same_length : tie.Need-shape_of-places invariant-loop decreases-loop
+same_length c = c.loop-i.invariant.0
 
 returns : tie.Need-returns invariant-loop decreases-loop
-returns c = sym (clear_done 0 _ _ c.loop-test.false) ∙ c.before.loop.invariant.1
+returns c = sym (clear_done 0 _ _ c.loop-i-test.false) ∙ c.loop-i.invariant.1
 
-pub clear-floors-spec : {M : Type 1} → statement M
-clear-floors-spec =
+pub clear_floors_spec : {M : Type 1} → statement M
+clear_floors_spec =
     tie.close
     (tie.spec
     invariant-loop

@@ -10,30 +10,30 @@ use borrow.Author.Rules.{rules}
 use Rattle.load.proofs.home_of.Statement.{statement}
 use Rattle.load.proofs.home_of.Tie as tie
 
-add-end : tie.Need-overflow-add-end
+add-end : tie.Need-overflow_add-end
 add-end c = search rules
 
-sub-section-or-none : tie.Need-overflow-sub-section-or-none
+sub-section-or-none : tie.Need-slice_bounds-section_or_none-count
 sub-section-or-none c = search rules
 
-part-section-or-none-start : tie.Need-slice-bounds-section-or-none-start
+part-section-or-none-start : tie.Need-slice_bounds-section_or_none-start
 part-section-or-none-start c = search rules
 
-part-section-or-none-end : tie.Need-slice-bounds-section-or-none-end
+part-section-or-none-end : tie.Need-slice_bounds-section_or_none-end
 part-section-or-none-end c = search rules
 
-section-or-none-requires : tie.Need-section-or-none-requires
+section-or-none-requires : tie.Need-section_or_none-requires
 section-or-none-requires c κs =
-    let a = c.before.before.before.args in
-    rw (part-lent 0 a.n a.places.now) c.before.before.before.requires.1
+    let a = c.args in
+    rw (part-lent 0 a.n a.places.now) c.requires.1
 
 returns : tie.Need-returns
 returns c =
-    let a = c.before.before.before.before.args in
+    let a = c.args in
     c.section_or_none.ensures ∙ ap (λ (l : List ℕ). get_or (sections_in a.file.now l) a.k no_section) (part-lent 0 a.n a.places.now)
 
-pub home-of-spec : {M : Type 1} → statement M
-home-of-spec =
+pub home_of_spec : {M : Type 1} → statement M
+home_of_spec =
     tie.close
     (tie.spec
     add-end

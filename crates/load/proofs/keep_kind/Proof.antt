@@ -10,62 +10,62 @@ use borrow.Author.Rules.{rules}
 use Rattle.load.proofs.keep_kind.Statement.{statement}
 use Rattle.load.proofs.keep_kind.Tie as tie
 
-keep-name-requires : tie.Need-keep-name-requires
+keep-name-requires : tie.Need-keep_name-requires
 keep-name-requires c κs =
-    let s = c.before.before.before.before.before.before.before.before.before.before in
+    let s = c in
     let a = s.args in
-    (s.requires.0, s.requires.1, kind_name a.c a.file.now a.at a.len (tables_in a.n a.places.now a.lengths.now) a.kind c.before.before.before.before.if1.true ∙ s.requires.2)
+    (s.requires.0, s.requires.1, kind_name a.c a.file.now a.at a.len (tables_in a.n a.places.now a.lengths.now) a.kind c.if-kind-eq1.true ∙ s.requires.2)
 
-same_length : tie.Need-same-length
+same_length : tie.Need-shape_of-places-then-kind-eq1
 same_length c = search rules
 
-same-length-2 : tie.Need-same-length-2
+same-length-2 : tie.Need-shape_of-lengths-then-kind-eq1
 same-length-2 c = search rules
 
-same-length-3 : tie.Need-same-length-3
+same-length-3 : tie.Need-shape_of-heads-then-kind-eq1
 same-length-3 c = search rules
 
-same-length-4 : tie.Need-same-length-4
+same-length-4 : tie.Need-shape_of-chain-then-kind-eq1
 same-length-4 c = search rules
 
-returns : tie.Need-returns
-returns c = kept_as c.before.before.before.before.before.before.before.before.before.before.before.before.before.if1.true c.before.before.before.before.before.before.before.before.keep_name.ensures
+returns : tie.Need-returns-then-kind-eq1
+returns c = kept_as c.if-kind-eq1.true c.keep_name.ensures
 
-keep-reloc-requires : tie.Need-keep-reloc-requires
+keep-reloc-requires : tie.Need-keep_reloc-requires
 keep-reloc-requires c κs =
-    let s = c.before.before.before.before.before.before.before.before in
+    let s = c in
     let a = s.args in
-    (counted s.requires.1.tabled.allowed s.requires.1.tabled.few, omega (arith, s.requires.0, s.requires.1.tabled.small), reloc_fits a.c a.file.now a.at a.len a.n a.places.now a.lengths.now a.heads.now a.chain.now s.requires.1 s.requires.0 (reloc_of a.c a.file.now a.at a.len (tables_in a.n a.places.now a.lengths.now) a.kind c.before.if2.true s.requires.2))
+    (counted s.requires.1.tabled.allowed s.requires.1.tabled.few, omega (arith, s.requires.0, s.requires.1.tabled.small), reloc_fits a.c a.file.now a.at a.len a.n a.places.now a.lengths.now a.heads.now a.chain.now s.requires.1 s.requires.0 (reloc_of a.c a.file.now a.at a.len (tables_in a.n a.places.now a.lengths.now) a.kind c.if-kind-eq4.true s.requires.2))
 
-same-length-5 : tie.Need-same-length-5
+same-length-5 : tie.Need-shape_of-places-then-kind-eq4
 same-length-5 c = search rules
 
-returns-2 : tie.Need-returns-2
+returns-2 : tie.Need-returns-then-kind-eq4
 returns-2 c =
-    let s = c.before.before.before.before.before.before.before.before.before.before.before in
+    let s = c in
     let a = s.args in
-    kept_reloc a.c a.file.now a.at a.len a.n a.places.now a.lengths.now a.heads.now a.chain.now s.requires.1 s.requires.0 (reloc_of a.c a.file.now a.at a.len (tables_in a.n a.places.now a.lengths.now) a.kind c.before.before.before.before.if2.true s.requires.2) c.before.before.before.before.if2.true c.before.before.keep_reloc.ensures.0
-    c.before.before.keep_reloc.ensures.1
+    kept_reloc a.c a.file.now a.at a.len a.n a.places.now a.lengths.now a.heads.now a.chain.now s.requires.1 s.requires.0 (reloc_of a.c a.file.now a.at a.len (tables_in a.n a.places.now a.lengths.now) a.kind c.if-kind-eq4.true s.requires.2) c.if-kind-eq4.true c.keep_reloc.ensures.0
+    c.keep_reloc.ensures.1
 
-keep-place-requires : tie.Need-keep-place-requires
+keep-place-requires : tie.Need-keep_place-requires
 keep-place-requires c κs =
-    let s = c.before.before.before.before.before.before.before.before in
+    let s = c in
     let a = s.args in
     let few = counted s.requires.1.tabled.allowed s.requires.1.tabled.few in
     (few, omega (arith, s.requires.0, s.requires.1.tabled.small), omega (arith, slot_low a.kind a.n few, s.requires.1.tabled.long_places))
 
-same-length-6 : tie.Need-same-length-6
+same-length-6 : tie.Need-shape_of-places
 same-length-6 c = search rules
 
-returns-3 : tie.Need-returns-3
+returns-3 : tie.Need-returns
 returns-3 c =
-    let s = c.before.before.before.before.before.before.before.before.before.before.before in
+    let s = c in
     let a = s.args in
-    kept-place a.c a.file.now a.at a.len a.n a.places.now a.lengths.now a.heads.now a.chain.now s.requires.1 s.requires.0 a.kind s.requires.2 c.before.before.before.before.before.if1.false c.before.before.before.before.if2.false c.before.before.keep_place.ensures.0
-    c.before.before.keep_place.ensures.1
+    kept-place a.c a.file.now a.at a.len a.n a.places.now a.lengths.now a.heads.now a.chain.now s.requires.1 s.requires.0 a.kind s.requires.2 c.if-kind-eq1.false c.if-kind-eq4.false c.keep_place.ensures.0
+    c.keep_place.ensures.1
 
-pub keep-kind-spec : {M : Type 1} → statement M
-keep-kind-spec =
+pub keep_kind_spec : {M : Type 1} → statement M
+keep_kind_spec =
     tie.close
     (tie.spec
     keep-name-requires

@@ -7,32 +7,32 @@ use borrow.Author.Rules.{rules}
 use Rattle.load.proofs.keep_place.Statement.{statement}
 use Rattle.load.proofs.keep_place.Tie as tie
 
-slot-of-requires : tie.Need-slot-of-requires
+slot-of-requires : tie.Need-slot_of-i-requires
 slot-of-requires c κs = search rules
 
-cast-places : tie.Need-overflow-cast-places
+cast-places : tie.Need-overflow_cast-places
 cast-places c = search rules
 
-mul-places : tie.Need-overflow-mul-places
+mul-places : tie.Need-offset_bounds-places-i
 mul-places c = search rules
 
-slice-write-places : tie.Need-slice-write-places
+slice-write-places : tie.Need-bounds-places-i
 slice-write-places c = search rules
 
-one-more-requires : tie.Need-one-more-requires
+one-more-requires : tie.Need-one_more-requires
 one-more-requires c κs = search rules
 
-same_length : tie.Need-same-length
+same_length : tie.Need-shape_of-places
 same_length c = search rules
 
 returns : tie.Need-returns
 returns c =
-    let places = c.before.before.before.args.places.now in
-    let at = c.before.before.before.args.at in
-    (c.one_more.ensures, ap (λ (i : ℕ). set places i at) c.before.slot_of.ensures)
+    let places = c.args.places.now in
+    let at = c.args.at in
+    (c.one_more.ensures, ap (λ (i : ℕ). set places i at) c.slot_of-i.ensures)
 
-pub keep-place-spec : {M : Type 1} → statement M
-keep-place-spec =
+pub keep_place_spec : {M : Type 1} → statement M
+keep_place_spec =
     tie.close
     (tie.spec
     slot-of-requires

@@ -10,60 +10,60 @@ use borrow.Author.Rules.{rules}
 use Rattle.load.proofs.keep_record.Statement.{statement}
 use Rattle.load.proofs.keep_record.Tie as tie
 
-get32-requires : tie.Need-get32-requires
+get32-requires : tie.Need-get32-len-requires
 get32-requires c κs =
-    let s = c.before.before.before.before.before in
+    let s = c in
     let a = s.args in
     omega (arith, (record_passed a.c a.file.now a.at (tables_in a.n a.places.now a.lengths.now) s.requires.1).head)
 
-cast-len : tie.Need-overflow-cast-len
+cast-len : tie.Need-overflow_cast-len
 cast-len c = search rules
 
-add-get16 : tie.Need-overflow-add-get16
+add-get16 : tie.Need-overflow_add-at
 add-get16 c =
-    let s = c.before.before.before.before.before.before in
+    let s = c in
     let a = s.args in
     omega (arith, (record_passed a.c a.file.now a.at (tables_in a.n a.places.now a.lengths.now) s.requires.1).head, s.requires.0.tabled.small)
 
-get16-requires : tie.Need-get16-requires
+get16-requires : tie.Need-get16-kind-requires
 get16-requires c κs =
-    let s = c.before.before.before.before.before.before in
+    let s = c in
     let a = s.args in
     omega (arith, (record_passed a.c a.file.now a.at (tables_in a.n a.places.now a.lengths.now) s.requires.1).head)
 
-add-keep-kind : tie.Need-overflow-add-keep-kind
+add-keep-kind : tie.Need-overflow_add-at-2
 add-keep-kind c =
-    let s = c.before.before.before.before.before.before.before in
+    let s = c in
     let a = s.args in
     omega (arith, (record_passed a.c a.file.now a.at (tables_in a.n a.places.now a.lengths.now) s.requires.1).head, s.requires.0.tabled.small)
 
-keep-kind-requires : tie.Need-keep-kind-requires
+keep-kind-requires : tie.Need-keep_kind-requires
 keep-kind-requires c κs =
-    let s = c.before.before.before.before.before.before.before.before.before.before.before in
+    let s = c in
     let a = s.args in
-    let p = record_read a.c a.file.now a.at (tables_in a.n a.places.now a.lengths.now) s.requires.1 c.before.before.before.before.before.get32.ensures c.before.before.before.before.get16.ensures in
+    let p = record_read a.c a.file.now a.at (tables_in a.n a.places.now a.lengths.now) s.requires.1 c.get32-len.ensures c.get16-kind.ensures in
     (p.0, s.requires.0, p.1)
 
-same_length : tie.Need-same-length
+same_length : tie.Need-shape_of-places
 same_length c = search rules
 
-same-length-2 : tie.Need-same-length-2
+same-length-2 : tie.Need-shape_of-lengths
 same-length-2 c = search rules
 
-same-length-3 : tie.Need-same-length-3
+same-length-3 : tie.Need-shape_of-heads
 same-length-3 c = search rules
 
-same-length-4 : tie.Need-same-length-4
+same-length-4 : tie.Need-shape_of-chain
 same-length-4 c = search rules
 
 returns : tie.Need-returns
 returns c =
-    let s = c.before.before.before.before.before.before.before.before.before.before.before.before.before.before.before.before.before.before.before.before in
+    let s = c in
     let a = s.args in
-    kept_read (le32 a.file.now a.at) (le16 a.file.now (a.at + 4)) c.before.before.before.before.before.before.before.before.before.before.before.before.before.before.get32.ensures c.before.before.before.before.before.before.before.before.before.before.before.before.before.get16.ensures c.before.before.before.before.before.before.before.before.keep_kind.ensures
+    kept_read (le32 a.file.now a.at) (le16 a.file.now (a.at + 4)) c.get32-len.ensures c.get16-kind.ensures c.keep_kind.ensures
 
-pub keep-record-spec : {M : Type 1} → statement M
-keep-record-spec =
+pub keep_record_spec : {M : Type 1} → statement M
+keep_record_spec =
     tie.close
     (tie.spec
     get32-requires

@@ -19,88 +19,88 @@ invariant-loop file c places₀ lengths₀ heads₀ chain₀ n₀ at₀ r₀ pla
 abbrev decreases-loop : tie.decreases-loop
 decreases-loop file c places₀ lengths₀ heads₀ chain₀ n₀ at₀ r₀ places lengths heads chain n at r = length file - at
 
-no-counts-requires : tie.Need-no-counts-requires invariant-loop decreases-loop
+no-counts-requires : tie.Need-no_counts-n-requires invariant-loop decreases-loop
 no-counts-requires c κs = tt
 
-loop-holds : tie.Need-loop-init invariant-loop decreases-loop
+loop-holds : tie.Need-loop-at-init invariant-loop decreases-loop
 loop-holds c =
-    let s = c.before.before.before.before.before.before in
+    let s = c in
     let a = s.args in
-    starts a.c a.file.now a.places.now a.lengths.now a.heads.now a.chain.now c.no_counts.ensures s.requires
+    starts a.c a.file.now a.places.now a.lengths.now a.heads.now a.chain.now c.no_counts-n.ensures s.requires
 
-record-number-requires : tie.Need-record-number-requires invariant-loop decreases-loop
+record-number-requires : tie.Need-record_number-number-requires invariant-loop decreases-loop
 record-number-requires c κs =
-    let l = c.before.before.before.before.before in
-    (l.loop.invariant.1.within, l.loop.invariant.0)
+    let l = c in
+    (l.loop-at.invariant.1.within, l.loop-at.invariant.0)
 
-refused-at-requires : tie.Need-refused-at-requires invariant-loop decreases-loop
+refused-at-requires : tie.Need-refused_at-requires invariant-loop decreases-loop
 refused-at-requires c κs = tt
 
-same_length : tie.Need-same-length invariant-loop decreases-loop
-same_length c = c.before.before.before.before.before.before.before.before.loop.invariant.2.places
+same_length : tie.Need-shape_of-places-then-number-gt0 invariant-loop decreases-loop
+same_length c = c.loop-at.invariant.2.places
 
-same-length-2 : tie.Need-same-length-2 invariant-loop decreases-loop
-same-length-2 c = c.before.before.before.before.before.before.before.before.loop.invariant.2.lengths
+same-length-2 : tie.Need-shape_of-lengths-then-number-gt0 invariant-loop decreases-loop
+same-length-2 c = c.loop-at.invariant.2.lengths
 
-same-length-3 : tie.Need-same-length-3 invariant-loop decreases-loop
-same-length-3 c = c.before.before.before.before.before.before.before.before.loop.invariant.2.heads
+same-length-3 : tie.Need-shape_of-heads-then-number-gt0 invariant-loop decreases-loop
+same-length-3 c = c.loop-at.invariant.2.heads
 
-same-length-4 : tie.Need-same-length-4 invariant-loop decreases-loop
-same-length-4 c = c.before.before.before.before.before.before.before.before.loop.invariant.2.chain
+same-length-4 : tie.Need-shape_of-chain-then-number-gt0 invariant-loop decreases-loop
+same-length-4 c = c.loop-at.invariant.2.chain
 
-returns : tie.Need-returns invariant-loop decreases-loop
+returns : tie.Need-returns-then-number-gt0 invariant-loop decreases-loop
 returns c =
-    let l = c.before.before.before.before.before.before.before.before in
-    loads_refused _ _ _ _ _ _ c.before.before.record_number.result l.loop.r c.refused_at.ensures
-    (going_stops l.loop.invariant.1 c.before.before.before.before.before.before.before.loop-test.true c.before.before.record_number.ensures c.before.if1.true)
+    let l = c in
+    loads_refused _ _ _ _ _ _ c.record_number-number.result l.loop-at.r c.refused_at.ensures
+    (going_stops l.loop-at.invariant.1 c.loop-at-test.true c.record_number-number.ensures c.if-number-gt0.true)
 
-keep-record-requires : tie.Need-keep-record-requires invariant-loop decreases-loop
+keep-record-requires : tie.Need-keep_record-n-requires invariant-loop decreases-loop
 keep-record-requires c κs =
-    let l = c.before.before.before.before.before.before.before.before.before.before.before in
-    (l.loop.invariant.0, is_zero c.before.before.before.before.before.record_number.ensures c.before.before.before.before.if1.false)
+    let l = c in
+    (l.loop-at.invariant.0, is_zero c.record_number-number.ensures c.if-number-gt0.false)
 
-next-record-requires : tie.Need-next-record-requires invariant-loop decreases-loop
+next-record-requires : tie.Need-next_record-at-requires invariant-loop decreases-loop
 next-record-requires c κs =
-    let l = c.before.before.before.before.before.before.before.before.before.before.before.before.before.before.before.before.before.before.before.before in
-    let p = record_passed _ _ _ _ (is_zero c.before.before.before.before.before.before.before.before.before.before.before.before.before.before.record_number.ensures c.before.before.before.before.before.before.before.before.before.before.before.before.before.if1.false) in
-    (p.head, l.loop.invariant.0.tabled.small)
+    let l = c in
+    let p = record_passed _ _ _ _ (is_zero c.record_number-number.ensures c.if-number-gt0.false) in
+    (p.head, l.loop-at.invariant.0.tabled.small)
 
-add_r : tie.Need-overflow-add-r invariant-loop decreases-loop
+add_r : tie.Need-overflow_add-r invariant-loop decreases-loop
 add_r c =
-    let l = c.before.before.before.before.before.before.before.before.before.before.before.before.before.before.before.before.before.before.before.before.before in
-    omega (arith, l.loop.invariant.1.early, l.loop.invariant.1.within, l.loop.invariant.0.tabled.small)
+    let l = c in
+    omega (arith, l.loop-at.invariant.1.early, l.loop-at.invariant.1.within, l.loop-at.invariant.0.tabled.small)
 
-loop-less : tie.Need-loop-smaller invariant-loop decreases-loop
-loop-less c = omega (arith, c.next_record.ensures, c.before.before.before.before.before.before.before.before.before.before.before.before.before.before.before.before.before.before.before.before.loop-test.true)
+loop-less : tie.Need-loop-at-smaller invariant-loop decreases-loop
+loop-less c = omega (arith, c.next_record-at.ensures, c.loop-at-test.true)
 
-loop-again : tie.Need-loop-preserved invariant-loop decreases-loop
+loop-again : tie.Need-loop-at-preserved invariant-loop decreases-loop
 loop-again c =
-    let l = c.before.before.before.before.before.before.before.before.before.before.before.before.before.before.before.before.before.before.before.before.before in
-    let k = c.before.before.before.before.before.before.before.before.before.keep_record in (
+    let l = c in
+    let k = c.keep_record-n in (
       k.ensures.ready,
-      going_on l.loop.invariant.1 c.before.before.before.before.before.before.before.before.before.before.before.before.before.before.before.before.before.before.before.before.loop-test.true c.before.before.before.before.before.before.before.before.before.before.before.before.before.before.before.record_number.ensures c.before.before.before.before.before.before.before.before.before.before.before.before.before.before.if1.false c.next_record.ensures k.ensures.tables,
-      same_on l.loop.invariant.2 k.auto.1.1.1.1.0 k.auto.1.1.1.1.1.0 k.auto.1.1.1.1.1.1.0 k.auto.1.1.1.1.1.1.1.0,
+      going_on l.loop-at.invariant.1 c.loop-at-test.true c.record_number-number.ensures c.if-number-gt0.false c.next_record-at.ensures k.ensures.tables,
+      same_on l.loop-at.invariant.2 k.auto.1.1.1.1.0 k.auto.1.1.1.1.1.0 k.auto.1.1.1.1.1.1.0 k.auto.1.1.1.1.1.1.1.0,
     )
 
-same-length-5 : tie.Need-same-length-5 invariant-loop decreases-loop
-same-length-5 c = c.before.loop.invariant.2.places
+same-length-5 : tie.Need-shape_of-places invariant-loop decreases-loop
+same-length-5 c = c.loop-at.invariant.2.places
 
-same-length-6 : tie.Need-same-length-6 invariant-loop decreases-loop
-same-length-6 c = c.before.loop.invariant.2.lengths
+same-length-6 : tie.Need-shape_of-lengths invariant-loop decreases-loop
+same-length-6 c = c.loop-at.invariant.2.lengths
 
-same-length-7 : tie.Need-same-length-7 invariant-loop decreases-loop
-same-length-7 c = c.before.loop.invariant.2.heads
+same-length-7 : tie.Need-shape_of-heads invariant-loop decreases-loop
+same-length-7 c = c.loop-at.invariant.2.heads
 
-same-length-8 : tie.Need-same-length-8 invariant-loop decreases-loop
-same-length-8 c = c.before.loop.invariant.2.chain
+same-length-8 : tie.Need-shape_of-chain invariant-loop decreases-loop
+same-length-8 c = c.loop-at.invariant.2.chain
 
-returns-2 : tie.Need-returns-2 invariant-loop decreases-loop
+returns-2 : tie.Need-returns invariant-loop decreases-loop
 returns-2 c =
-    let l = c.before in
-    loads_accepted _ _ _ _ _ _ l.loop.n l.loop.invariant.0 (going_ends l.loop.invariant.1 c.loop-test.false)
+    let l = c in
+    loads_accepted _ _ _ _ _ _ l.loop-at.n l.loop-at.invariant.0 (going_ends l.loop-at.invariant.1 c.loop-at-test.false)
 
-pub load-records-spec : {M : Type 1} → statement M
-load-records-spec =
+pub load_records_spec : {M : Type 1} → statement M
+load_records_spec =
     tie.close
     (tie.spec
     invariant-loop

@@ -7,14 +7,14 @@ use borrow.Author.Rules.{rules}
 use Rattle.load.proofs.name_length.Statement.{statement}
 use Rattle.load.proofs.name_length.Tie as tie
 
-slice-aggregate-length-of : tie.Need-slice-aggregate-length-of
+slice-aggregate-length-of : tie.Need-slice_bounds-length_of-end
 slice-aggregate-length-of c = sym (length-take-le _ _ (omega arith))
 
-length-of-requires : tie.Need-length-of-requires
+length-of-requires : tie.Need-length_of-requires
 length-of-requires c κs = search rules
 
 returns : tie.Need-returns
 returns c = search rules
 
-pub name-length-spec : {M : Type 1} → statement M
-name-length-spec = tie.close (tie.spec slice-aggregate-length-of length-of-requires returns)
+pub name_length_spec : {M : Type 1} → statement M
+name_length_spec = tie.close (tie.spec slice-aggregate-length-of length-of-requires returns)

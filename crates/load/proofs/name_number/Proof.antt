@@ -8,54 +8,54 @@ use borrow.Author.Rules.{rules}
 use Rattle.load.proofs.name_number.Statement.{statement}
 use Rattle.load.proofs.name_number.Tie as tie
 
-add-past : tie.Need-overflow-add-past
+add-past : tie.Need-overflow_add-past
 add-past c = search rules
 
-find-name-requires : tie.Need-find-name-requires
+find-name-requires : tie.Need-find_name-requires
 find-name-requires c κs =
-    let s = c.before.before.before.before.before in
+    let s = c in
     (s.requires.0, names_ready s.requires.1)
 
-returns : tie.Need-returns
+returns : tie.Need-returns-then-find_name-n
 returns c =
-    let s = c.before.before.before.before.before.before.before.before in
+    let s = c in
     let a = s.args in
-    name_again _ a.file.now a.at a.len a.n a.places.now a.lengths.now a.heads.now a.chain.now s.requires.1 s.requires.0 c.before.before.find_name.ensures c.if1.true
+    name_again _ a.file.now a.at a.len a.n a.places.now a.lengths.now a.heads.now a.chain.now s.requires.1 s.requires.0 c.find_name.ensures c.if-find_name-n.true
 
-returns-2 : tie.Need-returns-2
+returns-2 : tie.Need-returns-then-c-n
 returns-2 c =
-    let s = c.before.before.before.before.before.before.before.before.before.before.before in
+    let s = c in
     let a = s.args in
-    name_over _ a.file.now a.at a.len a.n a.places.now a.lengths.now a.heads.now a.chain.now s.requires.1 s.requires.0 c.before.before.before.before.before.find_name.ensures c.before.before.before.if1.false c.if2.true
+    name_over _ a.file.now a.at a.len a.n a.places.now a.lengths.now a.heads.now a.chain.now s.requires.1 s.requires.0 c.find_name.ensures c.if-find_name-n.false c.if-c-n.true
 
-sub-bad-name : tie.Need-overflow-sub-bad-name
+sub-bad-name : tie.Need-slice_bounds-bad_name-count
 sub-bad-name c = search rules
 
-part-bad-name-start : tie.Need-slice-bounds-bad-name-start
+part-bad-name-start : tie.Need-slice_bounds-bad_name-start
 part-bad-name-start c = search rules
 
-part-bad-name-end : tie.Need-slice-bounds-bad-name-end
+part-bad-name-end : tie.Need-slice_bounds-bad_name-end
 part-bad-name-end c = search rules
 
-bad-name-requires : tie.Need-bad-name-requires
+bad-name-requires : tie.Need-bad_name-requires
 bad-name-requires c κs = search rules
 
-returns-3 : tie.Need-returns-3
+returns-3 : tie.Need-returns-then-bad_name
 returns-3 c =
-    let s = c.before.before.before.before.before.before.before.before.before.before.before.before.before.before in
+    let s = c in
     let a = s.args in
-    name_faulty _ a.file.now a.at a.len a.n a.places.now a.lengths.now a.heads.now a.chain.now s.requires.1 s.requires.0 c.before.before.before.before.before.before.before.before.find_name.ensures c.before.before.before.before.before.before.if1.false c.before.before.before.if2.false
-    (c.before.bad_name.ensures ∙ ap name_bad (part_is a.file.now {a = a.at} {b = a.len} a.at a.len refl refl)) c.if3.true
+    name_faulty _ a.file.now a.at a.len a.n a.places.now a.lengths.now a.heads.now a.chain.now s.requires.1 s.requires.0 c.find_name.ensures c.if-find_name-n.false c.if-c-n.false
+    (c.bad_name.ensures ∙ ap name_bad (part_is a.file.now {a = a.at} {b = a.len} a.at a.len refl refl)) c.if-bad_name.true
 
-returns-4 : tie.Need-returns-4
+returns-4 : tie.Need-returns
 returns-4 c =
-    let s = c.before.before.before.before.before.before.before.before.before.before.before.before.before.before in
+    let s = c in
     let a = s.args in
-    name_passes _ a.file.now a.at a.len a.n a.places.now a.lengths.now a.heads.now a.chain.now s.requires.1 s.requires.0 c.before.before.before.before.before.before.before.before.find_name.ensures c.before.before.before.before.before.before.if1.false c.before.before.before.if2.false
-    (c.before.bad_name.ensures ∙ ap name_bad (part_is a.file.now {a = a.at} {b = a.len} a.at a.len refl refl)) c.if3.false
+    name_passes _ a.file.now a.at a.len a.n a.places.now a.lengths.now a.heads.now a.chain.now s.requires.1 s.requires.0 c.find_name.ensures c.if-find_name-n.false c.if-c-n.false
+    (c.bad_name.ensures ∙ ap name_bad (part_is a.file.now {a = a.at} {b = a.len} a.at a.len refl refl)) c.if-bad_name.false
 
-pub name-number-spec : {M : Type 1} → statement M
-name-number-spec =
+pub name_number_spec : {M : Type 1} → statement M
+name_number_spec =
     tie.close
     (tie.spec
     add-past

@@ -7,47 +7,47 @@ use borrow.Author.Rules.{rules}
 use Rattle.load.proofs.record_number.Statement.{statement}
 use Rattle.load.proofs.record_number.Tie as tie
 
-add_start : tie.Need-overflow-add-start
+add_start : tie.Need-overflow_add-start
 add_start c = search rules
 
-returns : tie.Need-returns
+returns : tie.Need-returns-then-file-start
 returns c =
-    let s = c.before.before.before.before.before.before in
+    let s = c in
     let a = s.args in
-    head_cut a.c a.file.now a.at (tables_in a.n a.places.now a.lengths.now) c.if1.true
+    head_cut a.c a.file.now a.at (tables_in a.n a.places.now a.lengths.now) c.if-file-start.true
 
-get32-requires : tie.Need-get32-requires
+get32-requires : tie.Need-get32-len-requires
 get32-requires c κs = search rules
 
-cast-len : tie.Need-overflow-cast-len
+cast-len : tie.Need-overflow_cast-len
 cast-len c = search rules
 
-add-if2 : tie.Need-overflow-add-if2
+add-if2 : tie.Need-overflow_add-start-2
 add-if2 c = search rules
 
-returns-2 : tie.Need-returns-2
+returns-2 : tie.Need-returns-then-file-start-2
 returns-2 c =
-    let s = c.before.before.before.before.before.before.before.before in
+    let s = c in
     let a = s.args in
-    payload_cut a.c a.file.now a.at (tables_in a.n a.places.now a.lengths.now) c.before.before.if1.false c.before.get32.ensures c.if2.true
+    payload_cut a.c a.file.now a.at (tables_in a.n a.places.now a.lengths.now) c.if-file-start.false c.get32-len.ensures c.if-file-start-2.true
 
-add-get16 : tie.Need-overflow-add-get16
+add-get16 : tie.Need-overflow_add-at
 add-get16 c = search rules
 
 get16-requires : tie.Need-get16-requires
 get16-requires c κs = search rules
 
-kind-number-requires : tie.Need-kind-number-requires
+kind-number-requires : tie.Need-kind_number-requires
 kind-number-requires c κs = search rules
 
-returns-3 : tie.Need-returns-3
+returns-3 : tie.Need-returns
 returns-3 c =
-    let s = c.before.before.before.before.before.before.before.before.before.before in
+    let s = c in
     let a = s.args in
-    c.kind_number.ensures ∙ payload_whole a.c a.file.now a.at (tables_in a.n a.places.now a.lengths.now) c.before.before.before.before.if1.false c.before.before.before.get32.ensures c.before.get16.ensures c.before.before.if2.false
+    c.kind_number.ensures ∙ payload_whole a.c a.file.now a.at (tables_in a.n a.places.now a.lengths.now) c.if-file-start.false c.get32-len.ensures c.get16.ensures c.if-file-start-2.false
 
-pub record-number-spec : {M : Type 1} → statement M
-record-number-spec =
+pub record_number_spec : {M : Type 1} → statement M
+record_number_spec =
     tie.close
     (tie.spec
     add_start

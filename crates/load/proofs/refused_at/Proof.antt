@@ -7,11 +7,11 @@ use Rattle.load.proofs.refused_at.Tie as tie
 refusal-requires : tie.Need-refusal-requires
 refusal-requires c κs = search rules
 
-no-counts-requires : tie.Need-no-counts-requires
+no-counts-requires : tie.Need-no_counts-requires
 no-counts-requires c κs = search rules
 
 returns : tie.Need-returns
-returns c = λ z. record { answer = c.before.refusal.ensures z; counts = c.no_counts.ensures z }
+returns c = λ z. record { answer = c.refusal.ensures z; counts = c.no_counts.ensures z }
 
-pub refused-at-spec : {M : Type 1} → statement M
-refused-at-spec = tie.close (tie.spec refusal-requires no-counts-requires returns)
+pub refused_at_spec : {M : Type 1} → statement M
+refused_at_spec = tie.close (tie.spec refusal-requires no-counts-requires returns)

@@ -5,24 +5,24 @@ use borrow.Author.Rules.{rules}
 use Rattle.load.proofs.section_length_wrong.Statement.{statement}
 use Rattle.load.proofs.section_length_wrong.Tie as tie
 
-returns : tie.Need-returns
-returns c = length_short _ _ _ c.if1.true
+returns : tie.Need-returns-then-len-lt15
+returns c = length_short _ _ _ c.if-len-lt15.true
 
-read-section-requires : tie.Need-read-section-requires
+read-section-requires : tie.Need-read_section-s-requires
 read-section-requires c κs = search rules
 
-returns-2 : tie.Need-returns-2
-returns-2 c = length_bare _ _ _ c.before.before.before.if1.false c.before.before.read_section.ensures c.if2.true
+returns-2 : tie.Need-returns-then-s-eq3
+returns-2 c = length_bare _ _ _ c.if-len-lt15.false c.read_section-s.ensures c.if-s-eq3.true
 
-cast-result : tie.Need-overflow-cast-result
+cast-result : tie.Need-overflow_cast-result
 cast-result c = search rules
 
-add-result : tie.Need-overflow-add-result
+add-result : tie.Need-overflow_add-result
 add-result c = search rules
 
-returns-3 : tie.Need-returns-3
-returns-3 c = length-full _ _ _ c.before.before.before.before.if1.false c.before.before.before.read_section.ensures c.before.if2.false
+returns-3 : tie.Need-returns
+returns-3 c = length-full _ _ _ c.if-len-lt15.false c.read_section-s.ensures c.if-s-eq3.false
 
-pub section-length-wrong-spec : {M : Type 1} → statement M
-section-length-wrong-spec =
+pub section_length_wrong_spec : {M : Type 1} → statement M
+section_length_wrong_spec =
     tie.close (tie.spec returns read-section-requires returns-2 cast-result add-result returns-3)

@@ -5,46 +5,46 @@ use borrow.Author.Rules.{rules}
 use Rattle.load.proofs.split_number.Statement.{statement}
 use Rattle.load.proofs.split_number.Tie as tie
 
-returns : tie.Need-returns
+returns : tie.Need-returns-then-len-ne-PARTIAL_BYTES
 returns c =
-    let s = c.before.before.before.before in
+    let s = c in
     let a = s.args in
-    split_cut _ a.file.now a.at a.len a.n a.places.now a.lengths.now s.requires.1 c.if1.true
+    split_cut _ a.file.now a.at a.len a.n a.places.now a.lengths.now s.requires.1 c.if-len-ne-PARTIAL_BYTES.true
 
-returns-2 : tie.Need-returns-2
+returns-2 : tie.Need-returns-then-c-n
 returns-2 c =
-    let s = c.before.before.before.before.before.before.before in
+    let s = c in
     let a = s.args in
-    split_over _ a.file.now a.at a.len a.n a.places.now a.lengths.now s.requires.1 c.before.before.before.if1.false c.if2.true
+    split_over _ a.file.now a.at a.len a.n a.places.now a.lengths.now s.requires.1 c.if-len-ne-PARTIAL_BYTES.false c.if-c-n.true
 
-read-partial-requires : tie.Need-read-partial-requires
+read-partial-requires : tie.Need-read_partial-s-requires
 read-partial-requires c κs = search rules
 
-name-length-requires : tie.Need-name-length-requires
+name-length-requires : tie.Need-name_length-unit_len-requires
 name-length-requires c κs = search rules
 
-name-length-requires-2 : tie.Need-name-length-requires-2
+name-length-requires-2 : tie.Need-name_length-rename_len-requires
 name-length-requires-2 c κs = search rules
 
-split-bad-requires : tie.Need-split-bad-requires
+split-bad-requires : tie.Need-split_bad-requires
 split-bad-requires c κs = search rules
 
-returns-3 : tie.Need-returns-3
+returns-3 : tie.Need-returns-then-split_bad
 returns-3 c =
-    let s = c.before.before.before.before.before.before.before.before.before.before.before.before in
+    let s = c in
     let a = s.args in
-    split_faulty _ a.file.now a.at a.len a.n a.places.now a.lengths.now s.requires.1 c.before.before.before.before.before.before.before.before.if1.false c.before.before.before.before.before.if2.false c.before.before.before.before.read_partial.ensures
-    c.before.before.before.name_length.ensures c.before.before.name-length2.ensures c.before.split_bad.ensures c.if3.true
+    split_faulty _ a.file.now a.at a.len a.n a.places.now a.lengths.now s.requires.1 c.if-len-ne-PARTIAL_BYTES.false c.if-c-n.false c.read_partial-s.ensures
+    c.name_length-unit_len.ensures c.name_length-rename_len.ensures c.split_bad.ensures c.if-split_bad.true
 
-returns-4 : tie.Need-returns-4
+returns-4 : tie.Need-returns
 returns-4 c =
-    let s = c.before.before.before.before.before.before.before.before.before.before.before.before in
+    let s = c in
     let a = s.args in
-    split_passes _ a.file.now a.at a.len a.n a.places.now a.lengths.now s.requires.1 c.before.before.before.before.before.before.before.before.if1.false c.before.before.before.before.before.if2.false c.before.before.before.before.read_partial.ensures
-    c.before.before.before.name_length.ensures c.before.before.name-length2.ensures c.before.split_bad.ensures c.if3.false
+    split_passes _ a.file.now a.at a.len a.n a.places.now a.lengths.now s.requires.1 c.if-len-ne-PARTIAL_BYTES.false c.if-c-n.false c.read_partial-s.ensures
+    c.name_length-unit_len.ensures c.name_length-rename_len.ensures c.split_bad.ensures c.if-split_bad.false
 
-pub split-number-spec : {M : Type 1} → statement M
-split-number-spec =
+pub split_number_spec : {M : Type 1} → statement M
+split_number_spec =
     tie.close
     (tie.spec
     returns

@@ -5,43 +5,43 @@ use borrow.Author.Rules.{rules}
 use Rattle.load.proofs.unit_number.Statement.{statement}
 use Rattle.load.proofs.unit_number.Tie as tie
 
-returns : tie.Need-returns
+returns : tie.Need-returns-then-len-ne8
 returns c =
-    let s = c.before.before.before.before in
+    let s = c in
     let a = s.args in
-    unit_cut _ a.file.now a.at a.len a.n a.places.now a.lengths.now s.requires.1 c.if1.true
+    unit_cut _ a.file.now a.at a.len a.n a.places.now a.lengths.now s.requires.1 c.if-len-ne8.true
 
-returns-2 : tie.Need-returns-2
+returns-2 : tie.Need-returns-then-c-n
 returns-2 c =
-    let s = c.before.before.before.before.before.before.before in
+    let s = c in
     let a = s.args in
-    unit_over _ a.file.now a.at a.len a.n a.places.now a.lengths.now s.requires.1 c.before.before.before.if1.false c.if2.true
+    unit_over _ a.file.now a.at a.len a.n a.places.now a.lengths.now s.requires.1 c.if-len-ne8.false c.if-c-n.true
 
-read-unit-requires : tie.Need-read-unit-requires
+read-unit-requires : tie.Need-read_unit-u-requires
 read-unit-requires c κs = search rules
 
-name-length-requires : tie.Need-name-length-requires
+name-length-requires : tie.Need-name_length-requires
 name-length-requires c κs = search rules
 
-unit-bad-requires : tie.Need-unit-bad-requires
+unit-bad-requires : tie.Need-unit_bad-requires
 unit-bad-requires c κs = search rules
 
-returns-3 : tie.Need-returns-3
+returns-3 : tie.Need-returns-then-unit_bad
 returns-3 c =
-    let s = c.before.before.before.before.before.before.before.before.before.before.before in
+    let s = c in
     let a = s.args in
-    unit_faulty _ a.file.now a.at a.len a.n a.places.now a.lengths.now s.requires.1 c.before.before.before.before.before.before.before.if1.false c.before.before.before.before.if2.false c.before.before.before.read_unit.ensures
-    c.before.before.name_length.ensures c.before.unit_bad.ensures c.if3.true
+    unit_faulty _ a.file.now a.at a.len a.n a.places.now a.lengths.now s.requires.1 c.if-len-ne8.false c.if-c-n.false c.read_unit-u.ensures
+    c.name_length.ensures c.unit_bad.ensures c.if-unit_bad.true
 
-returns-4 : tie.Need-returns-4
+returns-4 : tie.Need-returns
 returns-4 c =
-    let s = c.before.before.before.before.before.before.before.before.before.before.before in
+    let s = c in
     let a = s.args in
-    unit_passes _ a.file.now a.at a.len a.n a.places.now a.lengths.now s.requires.1 c.before.before.before.before.before.before.before.if1.false c.before.before.before.before.if2.false c.before.before.before.read_unit.ensures
-    c.before.before.name_length.ensures c.before.unit_bad.ensures c.if3.false
+    unit_passes _ a.file.now a.at a.len a.n a.places.now a.lengths.now s.requires.1 c.if-len-ne8.false c.if-c-n.false c.read_unit-u.ensures
+    c.name_length.ensures c.unit_bad.ensures c.if-unit_bad.false
 
-pub unit-number-spec : {M : Type 1} → statement M
-unit-number-spec =
+pub unit_number_spec : {M : Type 1} → statement M
+unit_number_spec =
     tie.close
     (tie.spec
     returns

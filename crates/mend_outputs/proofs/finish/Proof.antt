@@ -5,41 +5,41 @@ use borrow.Author.Rules.{rules}
 use Rattle.mend_outputs.proofs.finish.Statement.{statement}
 use Rattle.mend_outputs.proofs.finish.Tie as tie
 
-enum_told : tie.Need-enum-told
+enum_told : tie.Need-enum_told-1
 enum_told c = search rules
 
-clear-from-requires : tie.Need-clear-from-requires
+clear-from-requires : tie.Need-clear_from-requires
 clear-from-requires c κs = search rules
 
-clear-from-requires-2 : tie.Need-clear-from-requires-2
+clear-from-requires-2 : tie.Need-clear_from-requires-in-Refused
 clear-from-requires-2 c κs = search rules
 
-clear-from-requires-3 : tie.Need-clear-from-requires-3
+clear-from-requires-3 : tie.Need-clear_from-requires-in-Refused-2
 clear-from-requires-3 c κs = search rules
 
-word-of-requires : tie.Need-word-of-requires
+word-of-requires : tie.Need-word_of-requires
 word-of-requires c κs = search rules
 
-same_length : tie.Need-same-length
+same_length : tie.Need-shape_of-out-in-Refused
 same_length c = search rules
 
-same-length-2 : tie.Need-same-length-2
+same-length-2 : tie.Need-shape_of-lines-in-Refused
 same-length-2 c = search rules
 
-same-length-3 : tie.Need-same-length-3
+same-length-3 : tie.Need-shape_of-counts-in-Refused
 same-length-3 c = search rules
 
-returns : tie.Need-returns
-returns c = finishes_refused c.word_of.ensures c.before.before.before.before.before.before.before.before.before.before.before.before.before.enum_told.given.1 c.before.before.before.before.before.before.before.before.before.before.before.clear_from.ensures c.before.before.before.before.before.before.before.clear-from2.ensures c.before.before.before.clear-from3.ensures
+returns : tie.Need-returns-in-Refused
+returns c = finishes_refused c.word_of.ensures c.in-Refused.is c.clear_from.ensures c.clear_from-in-Refused.ensures c.clear_from-in-Refused-2.ensures
 
-enum-told-2 : tie.Need-enum-told-2
+enum-told-2 : tie.Need-enum_told-in_default
 enum-told-2 c = search rules
 
-word-of-requires-2 : tie.Need-word-of-requires-2
+word-of-requires-2 : tie.Need-word_of-requires-2
 word-of-requires-2 c κs = search rules
 
-returns-2 : tie.Need-returns-2
-returns-2 c = finishes_accepted c.word-of2.ensures c.before.enum-told2.given.1
+returns-2 : tie.Need-returns
+returns-2 c = finishes_accepted c.word_of-2.ensures c.in_default.is
 
 pub finish_spec : {M : Type 1} → statement M
 finish_spec =

@@ -30,180 +30,180 @@ abbrev decreases-loop : tie.decreases-loop
 decreases-loop starts₀ ends₀ units₀ rest₀ n cap heads head_places k₀ s₀ starts ends units rest k s = k
 
 -- what the round has decided, at its arm
-pushes : (c : tie.After-enum-told2 invariant-loop decreases-loop)
-    → let l = c.before.before.before.before.before.before.before.loop in
-    let a = c.before.before.before.before.before.before.before.before.before.before.before.before.before.before.args in
+pushes : (c : tie.In-Push invariant-loop decreases-loop)
+    → let l = c.loop-number in
+    let a = c.args in
     decide (given (sections_in a.heads.now a.head_places.now) a.cap) (rows (columns l.starts l.ends l.units l.rest) l.k) l.s ≡ accepted push
-pushes c = sym c.before.before.decide_round.ensures.0 ∙ ap decided c.enum-told2.given.1
+pushes c = sym c.decide_round-d.ensures.0 ∙ ap decided c.in-Push.is
 
-pushes-below : (c : tie.After-enum-told2 invariant-loop decreases-loop) → c.before.before.before.before.before.before.before.loop.k < c.before.before.before.before.before.before.before.before.before.before.before.before.before.before.args.cap
-pushes-below c = let l = c.before.before.before.before.before.before.before.loop in push_below _ (columns l.starts l.ends l.units l.rest) l.k l.s (pushes c)
+pushes-below : (c : tie.In-Push invariant-loop decreases-loop) → c.loop-number.k < c.args.cap
+pushes-below c = let l = c.loop-number in push_below _ (columns l.starts l.ends l.units l.rest) l.k l.s (pushes c)
 
-joins : (c : tie.After-d2 invariant-loop decreases-loop)
-    → let l = c.before.before.before.before.before.before.before.loop in
-    let a = c.before.before.before.before.before.before.before.before.before.before.before.before.before.before.args in
+joins : (c : tie.In-Join-2 invariant-loop decreases-loop)
+    → let l = c.loop-number in
+    let a = c.args in
     decide (given (sections_in a.heads.now a.head_places.now) a.cap) (rows (columns l.starts l.ends l.units l.rest) l.k) l.s
-    ≡ accepted (join c.d2.given.0.0)
-joins c = sym c.before.before.decide_round.ensures.0 ∙ ap decided c.d2.given.1
+    ≡ accepted (join c.in-Join.joint)
+joins c = sym c.decide_round-d.ensures.0 ∙ ap decided c.in-Join.is
 
 -- .. and the joint split that it hands on
-joint-good : (c : tie.After-d2 invariant-loop decreases-loop) → Good c.d2.given.0.0.alignment
-joint-good c = handed _ _ c.d2.given.1 c.before.before.decide_round.ensures.1
+joint-good : (c : tie.In-Join-2 invariant-loop decreases-loop) → Good c.in-Join.joint.alignment
+joint-good c = handed _ _ c.in-Join.is c.decide_round-d.ensures.1
 
 -- the join at once leaves the columns as long as they were
-still-long : (c : tie.After-join-at-once invariant-loop decreases-loop)
-    → let m = c.join_at_once in
-    let a = c.before.before.before.before.before.before.before.before.before.before.before.before.before.before.before.before.before.before.before.before.args in
+still-long : (c : tie.After-join_at_once-made invariant-loop decreases-loop)
+    → let m = c.join_at_once-made in
+    let a = c.args in
     Same (columns m.new.0 m.new.1.0 m.new.1.1.0 m.new.1.1.1.0) (columns a.starts.now a.ends.now a.units.now a.rest.now)
 still-long c =
-    let m = c.join_at_once in
-    let q = c.before.before.before.before.before.before.before.before.before.before.before.before.before.loop.invariant.1 in
+    let m = c.join_at_once-made in
+    let q = c.loop-number.invariant.1 in
     record { starts = m.auto.0 ∙ q.starts; ends = m.auto.1.0 ∙ q.ends; units = m.auto.1.1.0 ∙ q.units; rest = m.auto.1.1.1.0 ∙ q.rest }
 
 -- where it made nothing, the join is of the rows as they were
-joined-rows : (c : tie.After-join invariant-loop decreases-loop)
-    → let l = c.before.before.before.before.before.before.before.before.before.before.before.before.before.before.before.before.before.before.before.before.before.before.before.before.before.before.before.loop in
-    let j = c.join in
-    rows (columns j.new.0 j.new.1.0 j.new.1.1.0 j.new.1.1.1.0) j.result ≡ joined_by c.before.before.before.before.before.before.before.before.before.before.before.before.before.before.before.before.before.before.before.before.d2.given.0.0 (rows (columns l.starts l.ends l.units l.rest) l.k)
+joined-rows : (c : tie.After-join-k invariant-loop decreases-loop)
+    → let l = c.loop-number in
+    let j = c.join-k in
+    rows (columns j.new.0 j.new.1.0 j.new.1.1.0 j.new.1.1.1.0) j.result ≡ joined_by c.in-Join.joint (rows (columns l.starts l.ends l.units l.rest) l.k)
 joined-rows c =
-    let l = c.before.before.before.before.before.before.before.before.before.before.before.before.before.before.before.before.before.before.before.before.before.before.before.before.before.before.before.loop in
-    let m = c.before.before.before.before.before.before.before.before.before.before.before.before.before.before.join_at_once in
-    let none : m.result ≡ 0 = omega (arith, c.before.before.before.before.before.if1.false) in
+    let l = c.loop-number in
+    let m = c.join_at_once-made in
+    let none : m.result ≡ 0 = omega (arith, c.if-made-gt0.false) in
     let q = m.ensures.0 none in
-    c.join.ensures.0
-    ∙ (λ i. joined_by c.before.before.before.before.before.before.before.before.before.before.before.before.before.before.before.before.before.before.before.before.d2.given.0.0 (rows (columns (q.0 i) (q.1 i) (q.2 i) (q.3 i)) l.k))
+    c.join-k.ensures.0
+    ∙ (λ i. joined_by c.in-Join.joint (rows (columns (q.0 i) (q.1 i) (q.2 i) (q.3 i)) l.k))
 
-loop-holds : tie.Need-loop-init invariant-loop decreases-loop
-loop-holds c = let q = c.before.before.before.before.before.before.requires in (q.1, same _, q.3, refl)
+loop-holds : tie.Need-loop-number-init invariant-loop decreases-loop
+loop-holds c = let q = c.requires in (q.1, same _, q.3, refl)
 
-decide-round-requires : tie.Need-decide-round-requires invariant-loop decreases-loop
+decide-round-requires : tie.Need-decide_round-d-requires invariant-loop decreases-loop
 decide-round-requires c κs =
-    let l = c.before.before.before.before.loop in
-    let q = c.before.before.before.before.before.before.before.before.before.before.before.requires in
+    let l = c.loop-number in
+    let q = c.requires in
     (long_same _ _ l.k _ l.invariant.1 l.invariant.0 q.0, q.2, l.invariant.2)
 
-enum-known-d : tie.Need-enum-known-d invariant-loop decreases-loop
+enum-known-d : tie.Need-enum_known-d invariant-loop decreases-loop
 enum-known-d c = search rules
 
-same_length : tie.Need-same-length invariant-loop decreases-loop
-same_length c = c.before.before.before.before.before.before.before.before.loop.invariant.1.starts
+same_length : tie.Need-shape_of-starts-in-Refuse invariant-loop decreases-loop
+same_length c = c.loop-number.invariant.1.starts
 
-same-length-2 : tie.Need-same-length-2 invariant-loop decreases-loop
-same-length-2 c = c.before.before.before.before.before.before.before.before.loop.invariant.1.ends
+same-length-2 : tie.Need-shape_of-ends-in-Refuse invariant-loop decreases-loop
+same-length-2 c = c.loop-number.invariant.1.ends
 
-same-length-3 : tie.Need-same-length-3 invariant-loop decreases-loop
-same-length-3 c = c.before.before.before.before.before.before.before.before.loop.invariant.1.units
+same-length-3 : tie.Need-shape_of-units-in-Refuse invariant-loop decreases-loop
+same-length-3 c = c.loop-number.invariant.1.units
 
-same-length-4 : tie.Need-same-length-4 invariant-loop decreases-loop
-same-length-4 c = c.before.before.before.before.before.before.before.before.loop.invariant.1.rest
+same-length-4 : tie.Need-shape_of-rest-in-Refuse invariant-loop decreases-loop
+same-length-4 c = c.loop-number.invariant.1.rest
 
-returns : tie.Need-returns invariant-loop decreases-loop
+returns : tie.Need-returns-in-Refuse invariant-loop decreases-loop
 returns c =
-    let l = c.before.before.before.before.before.before.before.before.loop in
-    let e = sym c.before.before.before.decide_round.ensures.0 ∙ ap decided c.before.d.given.1 in
+    let l = c.loop-number in
+    let e = sym c.decide_round-d.ensures.0 ∙ ap decided c.in-Refuse.is in
     (sym (round_refused _ _ l.s _ _ _ e) ∙ l.invariant.3, omega arith)
 
-enum_told : tie.Need-enum-told invariant-loop decreases-loop
+enum_told : tie.Need-enum_told-1 invariant-loop decreases-loop
 enum_told c = search rules
 
-same-length-5 : tie.Need-same-length-5 invariant-loop decreases-loop
-same-length-5 c = c.before.before.before.before.before.before.before.loop.invariant.1.starts
+same-length-5 : tie.Need-shape_of-starts-in-Keep invariant-loop decreases-loop
+same-length-5 c = c.loop-number.invariant.1.starts
 
-same-length-6 : tie.Need-same-length-6 invariant-loop decreases-loop
-same-length-6 c = c.before.before.before.before.before.before.before.loop.invariant.1.ends
+same-length-6 : tie.Need-shape_of-ends-in-Keep invariant-loop decreases-loop
+same-length-6 c = c.loop-number.invariant.1.ends
 
-same-length-7 : tie.Need-same-length-7 invariant-loop decreases-loop
-same-length-7 c = c.before.before.before.before.before.before.before.loop.invariant.1.units
+same-length-7 : tie.Need-shape_of-units-in-Keep invariant-loop decreases-loop
+same-length-7 c = c.loop-number.invariant.1.units
 
-same-length-8 : tie.Need-same-length-8 invariant-loop decreases-loop
-same-length-8 c = c.before.before.before.before.before.before.before.loop.invariant.1.rest
+same-length-8 : tie.Need-shape_of-rest-in-Keep invariant-loop decreases-loop
+same-length-8 c = c.loop-number.invariant.1.rest
 
-returns-2 : tie.Need-returns-2 invariant-loop decreases-loop
+returns-2 : tie.Need-returns-in-Keep invariant-loop decreases-loop
 returns-2 c =
-    let l = c.before.before.before.before.before.before.before.loop in
-    let e = sym c.before.before.decide_round.ensures.0 ∙ ap decided c.enum_told.given.1 in
+    let l = c.loop-number in
+    let e = sym c.decide_round-d.ensures.0 ∙ ap decided c.in-Keep.is in
     (sym (round_keep _ _ l.s e) ∙ l.invariant.3, l.invariant.0)
 
-enum-told-2 : tie.Need-enum-told-2 invariant-loop decreases-loop
+enum-told-2 : tie.Need-enum_told-in-Push invariant-loop decreases-loop
 enum-told-2 c = search rules
 
 push-requires : tie.Need-push-requires invariant-loop decreases-loop
 push-requires c κs =
-    let l = c.before.before.before.before.before.before.before.before.before.before.before.loop in
-    let q = c.before.before.before.before.before.before.before.before.before.before.before.before.before.before.before.before.before.before.requires in
+    let l = c.loop-number in
+    let q = c.requires in
     let k = pushes-below c.before.before.before.before in
     (long_same _ _ (l.k + 1) _ l.invariant.1 (omega (arith, k)) q.0, l.invariant.2)
 
-add-t35 : tie.Need-overflow-add-t35 invariant-loop decreases-loop
+add-t35 : tie.Need-overflow_add-result invariant-loop decreases-loop
 add-t35 c =
     let k = pushes-below c.before.before.before.before.before.before.before.before.before.before.before.before.before in
-    omega (arith, k, c.before.before.before.before.before.before.before.before.before.before.before.before.before.before.before.before.before.before.before.before.before.before.before.before.before.before.before.requires.0.starts)
+    omega (arith, k, c.requires.0.starts)
 
-same-length-9 : tie.Need-same-length-9 invariant-loop decreases-loop
-same-length-9 c = c.before.before.before.before.before.before.before.before.push.auto.0 ∙ c.before.before.before.before.before.before.before.before.before.before.before.before.before.before.before.before.before.before.before.before.loop.invariant.1.starts
+same-length-9 : tie.Need-shape_of-starts-in-Push invariant-loop decreases-loop
+same-length-9 c = c.push.auto.starts ∙ c.loop-number.invariant.1.starts
 
-same-length-10 : tie.Need-same-length-10 invariant-loop decreases-loop
-same-length-10 c = c.before.before.before.before.before.before.before.before.push.auto.1.0 ∙ c.before.before.before.before.before.before.before.before.before.before.before.before.before.before.before.before.before.before.before.before.loop.invariant.1.ends
+same-length-10 : tie.Need-shape_of-ends-in-Push invariant-loop decreases-loop
+same-length-10 c = c.push.auto.ends ∙ c.loop-number.invariant.1.ends
 
-same-length-11 : tie.Need-same-length-11 invariant-loop decreases-loop
-same-length-11 c = c.before.before.before.before.before.before.before.before.push.auto.1.1.0 ∙ c.before.before.before.before.before.before.before.before.before.before.before.before.before.before.before.before.before.before.before.before.loop.invariant.1.units
+same-length-11 : tie.Need-shape_of-units-in-Push invariant-loop decreases-loop
+same-length-11 c = c.push.auto.units ∙ c.loop-number.invariant.1.units
 
-same-length-12 : tie.Need-same-length-12 invariant-loop decreases-loop
-same-length-12 c = c.before.before.before.before.before.before.before.before.push.auto.1.1.1.0 ∙ c.before.before.before.before.before.before.before.before.before.before.before.before.before.before.before.before.before.before.before.before.loop.invariant.1.rest
+same-length-12 : tie.Need-shape_of-rest-in-Push invariant-loop decreases-loop
+same-length-12 c = c.push.auto.rest ∙ c.loop-number.invariant.1.rest
 
-returns-3 : tie.Need-returns-3 invariant-loop decreases-loop
+returns-3 : tie.Need-returns-in-Push invariant-loop decreases-loop
 returns-3 c =
-    let l = c.before.before.before.before.before.before.before.before.before.before.before.before.before.before.before.before.before.before.before.before.loop in
+    let l = c.loop-number in
     let k = pushes-below c.before.before.before.before.before.before.before.before.before.before.before.before.before in
-    (ap accepted c.before.before.before.before.before.before.before.before.push.ensures ∙ sym (round_push _ _ l.s (pushes c.before.before.before.before.before.before.before.before.before.before.before.before.before)) ∙ l.invariant.3, omega (arith, k))
+    (ap accepted c.push.ensures ∙ sym (round_push _ _ l.s (pushes c.before.before.before.before.before.before.before.before.before.before.before.before.before)) ∙ l.invariant.3, omega (arith, k))
 
-enum-known-d-2 : tie.Need-enum-known-d-2 invariant-loop decreases-loop
+enum-known-d-2 : tie.Need-enum_known-d-in-Join-1 invariant-loop decreases-loop
 enum-known-d-2 c = search rules
 
-join-at-once-requires : tie.Need-join-at-once-requires invariant-loop decreases-loop
+join-at-once-requires : tie.Need-join_at_once-made-requires invariant-loop decreases-loop
 join-at-once-requires c κs =
-    let l = c.before.before.before.before.before.before.before.before.before.before.before.before.loop in
-    let q = c.before.before.before.before.before.before.before.before.before.before.before.before.before.before.before.before.before.before.before.requires in
-    (long_same _ _ l.k _ l.invariant.1 l.invariant.0 q.0, q.2, joint-good c.before.before.before.before.before)
+    let l = c.loop-number in
+    let q = c.requires in
+    (long_same _ _ l.k _ l.invariant.1 l.invariant.0 q.0, q.2, joint-good c)
 
-same-length-13 : tie.Need-same-length-13 invariant-loop decreases-loop
+same-length-13 : tie.Need-shape_of-starts-then-made-gt0 invariant-loop decreases-loop
 same-length-13 c = (still-long c.before.before.before.before.before.before.before.before.before).starts
 
-same-length-14 : tie.Need-same-length-14 invariant-loop decreases-loop
+same-length-14 : tie.Need-shape_of-ends-then-made-gt0 invariant-loop decreases-loop
 same-length-14 c = (still-long c.before.before.before.before.before.before.before.before.before).ends
 
-same-length-15 : tie.Need-same-length-15 invariant-loop decreases-loop
+same-length-15 : tie.Need-shape_of-units-then-made-gt0 invariant-loop decreases-loop
 same-length-15 c = (still-long c.before.before.before.before.before.before.before.before.before).units
 
-same-length-16 : tie.Need-same-length-16 invariant-loop decreases-loop
+same-length-16 : tie.Need-shape_of-rest-then-made-gt0 invariant-loop decreases-loop
 same-length-16 c = (still-long c.before.before.before.before.before.before.before.before.before).rest
 
-returns-4 : tie.Need-returns-4 invariant-loop decreases-loop
+returns-4 : tie.Need-returns-then-made-gt0 invariant-loop decreases-loop
 returns-4 c =
-    let l = c.before.before.before.before.before.before.before.before.before.before.before.before.before.before.before.before.before.before.before.before.before.before.loop in
-    let a = c.before.before.before.before.before.before.before.before.before.before.before.before.before.before.before.before.before.before.before.before.before.before.before.before.before.before.before.before.before.args in
-    let made = c.before.before.before.before.before.before.before.before.before.join_at_once.ensures.1 c.if1.true in
-    (made.0 a.cap l.invariant.0 ∙ sym (round_join _ _ l.s _ (joins c.before.before.before.before.before.before.before.before.before.before.before.before.before.before.before)) ∙ l.invariant.3, omega (arith, made.1, l.invariant.0))
+    let l = c.loop-number in
+    let a = c.args in
+    let made = c.join_at_once-made.ensures.1 c.if-made-gt0.true in
+    (made.0 a.cap l.invariant.0 ∙ sym (round_join _ _ l.s _ (joins c)) ∙ l.invariant.3, omega (arith, made.1, l.invariant.0))
 
-join-requires : tie.Need-join-requires invariant-loop decreases-loop
+join-requires : tie.Need-join-k-requires invariant-loop decreases-loop
 join-requires c κs =
-    let l = c.before.before.before.before.before.before.before.before.before.before.before.before.before.before.before.before.before.before.before.before.before.before.before.before.before.before.loop in
-    long_same _ _ l.k _ (still-long c.before.before.before.before.before.before.before.before.before.before.before.before.before) l.invariant.0 c.before.before.before.before.before.before.before.before.before.before.before.before.before.before.before.before.before.before.before.before.before.before.before.before.before.before.before.before.before.before.before.before.before.requires.0
+    let l = c.loop-number in
+    long_same _ _ l.k _ (still-long c.before.before.before.before.before.before.before.before.before.before.before.before.before) l.invariant.0 c.requires.0
 
-loop-less : tie.Need-loop-smaller invariant-loop decreases-loop
+loop-less : tie.Need-loop-number-smaller invariant-loop decreases-loop
 loop-less c =
-    let l = c.before.before.before.before.before.before.before.before.before.before.before.before.before.before.before.before.before.before.before.before.before.before.before.before.before.before.before.before.before.before.before.before.before.before.before.loop in
-    let j = c.before.before.before.before.before.before.before.before.join in
+    let l = c.loop-number in
+    let j = c.join-k in
     join_less _ (columns l.starts l.ends l.units l.rest) (columns j.new.0 j.new.1.0 j.new.1.1.0 j.new.1.1.1.0) l.k j.result l.s _
-    (joins c.before.before.before.before.before.before.before.before.before.before.before.before.before.before.before.before.before.before.before.before.before.before.before.before.before.before.before.before) (joined-rows c.before.before.before.before.before.before.before.before)
+    (joins c) (joined-rows c.before.before.before.before.before.before.before.before)
 
-loop-again : tie.Need-loop-preserved invariant-loop decreases-loop
+loop-again : tie.Need-loop-number-preserved invariant-loop decreases-loop
 loop-again c =
-    let l = c.before.before.before.before.before.before.before.before.before.before.before.before.before.before.before.before.before.before.before.before.before.before.before.before.before.before.before.before.before.before.before.before.before.before.before.loop in
-    let a = c.before.before.before.before.before.before.before.before.before.before.before.before.before.before.before.before.before.before.before.before.before.before.before.before.before.before.before.before.before.before.before.before.before.before.before.before.before.before.before.before.before.before.args in
-    let j = c.before.before.before.before.before.before.before.before.join in
+    let l = c.loop-number in
+    let a = c.args in
+    let j = c.join-k in
     let long = still-long c.before.before.before.before.before.before.before.before.before.before.before.before.before.before.before.before.before.before.before.before.before.before in
-    let d = c.before.before.before.before.before.before.before.before.before.before.before.before.before.before.before.before.before.before.before.before.before.before.before.before.before.before.before.before in (
+    let d = c in (
       omega (arith, j.ensures.1, l.invariant.0),
       record {
         starts = j.auto.0 ∙ long.starts;
@@ -212,13 +212,13 @@ loop-again c =
         rest = j.auto.1.1.1.0 ∙ long.rest;
       },
       joint-good d,
-      ap (λ (x : List Split). merge_one (given (sections_in a.heads.now a.head_places.now) a.cap) x d.d2.given.0.0) (joined-rows c.before.before.before.before.before.before.before.before)
+      ap (λ (x : List Split). merge_one (given (sections_in a.heads.now a.head_places.now) a.cap) x d.in-Join.joint) (joined-rows c.before.before.before.before.before.before.before.before)
           ∙ sym (round_join _ _ l.s _ (joins d))
           ∙ l.invariant.3,
     )
 
-pub add-split-spec : {M : Type 1} → statement M
-add-split-spec =
+pub add_split_spec : {M : Type 1} → statement M
+add_split_spec =
     tie.close
     (tie.spec
     invariant-loop

@@ -30,68 +30,68 @@ invariant-loop starts₀ ends₀ units₀ rest₀ n cap heads head_places partia
 abbrev decreases-loop : tie.decreases-loop
 decreases-loop starts₀ ends₀ units₀ rest₀ n cap heads head_places partials partial_places k₀ i₀ starts ends units rest k i = length partial_places - i
 
-loop-holds : tie.Need-loop-init invariant-loop decreases-loop
+loop-holds : tie.Need-loop-i-init invariant-loop decreases-loop
 loop-holds c =
-    (omega arith, c.before.before.before.before.before.before.before.before.requires.1, same _, ap (merge_all _ _) (tabulate_all _ _))
+    (omega arith, c.requires.1, same _, ap (merge_all _ _) (tabulate_all _ _))
 
-partial-at-requires : tie.Need-partial-at-requires invariant-loop decreases-loop
+partial-at-requires : tie.Need-partial_at-new-requires invariant-loop decreases-loop
 partial-at-requires c κs =
-    let p = c.before.before.before.before.before.before.before.before.before.before.requires.3 in
-    (p.held _ c.loop-test.true, omega (arith, p.few, c.loop-test.true))
+    let p = c.requires.3 in
+    (p.held _ c.loop-i-test.true, omega (arith, p.few, c.loop-i-test.true))
 
-add-split-requires : tie.Need-add-split-requires invariant-loop decreases-loop
+add-split-requires : tie.Need-add_split-r-requires invariant-loop decreases-loop
 add-split-requires c κs =
-    let l = c.before.before.before.before.before.before.loop in
-    let q = c.before.before.before.before.before.before.before.before.before.before.before.before.before.before.before.requires in
-    let s = c.before.before.before.before.partial_at in (
+    let l = c.loop-i in
+    let q = c.requires in
+    let s = c.partial_at-new in (
       long_same _ _ _ _ l.invariant.2 (omega arith) q.0,
       l.invariant.1,
       q.2,
-      good_alignment s.result.alignment (ap (λ (x : Split). bad_align x.alignment) s.ensures ∙ q.3.aligned l.i c.before.before.before.before.before.loop-test.true),
+      good_alignment s.result.alignment (ap (λ (x : Split). bad_align x.alignment) s.ensures ∙ q.3.aligned l.i c.loop-i-test.true),
     )
 
-enum-known-r : tie.Need-enum-known-r invariant-loop decreases-loop
+enum-known-r : tie.Need-enum_known-r invariant-loop decreases-loop
 enum-known-r c = search rules
 
-same_length : tie.Need-same-length invariant-loop decreases-loop
-same_length c = c.before.before.before.before.before.before.before.before.before.before.before.add_split.auto.0 ∙ c.before.before.before.before.before.before.before.before.before.before.before.before.before.before.before.before.before.before.loop.invariant.2.starts
+same_length : tie.Need-shape_of-starts-in-Refused invariant-loop decreases-loop
+same_length c = c.add_split-r.auto.starts ∙ c.loop-i.invariant.2.starts
 
-same-length-2 : tie.Need-same-length-2 invariant-loop decreases-loop
-same-length-2 c = c.before.before.before.before.before.before.before.before.before.before.before.add_split.auto.1.0 ∙ c.before.before.before.before.before.before.before.before.before.before.before.before.before.before.before.before.before.before.loop.invariant.2.ends
+same-length-2 : tie.Need-shape_of-ends-in-Refused invariant-loop decreases-loop
+same-length-2 c = c.add_split-r.auto.ends ∙ c.loop-i.invariant.2.ends
 
-same-length-3 : tie.Need-same-length-3 invariant-loop decreases-loop
-same-length-3 c = c.before.before.before.before.before.before.before.before.before.before.before.add_split.auto.1.1.0 ∙ c.before.before.before.before.before.before.before.before.before.before.before.before.before.before.before.before.before.before.loop.invariant.2.units
+same-length-3 : tie.Need-shape_of-units-in-Refused invariant-loop decreases-loop
+same-length-3 c = c.add_split-r.auto.units ∙ c.loop-i.invariant.2.units
 
-same-length-4 : tie.Need-same-length-4 invariant-loop decreases-loop
-same-length-4 c = c.before.before.before.before.before.before.before.before.before.before.before.add_split.auto.1.1.1.0 ∙ c.before.before.before.before.before.before.before.before.before.before.before.before.before.before.before.before.before.before.loop.invariant.2.rest
+same-length-4 : tie.Need-shape_of-rest-in-Refused invariant-loop decreases-loop
+same-length-4 c = c.add_split-r.auto.rest ∙ c.loop-i.invariant.2.rest
 
-returns : tie.Need-returns invariant-loop decreases-loop
+returns : tie.Need-returns-in-Refused invariant-loop decreases-loop
 returns c =
-    let l = c.before.before.before.before.before.before.before.before.before.before.before.before.before.before.before.before.before.before.loop in
-    let a = c.before.before.before.before.before.before.before.before.before.before.before.before.before.before.before.before.before.before.before.before.before.before.before.before.before.before.before.args in
-    let o = c.before.before.before.before.before.before.before.before.before.before.before.add_split in (
-      sym (places_refused a.partials.now a.partial_places.now _ _ l.i c.before.before.before.before.before.before.before.before.before.before.before.before.before.before.before.before.before.loop-test.true _ c.before.before.before.before.before.before.before.before.before.before.before.before.before.before.before.before.partial_at.ensures
-          (sym o.ensures.0 ∙ ap (λ (r : Merged). merged r (columns o.new.0 o.new.1.0 o.new.1.1.0 o.new.1.1.1.0)) c.before.r.given.1))
+    let l = c.loop-i in
+    let a = c.args in
+    let o = c.add_split-r in (
+      sym (places_refused a.partials.now a.partial_places.now _ _ l.i c.loop-i-test.true _ c.partial_at-new.ensures
+          (sym o.ensures.0 ∙ ap (λ (r : Merged). merged r (columns o.new.0 o.new.1.0 o.new.1.1.0 o.new.1.1.1.0)) c.in-Refused.is))
           ∙ l.invariant.3,
       omega arith,
     )
 
-enum-known-r-2 : tie.Need-enum-known-r-2 invariant-loop decreases-loop
+enum-known-r-2 : tie.Need-enum_known-r-in-Accepted-1 invariant-loop decreases-loop
 enum-known-r-2 c = search rules
 
-add-i : tie.Need-overflow-add-i invariant-loop decreases-loop
-add-i c = omega (arith, c.before.before.before.before.before.before.before.before.before.before.before.before.before.before.before.before.before.loop-test.true, c.before.before.before.before.before.before.before.before.before.before.before.before.before.before.before.before.before.before.before.before.before.before.before.before.before.before.before.well-formed.1.1.1.1.1.1.1.1.1.0)
+add-i : tie.Need-overflow_add-i invariant-loop decreases-loop
+add-i c = omega (arith, c.loop-i-test.true, c.well-formed.1.1.1.1.1.1.1.1.1.0)
 
-loop-less : tie.Need-loop-smaller invariant-loop decreases-loop
-loop-less c = omega (arith, c.before.before.before.before.before.before.before.before.before.before.before.before.before.before.before.before.before.loop-test.true)
+loop-less : tie.Need-loop-i-smaller invariant-loop decreases-loop
+loop-less c = omega (arith, c.loop-i-test.true)
 
-loop-again : tie.Need-loop-preserved invariant-loop decreases-loop
+loop-again : tie.Need-loop-i-preserved invariant-loop decreases-loop
 loop-again c =
-    let l = c.before.before.before.before.before.before.before.before.before.before.before.before.before.before.before.before.before.before.loop in
-    let a = c.before.before.before.before.before.before.before.before.before.before.before.before.before.before.before.before.before.before.before.before.before.before.before.before.before.before.before.args in
-    let o = c.before.before.before.before.before.before.before.before.before.before.before.add_split in
-    let q = c.before.r2.given.1 in (
-      omega (arith, c.before.before.before.before.before.before.before.before.before.before.before.before.before.before.before.before.before.loop-test.true),
+    let l = c.loop-i in
+    let a = c.args in
+    let o = c.add_split-r in
+    let q = c.in-Accepted.is in (
+      omega (arith, c.loop-i-test.true),
       omega (arith, o.ensures.1, ap count q),
       record {
         starts = o.auto.0 ∙ l.invariant.2.starts;
@@ -99,31 +99,31 @@ loop-again c =
         units = o.auto.1.1.0 ∙ l.invariant.2.units;
         rest = o.auto.1.1.1.0 ∙ l.invariant.2.rest;
       },
-      sym (places_on a.partials.now a.partial_places.now _ _ l.i c.before.before.before.before.before.before.before.before.before.before.before.before.before.before.before.before.before.loop-test.true _ c.before.before.before.before.before.before.before.before.before.before.before.before.before.before.before.before.partial_at.ensures
+      sym (places_on a.partials.now a.partial_places.now _ _ l.i c.loop-i-test.true _ c.partial_at-new.ensures
           (sym o.ensures.0 ∙ ap (λ (r : Merged). merged r (columns o.new.0 o.new.1.0 o.new.1.1.0 o.new.1.1.1.0)) q))
           ∙ l.invariant.3,
     )
 
-same-length-5 : tie.Need-same-length-5 invariant-loop decreases-loop
-same-length-5 c = c.before.loop.invariant.2.starts
+same-length-5 : tie.Need-shape_of-starts invariant-loop decreases-loop
+same-length-5 c = c.loop-i.invariant.2.starts
 
-same-length-6 : tie.Need-same-length-6 invariant-loop decreases-loop
-same-length-6 c = c.before.loop.invariant.2.ends
+same-length-6 : tie.Need-shape_of-ends invariant-loop decreases-loop
+same-length-6 c = c.loop-i.invariant.2.ends
 
-same-length-7 : tie.Need-same-length-7 invariant-loop decreases-loop
-same-length-7 c = c.before.loop.invariant.2.units
+same-length-7 : tie.Need-shape_of-units invariant-loop decreases-loop
+same-length-7 c = c.loop-i.invariant.2.units
 
-same-length-8 : tie.Need-same-length-8 invariant-loop decreases-loop
-same-length-8 c = c.before.loop.invariant.2.rest
+same-length-8 : tie.Need-shape_of-rest invariant-loop decreases-loop
+same-length-8 c = c.loop-i.invariant.2.rest
 
-returns-2 : tie.Need-returns-2 invariant-loop decreases-loop
+returns-2 : tie.Need-returns invariant-loop decreases-loop
 returns-2 c =
-    let l = c.before.loop in
-    let a = c.before.before.before.before.before.before.before.before.before.before.args in
-    (sym (places_done a.partials.now a.partial_places.now _ _ l.i c.loop-test.false) ∙ l.invariant.3, l.invariant.1)
+    let l = c.loop-i in
+    let a = c.args in
+    (sym (places_done a.partials.now a.partial_places.now _ _ l.i c.loop-i-test.false) ∙ l.invariant.3, l.invariant.1)
 
-pub add-splits-spec : {M : Type 1} → statement M
-add-splits-spec =
+pub add_splits_spec : {M : Type 1} → statement M
+add_splits_spec =
     tie.close
     (tie.spec
     invariant-loop

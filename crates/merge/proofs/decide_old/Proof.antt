@@ -9,35 +9,35 @@ use Rattle.merge.proofs.decide_old.Tie as tie
 refuse-requires : tie.Need-refuse-requires
 refuse-requires c κs = search rules
 
-returns : tie.Need-returns
-returns c = let a = c.before.before.before.before.before.before.before.before.before.before.args in answers _ c.refuse.ensures (old_23 _ a.new a.old c.before.if1.true)
+returns : tie.Need-returns-then-new-old
+returns c = let a = c.args in answers _ c.refuse.ensures (old_23 _ a.new a.old c.if-new-old.true)
 
-refuse-requires-2 : tie.Need-refuse-requires-2
+refuse-requires-2 : tie.Need-refuse-requires-then-new-old-2
 refuse-requires-2 c κs = search rules
 
-returns-2 : tie.Need-returns-2
-returns-2 c = let a = c.before.before.before.before.before.before.before.before.before.before.before.before.before.args in answers _ c.refuse2.ensures (old_24 _ a.new a.old c.before.before.before.before.if1.false c.before.if2.true)
+returns-2 : tie.Need-returns-then-new-old-2
+returns-2 c = let a = c.args in answers _ c.refuse-then-new-old-2.ensures (old_24 _ a.new a.old c.if-new-old.false c.if-new-old-2.true)
 
-returns-3 : tie.Need-returns-3
-returns-3 c = let a = c.before.before.before.before.before.before.before.before.before.before.before.before.before.before.before.before.before.args in (sym (old_inside _ a.new a.old c.before.before.before.before.before.before.before.before.if1.false c.before.before.before.before.before.if2.false c.if3.true), tt)
+returns-3 : tie.Need-returns-then-old-new
+returns-3 c = let a = c.args in (sym (old_inside _ a.new a.old c.if-new-old.false c.if-new-old-2.false c.if-old-new.true), tt)
 
-joint-of-requires : tie.Need-joint-of-requires
+joint-of-requires : tie.Need-joint_of-requires
 joint-of-requires c κs = search rules
 
-decide-joint-requires : tie.Need-decide-joint-requires
+decide-joint-requires : tie.Need-decide_joint-requires
 decide-joint-requires c κs =
-    let s = c.before.before.before.before.before.before.before.before.before.before.before.before.before.before.before.before.before.before in
+    let s = c in
     (s.requires.0, rw c.joint_of.ensures (good_joint s.args.new s.args.old s.requires.1 s.requires.2))
 
-returns-4 : tie.Need-returns-4
+returns-4 : tie.Need-returns
 returns-4 c =
-    let a = c.before.before.before.before.before.before.before.before.before.before.before.before.before.before.before.before.before.before.before.args in
+    let a = c.args in
     let d = c.decide_joint.ensures in
-    let j = c.before.joint_of in
-    (d.0 ∙ sym (old_joint _ a.new a.old c.before.before.before.before.before.before.before.before.before.before.if1.false c.before.before.before.before.before.before.before.if2.false c.before.before.if3.false j.result j.ensures), d.1)
+    let j = c.joint_of in
+    (d.0 ∙ sym (old_joint _ a.new a.old c.if-new-old.false c.if-new-old-2.false c.if-old-new.false j.result j.ensures), d.1)
 
-pub decide-old-spec : {M : Type 1} → statement M
-decide-old-spec =
+pub decide_old_spec : {M : Type 1} → statement M
+decide_old_spec =
     tie.close
     (tie.spec
     refuse-requires

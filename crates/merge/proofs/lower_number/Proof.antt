@@ -6,11 +6,11 @@ use borrow.Author.Tests.{lt-ltb, le-ltb}
 use Rattle.merge.proofs.lower_number.Statement.{statement}
 use Rattle.merge.proofs.lower_number.Tie as tie
 
-returns : tie.Need-returns
-returns c = let a = c.before.args in ap (λ (t : Bool). cond t a.a a.b) (sym (lt-ltb _ _ c.if1.true))
+returns : tie.Need-returns-then-a-b
+returns c = let a = c.args in ap (λ (t : Bool). cond t a.a a.b) (sym (lt-ltb _ _ c.if-a-b.true))
 
-returns-2 : tie.Need-returns-2
-returns-2 c = let a = c.before.args in ap (λ (t : Bool). cond t a.a a.b) (sym (le-ltb _ _ c.if1.false))
+returns-2 : tie.Need-returns
+returns-2 c = let a = c.args in ap (λ (t : Bool). cond t a.a a.b) (sym (le-ltb _ _ c.if-a-b.false))
 
-pub lower-number-spec : {M : Type 1} → statement M
-lower-number-spec = tie.close (tie.spec returns returns-2)
+pub lower_number_spec : {M : Type 1} → statement M
+lower_number_spec = tie.close (tie.spec returns returns-2)

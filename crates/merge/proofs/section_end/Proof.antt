@@ -6,21 +6,21 @@ use borrow.Author.Rules.{rules}
 use Rattle.merge.proofs.section_end.Statement.{statement}
 use Rattle.merge.proofs.section_end.Tie as tie
 
-section-at-requires : tie.Need-section-at-requires
+section-at-requires : tie.Need-section_at-head-requires
 section-at-requires c κs = search rules
 
-cast-result : tie.Need-overflow-cast-result
+cast-result : tie.Need-overflow_cast-result
 cast-result c = search rules
 
-cast-result-2 : tie.Need-overflow-cast-result-2
+cast-result-2 : tie.Need-overflow_cast-result-2
 cast-result-2 c = search rules
 
-add-result : tie.Need-overflow-add-result
+add-result : tie.Need-overflow_add-result
 add-result c = search rules
 
 returns : tie.Need-returns
-returns c = ap section_end c.before.before.section_at_lem.ensures
+returns c = ap section_end c.section_at-head.ensures
 
-pub section-end-spec : {M : Type 1} → statement M
-section-end-spec =
+pub section_end_spec : {M : Type 1} → statement M
+section_end_spec =
     tie.close (tie.spec section-at-requires cast-result cast-result-2 add-result returns)

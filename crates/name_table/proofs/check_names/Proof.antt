@@ -12,51 +12,51 @@ use borrow.Author.Rules.{rules}
 use Rattle.name_table.proofs.check_names.Statement.{statement}
 use Rattle.name_table.proofs.check_names.Tie as tie
 
-table-size-requires : tie.Need-table-size-requires
+table-size-requires : tie.Need-table_size-size-requires
 table-size-requires c κs = search rules
 
-enum_told : tie.Need-enum-told
+enum_told : tie.Need-enum_told-1
 enum_told c = search rules
 
-returns : tie.Need-returns
+returns : tie.Need-returns-in-Refused
 unfolding names_check
 returns c =
-    let said = c.before.before.table_size.ensures in
-    let refused = ap meaning c.enum_told.given.1 in
+    let said = c.table_size-size.ensures in
+    let refused = ap meaning c.in-Refused.is in
     stores_nothing (then_stops said _ refused) refused
 
-enum-told-2 : tie.Need-enum-told-2
+enum-told-2 : tie.Need-enum_told-in_default
 enum-told-2 c = search rules
 
-clear-heads-requires : tie.Need-clear-heads-requires
+clear-heads-requires : tie.Need-clear_heads-requires
 clear-heads-requires c κs = search rules
 
-take-names-requires : tie.Need-take-names-requires
+take-names-requires : tie.Need-take_names-requires
 take-names-requires c κs =
-    let s = c.before.before.before.before.before.before.before.before.before.before.before.before.before.before.before.before.before in
-    let size = size_passed 2 _ _ (sym c.before.before.before.before.before.before.before.before.before.before.table_size.ensures ∙ ap meaning c.before.before.before.before.before.before.before.before.enum-told2.given.1) in
-    let cleared = c.before.before.before.before.before.before.clear_heads in
+    let s = c in
+    let size = size_passed 2 _ _ (sym c.table_size-size.ensures ∙ ap meaning c.in_default.is) in
+    let cleared = c.clear_heads in
     (omega arith, same_room _ (record { of_places = refl; of_lengths = refl; of_heads = cleared.auto.0; of_chain = refl }) s.requires size.1, stored_none _ _ _ _ _ _ (indexed_cleared _ _ _ s.requires.heads_long cleared.ensures s.requires.chain_long))
 
-same_length : tie.Need-same-length
+same_length : tie.Need-shape_of-places
 same_length c = search rules
 
-same-length-2 : tie.Need-same-length-2
+same-length-2 : tie.Need-shape_of-lengths
 same-length-2 c = search rules
 
-same-length-3 : tie.Need-same-length-3
+same-length-3 : tie.Need-shape_of-heads
 same-length-3 c = search rules
 
-same-length-4 : tie.Need-same-length-4
+same-length-4 : tie.Need-shape_of-chain
 same-length-4 c = search rules
 
-returns-2 : tie.Need-returns-2
+returns-2 : tie.Need-returns
 unfolding names_check
 returns-2 c =
-    stores_as (then_goes c.before.before.before.before.before.before.before.before.before.before.before.before.before.before.before.before.before.before.before.table_size.ensures _ (ap meaning c.before.before.before.before.before.before.before.before.before.before.before.before.before.before.before.before.before.enum-told2.given.1)) c.before.before.before.before.before.before.before.before.take_names.ensures
+    stores_as (then_goes c.table_size-size.ensures _ (ap meaning c.in_default.is)) c.take_names.ensures
 
-pub check-names-spec : {M : Type 1} → statement M
-check-names-spec =
+pub check_names_spec : {M : Type 1} → statement M
+check_names_spec =
     tie.close
     (tie.spec
     table-size-requires

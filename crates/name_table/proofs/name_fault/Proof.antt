@@ -9,54 +9,54 @@ use borrow.Author.Rules.{rules}
 use Rattle.name_table.proofs.name_fault.Statement.{statement}
 use Rattle.name_table.proofs.name_fault.Tie as tie
 
-start-of-requires : tie.Need-start-of-requires
+start-of-requires : tie.Need-start_of-start-requires
 start-of-requires c κs = search rules
 
-end-of-requires : tie.Need-end-of-requires
+end-of-requires : tie.Need-end_of-end-requires
 end-of-requires c κs = search rules
 
-returns : tie.Need-returns
+returns : tie.Need-returns-then-end-start
 unfolding any_of any_from
-returns c = fault_cut _ _ _ c.before.before.start_of_lem.ensures.is c.before.end_of_lem.ensures.is c.if1.true
+returns c = fault_cut _ _ _ c.start_of-start.ensures.is c.end_of-end.ensures.is c.if-end-start.true
 
 -- the name is not cut
-whole : (c : tie.Else1)
-    → (c.before.before.start_of_lem.result ≤ c.before.end_of_lem.result)
-    × (c.before.end_of_lem.result ≤ length c.before.before.before.before.before.before.before.before.before.args.bytes.now)
+whole : (c : tie.Else-end-start)
+    → (c.start_of-start.result ≤ c.end_of-end.result)
+    × (c.end_of-end.result ≤ length c.args.bytes.now)
 unfolding any_of any_from
-whole c = not_cut _ c.before.before.start_of_lem.result c.before.end_of_lem.result c.if1.false
+whole c = not_cut _ c.start_of-start.result c.end_of-end.result c.if-end-start.false
 
-sub-name : tie.Need-overflow-sub-name
+sub-name : tie.Need-slice_bounds-name-count
 sub-name c = (whole c).0
 
-part-name-start : tie.Need-slice-bounds-name-start
+part-name-start : tie.Need-slice_bounds-name-start
 part-name-start c = (whole c).0
 
-part-name-end : tie.Need-slice-bounds-name-end
+part-name-end : tie.Need-slice_bounds-name-end
 part-name-end c = (whole c).1
 
-bad-name-requires : tie.Need-bad-name-requires
+bad-name-requires : tie.Need-bad_name-requires
 bad-name-requires c κs = search rules
 
 find-requires : tie.Need-find-requires
-find-requires c κs = searched c.before.before.before.before.before.before.before.before.before.before.before.requires.1
+find-requires c κs = searched c.requires.1
 
-returns-2 : tie.Need-returns-2
+returns-2 : tie.Need-returns-then-bad_name-find
 unfolding any_of any_from
 returns-2 c =
-    let s = c.before.before.before.before.before.before.before.before.before.before.before.before.before.requires.1 in
-    fault_asked _ _ _ c.before.before.before.before.before.before.start_of_lem.ensures.is c.before.before.before.before.before.end_of_lem.ensures.is
-    true c.before.before.before.before.if1.false s.names c.before.before.bad_name.ensures c.before.find.ensures.is c.if2.true
+    let s = c.requires.1 in
+    fault_asked _ _ _ c.start_of-start.ensures.is c.end_of-end.ensures.is
+    true c.if-end-start.false s.names c.bad_name.ensures c.find.ensures.is c.if-bad_name-find.true
 
-returns-3 : tie.Need-returns-3
+returns-3 : tie.Need-returns
 unfolding any_of any_from
 returns-3 c =
-    let s = c.before.before.before.before.before.before.before.before.before.before.before.before.before.requires.1 in
-    fault_asked _ _ _ c.before.before.before.before.before.before.start_of_lem.ensures.is c.before.before.before.before.before.end_of_lem.ensures.is
-    false c.before.before.before.before.if1.false s.names c.before.before.bad_name.ensures c.before.find.ensures.is c.if2.false
+    let s = c.requires.1 in
+    fault_asked _ _ _ c.start_of-start.ensures.is c.end_of-end.ensures.is
+    false c.if-end-start.false s.names c.bad_name.ensures c.find.ensures.is c.if-bad_name-find.false
 
-pub name-fault-spec : {M : Type 1} → statement M
-name-fault-spec =
+pub name_fault_spec : {M : Type 1} → statement M
+name_fault_spec =
     tie.close
     (tie.spec
     start-of-requires

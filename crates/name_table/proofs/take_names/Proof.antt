@@ -20,85 +20,85 @@ abbrev decreases-loop : tie.decreases-loop
 decreases-loop ends bytes n places₀ lengths₀ heads₀ chain₀ i₀ places lengths heads chain i = n - i
 
 -- where the function starts, from the loop's test
-abbrev start : tie.At-loop invariant-loop decreases-loop → tie.Start invariant-loop decreases-loop
+abbrev start : tie.At-loop-i invariant-loop decreases-loop → tie.Start invariant-loop decreases-loop
 start l = l.before.before.before.before.before.before.before
 
 -- after a turn the columns are as long as before
-kept : (c : tie.After-take-name invariant-loop decreases-loop)
-    → let a = (start c.before.before.before.before.before.before).args in let last = c.take_name.new.1.1 in
+kept : (c : tie.After-take_name-number invariant-loop decreases-loop)
+    → let a = (start c.before.before.before.before.before.before).args in let last = c.take_name-number.new.1.1 in
     Same a.places.now a.lengths.now a.heads.now a.chain.now last.0 last.1.0 last.1.1.0 last.1.1.1.0
 kept c =
-    let e = c.before.before.before.before.before.before.loop.invariant.2 in
-    let k = c.take_name.auto.1.1 in record {
+    let e = c.loop-i.invariant.2 in
+    let k = c.take_name-number.auto.1.1 in record {
       of_places = k.0 ∙ e.of_places;
       of_lengths = k.1.0 ∙ e.of_lengths;
       of_heads = k.1.1.0 ∙ e.of_heads;
       of_chain = k.1.1.1.0 ∙ e.of_chain;
     }
 
-loop-holds : tie.Need-loop-init invariant-loop decreases-loop
-loop-holds c = (going, c.before.before.before.before.before.before.requires.2, record { of_places = refl; of_lengths = refl; of_heads = refl; of_chain = refl })
+loop-holds : tie.Need-loop-i-init invariant-loop decreases-loop
+loop-holds c = (going, c.requires.2, record { of_places = refl; of_lengths = refl; of_heads = refl; of_chain = refl })
 
-take-name-requires : tie.Need-take-name-requires invariant-loop decreases-loop
+take-name-requires : tie.Need-take_name-number-requires invariant-loop decreases-loop
 take-name-requires c κs =
     let l = c.before.before.before.before.before in
     let s = start l in
-    (omega (arith, s.pre.0), same_room _ l.loop.invariant.2 s.pre.1 (omega arith), l.loop.invariant.1)
+    (omega (arith, s.requires.0), same_room _ l.loop-i.invariant.2 s.requires.1 (omega arith), l.loop-i.invariant.1)
 
-cast-t19 : tie.Need-overflow-cast-t19 invariant-loop decreases-loop
-cast-t19 c = omega (arith, c.before.before.before.before.before.before.before.before.before.before.before.before.before.before.before.before.before.before.before.before.before.before.requires.1.few)
+cast-t19 : tie.Need-overflow_cast-result invariant-loop decreases-loop
+cast-t19 c = omega (arith, c.requires.1.few)
 
-same_length : tie.Need-same-length invariant-loop decreases-loop
+same_length : tie.Need-shape_of-places-then-number-gt0 invariant-loop decreases-loop
 same_length c = (kept c.before.before.before.before.before.before.before.before.before).of_places
 
-same-length-2 : tie.Need-same-length-2 invariant-loop decreases-loop
+same-length-2 : tie.Need-shape_of-lengths-then-number-gt0 invariant-loop decreases-loop
 same-length-2 c = (kept c.before.before.before.before.before.before.before.before.before).of_lengths
 
-same-length-3 : tie.Need-same-length-3 invariant-loop decreases-loop
+same-length-3 : tie.Need-shape_of-heads-then-number-gt0 invariant-loop decreases-loop
 same-length-3 c = (kept c.before.before.before.before.before.before.before.before.before).of_heads
 
-same-length-4 : tie.Need-same-length-4 invariant-loop decreases-loop
+same-length-4 : tie.Need-shape_of-chain-then-number-gt0 invariant-loop decreases-loop
 same-length-4 c = (kept c.before.before.before.before.before.before.before.before.before).of_chain
 
-returns : tie.Need-returns invariant-loop decreases-loop
+returns : tie.Need-returns-then-number-gt0 invariant-loop decreases-loop
 returns c =
-    let l = c.before.before.before.before.before.before.before.before.before.before.before.before.before.before.before in
-    stores_nothing (stops l.loop.invariant.0 c.before.before.before.before.before.before.before.before.before.before.before.before.before.before.loop-test.true c.before.before.before.before.before.before.before.before.before.take_name.ensures.is c.if1.true) refl
+    let l = c in
+    stores_nothing (stops l.loop-i.invariant.0 c.loop-i-test.true c.take_name-number.ensures.is c.if-number-gt0.true) refl
 
-add-i : tie.Need-overflow-add-i invariant-loop decreases-loop
+add-i : tie.Need-overflow_add-i invariant-loop decreases-loop
 add-i c = omega arith
 
-loop-less : tie.Need-loop-smaller invariant-loop decreases-loop
+loop-less : tie.Need-loop-i-smaller invariant-loop decreases-loop
 loop-less c = omega arith
 
-loop-again : tie.Need-loop-preserved invariant-loop decreases-loop
+loop-again : tie.Need-loop-i-preserved invariant-loop decreases-loop
 loop-again c =
-    let l = c.before.before.before.before.before.before.before.before.before.before.before.before.before.before.before in
+    let l = c in
     let t = c.before.before.before.before.before.before.before.before.before in (
-      goes_on l.loop.invariant.0 c.before.before.before.before.before.before.before.before.before.before.before.before.before.before.loop-test.true t.take_name.ensures.is c.if1.false,
-      t.take_name.ensures.stored (omega (arith, c.if1.false)),
+      goes_on l.loop-i.invariant.0 c.loop-i-test.true t.take_name-number.ensures.is c.if-number-gt0.false,
+      t.take_name-number.ensures.stored (omega (arith, c.if-number-gt0.false)),
       kept t,
     )
 
-same-length-5 : tie.Need-same-length-5 invariant-loop decreases-loop
-same-length-5 c = c.before.loop.invariant.2.of_places
+same-length-5 : tie.Need-shape_of-places invariant-loop decreases-loop
+same-length-5 c = c.loop-i.invariant.2.of_places
 
-same-length-6 : tie.Need-same-length-6 invariant-loop decreases-loop
-same-length-6 c = c.before.loop.invariant.2.of_lengths
+same-length-6 : tie.Need-shape_of-lengths invariant-loop decreases-loop
+same-length-6 c = c.loop-i.invariant.2.of_lengths
 
-same-length-7 : tie.Need-same-length-7 invariant-loop decreases-loop
-same-length-7 c = c.before.loop.invariant.2.of_heads
+same-length-7 : tie.Need-shape_of-heads invariant-loop decreases-loop
+same-length-7 c = c.loop-i.invariant.2.of_heads
 
-same-length-8 : tie.Need-same-length-8 invariant-loop decreases-loop
-same-length-8 c = c.before.loop.invariant.2.of_chain
+same-length-8 : tie.Need-shape_of-chain invariant-loop decreases-loop
+same-length-8 c = c.loop-i.invariant.2.of_chain
 
-returns-2 : tie.Need-returns-2 invariant-loop decreases-loop
+returns-2 : tie.Need-returns invariant-loop decreases-loop
 returns-2 c =
-    let l = c.before in
-    stores_all (passes_all l.loop.invariant.0 c.loop-test.false) (omega (arith, l.loop.invariant.0.within)) l.loop.invariant.1
+    let l = c in
+    stores_all (passes_all l.loop-i.invariant.0 c.loop-i-test.false) (omega (arith, l.loop-i.invariant.0.within)) l.loop-i.invariant.1
 
-pub take-names-spec : {M : Type 1} → statement M
-take-names-spec =
+pub take_names_spec : {M : Type 1} → statement M
+take_names_spec =
     tie.close
     (tie.spec
     invariant-loop

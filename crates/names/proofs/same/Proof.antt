@@ -16,38 +16,38 @@ invariant-loop x y i₀ i = (i ≤ length x) × (length x ≡ length y) × (same
 abbrev decreases-loop : tie.decreases-loop
 decreases-loop x y i₀ i = length x - i
 
-returns : tie.Need-returns invariant-loop decreases-loop
-returns c = sym (other_lengths _ _ c.if1.true)
+returns : tie.Need-returns-then-x-y invariant-loop decreases-loop
+returns c = sym (other_lengths _ _ c.if-x-y.true)
 
-loop-holds : tie.Need-loop-init invariant-loop decreases-loop
+loop-holds : tie.Need-loop-i-init invariant-loop decreases-loop
 loop-holds c = (omega arith, omega arith, refl)
 
-shared-slice-read-if2 : tie.Need-shared-slice-read-if2 invariant-loop decreases-loop
+shared-slice-read-if2 : tie.Need-bounds-x-i invariant-loop decreases-loop
 shared-slice-read-if2 c = omega arith
 
-shared-slice-read-if2-2 : tie.Need-shared-slice-read-if2-2 invariant-loop decreases-loop
+shared-slice-read-if2-2 : tie.Need-bounds-y-i invariant-loop decreases-loop
 shared-slice-read-if2-2 c = omega arith
 
-returns-2 : tie.Need-returns-2 invariant-loop decreases-loop
+returns-2 : tie.Need-returns-then-x-i invariant-loop decreases-loop
 returns-2 c =
-    let t = c.before.before.before in
-    let l = t.before.loop in
-    sym (sym l.invariant.2 ∙ same_turn _ _ _ t.loop-test.true (omega arith) ∙ rw (ne_eqb _ _ c.if2.true))
+    let t = c in
+    let l = t.loop-i in
+    sym (sym l.invariant.2 ∙ same_turn _ _ _ t.loop-i-test.true (omega arith) ∙ rw (ne_eqb _ _ c.if-x-i.true))
 
-add-i : tie.Need-overflow-add-i invariant-loop decreases-loop
+add-i : tie.Need-overflow_add-i invariant-loop decreases-loop
 add-i c = omega arith
 
-loop-less : tie.Need-loop-smaller invariant-loop decreases-loop
+loop-less : tie.Need-loop-i-smaller invariant-loop decreases-loop
 loop-less c = omega arith
 
-loop-again : tie.Need-loop-preserved invariant-loop decreases-loop
+loop-again : tie.Need-loop-i-preserved invariant-loop decreases-loop
 loop-again c =
-    let t = c.before.before.before in
-    let l = t.before.loop in
-    (omega arith, omega arith, sym (same_turn _ _ _ t.loop-test.true (omega arith) ∙ rw (eq-eqb _ _ c.if2.false)) ∙ l.invariant.2)
+    let t = c in
+    let l = t.loop-i in
+    (omega arith, omega arith, sym (same_turn _ _ _ t.loop-i-test.true (omega arith) ∙ rw (eq-eqb _ _ c.if-x-i.false)) ∙ l.invariant.2)
 
-returns-3 : tie.Need-returns-3 invariant-loop decreases-loop
-returns-3 c = sym (same_ended _ _ _ c.loop-test.false (omega arith)) ∙ c.before.loop.invariant.2
+returns-3 : tie.Need-returns invariant-loop decreases-loop
+returns-3 c = sym (same_ended _ _ _ c.loop-i-test.false (omega arith)) ∙ c.loop-i.invariant.2
 
 pub same_spec : {M : Type 1} → statement M
 same_spec =

@@ -16,38 +16,38 @@ invariant-loop name i₀ i = (i ≤ length name) × (some outside (drop i name) 
 abbrev decreases-loop : tie.decreases-loop
 decreases-loop name i₀ i = length name - i
 
-loop-holds : tie.Need-loop-init invariant-loop decreases-loop
+loop-holds : tie.Need-loop-i-init invariant-loop decreases-loop
 loop-holds c = (omega arith, refl)
 
-shared-slice-read-if1 : tie.Need-shared-slice-read-if1 invariant-loop decreases-loop
+shared-slice-read-if1 : tie.Need-bounds-name-i invariant-loop decreases-loop
 shared-slice-read-if1 c = omega arith
 
-shared-slice-read-if1-2 : tie.Need-shared-slice-read-if1-2 invariant-loop decreases-loop
+shared-slice-read-if1-2 : tie.Need-bounds-name-i-in-loop-i invariant-loop decreases-loop
 shared-slice-read-if1-2 c = omega arith
 
-returns : tie.Need-returns invariant-loop decreases-loop
+returns : tie.Need-returns-then-name-i invariant-loop decreases-loop
 returns c =
-    let t = c.before.before.before in
-    let l = t.before.loop in
-    sym (sym l.invariant.1 ∙ some_turn outside _ _ 0 t.loop-test.true ∙ rw c.if1.true)
+    let t = c in
+    let l = t.loop-i in
+    sym (sym l.invariant.1 ∙ some_turn outside _ _ 0 t.loop-i-test.true ∙ rw c.if-name-i.true)
 
-add-i : tie.Need-overflow-add-i invariant-loop decreases-loop
+add-i : tie.Need-overflow_add-i invariant-loop decreases-loop
 add-i c = omega arith
 
-loop-less : tie.Need-loop-smaller invariant-loop decreases-loop
+loop-less : tie.Need-loop-i-smaller invariant-loop decreases-loop
 loop-less c = omega arith
 
-loop-again : tie.Need-loop-preserved invariant-loop decreases-loop
+loop-again : tie.Need-loop-i-preserved invariant-loop decreases-loop
 loop-again c =
-    let t = c.before.before.before in
-    let l = t.before.loop in
-    (omega arith, sym (some_turn outside _ _ 0 t.loop-test.true ∙ rw c.if1.false) ∙ l.invariant.1)
+    let t = c in
+    let l = t.loop-i in
+    (omega arith, sym (some_turn outside _ _ 0 t.loop-i-test.true ∙ rw c.if-name-i.false) ∙ l.invariant.1)
 
-returns-2 : tie.Need-returns-2 invariant-loop decreases-loop
-returns-2 c = sym (some-none _ _ _ c.loop-test.false) ∙ c.before.loop.invariant.1
+returns-2 : tie.Need-returns invariant-loop decreases-loop
+returns-2 c = sym (some-none _ _ _ c.loop-i-test.false) ∙ c.loop-i.invariant.1
 
-pub some-outside-spec : {M : Type 1} → statement M
-some-outside-spec =
+pub some_outside_spec : {M : Type 1} → statement M
+some_outside_spec =
     tie.close
     (tie.spec
     invariant-loop

@@ -5,13 +5,13 @@ use Rattle.obj.specs.Records.{origin_of}
 use Rattle.obj.proofs.origin_of.Statement.{statement}
 use Rattle.obj.proofs.origin_of.Tie as tie
 
-returns : tie.Need-returns
+returns : tie.Need-returns-then-flags-eq1
 unfolding origin_of
-returns c = rw (eq-eqb _ _ c.if1.true)
+returns c = rw (eq-eqb _ _ c.if-flags-eq1.true)
 
-returns-2 : tie.Need-returns-2
+returns-2 : tie.Need-returns
 unfolding origin_of
-returns-2 c = rw (ne_eqb _ _ c.if1.false)
+returns-2 c = rw (ne_eqb _ _ c.if-flags-eq1.false)
 
-pub origin-of-spec : {M : Type 1} → statement M
-origin-of-spec = tie.close (tie.spec returns returns-2)
+pub origin_of_spec : {M : Type 1} → statement M
+origin_of_spec = tie.close (tie.spec returns returns-2)

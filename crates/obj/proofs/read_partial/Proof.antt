@@ -7,37 +7,37 @@ use Rattle.obj.proofs.read_partial.Tie as tie
 get16-requires : tie.Need-get16-requires
 get16-requires c κs = search rules
 
-add-get32 : tie.Need-overflow-add-get32
+add-get32 : tie.Need-overflow_add-at
 add-get32 c = search rules
 
 get32-requires : tie.Need-get32-requires
 get32-requires c κs = search rules
 
-add-get32-2 : tie.Need-overflow-add-get32-2
+add-get32-2 : tie.Need-overflow_add-at-2
 add-get32-2 c = search rules
 
 get32-requires-2 : tie.Need-get32-requires-2
 get32-requires-2 c κs = search rules
 
-add-get16 : tie.Need-overflow-add-get16
+add-get16 : tie.Need-overflow_add-at-3
 add-get16 c = search rules
 
 get16-requires-2 : tie.Need-get16-requires-2
 get16-requires-2 c κs = search rules
 
-add-get32-3 : tie.Need-overflow-add-get32-3
+add-get32-3 : tie.Need-overflow_add-at-4
 add-get32-3 c = search rules
 
 get32-requires-3 : tie.Need-get32-requires-3
 get32-requires-3 c κs = search rules
 
-add-t13 : tie.Need-overflow-add-t13
+add-t13 : tie.Need-overflow_add-result
 add-t13 c = search rules
 
-shared-slice-read-t15 : tie.Need-shared-slice-read-t15
+shared-slice-read-t15 : tie.Need-bounds-b-at
 shared-slice-read-t15 c = search rules
 
-add-get16-2 : tie.Need-overflow-add-get16-2
+add-get16-2 : tie.Need-overflow_add-at-5
 add-get16-2 c = search rules
 
 get16-requires-3 : tie.Need-get16-requires-3
@@ -47,8 +47,8 @@ returns : tie.Need-returns
 unfolding partial_at
 returns c = (cc)
 
-pub read-partial-spec : {M : Type 1} → statement M
-read-partial-spec =
+pub read_partial_spec : {M : Type 1} → statement M
+read_partial_spec =
     tie.close
     (tie.spec
     get16-requires

@@ -10,31 +10,31 @@ use Rattle.obj.proofs.read_reloc.Tie as tie
 get16-requires : tie.Need-get16-requires
 get16-requires c κs = search rules
 
-add-get32 : tie.Need-overflow-add-get32
+add-get32 : tie.Need-overflow_add-at
 add-get32 c = search rules
 
 get32-requires : tie.Need-get32-requires
 get32-requires c κs = search rules
 
-add-t6 : tie.Need-overflow-add-t6
+add-t6 : tie.Need-overflow_add-result
 add-t6 c = search rules
 
-shared-slice-read-t8 : tie.Need-shared-slice-read-t8
+shared-slice-read-t8 : tie.Need-bounds-b-at
 shared-slice-read-t8 c = search rules
 
-add-get32-2 : tie.Need-overflow-add-get32-2
+add-get32-2 : tie.Need-overflow_add-at-2
 add-get32-2 c = search rules
 
 get32-requires-2 : tie.Need-get32-requires-2
 get32-requires-2 c κs = search rules
 
-add-get-i64 : tie.Need-overflow-add-get-i64
+add-get-i64 : tie.Need-overflow_add-at-3
 add-get-i64 c = search rules
 
-get-i64-requires : tie.Need-get-i64-requires
+get-i64-requires : tie.Need-get_i64-requires
 get-i64-requires c κs = search rules
 
-add-get32-3 : tie.Need-overflow-add-get32-3
+add-get32-3 : tie.Need-overflow_add-at-4
 add-get32-3 c = search rules
 
 get32-requires-3 : tie.Need-get32-requires-3
@@ -42,10 +42,10 @@ get32-requires-3 c κs = search rules
 
 returns : tie.Need-returns
 returns c =
-    reloc_made _ _ c.before.before.before.before.before.get16.ensures c.before.before.before.before.get32.ensures c.before.before.get322.ensures (to_z-of_z w64 c.before.get_i64.result (record { sfits = c.before.get_i64.type-inv }) ∙ c.before.get_i64.ensures) c.get323.ensures
+    reloc_made _ _ c.get16.ensures c.get32.ensures c.get32-2.ensures (to_z-of_z w64 c.get_i64.result (record { sfits = c.get_i64.type-inv }) ∙ c.get_i64.ensures) c.get32-3.ensures
 
-pub read-reloc-spec : {M : Type 1} → statement M
-read-reloc-spec =
+pub read_reloc_spec : {M : Type 1} → statement M
+read_reloc_spec =
     tie.close
     (tie.spec
     get16-requires

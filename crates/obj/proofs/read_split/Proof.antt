@@ -4,18 +4,18 @@ use borrow.Author.Rules.{rules}
 use Rattle.obj.proofs.read_split.Statement.{statement}
 use Rattle.obj.proofs.read_split.Tie as tie
 
-add-get16 : tie.Need-overflow-add-get16
+add-get16 : tie.Need-overflow_add-at
 add-get16 c = search rules
 
 get16-requires : tie.Need-get16-requires
 get16-requires c κs = search rules
 
-read-partial-requires : tie.Need-read-partial-requires
+read-partial-requires : tie.Need-read_partial-requires
 read-partial-requires c κs = search rules
 
 returns : tie.Need-returns
 unfolding split_at
 returns c = (cc)
 
-pub read-split-spec : {M : Type 1} → statement M
-read-split-spec = tie.close (tie.spec add-get16 get16-requires read-partial-requires returns)
+pub read_split_spec : {M : Type 1} → statement M
+read_split_spec = tie.close (tie.spec add-get16 get16-requires read-partial-requires returns)

@@ -10,31 +10,31 @@ use Rattle.obj.proofs.read_unit.Tie as tie
 get16-requires : tie.Need-get16-requires
 get16-requires c κs = search rules
 
-add-t4 : tie.Need-overflow-add-t4
+add-t4 : tie.Need-overflow_add-result
 add-t4 c = search rules
 
-shared-slice-read-t6 : tie.Need-shared-slice-read-t6
+shared-slice-read-t6 : tie.Need-bounds-b-at
 shared-slice-read-t6 c = search rules
 
-add-t7 : tie.Need-overflow-add-t7
+add-t7 : tie.Need-overflow_add-result-2
 add-t7 c = search rules
 
-shared-slice-read-t9 : tie.Need-shared-slice-read-t9
+shared-slice-read-t9 : tie.Need-bounds-b-at-2
 shared-slice-read-t9 c = search rules
 
-add-get-i32 : tie.Need-overflow-add-get-i32
+add-get-i32 : tie.Need-overflow_add-at
 add-get-i32 c = search rules
 
-get-i32-requires : tie.Need-get-i32-requires
+get-i32-requires : tie.Need-get_i32-requires
 get-i32-requires c κs = search rules
 
 returns : tie.Need-returns
 returns c =
-    unit_made _ _ c.before.before.before.get16.ensures
-    (to_z-of_z w32 c.get_i32.result (record { sfits = c.get_i32.type-inv }) ∙ c.get_i32.ensures)
+    unit_made _ _ c.get16.ensures
+    (to_z-of_z w32 c.get_i32.result (record { sfits = c.get_i32.type_inv }) ∙ c.get_i32.ensures)
 
-pub read-unit-spec : {M : Type 1} → statement M
-read-unit-spec =
+pub read_unit_spec : {M : Type 1} → statement M
+read_unit_spec =
     tie.close
     (tie.spec
     get16-requires

@@ -14,116 +14,116 @@ use borrow.Author.Rules.{rules}
 use Rattle.order.proofs.resolve_link_order.Statement.{statement}
 use Rattle.order.proofs.resolve_link_order.Tie as tie
 
-order-units-requires : tie.Need-order-units-requires
+order-units-requires : tie.Need-order_units-k-requires
 order-units-requires c κs = search rules
 
-slice-reshare-prefix-order-twice : tie.Need-slice-reshare-prefix-order-twice
+slice-reshare-prefix-order-twice : tie.Need-slice_bounds-order_twice-end
 slice-reshare-prefix-order-twice c = search rules
 
-slice-aggregate-order-twice : tie.Need-slice-aggregate-order-twice
+slice-aggregate-order-twice : tie.Need-slice_bounds-order_twice-end-2
 slice-aggregate-order-twice c =
-    let s = c.before.before.before.before.before.before.before.before.before.before.before.before.before.before.before.before.before.before.before.before.before.before.before.before.before.before in
+    let s = c in
     let a = s.args in
-    let u = c.before.before.before.before.before.order_units in
+    let u = c.order_units-k in
     let k-fits : u.result ≤ length u.new.1.1.0 = omega (arith, u.ensures.small, u.auto.1.1.0, s.requires.1.units.few, s.requires.1.numbers_long) in
     sym (length-take-le _ _ k-fits)
 
-order-twice-requires : tie.Need-order-twice-requires
+order-twice-requires : tie.Need-order_twice-requires
 order-twice-requires c κs = search rules
 
 refusal-requires : tie.Need-refusal-requires
 refusal-requires c κs = search rules
 
-same_length : tie.Need-same-length
+same_length : tie.Need-shape_of-numbers-then-order_twice
 same_length c = search rules
 
-same-length-2 : tie.Need-same-length-2
+same-length-2 : tie.Need-shape_of-scratch-then-order_twice
 same-length-2 c = search rules
 
-returns : tie.Need-returns
+returns : tie.Need-returns-then-order_twice
 returns c =
-    let a = c.before.before.before.before.before.before.before.before.before.before.before.before.before.before.before.before.before.before.before.before.before.before.before.before.before.before.before.before.before.args in
+    let a = c.args in
     let col = columns a.starts.now a.ends.now a.units.now a.rest.now in
     let g = given_of col a.n a.heads.now a.head_places.now a.name_bytes.now a.name_places.now a.name_lengths.now a.unit_bytes.now a.unit_places.now in
-    order_twice_resolves g _ _ _ (sym c.before.before.order_twice.ensures ∙ c.before.if1.true) c.refusal.ensures
+    order_twice_resolves g _ _ _ (sym c.order_twice.ensures ∙ c.if-order_twice.true) c.refusal.ensures
 
-slice-relend-prefix-make-graph : tie.Need-slice-relend-prefix-make-graph
+slice-relend-prefix-make-graph : tie.Need-slice_bounds-make_graph-end
 slice-relend-prefix-make-graph c =
-    let s = c.before.before.before.before.before.before.before.before.before.before.before.before.before.before.before.before.before.before.before.before.before.before.before.before.before.before.before.before in
+    let s = c in
     let a = s.args in
-    let u = c.before.before.before.before.before.before.before.order_units in
+    let u = c.order_units-k in
     let k-fits : u.result ≤ length u.new.1.1.0 = omega (arith, u.ensures.small, u.auto.1.1.0, s.requires.1.units.few, s.requires.1.numbers_long) in
     k-fits
 
-slice-aggregate-make-graph : tie.Need-slice-aggregate-make-graph
+slice-aggregate-make-graph : tie.Need-slice_bounds-make_graph-end-2
 slice-aggregate-make-graph c =
-    let s = c.before.before.before.before.before.before.before.before.before.before.before.before.before.before.before.before.before.before.before.before.before.before.before.before.before.before.before.before.before in
+    let s = c in
     let a = s.args in
-    let u = c.before.before.before.before.before.before.before.before.order_units in
+    let u = c.order_units-k in
     let k-fits : u.result ≤ length u.new.1.1.0 = omega (arith, u.ensures.small, u.auto.1.1.0, s.requires.1.units.few, s.requires.1.numbers_long) in
     sym (length-take-le _ _ k-fits)
 
-make-graph-requires : tie.Need-make-graph-requires
+make-graph-requires : tie.Need-make_graph-made-requires
 make-graph-requires c κs =
-    let q = c.before.before.before.before.before.before.before.before.before.before.before.before.before.before.before.before.before.before.before.before.before.before.before.before.before.before.before.before.before.before.before.before.before.requires in (
+    let q = c.requires in (
       q.0,
       record {
         units = q.1.units;
         named = q.1.named;
-        numbers_are = c.before.before.before.before.before.before.before.before.before.before.before.before.order_units.ensures.is;
+        numbers_are = c.order_units-k.ensures.is;
         nodes_long = q.1.nodes_long;
         from_long = q.1.from_long;
         to_long = q.1.to_long;
       },
     )
 
-slice-reshare-prefix-sort-graph : tie.Need-slice-reshare-prefix-sort-graph
+slice-reshare-prefix-sort-graph : tie.Need-slice_bounds-sort_graph-end
 slice-reshare-prefix-sort-graph c =
-    let s = c.before.before.before.before.before.before.before.before.before.before.before.before.before.before.before.before.before.before.before.before.before.before.before.before.before.before.before.before.before.before.before.before.before.before.before.before.before.before.before.before.before.before.before.before in
+    let s = c in
     let a = s.args in
-    let m = c.before.before.before.before.before.before.before.before.before.before.make_graph in
+    let m = c.make_graph-made in
     omega (arith, m.ensures.few_nodes, m.auto.1.1.1.1.1.1.1.1.1.1.1.1.1.1.0, s.requires.1.nodes_long)
 
-slice-aggregate-sort-graph : tie.Need-slice-aggregate-sort-graph
+slice-aggregate-sort-graph : tie.Need-slice_bounds-sort_graph-end-2
 slice-aggregate-sort-graph c =
-    let s = c.before.before.before.before.before.before.before.before.before.before.before.before.before.before.before.before.before.before.before.before.before.before.before.before.before.before.before.before.before.before.before.before.before.before.before.before.before.before.before.before.before.before.before.before.before in
+    let s = c in
     let a = s.args in
-    let m = c.before.before.before.before.before.before.before.before.before.before.before.make_graph in
+    let m = c.make_graph-made in
     sym (length-take-le _ _ (omega (arith, m.ensures.few_nodes, m.auto.1.1.1.1.1.1.1.1.1.1.1.1.1.1.0, s.requires.1.nodes_long)))
 
-slice-reshare-prefix-sort-graph-2 : tie.Need-slice-reshare-prefix-sort-graph-2
+slice-reshare-prefix-sort-graph-2 : tie.Need-slice_bounds-sort_graph-end-3
 slice-reshare-prefix-sort-graph-2 c =
-    let s = c.before.before.before.before.before.before.before.before.before.before.before.before.before.before.before.before.before.before.before.before.before.before.before.before.before.before.before.before.before.before.before.before.before.before.before.before.before.before.before.before.before.before.before.before.before in
+    let s = c in
     let a = s.args in
-    let m = c.before.before.before.before.before.before.before.before.before.before.before.make_graph in
+    let m = c.make_graph-made in
     omega (arith, m.ensures.few_edges, m.auto.1.1.1.1.1.1.1.1.1.1.1.1.1.1.1.0, s.requires.1.from_long)
 
-slice-aggregate-sort-graph-2 : tie.Need-slice-aggregate-sort-graph-2
+slice-aggregate-sort-graph-2 : tie.Need-slice_bounds-sort_graph-end-4
 slice-aggregate-sort-graph-2 c =
-    let s = c.before.before.before.before.before.before.before.before.before.before.before.before.before.before.before.before.before.before.before.before.before.before.before.before.before.before.before.before.before.before.before.before.before.before.before.before.before.before.before.before.before.before.before.before.before.before in
+    let s = c in
     let a = s.args in
-    let m = c.before.before.before.before.before.before.before.before.before.before.before.before.make_graph in
+    let m = c.make_graph-made in
     sym (length-take-le _ _ (omega (arith, m.ensures.few_edges, m.auto.1.1.1.1.1.1.1.1.1.1.1.1.1.1.1.0, s.requires.1.from_long)))
 
-slice-reshare-prefix-sort-graph-3 : tie.Need-slice-reshare-prefix-sort-graph-3
+slice-reshare-prefix-sort-graph-3 : tie.Need-slice_bounds-sort_graph-end-5
 slice-reshare-prefix-sort-graph-3 c =
-    let s = c.before.before.before.before.before.before.before.before.before.before.before.before.before.before.before.before.before.before.before.before.before.before.before.before.before.before.before.before.before.before.before.before.before.before.before.before.before.before.before.before.before.before.before.before.before.before in
+    let s = c in
     let a = s.args in
-    let m = c.before.before.before.before.before.before.before.before.before.before.before.before.make_graph in
+    let m = c.make_graph-made in
     omega (arith, m.ensures.few_edges, m.auto.1.1.1.1.1.1.1.1.1.1.1.1.1.1.1.1.0, s.requires.1.to_long)
 
-slice-aggregate-sort-graph-3 : tie.Need-slice-aggregate-sort-graph-3
+slice-aggregate-sort-graph-3 : tie.Need-slice_bounds-sort_graph-end-6
 slice-aggregate-sort-graph-3 c =
-    let s = c.before.before.before.before.before.before.before.before.before.before.before.before.before.before.before.before.before.before.before.before.before.before.before.before.before.before.before.before.before.before.before.before.before.before.before.before.before.before.before.before.before.before.before.before.before.before.before in
+    let s = c in
     let a = s.args in
-    let m = c.before.before.before.before.before.before.before.before.before.before.before.before.before.make_graph in
+    let m = c.make_graph-made in
     sym (length-take-le _ _ (omega (arith, m.ensures.few_edges, m.auto.1.1.1.1.1.1.1.1.1.1.1.1.1.1.1.1.0, s.requires.1.to_long)))
 
-sort-graph-requires : tie.Need-sort-graph-requires
+sort-graph-requires : tie.Need-sort_graph-requires
 sort-graph-requires c κs =
-    let s = c.before.before.before.before.before.before.before.before.before.before.before.before.before.before.before.before.before.before.before.before.before.before.before.before.before.before.before.before.before.before.before.before.before.before.before.before.before.before.before.before.before.before.before.before.before.before.before.before.before.before in
+    let s = c in
     let a = s.args in
-    let m = c.before.before.before.before.before.before.before.before.before.before.before.before.before.before.before.before.make_graph in
+    let m = c.make_graph-made in
     let column-kept = m.auto.1.1.1.1.1.1.1.1.1.1.1.1.1.0 in
     let long-nodes = length-take-le m.result.nodes m.new.1.1.1.1.1.1.1.1.1.1.1.1.1.1.0 (omega (arith, m.ensures.few_nodes, m.auto.1.1.1.1.1.1.1.1.1.1.1.1.1.1.0, s.requires.1.nodes_long)) in
     let long-from = length-take-le m.result.edges m.new.1.1.1.1.1.1.1.1.1.1.1.1.1.1.1.0 (omega (arith, m.ensures.few_edges, m.auto.1.1.1.1.1.1.1.1.1.1.1.1.1.1.1.0, s.requires.1.from_long)) in
@@ -131,52 +131,52 @@ sort-graph-requires c κs =
     record {
       nodes_are = m.ensures.nodes_are;
       within = record { nodes = omega (arith, long-nodes, m.ensures.few_nodes); edges = omega (arith, long-from, m.ensures.few_edges); paired = long-to ∙ sym long-from };
-      table_long = omega (arith, c.before.before.before.before.before.before.before.before.before.before.before.before.before.before.before.before.before.before.before.before.before.before.before.before.before.before.before.before.before.order_units.auto.1.1.1.0, s.requires.1.scratch_long);
+      table_long = omega (arith, c.order_units-k.auto.scratch, s.requires.1.scratch_long);
       units = record { whole = s.requires.1.units.whole; few = s.requires.1.units.few; named = λ k h. omega (arith, s.requires.1.units.named k h, column-kept) };
       rows_are = record { long = s.requires.0.long; named = λ i h. omega (arith, s.requires.1.named i h, column-kept) };
     }
 
-same-length-3 : tie.Need-same-length-3
+same-length-3 : tie.Need-shape_of-numbers
 same-length-3 c =
-    let s = c.before.before.before.before.before.before.before.before.before.before.before.before.before.before.before.before.before.before.before.before.before.before.before.before.before.before.before.before.before.before.before.before.before.before.before.before.before.before.before.before.before.before.before.before.before.before.before.before.before.before.before.before.before.before.before.before.before in
+    let s = c in
     let a = s.args in
-    let u = c.before.before.before.before.before.before.before.before.before.before.before.before.before.before.before.before.before.before.before.before.before.before.before.before.before.before.before.before.before.before.before.before.before.before.before.before.order_units in
+    let u = c.order_units-k in
     let k-fits : u.result ≤ length u.new.1.1.0 = omega (arith, u.ensures.small, u.auto.1.1.0, s.requires.1.units.few, s.requires.1.numbers_long) in
-    let m = c.before.before.before.before.before.before.before.before.before.before.before.before.before.before.before.before.before.before.before.before.before.before.before.make_graph in
+    let m = c.make_graph-made in
     let part = length-take-le u.result u.new.1.1.0 k-fits in
     simp (length-append, length-drop) (omega (arith, m.auto.1.1.1.1.1.1.1.1.1.1.1.1.0, part, u.auto.1.1.0))
 
-same-length-4 : tie.Need-same-length-4
-same-length-4 c = c.before.before.before.before.before.before.sort_graph.auto.1.1.1.1.1.1.1.1.1.1.0 ∙ c.before.before.before.before.before.before.before.before.before.before.before.before.before.before.before.before.before.before.before.before.before.before.before.before.before.before.before.before.before.before.before.before.before.before.before.before.order_units.auto.1.1.1.0
+same-length-4 : tie.Need-shape_of-scratch
+same-length-4 c = c.sort_graph.auto.table ∙ c.order_units-k.auto.scratch
 
-same-length-5 : tie.Need-same-length-5
+same-length-5 : tie.Need-shape_of-column
 same-length-5 c = search rules
 
-same-length-6 : tie.Need-same-length-6
+same-length-6 : tie.Need-shape_of-nodes
 same-length-6 c = search rules
 
-same-length-7 : tie.Need-same-length-7
+same-length-7 : tie.Need-shape_of-from
 same-length-7 c = search rules
 
-same-length-8 : tie.Need-same-length-8
+same-length-8 : tie.Need-shape_of-to
 same-length-8 c = search rules
 
-same-length-9 : tie.Need-same-length-9
+same-length-9 : tie.Need-shape_of-out
 same-length-9 c = search rules
 
-returns-2 : tie.Need-returns-2
+returns-2 : tie.Need-returns
 returns-2 c =
-    let a = c.before.before.before.before.before.before.before.before.before.before.before.before.before.before.before.before.before.before.before.before.before.before.before.before.before.before.before.before.before.before.before.before.before.before.before.before.before.before.before.before.before.before.before.before.before.before.before.before.before.before.before.before.before.before.before.before.before.args in
-    let m = c.before.before.before.before.before.before.before.before.before.before.before.before.before.before.before.before.before.before.before.before.before.before.before.make_graph in
+    let a = c.args in
+    let m = c.make_graph-made in
     let col = columns a.starts.now a.ends.now a.units.now a.rest.now in
     let g = given_of col a.n a.heads.now a.head_places.now a.name_bytes.now a.name_places.now a.name_lengths.now a.unit_bytes.now a.unit_places.now in
-    let first : order_twice g.units ≡ false = sym c.before.before.before.before.before.before.before.before.before.before.before.before.before.before.before.before.before.before.before.before.before.before.before.before.before.before.before.before.before.before.order_twice.ensures ∙ c.before.before.before.before.before.before.before.before.before.before.before.before.before.before.before.before.before.before.before.before.before.before.before.before.before.before.before.before.before.if1.false in
+    let first : order_twice g.units ≡ false = sym c.order_twice.ensures ∙ c.if-order_twice.false in
     resolves_as
     (same_sort _ (graph_of g) (length a.out.now / 8) (ap length m.ensures.nodes_are) m.ensures.starts m.ensures.goals ∙ sorted_stage g (length a.out.now / 8) first)
-    c.before.before.before.before.before.before.sort_graph.ensures
+    c.sort_graph.ensures
 
-pub resolve-link-order-spec : {M : Type 1} → statement M
-resolve-link-order-spec =
+pub resolve_link_order_spec : {M : Type 1} → statement M
+resolve_link_order_spec =
     tie.close
     (tie.spec
     order-units-requires

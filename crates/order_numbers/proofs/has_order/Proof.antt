@@ -5,11 +5,11 @@ use borrow.Author.Rules.{rules}
 use Rattle.order_numbers.proofs.has_order.Statement.{statement}
 use Rattle.order_numbers.proofs.has_order.Tie as tie
 
-unit-at-requires : tie.Need-unit-at-requires
+unit-at-requires : tie.Need-unit_at-u-requires
 unit-at-requires c κs = search rules
 
 returns : tie.Need-returns
-returns c = ap has_order c.before.unit_at_lem.ensures
+returns c = ap has_order c.unit_at-u.ensures
 
-pub has-order-spec : {M : Type 1} → statement M
-has-order-spec = tie.close (tie.spec unit-at-requires returns)
+pub has_order_spec : {M : Type 1} → statement M
+has_order_spec = tie.close (tie.spec unit-at-requires returns)

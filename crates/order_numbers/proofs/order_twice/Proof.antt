@@ -34,60 +34,60 @@ module _ (b places s : List ℕ) (i : ℕ) (h : i + 1 < length s) where
       next_turn ranks i (omega (arith, length-map s (rank_at b places)))
       ∙ ap₂ (λ (x y : ℕ). eqb x y || next_same (drop (i + 1) ranks)) (get_d_map (rank_at b places) s i 0 0 (omega arith)) (get_d_map (rank_at b places) s (i + 1) 0 0 h)
 
-loop-holds : tie.Need-loop-init invariant-loop decreases-loop
+loop-holds : tie.Need-loop-i-init invariant-loop decreases-loop
 loop-holds c = (omega arith, refl)
 
-add-loop : tie.Need-overflow-add-loop invariant-loop decreases-loop
+add-loop : tie.Need-overflow_add-i invariant-loop decreases-loop
 add-loop c = omega arith
 
-order-in-requires : tie.Need-order-in-requires invariant-loop decreases-loop
-order-in-requires c κs = let s = c.before.before.before.before.before in (omega arith, ordered_readable _ _ _ s.requires.0 s.requires.1)
+order-in-requires : tie.Need-order_in-requires invariant-loop decreases-loop
+order-in-requires c κs = let s = c in (omega arith, ordered_readable _ _ _ s.requires.0 s.requires.1)
 
-add-order-in : tie.Need-overflow-add-order-in invariant-loop decreases-loop
+add-order-in : tie.Need-overflow_add-i-in-loop-i invariant-loop decreases-loop
 add-order-in c = omega arith
 
-order-in-requires-2 : tie.Need-order-in-requires-2 invariant-loop decreases-loop
-order-in-requires-2 c κs = let s = c.before.before.before.before.before.before in (c.before.loop-test.true, ordered_readable _ _ _ s.requires.0 s.requires.1)
+order-in-requires-2 : tie.Need-order_in-requires-in-loop-i invariant-loop decreases-loop
+order-in-requires-2 c κs = let s = c in (c.loop-i-test.true, ordered_readable _ _ _ s.requires.0 s.requires.1)
 
-returns : tie.Need-returns invariant-loop decreases-loop
+returns : tie.Need-returns-then-order_in invariant-loop decreases-loop
 returns c =
-    let a = c.before.before.before.before.before.before.before.before.args in
-    let l = c.before.before.before.before.loop in
-    let e = word_same (unit_fits _ _) (unit_fits _ _) c.before.before.order_in.ensures c.before.order-in2.ensures c.if1.true in
+    let a = c.args in
+    let l = c.loop-i in
+    let e = word_same (unit_fits _ _) (unit_fits _ _) c.order_in.ensures c.order_in-in-loop-i.ensures c.if-order_in.true in
     sym (ap (λ (t : Bool). t || next_same (drop (l.i + 1) (map (rank_at a.b.now a.places.now) a.s.now))) (eq-eqb _ _ e))
-    ∙ sym (turn a.b.now a.places.now a.s.now l.i c.before.before.before.loop-test.true)
+    ∙ sym (turn a.b.now a.places.now a.s.now l.i c.loop-i-test.true)
     ∙ l.invariant.1
-    ∙ ap (λ (t : List ℕ). next_same (map (rank_at a.b.now a.places.now) t)) c.before.before.before.before.before.before.before.before.requires.1
+    ∙ ap (λ (t : List ℕ). next_same (map (rank_at a.b.now a.places.now) t)) c.requires.1
     ∙ twice_next a.b.now a.places.now
 
-add-i : tie.Need-overflow-add-i invariant-loop decreases-loop
+add-i : tie.Need-overflow_add-i-in-loop-i-2 invariant-loop decreases-loop
 add-i c = omega arith
 
-loop-less : tie.Need-loop-smaller invariant-loop decreases-loop
+loop-less : tie.Need-loop-i-smaller invariant-loop decreases-loop
 loop-less c = omega arith
 
-loop-again : tie.Need-loop-preserved invariant-loop decreases-loop
+loop-again : tie.Need-loop-i-preserved invariant-loop decreases-loop
 loop-again c =
-    let a = c.before.before.before.before.before.before.before.before.args in
-    let l = c.before.before.before.before.loop in
-    let e = word_other (unit_fits _ _) (unit_fits _ _) c.before.before.order_in.ensures c.before.order-in2.ensures c.if1.false in (
+    let a = c.args in
+    let l = c.loop-i in
+    let e = word_other (unit_fits _ _) (unit_fits _ _) c.order_in.ensures c.order_in-in-loop-i.ensures c.if-order_in.false in (
       omega arith,
       sym (ap (λ (t : Bool). t || next_same (drop (l.i + 1) (map (rank_at a.b.now a.places.now) a.s.now))) (ne_eqb _ _ e))
-          ∙ sym (turn a.b.now a.places.now a.s.now l.i c.before.before.before.loop-test.true)
+          ∙ sym (turn a.b.now a.places.now a.s.now l.i c.loop-i-test.true)
           ∙ l.invariant.1,
     )
 
-returns-2 : tie.Need-returns-2 invariant-loop decreases-loop
+returns-2 : tie.Need-returns invariant-loop decreases-loop
 returns-2 c =
-    let a = c.before.before.before.before.before.args in
-    let l = c.before.loop in
-    sym (next_none (map (rank_at a.b.now a.places.now) a.s.now) l.i (omega (arith, length-map a.s.now (rank_at a.b.now a.places.now), c.loop-test.false)))
+    let a = c.args in
+    let l = c.loop-i in
+    sym (next_none (map (rank_at a.b.now a.places.now) a.s.now) l.i (omega (arith, length-map a.s.now (rank_at a.b.now a.places.now), c.loop-i-test.false)))
     ∙ l.invariant.1
-    ∙ ap (λ (t : List ℕ). next_same (map (rank_at a.b.now a.places.now) t)) c.before.before.before.before.before.requires.1
+    ∙ ap (λ (t : List ℕ). next_same (map (rank_at a.b.now a.places.now) t)) c.requires.1
     ∙ twice_next a.b.now a.places.now
 
-pub order-twice-spec : {M : Type 1} → statement M
-order-twice-spec =
+pub order_twice_spec : {M : Type 1} → statement M
+order_twice_spec =
     tie.close
     (tie.spec
     invariant-loop

@@ -14,29 +14,29 @@ invariant-loop out₀ from i₀ out i = (length out ≡ length out₀) × (clear
 abbrev decreases-loop : tie.decreases-loop
 decreases-loop out₀ from i₀ out i = length out₀ - i
 
-loop-holds : tie.Need-loop-init invariant-loop decreases-loop
+loop-holds : tie.Need-loop-i-init invariant-loop decreases-loop
 loop-holds c = (refl, refl)
 
-slice-write-out : tie.Need-slice-write-out invariant-loop decreases-loop
+slice-write-out : tie.Need-bounds-out-i invariant-loop decreases-loop
 slice-write-out c = omega arith
 
-add-i : tie.Need-overflow-add-i invariant-loop decreases-loop
+add-i : tie.Need-overflow_add-i invariant-loop decreases-loop
 add-i c = omega arith
 
-loop-less : tie.Need-loop-smaller invariant-loop decreases-loop
+loop-less : tie.Need-loop-i-smaller invariant-loop decreases-loop
 loop-less c = omega arith
 
-loop-again : tie.Need-loop-preserved invariant-loop decreases-loop
-loop-again c = (simp length-set (omega arith), sym (clear_turn 0 _ _ c.loop-test.true) ∙ c.before.loop.invariant.1)
+loop-again : tie.Need-loop-i-preserved invariant-loop decreases-loop
+loop-again c = (simp length-set (omega arith), sym (clear_turn 0 _ _ c.loop-i-test.true) ∙ c.loop-i.invariant.1)
 
-same_length : tie.Need-same-length invariant-loop decreases-loop
+same_length : tie.Need-shape_of-out invariant-loop decreases-loop
 same_length c = omega arith
 
 returns : tie.Need-returns invariant-loop decreases-loop
-returns c = sym (clear_done 0 _ _ c.loop-test.false) ∙ c.before.loop.invariant.1
+returns c = sym (clear_done 0 _ _ c.loop-i-test.false) ∙ c.loop-i.invariant.1
 
-pub clear-from-spec : {M : Type 1} → statement M
-clear-from-spec =
+pub clear_from_spec : {M : Type 1} → statement M
+clear_from_spec =
     tie.close
     (tie.spec
     invariant-loop

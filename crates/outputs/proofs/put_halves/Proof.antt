@@ -21,19 +21,19 @@ abbrev decreases-loop : tie.decreases-loop
 decreases-loop out₀ numbers i₀ out i = length numbers - i
 
 -- src/lib.rt:27:5
-loop-holds : tie.Need-loop-init invariant-loop decreases-loop
+loop-holds : tie.Need-loop-i-init invariant-loop decreases-loop
 loop-holds c = (omega arith, refl, refl)
 
 -- src/lib.rt:28:20
-mul-put16 : tie.Need-overflow-mul-put16 invariant-loop decreases-loop
+mul-put16 : tie.Need-overflow_mul-i invariant-loop decreases-loop
 mul-put16 c = omega arith
 
 -- src/lib.rt:28:27
-mul-put16-2 : tie.Need-overflow-mul-put16-2 invariant-loop decreases-loop
+mul-put16-2 : tie.Need-offset_bounds-numbers-i invariant-loop decreases-loop
 mul-put16-2 c = omega arith
 
 -- src/lib.rt:28:27
-shared-slice-read-put16 : tie.Need-shared-slice-read-put16 invariant-loop decreases-loop
+shared-slice-read-put16 : tie.Need-bounds-numbers-i invariant-loop decreases-loop
 shared-slice-read-put16 c = omega arith
 
 -- src/lib.rt:28:9
@@ -41,36 +41,36 @@ put16-requires : tie.Need-put16-requires invariant-loop decreases-loop
 put16-requires c κs = omega arith
 
 -- src/lib.rt:29:9
-add-i : tie.Need-overflow-add-i invariant-loop decreases-loop
+add-i : tie.Need-overflow_add-i invariant-loop decreases-loop
 add-i c = omega arith
 
 -- src/lib.rt:27:5
-loop-less : tie.Need-loop-smaller invariant-loop decreases-loop
+loop-less : tie.Need-loop-i-smaller invariant-loop decreases-loop
 loop-less c = omega arith
 
 -- src/lib.rt:27:5
-loop-again : tie.Need-loop-preserved invariant-loop decreases-loop
+loop-again : tie.Need-loop-i-preserved invariant-loop decreases-loop
 loop-again c =
-    let at-loop = c.before.before.before.before.before.before in
-    let stored = c.before.before.put16.ensures in
-    let out = at-loop.loop.out in
-    let i = at-loop.loop.i in
-    let numbers = at-loop.before.before.before.args.numbers.now in (
+    let at-loop = c in
+    let stored = c.put16.ensures in
+    let out = at-loop.loop-i.out in
+    let i = at-loop.loop-i.i in
+    let numbers = at-loop.args.numbers.now in (
       omega arith,
-      ap length stored ∙ simp length-sets at-loop.loop.invariant.1,
-      ap (λ (l : List ℕ). sets l (2 * (i + 1)) (halves (drop (i + 1) numbers))) stored ∙ halves_turn out numbers i c.before.before.before.before.before.loop-test.true ∙ at-loop.loop.invariant.2,
+      ap length stored ∙ simp length-sets at-loop.loop-i.invariant.1,
+      ap (λ (l : List ℕ). sets l (2 * (i + 1)) (halves (drop (i + 1) numbers))) stored ∙ halves_turn out numbers i c.loop-i-test.true ∙ at-loop.loop-i.invariant.2,
     )
 
 -- src/lib.rt:22:1
-same_length : tie.Need-same-length invariant-loop decreases-loop
+same_length : tie.Need-shape_of-out invariant-loop decreases-loop
 same_length c = omega arith
 
 -- src/lib.rt:22:1
 returns : tie.Need-returns invariant-loop decreases-loop
-returns c = sym (halves_done _ _ _ c.loop-test.false) ∙ c.before.loop.invariant.2
+returns c = sym (halves_done _ _ _ c.loop-i-test.false) ∙ c.loop-i.invariant.2
 
-pub put-halves-spec : {M : Type 1} → statement M
-put-halves-spec =
+pub put_halves_spec : {M : Type 1} → statement M
+put_halves_spec =
     tie.close
     (tie.spec
     invariant-loop

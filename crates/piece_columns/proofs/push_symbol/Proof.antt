@@ -15,43 +15,43 @@ inside s = in_lasts s.args.chains.now s.args.y.symbol s.requires.0
 behind : (s : tie.Start) → 4096 + s.args.k < length s.args.chains.now
 behind s = omega (arith, s.requires.2, length_prevs s.args.chains.now)
 
-cast-i : tie.Need-overflow-cast-i
+cast-i : tie.Need-overflow_cast-i
 cast-i c = search rules
 
-mul-chains : tie.Need-overflow-mul-chains
+mul-chains : tie.Need-offset_bounds-chains-i
 mul-chains c = search rules
 
-slice-read-chains : tie.Need-slice-read-chains
+slice-read-chains : tie.Need-bounds-chains-i
 slice-read-chains c = (inside c.before.before.before.before).1
 
-add-chains : tie.Need-overflow-add-chains
+add-chains : tie.Need-overflow_add-chains
 add-chains c = search rules
 
-mul-chains-2 : tie.Need-overflow-mul-chains-2
+mul-chains-2 : tie.Need-offset_bounds-chains-k
 mul-chains-2 c = search rules
 
-slice-write-chains : tie.Need-slice-write-chains
+slice-write-chains : tie.Need-bounds-chains-k
 slice-write-chains c = behind c.before.before.before.before
 
-cast-chains : tie.Need-overflow-cast-chains
+cast-chains : tie.Need-overflow_cast-chains
 cast-chains c = search rules
 
-add-chains-2 : tie.Need-overflow-add-chains-2
+add-chains-2 : tie.Need-overflow_add-chains-2
 add-chains-2 c = search rules
 
-mul-chains-3 : tie.Need-overflow-mul-chains-3
+mul-chains-3 : tie.Need-offset_bounds-chains-i-2
 mul-chains-3 c = search rules
 
-slice-write-chains-2 : tie.Need-slice-write-chains-2
+slice-write-chains-2 : tie.Need-bounds-chains-i-2
 slice-write-chains-2 c = simp length-set (inside c.before.before.before.before).1
 
-add-piece-symbol-requires : tie.Need-add-piece-symbol-requires
+add-piece-symbol-requires : tie.Need-add_piece_symbol-requires
 add-piece-symbol-requires c κs = search rules
 
-same_length : tie.Need-same-length
+same_length : tie.Need-shape_of-chains
 same_length c = search rules
 
-same-length-2 : tie.Need-same-length-2
+same-length-2 : tie.Need-shape_of-out
 same-length-2 c = search rules
 
 returns : tie.Need-returns
@@ -59,10 +59,10 @@ returns c =
     let s = c.before.before.before.before.before.before.before.before in
     let a = s.args in
     pushed_both a.chains.now _ _ a.k a.y (inside s).0
-    (pushed_symbol _ _ _ a.y c.before.before.add_piece_symbol.ensures _ _ s.requires.1 s.requires.0 s.requires.2 (omega (arith, s.requires.3, c.before.before.add_piece_symbol.auto.0)))
+    (pushed_symbol _ _ _ a.y c.add_piece_symbol.ensures _ _ s.requires.1 s.requires.0 s.requires.2 (omega (arith, s.requires.3, c.add_piece_symbol.auto.out)))
 
-pub push-symbol-spec : {M : Type 1} → statement M
-push-symbol-spec =
+pub push_symbol_spec : {M : Type 1} → statement M
+push_symbol_spec =
     tie.close
     (tie.spec
     cast-i

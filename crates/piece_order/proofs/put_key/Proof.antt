@@ -9,26 +9,26 @@ use borrow.Author.Rules.{rules}
 use Rattle.piece_order.proofs.put_key.Statement.{statement}
 use Rattle.piece_order.proofs.put_key.Tie as tie
 
-add-put16 : tie.Need-overflow-add-put16
+add-put16 : tie.Need-overflow_add-at
 add-put16 c = search rules
 
 put16-requires : tie.Need-put16-requires
 put16-requires c κs = search rules
 
-add-put32 : tie.Need-overflow-add-put32
+add-put32 : tie.Need-overflow_add-at-2
 add-put32 c = search rules
 
 put32-requires : tie.Need-put32-requires
 put32-requires c κs = search rules
 
-same_length : tie.Need-same-length
+same_length : tie.Need-shape_of-table
 same_length c = search rules
 
 returns : tie.Need-returns
 returns c =
-    let a = c.before.before.before.before.before.before.before.before.before.args in
-    c.before.before.put32.ensures ∙ ap (λ (l : List ℕ). sets l (a.at + 4) (enc32 a.address)) c.before.before.before.before.before.before.put16.ensures
+    let a = c.args in
+    c.put32.ensures ∙ ap (λ (l : List ℕ). sets l (a.at + 4) (enc32 a.address)) c.put16.ensures
 
-pub put-key-spec : {M : Type 1} → statement M
-put-key-spec =
+pub put_key_spec : {M : Type 1} → statement M
+put_key_spec =
     tie.close (tie.spec add-put16 put16-requires add-put32 put32-requires same_length returns)

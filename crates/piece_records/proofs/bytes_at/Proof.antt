@@ -10,38 +10,38 @@ use borrow.Author.Rules.{rules}
 use Rattle.piece_records.proofs.bytes_at.Statement.{statement}
 use Rattle.piece_records.proofs.bytes_at.Tie as tie
 
-get32-requires : tie.Need-get32-requires
+get32-requires : tie.Need-get32-size-requires
 get32-requires c κs = search rules
 
-cast-size : tie.Need-overflow-cast-size
+cast-size : tie.Need-overflow_cast-size
 cast-size c = search rules
 
-add_start : tie.Need-overflow-add-start
+add_start : tie.Need-overflow_add-start
 add_start c = search rules
 
-add-end : tie.Need-overflow-add-end
+add-end : tie.Need-overflow_add-end
 add-end c = search rules
 
-add-end-2 : tie.Need-overflow-add-end-2
+add-end-2 : tie.Need-overflow_add-end-2
 add-end-2 c = search rules
 
-sub-result : tie.Need-overflow-sub-result
+sub-result : tie.Need-slice_bounds-result-count
 sub-result c = search rules
 
-part-result-start : tie.Need-slice-bounds-result-start
+part-result-start : tie.Need-slice_bounds-result-start
 part-result-start c = search rules
 
-part-result-end : tie.Need-slice-bounds-result-end
+part-result-end : tie.Need-slice_bounds-result-end
 part-result-end c = search rules
 
 returns : tie.Need-returns
 unfolding part_at
 returns c =
-    let a = c.before.before.before.args in
-    ap (λ (k : ℕ). take k (drop (a.at + 12) a.b.now)) (let z : a.at + 6 + c.before.get32.result - (a.at + 12) ≡ le32 a.b.now a.at - 6 = omega arith in z)
+    let a = c.args in
+    ap (λ (k : ℕ). take k (drop (a.at + 12) a.b.now)) (let z : a.at + 6 + c.get32-size.result - (a.at + 12) ≡ le32 a.b.now a.at - 6 = omega arith in z)
 
-pub bytes-at-spec : {M : Type 1} → statement M
-bytes-at-spec =
+pub bytes_at_spec : {M : Type 1} → statement M
+bytes_at_spec =
     tie.close
     (tie.spec
     get32-requires

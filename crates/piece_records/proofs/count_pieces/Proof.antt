@@ -15,62 +15,62 @@ invariant-loop b at₀ n₀ at n = (at ≤ length b) × (n ≤ 1024) × (count_f
 abbrev decreases-loop : tie.decreases-loop
 decreases-loop b at₀ n₀ at n = length b - at
 
-loop-holds : tie.Need-loop-init invariant-loop decreases-loop
+loop-holds : tie.Need-loop-at-init invariant-loop decreases-loop
 loop-holds c = (omega arith, omega arith, refl)
 
-record-bad-requires : tie.Need-record-bad-requires invariant-loop decreases-loop
+record-bad-requires : tie.Need-record_bad-requires invariant-loop decreases-loop
 record-bad-requires c κs = omega arith
 
 refused-requires : tie.Need-refused-requires invariant-loop decreases-loop
 refused-requires c κs = tt
 
-returns : tie.Need-returns invariant-loop decreases-loop
+returns : tie.Need-returns-then-record_bad invariant-loop decreases-loop
 returns c =
-    let t = c.before.before.before in
-    let l = t.before.loop in
-    c.refused.ensures ∙ sym (count_bad _ _ _ _ t.loop-test.true (sym c.before.before.record_bad.ensures ∙ c.before.if1.true)) ∙ l.invariant.2
+    let t = c in
+    let l = t.loop-at in
+    c.refused.ensures ∙ sym (count_bad _ _ _ _ t.loop-at-test.true (sym c.record_bad.ensures ∙ c.if-record_bad.true)) ∙ l.invariant.2
 
-refused-requires-2 : tie.Need-refused-requires-2 invariant-loop decreases-loop
+refused-requires-2 : tie.Need-refused-requires-then-n-ge-MOST_PIECES invariant-loop decreases-loop
 refused-requires-2 c κs = tt
 
-returns-2 : tie.Need-returns-2 invariant-loop decreases-loop
+returns-2 : tie.Need-returns-then-n-ge-MOST_PIECES invariant-loop decreases-loop
 returns-2 c =
-    let t = c.before.before.before.before in
-    let l = t.before.loop in
-    c.refused2.ensures
-    ∙ sym (count_most _ _ _ _ t.loop-test.true (sym c.before.before.before.record_bad.ensures ∙ c.before.before.if1.false) c.before.if2.true)
+    let t = c in
+    let l = t.loop-at in
+    c.refused-then-n-ge-MOST_PIECES.ensures
+    ∙ sym (count_most _ _ _ _ t.loop-at-test.true (sym c.record_bad.ensures ∙ c.if-record_bad.false) c.if-n-ge-MOST_PIECES.true)
     ∙ l.invariant.2
 
-next-at-requires : tie.Need-next-at-requires invariant-loop decreases-loop
-next-at-requires c κs = not_bad_lies _ _ (sym c.before.before.record_bad.ensures ∙ c.before.if1.false)
+next-at-requires : tie.Need-next_at-at-requires invariant-loop decreases-loop
+next-at-requires c κs = not_bad_lies _ _ (sym c.record_bad.ensures ∙ c.if-record_bad.false)
 
-add-n : tie.Need-overflow-add-n invariant-loop decreases-loop
+add-n : tie.Need-overflow_add-n invariant-loop decreases-loop
 add-n c = omega arith
 
-loop-less : tie.Need-loop-smaller invariant-loop decreases-loop
+loop-less : tie.Need-loop-at-smaller invariant-loop decreases-loop
 loop-less c =
-    let lying = not_bad_lies _ _ (sym c.before.before.before.record_bad.ensures ∙ c.before.before.if1.false) in
+    let lying = not_bad_lies _ _ (sym c.record_bad.ensures ∙ c.if-record_bad.false) in
     omega arith
 
-loop-again : tie.Need-loop-preserved invariant-loop decreases-loop
+loop-again : tie.Need-loop-at-preserved invariant-loop decreases-loop
 loop-again c =
-    let t = c.before.before.before.before in
-    let l = t.before.loop in
-    let b = t.before.before.before.args.b.now in
-    let whole = sym c.before.before.before.record_bad.ensures ∙ c.before.before.if1.false in
+    let t = c in
+    let l = t.loop-at in
+    let b = t.args.b.now in
+    let whole = sym c.record_bad.ensures ∙ c.if-record_bad.false in
     let lying = not_bad_lies _ _ whole in (
       omega arith,
       omega arith,
-      ap (λ (k : ℕ). count_from (1024 - (l.n + 1)) b k (l.n + 1)) c.next_at.ensures
-          ∙ count_turn 1024 _ _ _ t.loop-test.true whole c.before.if2.false
+      ap (λ (k : ℕ). count_from (1024 - (l.n + 1)) b k (l.n + 1)) c.next_at-at.ensures
+          ∙ count_turn 1024 _ _ _ t.loop-at-test.true whole c.if-n-ge-MOST_PIECES.false
           ∙ l.invariant.2,
     )
 
-returns-3 : tie.Need-returns-3 invariant-loop decreases-loop
-returns-3 c = sym (count_end _ _ _ _ c.loop-test.false) ∙ c.before.loop.invariant.2
+returns-3 : tie.Need-returns invariant-loop decreases-loop
+returns-3 c = sym (count_end _ _ _ _ c.loop-at-test.false) ∙ c.loop-at.invariant.2
 
-pub count-pieces-spec : {M : Type 1} → statement M
-count-pieces-spec =
+pub count_pieces_spec : {M : Type 1} → statement M
+count_pieces_spec =
     tie.close
     (tie.spec
     invariant-loop

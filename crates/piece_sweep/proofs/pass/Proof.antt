@@ -22,84 +22,84 @@ invariant-loop b starts order far₀ i₀ far i =
 abbrev decreases-loop : tie.decreases-loop
 decreases-loop b starts order far₀ i₀ far i = length order - i
 
-returns : tie.Need-returns invariant-loop decreases-loop
+returns : tie.Need-returns-then-order-eq0 invariant-loop decreases-loop
 returns c =
-    let a = c.before.before.before.before.args in
-    sym (sweep-none (part_in a.b.now a.starts.now) a.order.now c.if1.true)
+    let a = c.args in
+    sym (sweep-none (part_in a.b.now a.starts.now) a.order.now c.if-order-eq0.true)
 
-start-of-requires : tie.Need-start-of-requires invariant-loop decreases-loop
-start-of-requires c κs = (some_there _ c.if1.false, c.before.before.before.before.requires.1)
+start-of-requires : tie.Need-start_of-far-requires invariant-loop decreases-loop
+start-of-requires c κs = (some_there _ c.if-order-eq0.false, c.requires.1)
 
-loop-holds : tie.Need-loop-init invariant-loop decreases-loop
+loop-holds : tie.Need-loop-i-init invariant-loop decreases-loop
 loop-holds c =
-    let s = c.before.before.before.before.before in
+    let s = c in
     let a = s.args in
-    let e = c.start_of_lem.ensures in
-    let h = some_there (length a.order.now) c.before.if1.false in (
+    let e = c.start_of-far.ensures in
+    let h = some_there (length a.order.now) c.if-order-eq0.false in (
       omega (arith, h),
       subst (Lying a.b.now) (sym e) (s.requires.0.each (get_or a.order.now 0 0) (all_at 0 0 s.requires.1 h)),
       ap (λ (k : ℕ). sweep_from (part_at a.b.now k) (map (part_in a.b.now a.starts.now) (drop 1 a.order.now))) e
           ∙ sym (sweep_first (part_in a.b.now a.starts.now) a.order.now h),
     )
 
-start-of-requires-2 : tie.Need-start-of-requires-2 invariant-loop decreases-loop
-start-of-requires-2 c κs = (c.loop-test.true, c.before.before.before.before.before.before.before.requires.1)
+start-of-requires-2 : tie.Need-start_of-at-requires invariant-loop decreases-loop
+start-of-requires-2 c κs = (c.loop-i-test.true, c.requires.1)
 
 -- the next piece lies whole in the bytes
-next-lies : (c : tie.After-start-of2 invariant-loop decreases-loop) → Lying c.before.before.before.before.before.before.before.before.args.b.now c.start-of2.result
+next-lies : (c : tie.After-start_of-at invariant-loop decreases-loop) → Lying c.args.b.now c.start_of-at.result
 next-lies c =
-    let s = c.before.before.before.before.before.before.before.before in
-    let i = c.before.before.loop.i in
-    subst (Lying s.args.b.now) (sym c.start-of2.ensures) (s.requires.0.each (get_or s.args.order.now i 0) (all_at i 0 s.requires.1 c.before.loop-test.true))
+    let s = c in
+    let i = c.loop-i.i in
+    subst (Lying s.args.b.now) (sym c.start_of-at.ensures) (s.requires.0.each (get_or s.args.order.now i 0) (all_at i 0 s.requires.1 c.loop-i-test.true))
 
 -- .. and is the one that the order names
-next_is : (c : tie.After-start-of2 invariant-loop decreases-loop)
-    → unequal (part_at c.before.before.before.before.before.before.before.before.args.b.now c.before.before.loop.far) (part_in c.before.before.before.before.before.before.before.before.args.b.now c.before.before.before.before.before.before.before.before.args.starts.now (get_or c.before.before.before.before.before.before.before.before.args.order.now c.before.before.loop.i 0))
-    ≡ unequal (part_at c.before.before.before.before.before.before.before.before.args.b.now c.before.before.loop.far) (part_at c.before.before.before.before.before.before.before.before.args.b.now c.start-of2.result)
+next_is : (c : tie.After-start_of-at invariant-loop decreases-loop)
+    → unequal (part_at c.args.b.now c.loop-i.far) (part_in c.args.b.now c.args.starts.now (get_or c.args.order.now c.loop-i.i 0))
+    ≡ unequal (part_at c.args.b.now c.loop-i.far) (part_at c.args.b.now c.start_of-at.result)
 next_is c =
-    let a = c.before.before.before.before.before.before.before.before.args in
-    ap (λ (k : ℕ). unequal (part_at a.b.now c.before.before.loop.far) (part_at a.b.now k)) (sym c.start-of2.ensures)
+    let a = c.args in
+    ap (λ (k : ℕ). unequal (part_at a.b.now c.loop-i.far) (part_at a.b.now k)) (sym c.start_of-at.ensures)
 
-is-unequal-requires : tie.Need-is-unequal-requires invariant-loop decreases-loop
-is-unequal-requires c κs = (c.before.before.loop.invariant.1, next-lies c)
+is-unequal-requires : tie.Need-is_unequal-requires invariant-loop decreases-loop
+is-unequal-requires c κs = (c.loop-i.invariant.1, next-lies c)
 
-returns-2 : tie.Need-returns-2 invariant-loop decreases-loop
+returns-2 : tie.Need-returns-then-is_unequal invariant-loop decreases-loop
 returns-2 c =
-    let l = c.before.before.before.before.loop in
-    let a = c.before.before.before.before.before.before.before.before.before.before.args in
+    let l = c.loop-i in
+    let a = c.args in
     let k = c.before.before in
-    sym (sym l.invariant.2 ∙ sweep_hit (part_in a.b.now a.starts.now) a.order.now (part_at a.b.now l.far) l.i c.before.before.before.loop-test.true
-    (next_is k ∙ sym c.before.is_unequal.ensures ∙ c.if2.true))
+    sym (sym l.invariant.2 ∙ sweep_hit (part_in a.b.now a.starts.now) a.order.now (part_at a.b.now l.far) l.i c.loop-i-test.true
+    (next_is k ∙ sym c.is_unequal.ensures ∙ c.if-is_unequal.true))
 
-farther-requires : tie.Need-farther-requires invariant-loop decreases-loop
-farther-requires c κs = (c.before.before.before.before.loop.invariant.1, next-lies c.before.before)
+farther-requires : tie.Need-farther-far-requires invariant-loop decreases-loop
+farther-requires c κs = (c.loop-i.invariant.1, next-lies c.before.before)
 
-add-i : tie.Need-overflow-add-i invariant-loop decreases-loop
+add-i : tie.Need-overflow_add-i invariant-loop decreases-loop
 add-i c = omega arith
 
-loop-less : tie.Need-loop-smaller invariant-loop decreases-loop
+loop-less : tie.Need-loop-i-smaller invariant-loop decreases-loop
 loop-less c = omega arith
 
-loop-again : tie.Need-loop-preserved invariant-loop decreases-loop
+loop-again : tie.Need-loop-i-preserved invariant-loop decreases-loop
 loop-again c =
-    let l = c.before.before.before.before.before.loop in
-    let a = c.before.before.before.before.before.before.before.before.before.before.before.args in
+    let l = c.loop-i in
+    let a = c.args in
     let k = c.before.before.before in
-    let f = c.farther.ensures in
+    let f = c.farther-far.ensures in
     let more = map (part_in a.b.now a.starts.now) (drop (l.i + 1) a.order.now) in (
       omega arith,
       f.lies,
-      ap (λ (p : Part). sweep_from p more) (f.is ∙ ap (λ (j : ℕ). farther (part_at a.b.now l.far) (part_at a.b.now j)) k.start-of2.ensures)
-          ∙ sym (sweep_miss (part_in a.b.now a.starts.now) a.order.now (part_at a.b.now l.far) l.i c.before.before.before.before.loop-test.true
-          (next_is k ∙ sym c.before.before.is_unequal.ensures ∙ c.before.if2.false))
+      ap (λ (p : Part). sweep_from p more) (f.is ∙ ap (λ (j : ℕ). farther (part_at a.b.now l.far) (part_at a.b.now j)) k.start_of-at.ensures)
+          ∙ sym (sweep_miss (part_in a.b.now a.starts.now) a.order.now (part_at a.b.now l.far) l.i c.loop-i-test.true
+          (next_is k ∙ sym c.is_unequal.ensures ∙ c.if-is_unequal.false))
           ∙ l.invariant.2,
     )
 
-returns-3 : tie.Need-returns-3 invariant-loop decreases-loop
+returns-3 : tie.Need-returns invariant-loop decreases-loop
 returns-3 c =
-    let l = c.before.loop in
-    let a = c.before.before.before.before.before.before.before.args in
-    sym (sym l.invariant.2 ∙ sweep_ended (part_in a.b.now a.starts.now) a.order.now (part_at a.b.now l.far) l.i c.loop-test.false)
+    let l = c.loop-i in
+    let a = c.args in
+    sym (sym l.invariant.2 ∙ sweep_ended (part_in a.b.now a.starts.now) a.order.now (part_at a.b.now l.far) l.i c.loop-i-test.false)
 
 pub pass_spec : {M : Type 1} → statement M
 pass_spec =

@@ -10,39 +10,39 @@ use borrow.Author.Rules.{rules}
 use Rattle.piece_sweep.proofs.sweep_columns.Statement.{statement}
 use Rattle.piece_sweep.proofs.sweep_columns.Tie as tie
 
-fill-starts-requires : tie.Need-fill-starts-requires
+fill-starts-requires : tie.Need-fill_starts-requires
 fill-starts-requires c κs = search rules
 
-order-pieces-requires : tie.Need-order-pieces-requires
+order-pieces-requires : tie.Need-order_pieces-requires
 order-pieces-requires c κs =
-    let s = c.before.before.before.before.before.before.before.before.before in
-    let f = c.before.before.before.before.fill_starts in
+    let s = c in
+    let f = c.fill_starts in
     let k = f.auto.1.1.0 in
     (starts-placed _ s.args.b.now _ k f.ensures s.requires.0, omega (arith, k, s.requires.1), s.requires.2 ∙ sym k)
 
 pass-requires : tie.Need-pass-requires
 pass-requires c κs =
-    let s = c.before.before.before.before.before.before.before.before.before.before.before.before.before.before in
-    let f = c.before.before.before.before.before.before.before.before.before.fill_starts in (
+    let s = c in
+    let f = c.fill_starts in (
       starts-placed _ s.args.b.now _ f.auto.1.1.0 f.ensures s.requires.0,
-      subst (All (λ k. k < length f.new.1.1.0)) (sym c.before.before.before.before.order_pieces.ensures) (order_below s.args.b.now f.new.1.1.0),
+      subst (All (λ k. k < length f.new.1.1.0)) (sym c.order_pieces.ensures) (order_below s.args.b.now f.new.1.1.0),
     )
 
-same_length : tie.Need-same-length
+same_length : tie.Need-shape_of-starts
 same_length c = search rules
 
-same-length-2 : tie.Need-same-length-2
+same-length-2 : tie.Need-shape_of-order
 same-length-2 c = search rules
 
 returns : tie.Need-returns
 returns c =
-    let s = c.before.before.before.before.before.before.before.before.before.before.before.before.before.before.before in
-    let f = c.before.before.before.before.before.before.before.before.before.before.fill_starts in
+    let s = c in
+    let f = c.fill_starts in
     c.pass.ensures
-    ∙ pass_finds (length s.args.starts.now) s.args.b.now (λ i. (c.before.before.before.before.before.before.before.before.before.before.before.before.before.before.shared-slice-known.given i).fits) _ _ (starts_are _ s.args.b.now _ f.auto.1.1.0 f.ensures) c.before.before.before.before.before.order_pieces.ensures
+    ∙ pass_finds (length s.args.starts.now) s.args.b.now (λ i. (c.shared_slice_known-1.given i).fits) _ _ (starts_are _ s.args.b.now _ f.auto.1.1.0 f.ensures) c.order_pieces.ensures
 
-pub sweep-columns-spec : {M : Type 1} → statement M
-sweep-columns-spec =
+pub sweep_columns_spec : {M : Type 1} → statement M
+sweep_columns_spec =
     tie.close
     (tie.spec
     fill-starts-requires

@@ -12,21 +12,21 @@ use Rattle.pieces.proofs.add_piece_symbol.Tie as tie
 fit : (c : tie.Start) → FitsSymbol c.args.y
 fit c = record { unit = search rules; piece = search rules; symbol = search rules; flags = search rules; address = search rules }
 
-mul-put-piece-symbol : tie.Need-overflow-mul-put-piece-symbol
+mul-put-piece-symbol : tie.Need-overflow_mul-k
 mul-put-piece-symbol c = search rules
 
-put-piece-symbol-requires : tie.Need-put-piece-symbol-requires
+put-piece-symbol-requires : tie.Need-put_piece_symbol-requires
 put-piece-symbol-requires c κs = search rules
 
-same_length : tie.Need-same-length
+same_length : tie.Need-shape_of-out
 same_length c = search rules
 
 returns : tie.Need-returns
 returns c =
     let s = c.before.before.before.before.before in
-    ap (λ (b : List ℕ). symbols_in b (s.args.k + 1)) c.before.before.put_piece_symbol.ensures
+    ap (λ (b : List ℕ). symbols_in b (s.args.k + 1)) c.put_piece_symbol.ensures
     ∙ symbols_more s.args.out.now s.args.k s.args.y (fit s) s.requires
 
-pub add-piece-symbol-spec : {M : Type 1} → statement M
-add-piece-symbol-spec =
+pub add_piece_symbol_spec : {M : Type 1} → statement M
+add_piece_symbol_spec =
     tie.close (tie.spec mul-put-piece-symbol put-piece-symbol-requires same_length returns)

@@ -4,55 +4,55 @@ use borrow.Author.Rules.{rules}
 use Rattle.pieces.proofs.piece_at.Statement.{statement}
 use Rattle.pieces.proofs.piece_at.Tie as tie
 
-mul_at : tie.Need-overflow-mul-at
+mul_at : tie.Need-overflow_mul-at
 mul_at c = search rules
 
 get16-requires : tie.Need-get16-requires
 get16-requires c κs = search rules
 
-add-get16 : tie.Need-overflow-add-get16
+add-get16 : tie.Need-overflow_add-at
 add-get16 c = search rules
 
 get16-requires-2 : tie.Need-get16-requires-2
 get16-requires-2 c κs = search rules
 
-add-get16-2 : tie.Need-overflow-add-get16-2
+add-get16-2 : tie.Need-overflow_add-at-2
 add-get16-2 c = search rules
 
 get16-requires-3 : tie.Need-get16-requires-3
 get16-requires-3 c κs = search rules
 
-add-get16-3 : tie.Need-overflow-add-get16-3
+add-get16-3 : tie.Need-overflow_add-at-3
 add-get16-3 c = search rules
 
 get16-requires-4 : tie.Need-get16-requires-4
 get16-requires-4 c κs = search rules
 
-add-get32 : tie.Need-overflow-add-get32
+add-get32 : tie.Need-overflow_add-at-4
 add-get32 c = search rules
 
 get32-requires : tie.Need-get32-requires
 get32-requires c κs = search rules
 
-add-get32-2 : tie.Need-overflow-add-get32-2
+add-get32-2 : tie.Need-overflow_add-at-5
 add-get32-2 c = search rules
 
 get32-requires-2 : tie.Need-get32-requires-2
 get32-requires-2 c κs = search rules
 
-add-get32-3 : tie.Need-overflow-add-get32-3
+add-get32-3 : tie.Need-overflow_add-at-6
 add-get32-3 c = search rules
 
 get32-requires-3 : tie.Need-get32-requires-3
 get32-requires-3 c κs = search rules
 
-add-get64 : tie.Need-overflow-add-get64
+add-get64 : tie.Need-overflow_add-at-7
 add-get64 c = search rules
 
 get64-requires : tie.Need-get64-requires
 get64-requires c κs = search rules
 
-add-get16-4 : tie.Need-overflow-add-get16-4
+add-get16-4 : tie.Need-overflow_add-at-8
 add-get16-4 c = search rules
 
 get16-requires-5 : tie.Need-get16-requires-5
@@ -62,8 +62,8 @@ returns : tie.Need-returns
 unfolding piece_at
 returns c = (cc)
 
-pub piece-at-spec : {M : Type 1} → statement M
-piece-at-spec =
+pub piece_at_spec : {M : Type 1} → statement M
+piece_at_spec =
     tie.close
     (tie.spec
     mul_at

@@ -12,55 +12,55 @@ use Rattle.pieces.proofs.put_head.Tie as tie
 put16-requires : tie.Need-put16-requires
 put16-requires c κs = search rules
 
-add-put16 : tie.Need-overflow-add-put16
+add-put16 : tie.Need-overflow_add-at
 add-put16 c = search rules
 
 put16-requires-2 : tie.Need-put16-requires-2
 put16-requires-2 c κs = search rules
 
-add-put16-2 : tie.Need-overflow-add-put16-2
+add-put16-2 : tie.Need-overflow_add-at-2
 add-put16-2 c = search rules
 
 put16-requires-3 : tie.Need-put16-requires-3
 put16-requires-3 c κs = search rules
 
-add-put16-3 : tie.Need-overflow-add-put16-3
+add-put16-3 : tie.Need-overflow_add-at-3
 add-put16-3 c = search rules
 
 put16-requires-4 : tie.Need-put16-requires-4
 put16-requires-4 c κs = search rules
 
-add-put32 : tie.Need-overflow-add-put32
+add-put32 : tie.Need-overflow_add-at-4
 add-put32 c = search rules
 
 put32-requires : tie.Need-put32-requires
 put32-requires c κs = search rules
 
-add-put32-2 : tie.Need-overflow-add-put32-2
+add-put32-2 : tie.Need-overflow_add-at-5
 add-put32-2 c = search rules
 
 put32-requires-2 : tie.Need-put32-requires-2
 put32-requires-2 c κs = search rules
 
-add-put32-3 : tie.Need-overflow-add-put32-3
+add-put32-3 : tie.Need-overflow_add-at-6
 add-put32-3 c = search rules
 
 put32-requires-3 : tie.Need-put32-requires-3
 put32-requires-3 c κs = search rules
 
-add-put64 : tie.Need-overflow-add-put64
+add-put64 : tie.Need-overflow_add-at-7
 add-put64 c = search rules
 
 put64-requires : tie.Need-put64-requires
 put64-requires c κs = search rules
 
-same_length : tie.Need-same-length
+same_length : tie.Need-shape_of-out
 same_length c = search rules
 
 returns : tie.Need-returns
 unfolding piece_head
 returns c =
-    let s = c.before.before.before.before.before.before.before.before.before.before.before.before.before.before.before.before.before.before.before.before.before.before.before.before.before.before.before.before.before.before.before.before.before in
+    let s = c in
     let a = s.args in
     let p = a.p in
     let s_assign_unit = enc16 p.unit in
@@ -70,14 +70,14 @@ returns c =
     let s-address = s-name ++ enc32 p.address in
     let s-size = s-address ++ enc32 p.size in
     let s-alignment = s-size ++ enc32 p.alignment in
-    sets_then a.out.now a.at s-alignment (a.at + 20) (enc64 p.offset) c.before.before.put64.ensures
-    (sets_then a.out.now a.at s-size (a.at + 16) (enc32 p.alignment) c.before.before.before.before.before.before.put323.ensures
-    (sets_then a.out.now a.at s-address (a.at + 12) (enc32 p.size) c.before.before.before.before.before.before.before.before.before.before.put322.ensures
-    (sets_then a.out.now a.at s-name (a.at + 8) (enc32 p.address) c.before.before.before.before.before.before.before.before.before.before.before.before.before.before.put32.ensures
-    (sets_then a.out.now a.at s-section (a.at + 6) (enc16 p.name) c.before.before.before.before.before.before.before.before.before.before.before.before.before.before.before.before.before.before.put164.ensures
-    (sets_then a.out.now a.at s-number (a.at + 4) (enc16 p.section) c.before.before.before.before.before.before.before.before.before.before.before.before.before.before.before.before.before.before.before.before.before.before.put163.ensures
-    (sets_then a.out.now a.at s_assign_unit (a.at + 2) (enc16 p.number) c.before.before.before.before.before.before.before.before.before.before.before.before.before.before.before.before.before.before.before.before.before.before.before.before.before.before.put162.ensures
-    c.before.before.before.before.before.before.before.before.before.before.before.before.before.before.before.before.before.before.before.before.before.before.before.before.before.before.before.before.before.before.put16.ensures
+    sets_then a.out.now a.at s-alignment (a.at + 20) (enc64 p.offset) c.put64.ensures
+    (sets_then a.out.now a.at s-size (a.at + 16) (enc32 p.alignment) c.put32-3.ensures
+    (sets_then a.out.now a.at s-address (a.at + 12) (enc32 p.size) c.put32-2.ensures
+    (sets_then a.out.now a.at s-name (a.at + 8) (enc32 p.address) c.put32.ensures
+    (sets_then a.out.now a.at s-section (a.at + 6) (enc16 p.name) c.put16-4.ensures
+    (sets_then a.out.now a.at s-number (a.at + 4) (enc16 p.section) c.put16-3.ensures
+    (sets_then a.out.now a.at s_assign_unit (a.at + 2) (enc16 p.number) c.put16-2.ensures
+    c.put16.ensures
     refl)
     refl)
     refl)
@@ -86,8 +86,8 @@ returns c =
     refl)
     refl
 
-pub put-head-spec : {M : Type 1} → statement M
-put-head-spec =
+pub put_head_spec : {M : Type 1} → statement M
+put_head_spec =
     tie.close
     (tie.spec
     put16-requires

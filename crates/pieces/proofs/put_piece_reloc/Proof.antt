@@ -12,37 +12,37 @@ use Rattle.pieces.proofs.put_piece_reloc.Tie as tie
 put16-requires : tie.Need-put16-requires
 put16-requires c κs = search rules
 
-add-put16 : tie.Need-overflow-add-put16
+add-put16 : tie.Need-overflow_add-at
 add-put16 c = search rules
 
 put16-requires-2 : tie.Need-put16-requires-2
 put16-requires-2 c κs = search rules
 
-add-put32 : tie.Need-overflow-add-put32
+add-put32 : tie.Need-overflow_add-at-2
 add-put32 c = search rules
 
 put32-requires : tie.Need-put32-requires
 put32-requires c κs = search rules
 
-same_length : tie.Need-same-length
+same_length : tie.Need-shape_of-out
 same_length c = search rules
 
 returns : tie.Need-returns
 unfolding reloc_bytes
 returns c =
-    let s = c.before.before.before.before.before.before.before.before.before.before.before.before.before in
+    let s = c in
     let a = s.args in
     let r = a.r in
     let s-piece = enc16 r.piece in
     let s-relocation = s-piece ++ enc16 r.relocation in
-    sets_then a.out.now a.at s-relocation (a.at + 4) (enc32 r.offset) c.before.before.put32.ensures
-    (sets_then a.out.now a.at s-piece (a.at + 2) (enc16 r.relocation) c.before.before.before.before.before.before.put162.ensures
-    c.before.before.before.before.before.before.before.before.before.before.put16.ensures
+    sets_then a.out.now a.at s-relocation (a.at + 4) (enc32 r.offset) c.put32.ensures
+    (sets_then a.out.now a.at s-piece (a.at + 2) (enc16 r.relocation) c.put16-2.ensures
+    c.put16.ensures
     refl)
     refl
 
-pub put-piece-reloc-spec : {M : Type 1} → statement M
-put-piece-reloc-spec =
+pub put_piece_reloc_spec : {M : Type 1} → statement M
+put_piece_reloc_spec =
     tie.close
     (tie.spec
     put16-requires

@@ -11,13 +11,13 @@ use Rattle.relocs.proofs.address_in.Tie as tie
 number-requires : tie.Need-number-requires
 number-requires c κs = search rules
 
-reloc-at-requires : tie.Need-reloc-at-requires
-reloc-at-requires c κs = held_at _ _ _ c.before.before.before.before.requires.1 _ _ c.before.before.before.before.requires.0 c.number.ensures
+reloc-at-requires : tie.Need-reloc_at-r-requires
+reloc-at-requires c κs = held_at _ _ _ c.requires.1 _ _ c.requires.0 c.number.ensures
 
 returns : tie.Need-returns
 returns c =
-    let a = c.before.before.before.before.before.args in
-    ap (λ (r : Reloc). r.address) c.reloc_at_lem.ensures ∙ ap (address_of a.b.now a.places.now) c.before.number.ensures
+    let a = c.args in
+    ap (λ (r : Reloc). r.address) c.reloc_at-r.ensures ∙ ap (address_of a.b.now a.places.now) c.number.ensures
 
-pub address-in-spec : {M : Type 1} → statement M
-address-in-spec = tie.close (tie.spec number-requires reloc-at-requires returns)
+pub address_in_spec : {M : Type 1} → statement M
+address_in_spec = tie.close (tie.spec number-requires reloc-at-requires returns)

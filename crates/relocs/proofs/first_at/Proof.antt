@@ -7,10 +7,10 @@ use Rattle.relocs.proofs.first_at.Statement.{statement}
 use Rattle.relocs.proofs.first_at.Tie as tie
 
 search-requires : tie.Need-search-requires
-search-requires c κs = let s = c.before.before.before in (s.requires, omega arith, first_in_le _ s.args.part.now, omega arith)
+search-requires c κs = let s = c in (s.requires, omega arith, first_in_le _ s.args.part.now, omega arith)
 
 returns : tie.Need-returns
 returns c = search rules
 
-pub first-at-spec : {M : Type 1} → statement M
-first-at-spec = tie.close (tie.spec search-requires returns)
+pub first_at_spec : {M : Type 1} → statement M
+first_at_spec = tie.close (tie.spec search-requires returns)

@@ -18,55 +18,55 @@ invariant-loop b places part from address lo₀ lo =
 abbrev decreases-loop : tie.decreases-loop
 decreases-loop b places part from address lo₀ lo = length part - lo
 
-loop-holds : tie.Need-loop-init invariant-loop decreases-loop
-loop-holds c = let s = c.before.before.before in (omega arith, s.requires.1, first_in_le _ s.args.part.now)
+loop-holds : tie.Need-loop-lo-init invariant-loop decreases-loop
+loop-holds c = let s = c in (omega arith, s.requires.1, first_in_le _ s.args.part.now)
 
-sub-loop : tie.Need-overflow-sub-loop invariant-loop decreases-loop
+sub-loop : tie.Need-overflow_sub-lo invariant-loop decreases-loop
 sub-loop c = omega arith
 
-sub-loop-2 : tie.Need-overflow-sub-loop-2 invariant-loop decreases-loop
+sub-loop-2 : tie.Need-overflow_sub-part invariant-loop decreases-loop
 sub-loop-2 c = omega arith
 
-sub-ahead : tie.Need-overflow-sub-ahead invariant-loop decreases-loop
+sub-ahead : tie.Need-overflow_sub-ahead invariant-loop decreases-loop
 sub-ahead c = omega arith
 
-add-ahead : tie.Need-overflow-add-ahead invariant-loop decreases-loop
+add-ahead : tie.Need-overflow_add-ahead invariant-loop decreases-loop
 add-ahead c = omega arith
 
-address-in-requires : tie.Need-address-in-requires invariant-loop decreases-loop
-address-in-requires c κs = (omega arith, c.before.before.before.before.before.requires.0.readable)
+address-in-requires : tie.Need-address_in-requires invariant-loop decreases-loop
+address-in-requires c κs = (omega arith, c.requires.0.readable)
 
 search-requires : tie.Need-search-requires invariant-loop decreases-loop
 search-requires c κs =
-    let s = c.before.before.before.before.before.before.before in
-    let l = c.before.before.before.loop in
-    let h = place-below (address_of s.args.b.now s.args.places.now) s.args.address s.args.part.now (l.lo + (l.lo - s.args.from)) 0 (omega arith) (omega (arith, c.before.address_in.ensures)) in
+    let s = c in
+    let l = c.loop-lo in
+    let h = place-below (address_of s.args.b.now s.args.places.now) s.args.address s.args.part.now (l.lo + (l.lo - s.args.from)) 0 (omega arith) (omega (arith, c.address_in.ensures)) in
     (s.requires.0, l.invariant.1, h, omega arith)
 
-returns : tie.Need-returns invariant-loop decreases-loop
+returns : tie.Need-returns-then-address-address_in invariant-loop decreases-loop
 returns c = c.search.ensures
 
-add-lo : tie.Need-overflow-add-lo invariant-loop decreases-loop
+add-lo : tie.Need-overflow_add-lo invariant-loop decreases-loop
 add-lo c = omega arith
 
-loop-less : tie.Need-loop-smaller invariant-loop decreases-loop
+loop-less : tie.Need-loop-lo-smaller invariant-loop decreases-loop
 loop-less c = omega arith
 
-loop-again : tie.Need-loop-preserved invariant-loop decreases-loop
+loop-again : tie.Need-loop-lo-preserved invariant-loop decreases-loop
 loop-again c =
-    let s = c.before.before.before.before.before.before.before in
-    let l = c.before.before.before.loop in
-    let h = place_above (address_of s.args.b.now s.args.places.now) s.args.address s.args.part.now (l.lo + (l.lo - s.args.from)) 0 s.requires.0.sorted (omega arith) (omega (arith, c.before.address_in.ensures)) in
+    let s = c in
+    let l = c.loop-lo in
+    let h = place_above (address_of s.args.b.now s.args.places.now) s.args.address s.args.part.now (l.lo + (l.lo - s.args.from)) 0 s.requires.0.sorted (omega arith) (omega (arith, c.address_in.ensures)) in
     (omega arith, omega (arith, h), l.invariant.2)
 
 search-requires-2 : tie.Need-search-requires-2 invariant-loop decreases-loop
-search-requires-2 c κs = let l = c.before.loop in (c.before.before.before.before.before.requires.0, l.invariant.1, l.invariant.2, omega arith)
+search-requires-2 c κs = let l = c.loop-lo in (c.requires.0, l.invariant.1, l.invariant.2, omega arith)
 
-returns-2 : tie.Need-returns-2 invariant-loop decreases-loop
-returns-2 c = c.search2.ensures
+returns-2 : tie.Need-returns invariant-loop decreases-loop
+returns-2 c = c.search-2.ensures
 
-pub first-from-spec : {M : Type 1} → statement M
-first-from-spec =
+pub first_from_spec : {M : Type 1} → statement M
+first_from_spec =
     tie.close
     (tie.spec
     invariant-loop

@@ -24,63 +24,63 @@ invariant-loop b places section part₀ i₀ k₀ part i k =
 abbrev decreases-loop : tie.decreases-loop
 decreases-loop b places section part₀ i₀ k₀ part i k = length places - i
 
-loop-holds : tie.Need-loop-init invariant-loop decreases-loop
+loop-holds : tie.Need-loop-i-init invariant-loop decreases-loop
 unfolding relocs_of
 loop-holds c = (refl, omega arith, omega arith, rw sub-zero)
 
-section-of-requires : tie.Need-section-of-requires invariant-loop decreases-loop
-section-of-requires c κs = held _ _ c.before.before.before.before.before.requires.1 _ c.loop-test.true
+section-of-requires : tie.Need-section_of-requires invariant-loop decreases-loop
+section-of-requires c κs = held _ _ c.requires.1 _ c.loop-i-test.true
 
-cast-part : tie.Need-overflow-cast-part invariant-loop decreases-loop
+cast-part : tie.Need-overflow_cast-part invariant-loop decreases-loop
 cast-part c = omega arith
 
-mul-part : tie.Need-overflow-mul-part invariant-loop decreases-loop
+mul-part : tie.Need-offset_bounds-part-k invariant-loop decreases-loop
 mul-part c = omega arith
 
-slice-write-part : tie.Need-slice-write-part invariant-loop decreases-loop
+slice-write-part : tie.Need-bounds-part-k invariant-loop decreases-loop
 slice-write-part c = omega arith
 
-add-k : tie.Need-overflow-add-k invariant-loop decreases-loop
+add-k : tie.Need-overflow_add-k invariant-loop decreases-loop
 add-k c = omega arith
 
-add-i : tie.Need-overflow-add-i invariant-loop decreases-loop
+add-i : tie.Need-overflow_add-i invariant-loop decreases-loop
 add-i c = omega arith
 
-loop-less : tie.Need-loop-smaller invariant-loop decreases-loop
+loop-less : tie.Need-loop-i-smaller-then-section_of-section invariant-loop decreases-loop
 loop-less c = omega arith
 
-loop-again : tie.Need-loop-preserved invariant-loop decreases-loop
+loop-again : tie.Need-loop-i-preserved-then-section_of-section invariant-loop decreases-loop
 loop-again c =
-    let l = c.before.before.before.loop in
-    let a = c.before.before.before.before.before.before.before.args in
+    let l = c.loop-i in
+    let a = c.args in
     let p : ℕ → Bool = λ y. eqb (reloc_of a.b.now a.places.now y).section a.section in
-    let e : p l.i ≡ true = ap (λ (n : ℕ). eqb n a.section) (sym c.before.section_of.ensures) ∙ eq-eqb _ _ c.if1.true in
-    (simp length-set l.invariant.0, omega arith, omega arith, keep_more l.k l.part l.i _ (omega arith) ∙ ap (λ (r : List ℕ). take l.k l.part ++ r) (sym (number_kept p l.i (length a.places.now) c.before.before.loop-test.true e)) ∙ l.invariant.3)
+    let e : p l.i ≡ true = ap (λ (n : ℕ). eqb n a.section) (sym c.section_of.ensures) ∙ eq-eqb _ _ c.if-section_of-section.true in
+    (simp length-set l.invariant.0, omega arith, omega arith, keep_more l.k l.part l.i _ (omega arith) ∙ ap (λ (r : List ℕ). take l.k l.part ++ r) (sym (number_kept p l.i (length a.places.now) c.loop-i-test.true e)) ∙ l.invariant.3)
 
-add-i-2 : tie.Need-overflow-add-i-2 invariant-loop decreases-loop
+add-i-2 : tie.Need-overflow_add-i-else-section_of-section invariant-loop decreases-loop
 add-i-2 c = omega arith
 
-loop-less-2 : tie.Need-loop-smaller-2 invariant-loop decreases-loop
+loop-less-2 : tie.Need-loop-i-smaller invariant-loop decreases-loop
 loop-less-2 c = omega arith
 
-loop-again-2 : tie.Need-loop-preserved-2 invariant-loop decreases-loop
+loop-again-2 : tie.Need-loop-i-preserved invariant-loop decreases-loop
 loop-again-2 c =
-    let l = c.before.before.before.loop in
-    let a = c.before.before.before.before.before.before.before.args in
+    let l = c.loop-i in
+    let a = c.args in
     let p : ℕ → Bool = λ y. eqb (reloc_of a.b.now a.places.now y).section a.section in
-    let e : p l.i ≡ false = ap (λ (n : ℕ). eqb n a.section) (sym c.before.section_of.ensures) ∙ ne_eqb _ _ c.if1.false in
-    (l.invariant.0, omega arith, omega arith, ap (λ (r : List ℕ). take l.k l.part ++ r) (sym (number_passed p l.i (length a.places.now) c.before.before.loop-test.true e)) ∙ l.invariant.3)
+    let e : p l.i ≡ false = ap (λ (n : ℕ). eqb n a.section) (sym c.section_of.ensures) ∙ ne_eqb _ _ c.if-section_of-section.false in
+    (l.invariant.0, omega arith, omega arith, ap (λ (r : List ℕ). take l.k l.part ++ r) (sym (number_passed p l.i (length a.places.now) c.loop-i-test.true e)) ∙ l.invariant.3)
 
-same_length : tie.Need-same-length invariant-loop decreases-loop
-same_length c = c.before.loop.invariant.0
+same_length : tie.Need-shape_of-part invariant-loop decreases-loop
+same_length c = c.loop-i.invariant.0
 
 returns : tie.Need-returns invariant-loop decreases-loop
 returns c =
-    let l = c.before.loop in
-    record { small = omega arith; is = sym (number_end _ l.i (length c.before.before.before.before.before.args.places.now) c.loop-test.false (take l.k l.part)) ∙ l.invariant.3 }
+    let l = c.loop-i in
+    record { small = omega arith; is = sym (number_end _ l.i (length c.args.places.now) c.loop-i-test.false (take l.k l.part)) ∙ l.invariant.3 }
 
-pub for-section-spec : {M : Type 1} → statement M
-for-section-spec =
+pub for_section_spec : {M : Type 1} → statement M
+for_section_spec =
     tie.close
     (tie.spec
     invariant-loop

@@ -16,46 +16,46 @@ invariant-loop b places part from to address lo₀ hi₀ lo hi = let p = first_i
 abbrev decreases-loop : tie.decreases-loop
 decreases-loop b places part from to address lo₀ hi₀ lo hi = hi - lo
 
-loop-holds : tie.Need-loop-init invariant-loop decreases-loop
-loop-holds c = let p = c.before.before.before.requires in (p.1, p.2, p.3)
+loop-holds : tie.Need-loop-lo-init invariant-loop decreases-loop
+loop-holds c = let p = c.requires in (p.1, p.2, p.3)
 
-sub-mid : tie.Need-overflow-sub-mid invariant-loop decreases-loop
+sub-mid : tie.Need-overflow_sub-mid invariant-loop decreases-loop
 sub-mid c = omega arith
 
-add-mid : tie.Need-overflow-add-mid invariant-loop decreases-loop
+add-mid : tie.Need-overflow_add-mid invariant-loop decreases-loop
 add-mid c = omega arith
 
-address-in-requires : tie.Need-address-in-requires invariant-loop decreases-loop
-address-in-requires c κs = (omega arith, c.before.before.before.before.before.requires.0.readable)
+address-in-requires : tie.Need-address_in-requires invariant-loop decreases-loop
+address-in-requires c κs = (omega arith, c.requires.0.readable)
 
-add-lo : tie.Need-overflow-add-lo invariant-loop decreases-loop
+add-lo : tie.Need-overflow_add-lo invariant-loop decreases-loop
 add-lo c = omega arith
 
-loop-less : tie.Need-loop-smaller invariant-loop decreases-loop
+loop-less : tie.Need-loop-lo-smaller-then-address_in-address invariant-loop decreases-loop
 loop-less c = omega arith
 
-loop-again : tie.Need-loop-preserved invariant-loop decreases-loop
+loop-again : tie.Need-loop-lo-preserved-then-address_in-address invariant-loop decreases-loop
 loop-again c =
-    let s = c.before.before.before.before.before.before.before in
-    let l = c.before.before.before.loop in
-    let h = place_above (address_of s.args.b.now s.args.places.now) s.args.address s.args.part.now (l.lo + (l.hi - l.lo) / 2) 0 s.requires.0.sorted (omega arith) (omega (arith, c.before.address_in.ensures)) in
+    let s = c in
+    let l = c.loop-lo in
+    let h = place_above (address_of s.args.b.now s.args.places.now) s.args.address s.args.part.now (l.lo + (l.hi - l.lo) / 2) 0 s.requires.0.sorted (omega arith) (omega (arith, c.address_in.ensures)) in
     (omega (arith, h), l.invariant.1, l.invariant.2)
 
-loop-less-2 : tie.Need-loop-smaller-2 invariant-loop decreases-loop
+loop-less-2 : tie.Need-loop-lo-smaller invariant-loop decreases-loop
 loop-less-2 c = omega arith
 
-loop-again-2 : tie.Need-loop-preserved-2 invariant-loop decreases-loop
+loop-again-2 : tie.Need-loop-lo-preserved invariant-loop decreases-loop
 loop-again-2 c =
-    let s = c.before.before.before.before.before.before.before in
-    let l = c.before.before.before.loop in
-    let h = place-below (address_of s.args.b.now s.args.places.now) s.args.address s.args.part.now (l.lo + (l.hi - l.lo) / 2) 0 (omega arith) (omega (arith, c.before.address_in.ensures)) in
+    let s = c in
+    let l = c.loop-lo in
+    let h = place-below (address_of s.args.b.now s.args.places.now) s.args.address s.args.part.now (l.lo + (l.hi - l.lo) / 2) 0 (omega arith) (omega (arith, c.address_in.ensures)) in
     (l.invariant.0, h, omega arith)
 
 returns : tie.Need-returns invariant-loop decreases-loop
 returns c = record { is = omega arith; small = omega arith }
 
-pub search-spec : {M : Type 1} → statement M
-search-spec =
+pub search_spec : {M : Type 1} → statement M
+search_spec =
     tie.close
     (tie.spec
     invariant-loop

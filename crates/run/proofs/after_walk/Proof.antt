@@ -7,21 +7,21 @@ use borrow.Author.Rules.{rules}
 use Rattle.run.proofs.after_walk.Statement.{statement}
 use Rattle.run.proofs.after_walk.Tie as tie
 
-enum-known-w : tie.Need-enum-known-w
+enum-known-w : tie.Need-enum_known-w
 enum-known-w c = search rules
 
-enum-known-w-2 : tie.Need-enum-known-w-2
+enum-known-w-2 : tie.Need-enum_known-w-in-Refused-1
 enum-known-w-2 c = search rules
 
-returns : tie.Need-returns
+returns : tie.Need-returns-in-Accepted
 returns c =
-    let a = c.before.before.before.args in
-    sym (ap (λ (w : Walked). ran_by w a.names a.used a.splits a.units) c.before.w.given.1)
+    let a = c.args in
+    sym (ap (λ (w : Walked). ran_by w a.names a.used a.splits a.units) c.in-Accepted.is)
 
-returns-2 : tie.Need-returns-2
+returns-2 : tie.Need-returns-in-Refused
 returns-2 c =
-    let a = c.before.before.before.args in
-    sym (ap (λ (w : Walked). ran_by w a.names a.used a.splits a.units) c.before.w2.given.1)
+    let a = c.args in
+    sym (ap (λ (w : Walked). ran_by w a.names a.used a.splits a.units) c.in-Refused.is)
 
-pub after-walk-spec : {M : Type 1} → statement M
-after-walk-spec = tie.close (tie.spec enum-known-w enum-known-w-2 returns returns-2)
+pub after_walk_spec : {M : Type 1} → statement M
+after_walk_spec = tie.close (tie.spec enum-known-w enum-known-w-2 returns returns-2)

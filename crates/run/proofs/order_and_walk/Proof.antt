@@ -27,43 +27,43 @@ room_of s = room_in (length s.args.pieces.now) (length s.args.entries.now) (leng
 abbrev table_of : tie.Start → Columns
 table_of s = columns s.args.starts.now s.args.ends.now s.args.units.now s.args.rest.now
 
-enum-known-e : tie.Need-enum-known-e
+enum-known-e : tie.Need-enum_known-e
 enum-known-e c = search rules
 
-returns : tie.Need-returns
+returns : tie.Need-returns-in-Refused
 returns c =
-    let s = c.before.before.before.before.before.before.before.before.before.before.before.before.before.before.before.before.before.before.before.before in
+    let s = c.before.before.before.before.before.before.before.before.before.before.before.before.before.before.before.before.before.before in
     let a = s.args in
-    refused_before s.args.file.now (tables_of s) (room_of s) (table_of s) a.out_units.now a.pieces.now a.entries.now a.offsets.now (length a.out_units.now / 8) a.e c.before.e.given.1
+    refused_before s.args.file.now (tables_of s) (room_of s) (table_of s) a.out_units.now a.pieces.now a.entries.now a.offsets.now (length a.out_units.now / 8) a.e c.in-Refused.is
 
-enum-known-e-2 : tie.Need-enum-known-e-2
+enum-known-e-2 : tie.Need-enum_known-e-in-Accepted-1
 enum-known-e-2 c = search rules
 
-order-rows-requires : tie.Need-order-rows-requires
+order-rows-requires : tie.Need-order_rows-requires
 order-rows-requires c κs =
-    let s = c.before.before.before.before.before.before.before.before.before.before.before.before.before.before.before.before.before.before.before.before.before.before.before.before in
-    (s.requires.0, subst (Tabled (length s.args.sections.now) (table_of s)) (ap splits c.before.before.before.before.before.e2.given.1) s.requires.1)
+    let s = c.before.before.before.before.before.before.before.before.before.before.before.before.before.before.before.before.before.before.before.before.before.before in
+    (s.requires.0, subst (Tabled (length s.args.sections.now) (table_of s)) (ap splits c.in-Accepted.is) s.requires.1)
 
-same_length : tie.Need-same-length
+same_length : tie.Need-shape_of-out_units-in-Accepted
 same_length c = search rules
 
-same-length-2 : tie.Need-same-length-2
+same-length-2 : tie.Need-shape_of-pieces-in-Accepted
 same-length-2 c = search rules
 
-same-length-3 : tie.Need-same-length-3
+same-length-3 : tie.Need-shape_of-entries-in-Accepted
 same-length-3 c = search rules
 
-same-length-4 : tie.Need-same-length-4
+same-length-4 : tie.Need-shape_of-offsets-in-Accepted
 same-length-4 c = search rules
 
-returns-2 : tie.Need-returns-2
+returns-2 : tie.Need-returns-in-Accepted
 returns-2 c =
-    let s = c.before.before.before.before.before.before.before.before.before.before.before.before.before.before.before.before.before.before.before.before.before.before.before.before.before.before.before.before.before.before.before.before.before in
-    let w = c.before.before.before.before.before.before.before.before.order_rows in
-    entered_before s.args.file.now (tables_of s) (room_of s) (table_of s) w.new.1.1.1.1.1.1.1.1.1.1.1.1.1.1.1.1.0 w.new.1.1.1.1.1.1.1.1.1.1.1.1.1.1.1.1.1.0 w.new.1.1.1.1.1.1.1.1.1.1.1.1.1.1.1.1.1.1.0 w.new.1.1.1.1.1.1.1.1.1.1.1.1.1.1.1.1.1.1.1.0 (length s.args.out_units.now / 8) s.args.e w.result c.before.before.before.before.before.before.before.before.before.before.before.before.before.before.e2.given.1 w.ensures
+    let s = c.before.before.before.before.before.before.before.before.before.before.before.before.before.before.before.before.before.before.before.before.before.before.before.before.before.before.before.before.before.before.before in
+    let w = c.order_rows in
+    entered_before s.args.file.now (tables_of s) (room_of s) (table_of s) w.new.1.1.1.1.1.1.1.1.1.1.1.1.1.1.1.1.0 w.new.1.1.1.1.1.1.1.1.1.1.1.1.1.1.1.1.1.0 w.new.1.1.1.1.1.1.1.1.1.1.1.1.1.1.1.1.1.1.0 w.new.1.1.1.1.1.1.1.1.1.1.1.1.1.1.1.1.1.1.1.0 (length s.args.out_units.now / 8) s.args.e w.result c.in-Accepted.is w.ensures
 
-pub order-and-walk-spec : {M : Type 1} → statement M
-order-and-walk-spec =
+pub order_and_walk_spec : {M : Type 1} → statement M
+order_and_walk_spec =
     tie.close
     (tie.spec
     enum-known-e

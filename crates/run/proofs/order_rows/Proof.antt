@@ -24,60 +24,60 @@ room_of s = room_in (length s.args.pieces.now) (length s.args.entries.now) (leng
 abbrev table_of : tie.Start → Columns
 table_of s = columns s.args.starts.now s.args.ends.now s.args.units.now s.args.rest.now
 
-ordered-requires : tie.Need-ordered-requires
-ordered-requires c κs = let q = c.before.before.before.before.before.before.before.before.before.before.before.before.before.before.before.before.before.before.requires in (splits-taken q.0.usable _ _ q.1, units_taken q.0.usable)
+ordered-requires : tie.Need-ordered-linked-requires
+ordered-requires c κs = let q = c.requires in (splits-taken q.0.usable _ _ q.1, units_taken q.0.usable)
 
-enum-known-answer : tie.Need-enum-known-answer
+enum-known-answer : tie.Need-enum_known-answer
 enum-known-answer c = search rules
 
 unlinked-requires : tie.Need-unlinked-requires
 unlinked-requires c κs = search rules
 
-enum_told : tie.Need-enum-told
+enum_told : tie.Need-enum_told-1
 enum_told c = search rules
 
-walk-with-columns-requires : tie.Need-walk-with-columns-requires
+walk-with-columns-requires : tie.Need-walk_with_columns-w-requires
 walk-with-columns-requires c κs =
-    let s = c.before.before.before.before.before.before.before.before.before.before.before.before.before.before.before.before.before.before.before.before.before.before.before.before.before.before.before in
-    let o = c.before.before.before.before.before.before.before.before.ordered in
+    let s = c in
+    let o = c.ordered-linked in
     let left = stands s.args.file.now (tables_of s) (room_of s) (table_of s) s.args.added s.args.used s.args.n o.new.1.1.1.1.1.1.1.1.1.1.1.1.0 [] [] [] s.requires.0.usable s.requires.1 (length s.args.out_units.now) o.ensures in
     (s.requires.0, s.requires.1, left.whole, left.named)
 
-after-walk-requires : tie.Need-after-walk-requires
+after-walk-requires : tie.Need-after_walk-requires
 after-walk-requires c κs = search rules
 
-same_length : tie.Need-same-length
+same_length : tie.Need-shape_of-out_units-in-Refused
 same_length c = search rules
 
-returns : tie.Need-returns
+returns : tie.Need-returns-in-Refused
 returns c =
-    let s = c.before.before.before.before.before.before.before.before.before.before.before.before.before.before.before.before.before.before.before.before.before.before.before.before.before in
-    let o = c.before.before.before.before.before.before.ordered in
+    let s = c.before.before.before.before.before.before.before.before.before.before.before.before.before.before.before.before.before.before.before.before.before.before.before in
+    let o = c.ordered-linked in
     unlinked_right s.args.file.now (tables_of s) (room_of s) (table_of s) s.args.added s.args.used s.args.n o.new.1.1.1.1.1.1.1.1.1.1.1.1.0 s.args.pieces.now s.args.entries.now s.args.offsets.now
-    s.requires.0.usable s.requires.1 (length s.args.out_units.now) o.ensures c.unlinked.result c.before.before.answer.given.1 c.unlinked.ensures
+    s.requires.0.usable s.requires.1 (length s.args.out_units.now) o.ensures c.unlinked.result c.in-Refused.is c.unlinked.ensures
 
-same-length-2 : tie.Need-same-length-2
+same-length-2 : tie.Need-shape_of-out_units-in-Accepted
 same-length-2 c = search rules
 
-same-length-3 : tie.Need-same-length-3
+same-length-3 : tie.Need-shape_of-pieces
 same-length-3 c = search rules
 
-same-length-4 : tie.Need-same-length-4
+same-length-4 : tie.Need-shape_of-entries
 same-length-4 c = search rules
 
-same-length-5 : tie.Need-same-length-5
+same-length-5 : tie.Need-shape_of-offsets
 same-length-5 c = search rules
 
-returns-2 : tie.Need-returns-2
+returns-2 : tie.Need-returns-in-Accepted
 returns-2 c =
-    let s = c.before.before.before.before.before.before.before.before.before.before.before.before.before.before.before.before.before.before.before.before.before.before.before.before.before.before.before.before.before.before.before.before.before.before.before in
-    let o = c.before.before.before.before.before.before.before.before.before.before.before.before.before.before.before.before.ordered in
-    let w = c.before.before.before.before.before.before.before.walk_with_columns in
+    let s = c in
+    let o = c.ordered-linked in
+    let w = c.walk_with_columns-w in
     walked_right s.args.file.now (tables_of s) (room_of s) (table_of s) s.args.added s.args.used s.args.n o.new.1.1.1.1.1.1.1.1.1.1.1.1.0 w.new.1.1.1.1.1.1.1.1.1.1.1.1.1.1.1.1.0 w.new.1.1.1.1.1.1.1.1.1.1.1.1.1.1.1.1.1.0 w.new.1.1.1.1.1.1.1.1.1.1.1.1.1.1.1.1.1.1.0
-    s.requires.0.usable s.requires.1 (length s.args.out_units.now) o.ensures c.after_walk.result c.before.before.before.before.before.before.before.before.before.before.before.before.enum_told.given.1 w.result w.ensures c.after_walk.ensures
+    s.requires.0.usable s.requires.1 (length s.args.out_units.now) o.ensures c.after_walk.result c.in-Accepted.is w.result w.ensures c.after_walk.ensures
 
-pub order-rows-spec : {M : Type 1} → statement M
-order-rows-spec =
+pub order_rows_spec : {M : Type 1} → statement M
+order_rows_spec =
     tie.close
     (tie.spec
     ordered-requires

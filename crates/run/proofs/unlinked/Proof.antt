@@ -8,15 +8,15 @@ use Rattle.run.proofs.Answering.{unlinked_refused}
 use Rattle.run.proofs.unlinked.Statement.{statement}
 use Rattle.run.proofs.unlinked.Tie as tie
 
-returns : tie.Need-returns
+returns : tie.Need-returns-then-number-eq61
 returns c =
-    let a = c.before.args in
-    sym (ap (λ (n : ℕ). unlinked_by n a.section a.address a.k) c.if1.true)
+    let a = c.args in
+    sym (ap (λ (n : ℕ). unlinked_by n a.section a.address a.k) c.if-number-eq61.true)
 
-returns-2 : tie.Need-returns-2
+returns-2 : tie.Need-returns
 returns-2 c =
-    let a = c.before.args in
-    sym (unlinked_refused a.number a.section a.address a.k (ne_eqb a.number 61 c.if1.false))
+    let a = c.args in
+    sym (unlinked_refused a.number a.section a.address a.k (ne_eqb a.number 61 c.if-number-eq61.false))
 
-pub unlinked-spec : {M : Type 1} → statement M
-unlinked-spec = tie.close (tie.spec returns returns-2)
+pub unlinked_spec : {M : Type 1} → statement M
+unlinked_spec = tie.close (tie.spec returns returns-2)

@@ -4,15 +4,15 @@ use borrow.Author.Rules.{rules}
 use Rattle.run.proofs.walk_with_columns.Statement.{statement}
 use Rattle.run.proofs.walk_with_columns.Tie as tie
 
-slice-aggregate-walk-units : tie.Need-slice-aggregate-walk-units
+slice-aggregate-walk-units : tie.Need-slice_bounds-walk_units-end
 slice-aggregate-walk-units c = search rules
 
-slice-aggregate-walk-units-2 : tie.Need-slice-aggregate-walk-units-2
+slice-aggregate-walk-units-2 : tie.Need-slice_bounds-walk_units-end-2
 slice-aggregate-walk-units-2 c = search rules
 
-walk-units-requires : tie.Need-walk-units-requires
+walk-units-requires : tie.Need-walk_units-requires
 walk-units-requires c κs =
-    let p = c.before.before.before.before.before.before.before.before.before.before.before.before.before.before.before.before.before.before.before.before.before.before.requires in (
+    let p = c.requires in (
       p.0,
       p.1,
       p.2,
@@ -20,20 +20,20 @@ walk-units-requires c κs =
       record { places_long = search rules; numbers_long = search rules },
     )
 
-same_length : tie.Need-same-length
+same_length : tie.Need-shape_of-pieces
 same_length c = search rules
 
-same-length-2 : tie.Need-same-length-2
+same-length-2 : tie.Need-shape_of-entries
 same-length-2 c = search rules
 
-same-length-3 : tie.Need-same-length-3
+same-length-3 : tie.Need-shape_of-offsets
 same-length-3 c = search rules
 
 returns : tie.Need-returns
 returns c = search rules
 
-pub walk-with-columns-spec : {M : Type 1} → statement M
-walk-with-columns-spec =
+pub walk_with_columns_spec : {M : Type 1} → statement M
+walk_with_columns_spec =
     tie.close
     (tie.spec
     slice-aggregate-walk-units

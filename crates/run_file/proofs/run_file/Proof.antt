@@ -22,110 +22,110 @@ abbrev rooms_of : tie.Start → Loaded → Rooms
 rooms_of s t =
     rooms_in s.args.file.now s.args.most s.args.most_bytes s.args.cap (length s.args.out_units.now / 8) (room_in (length s.args.pieces.now) (length s.args.entries.now) (length s.args.offsets.now)) t
 
-prepare-file-requires : tie.Need-prepare-file-requires
+prepare-file-requires : tie.Need-prepare_file-p-requires
 prepare-file-requires c κs = search rules
 
-enum-known-answer : tie.Need-enum-known-answer
+enum-known-answer : tie.Need-enum_known-answer
 enum-known-answer c = search rules
 
-same_length : tie.Need-same-length
+same_length : tie.Need-shape_of-places-in-Refused
 same_length c = search rules
 
-same-length-2 : tie.Need-same-length-2
+same-length-2 : tie.Need-shape_of-lengths-in-Refused
 same-length-2 c = search rules
 
-same-length-3 : tie.Need-same-length-3
+same-length-3 : tie.Need-shape_of-heads-in-Refused
 same-length-3 c = search rules
 
-same-length-4 : tie.Need-same-length-4
+same-length-4 : tie.Need-shape_of-chain-in-Refused
 same-length-4 c = search rules
 
-same-length-5 : tie.Need-same-length-5
+same-length-5 : tie.Need-shape_of-images-in-Refused
 same-length-5 c = search rules
 
-same-length-6 : tie.Need-same-length-6
+same-length-6 : tie.Need-shape_of-order-in-Refused
 same-length-6 c = search rules
 
-returns : tie.Need-returns
+returns : tie.Need-returns-in-Refused
 returns c =
-    let s = c.before.before.before.before.before.before.before.before.before.before.before.before.before.before.before.before.before.before.before.before.before.before.before.before.before.before.before.before.before.before.before.before.before.before.before.before.before.before.before.before.before in
-    let p = c.before.before.before.before.before.before.before.before.before.before.before.before.before.before.before.before.prepare_file.ensures in
+    let s = c.before.before.before.before.before.before.before.before.before.before.before.before.before.before.before.before.before.before.before.before.before.before.before.before.before.before.before.before.before.before.before.before.before.before.before.before.before.before.before in
+    let p = c.prepare_file-p.ensures in
     record {
-      is = run_refused p c.before.answer.given.1 (rooms_of s);
+      is = run_refused p c.in-Refused.is (rooms_of s);
       holds = tt;
       loaded = λ e q. absurd (not_both q);
     }
 
-enum_told : tie.Need-enum-told
+enum_told : tie.Need-enum_told-1
 enum_told c = search rules
 
-run-loaded-requires : tie.Need-run-loaded-requires
+run-loaded-requires : tie.Need-run_loaded-ran-requires
 run-loaded-requires c κs =
-    let q = c.before.before.before.before.before.before.before.before.before.before.before.before.before.before.before.before.before.before.before.before.before.before.before.before.before.before.before.before.before.before.before.before.before.before.before.before.before.before.before.before.before.before.before.before.before.before.before.before.before.before.before.before.before.before.before.before.before.requires in
-    let p = c.before.before.before.before.before.before.before.before.before.before.before.before.before.before.before.before.before.before.before.before.before.before.before.before.before.before.before.before.before.before.before.before.prepare_file in
-    (stored p.ensures c.before.before.before.before.before.before.before.before.before.before.before.before.before.before.before.before.before.enum_told.given.1 (omega (arith, q.0.images_long, p.auto.1.1.1.1.1.0)), q.1, q.2)
+    let q = c.requires in
+    let p = c.prepare_file-p in
+    (stored p.ensures c.in_default.is (omega (arith, q.0.images_long, p.auto.1.1.1.1.1.0)), q.1, q.2)
 
-same-length-7 : tie.Need-same-length-7
-same-length-7 c = c.before.before.before.before.before.before.before.before.before.before.before.before.before.before.before.before.before.before.before.before.before.before.before.before.before.before.before.before.before.before.before.before.before.before.before.before.before.before.before.before.before.before.before.before.before.before.before.before.before.before.before.before.before.before.before.prepare_file.auto.1.0
+same-length-7 : tie.Need-shape_of-places
+same-length-7 c = c.prepare_file-p.auto.places
 
-same-length-8 : tie.Need-same-length-8
-same-length-8 c = c.before.before.before.before.before.before.before.before.before.before.before.before.before.before.before.before.before.before.before.before.before.before.before.before.before.before.before.before.before.before.before.before.before.before.before.before.before.before.before.before.before.before.before.before.before.before.before.before.before.before.before.before.before.before.before.prepare_file.auto.1.1.0
+same-length-8 : tie.Need-shape_of-lengths
+same-length-8 c = c.prepare_file-p.auto.lengths
 
-same-length-9 : tie.Need-same-length-9
-same-length-9 c = c.before.before.before.before.before.before.before.before.before.before.before.before.before.before.before.before.before.before.before.before.before.before.before.before.before.before.before.before.before.before.before.before.before.before.before.before.before.before.before.before.before.before.before.before.before.before.before.before.before.before.before.before.before.before.before.prepare_file.auto.1.1.1.0
+same-length-9 : tie.Need-shape_of-heads
+same-length-9 c = c.prepare_file-p.auto.heads
 
-same-length-10 : tie.Need-same-length-10
-same-length-10 c = c.before.before.before.before.before.before.before.before.before.before.before.before.before.before.before.before.before.before.before.before.before.before.before.before.before.before.before.before.before.before.before.before.before.before.before.before.before.before.before.before.before.before.before.before.before.before.before.before.before.before.before.before.before.before.before.prepare_file.auto.1.1.1.1.0
+same-length-10 : tie.Need-shape_of-chain
+same-length-10 c = c.prepare_file-p.auto.chain
 
-same-length-11 : tie.Need-same-length-11
-same-length-11 c = c.before.before.before.before.before.before.before.before.before.before.before.before.before.before.before.before.before.before.before.before.before.before.before.before.before.before.before.before.before.before.before.before.before.before.before.before.before.before.before.before.before.before.before.before.before.before.before.before.before.before.before.before.before.before.before.prepare_file.auto.1.1.1.1.1.0
+same-length-11 : tie.Need-shape_of-images
+same-length-11 c = c.prepare_file-p.auto.images
 
-same-length-12 : tie.Need-same-length-12
-same-length-12 c = c.before.before.before.before.before.before.before.before.before.before.before.before.before.before.before.before.before.before.before.before.before.before.before.before.before.before.before.before.before.before.before.before.before.before.before.before.before.before.before.before.before.before.before.before.before.before.before.before.before.before.before.before.before.before.before.prepare_file.auto.1.1.1.1.1.1.0
+same-length-12 : tie.Need-shape_of-order
+same-length-12 c = c.prepare_file-p.auto.order
 
-same-length-13 : tie.Need-same-length-13
-same-length-13 c = c.before.before.before.before.before.before.before.before.before.before.before.before.before.before.before.before.before.before.before.before.before.before.run_loaded.auto.1.1.1.1.1.1.1.1.1.0
+same-length-13 : tie.Need-shape_of-starts
+same-length-13 c = c.run_loaded-ran.auto.starts
 
-same-length-14 : tie.Need-same-length-14
-same-length-14 c = c.before.before.before.before.before.before.before.before.before.before.before.before.before.before.before.before.before.before.before.before.before.before.run_loaded.auto.1.1.1.1.1.1.1.1.1.1.0
+same-length-14 : tie.Need-shape_of-ends
+same-length-14 c = c.run_loaded-ran.auto.ends
 
-same-length-15 : tie.Need-same-length-15
-same-length-15 c = c.before.before.before.before.before.before.before.before.before.before.before.before.before.before.before.before.before.before.before.before.before.before.run_loaded.auto.1.1.1.1.1.1.1.1.1.1.1.0
+same-length-15 : tie.Need-shape_of-units
+same-length-15 c = c.run_loaded-ran.auto.units
 
-same-length-16 : tie.Need-same-length-16
-same-length-16 c = c.before.before.before.before.before.before.before.before.before.before.before.before.before.before.before.before.before.before.before.before.before.before.run_loaded.auto.1.1.1.1.1.1.1.1.1.1.1.1.0
+same-length-16 : tie.Need-shape_of-rest
+same-length-16 c = c.run_loaded-ran.auto.rest
 
-same-length-17 : tie.Need-same-length-17
-same-length-17 c = c.before.before.before.before.before.before.before.before.before.before.before.before.before.before.before.before.before.before.before.before.before.before.run_loaded.auto.1.1.1.1.1.1.1.1.1.1.1.1.1.1.0
+same-length-17 : tie.Need-shape_of-added_bytes
+same-length-17 c = c.run_loaded-ran.auto.added_bytes
 
-same-length-18 : tie.Need-same-length-18
-same-length-18 c = c.before.before.before.before.before.before.before.before.before.before.before.before.before.before.before.before.before.before.before.before.before.before.run_loaded.auto.1.1.1.1.1.1.1.1.1.1.1.1.1.1.1.0
+same-length-18 : tie.Need-shape_of-added_places
+same-length-18 c = c.run_loaded-ran.auto.added_places
 
-same-length-19 : tie.Need-same-length-19
+same-length-19 : tie.Need-shape_of-added_lengths
 same-length-19 c = search rules
 
-same-length-20 : tie.Need-same-length-20
+same-length-20 : tie.Need-shape_of-out_units
 same-length-20 c = search rules
 
-same-length-21 : tie.Need-same-length-21
+same-length-21 : tie.Need-shape_of-pieces
 same-length-21 c = search rules
 
-same-length-22 : tie.Need-same-length-22
+same-length-22 : tie.Need-shape_of-entries
 same-length-22 c = search rules
 
-same-length-23 : tie.Need-same-length-23
+same-length-23 : tie.Need-shape_of-offsets
 same-length-23 c = search rules
 
-returns-2 : tie.Need-returns-2
+returns-2 : tie.Need-returns
 returns-2 c =
-    let s = c.before.before.before.before.before.before.before.before.before.before.before.before.before.before.before.before.before.before.before.before.before.before.before.before.before.before.before.before.before.before.before.before.before.before.before.before.before.before.before.before.before.before.before.before.before.before.before.before.before.before.before.before.before.before.before.before.before.before.before.before.before.before.before.before.before.before.before.before.before.before.before.before.before.before.before.before.before.before.before.before in
-    let p = c.before.before.before.before.before.before.before.before.before.before.before.before.before.before.before.before.before.before.before.before.before.before.before.before.before.before.before.before.before.before.before.before.before.before.before.before.before.before.before.before.before.before.before.before.before.before.before.before.before.before.before.before.before.before.before.prepare_file.ensures in
-    let e = c.before.before.before.before.before.before.before.before.before.before.before.before.before.before.before.before.before.before.before.before.before.before.run_loaded.ensures in
-    let told = c.before.before.before.before.before.before.before.before.before.before.before.before.before.before.before.before.before.before.before.before.before.before.before.before.before.before.before.before.before.before.before.before.before.before.before.before.before.before.before.before.enum_told.given.1 in
+    let s = c in
+    let p = c.prepare_file-p.ensures in
+    let e = c.run_loaded-ran.ensures in
+    let told = c.in_default.is in
     record { is = run_goes p told (rooms_of s) e.0; holds = e.1; loaded = λ x q. loads p told }
 
-pub run-file-spec : {M : Type 1} → statement M
-run-file-spec =
+pub run_file_spec : {M : Type 1} → statement M
+run_file_spec =
     tie.close
     (tie.spec
     prepare-file-requires

@@ -23,122 +23,122 @@ stages_of s t =
     stages s.args.file.now t
     (rooms_in s.args.file.now s.args.most s.args.most_bytes s.args.cap (length s.args.out_units.now / 8) (room_in (length s.args.pieces.now) (length s.args.entries.now) (length s.args.offsets.now)) t)
 
-add-names-end : tie.Need-overflow-add-names-end
+add-names-end : tie.Need-overflow_add-names_end
 add-names-end c = search rules
 
-add-symbols-end : tie.Need-overflow-add-symbols-end
-add-symbols-end c = omega (arith, few_symbols c.before.before.before.before.before.before.before.before.before.before.before.before.before.before.before.before.before.before.before.requires.0)
+add-symbols-end : tie.Need-overflow_add-symbols_end
+add-symbols-end c = omega (arith, few_symbols c.requires.0)
 
-add-relocs-end : tie.Need-overflow-add-relocs-end
-add-relocs-end c = omega (arith, few_relocs c.before.before.before.before.before.before.before.before.before.before.before.before.before.before.before.before.before.before.before.before.requires.0)
+add-relocs-end : tie.Need-overflow_add-relocs_end
+add-relocs-end c = omega (arith, few_relocs c.requires.0)
 
-add-splits-end : tie.Need-overflow-add-splits-end
-add-splits-end c = omega (arith, few_splits c.before.before.before.before.before.before.before.before.before.before.before.before.before.before.before.before.before.before.before.before.before.requires.0)
+add-splits-end : tie.Need-overflow_add-splits_end
+add-splits-end c = omega (arith, few_splits c.requires.0)
 
-add-units-end : tie.Need-overflow-add-units-end
-add-units-end c = omega (arith, few_units c.before.before.before.before.before.before.before.before.before.before.before.before.before.before.before.before.before.before.before.before.before.before.requires.0)
+add-units-end : tie.Need-overflow_add-units_end
+add-units-end c = omega (arith, few_units c.requires.0)
 
-sub-run-tables : tie.Need-overflow-sub-run-tables
+sub-run-tables : tie.Need-slice_bounds-run_tables-count
 sub-run-tables c = search rules
 
-part-run-tables-start : tie.Need-slice-bounds-run-tables-start
+part-run-tables-start : tie.Need-slice_bounds-run_tables-start
 part-run-tables-start c = search rules
 
-part-run-tables-end : tie.Need-slice-bounds-run-tables-end
-part-run-tables-end c = let q = c.before.before.before.before.before.before.before.before.before.before.before.before.before.before.before.before.before.before.before.before.before.before.requires.0 in omega (arith, few_names q, long_places q)
+part-run-tables-end : tie.Need-slice_bounds-run_tables-end
+part-run-tables-end c = let q = c.requires.0 in omega (arith, few_names q, long_places q)
 
-slice-aggregate-run-tables : tie.Need-slice-aggregate-run-tables
-slice-aggregate-run-tables c = names_long c.before.before.before.before.before.before.before.before.before.before.before.before.before.before.before.before.before.before.before.before.before.before.before.before.requires.0
+slice-aggregate-run-tables : tie.Need-slice_bounds-run_tables-end-2
+slice-aggregate-run-tables c = names_long c.requires.0
 
-slice-aggregate-run-tables-2 : tie.Need-slice-aggregate-run-tables-2
-slice-aggregate-run-tables-2 c = sections_long c.before.before.before.before.before.before.before.before.before.before.before.before.before.before.before.before.before.before.before.before.before.before.before.before.before.requires.0
+slice-aggregate-run-tables-2 : tie.Need-slice_bounds-run_tables-end-3
+slice-aggregate-run-tables-2 c = sections_long c.requires.0
 
-slice-aggregate-run-tables-3 : tie.Need-slice-aggregate-run-tables-3
-slice-aggregate-run-tables-3 c = images_long c.before.before.before.before.before.before.before.before.before.before.before.before.before.before.before.before.before.before.before.before.before.before.before.before.before.before.requires.0
+slice-aggregate-run-tables-3 : tie.Need-slice_bounds-run_tables-end-4
+slice-aggregate-run-tables-3 c = images_long c.requires.0
 
-sub-run-tables-2 : tie.Need-overflow-sub-run-tables-2
+sub-run-tables-2 : tie.Need-slice_bounds-run_tables-count-2
 sub-run-tables-2 c = search rules
 
-part-run-tables-start-2 : tie.Need-slice-bounds-run-tables-start-2
+part-run-tables-start-2 : tie.Need-slice_bounds-run_tables-start-2
 part-run-tables-start-2 c = search rules
 
-part-run-tables-end-2 : tie.Need-slice-bounds-run-tables-end-2
-part-run-tables-end-2 c = let q = c.before.before.before.before.before.before.before.before.before.before.before.before.before.before.before.before.before.before.before.before.before.before.before.before.before.before.requires.0 in omega (arith, few_symbols q, long_places q)
+part-run-tables-end-2 : tie.Need-slice_bounds-run_tables-end-5
+part-run-tables-end-2 c = let q = c.requires.0 in omega (arith, few_symbols q, long_places q)
 
-slice-aggregate-run-tables-4 : tie.Need-slice-aggregate-run-tables-4
-slice-aggregate-run-tables-4 c = order_long c.before.before.before.before.before.before.before.before.before.before.before.before.before.before.before.before.before.before.before.before.before.before.before.before.before.before.before.before.requires.0
+slice-aggregate-run-tables-4 : tie.Need-slice_bounds-run_tables-end-6
+slice-aggregate-run-tables-4 c = order_long c.requires.0
 
-sub-run-tables-3 : tie.Need-overflow-sub-run-tables-3
+sub-run-tables-3 : tie.Need-slice_bounds-run_tables-count-3
 sub-run-tables-3 c = search rules
 
-part-run-tables-start-3 : tie.Need-slice-bounds-run-tables-start-3
+part-run-tables-start-3 : tie.Need-slice_bounds-run_tables-start-3
 part-run-tables-start-3 c = search rules
 
-part-run-tables-end-3 : tie.Need-slice-bounds-run-tables-end-3
-part-run-tables-end-3 c = let q = c.before.before.before.before.before.before.before.before.before.before.before.before.before.before.before.before.before.before.before.before.before.before.before.before.before.before.before.before.requires.0 in omega (arith, few_relocs q, long_places q)
+part-run-tables-end-3 : tie.Need-slice_bounds-run_tables-end-7
+part-run-tables-end-3 c = let q = c.requires.0 in omega (arith, few_relocs q, long_places q)
 
-sub-run-tables-4 : tie.Need-overflow-sub-run-tables-4
+sub-run-tables-4 : tie.Need-slice_bounds-run_tables-count-4
 sub-run-tables-4 c = search rules
 
-part-run-tables-start-4 : tie.Need-slice-bounds-run-tables-start-4
+part-run-tables-start-4 : tie.Need-slice_bounds-run_tables-start-4
 part-run-tables-start-4 c = search rules
 
-part-run-tables-end-4 : tie.Need-slice-bounds-run-tables-end-4
-part-run-tables-end-4 c = let q = c.before.before.before.before.before.before.before.before.before.before.before.before.before.before.before.before.before.before.before.before.before.before.before.before.before.before.before.before.before.requires.0 in omega (arith, few_splits q, long_places q)
+part-run-tables-end-4 : tie.Need-slice_bounds-run_tables-end-8
+part-run-tables-end-4 c = let q = c.requires.0 in omega (arith, few_splits q, long_places q)
 
-sub-run-tables-5 : tie.Need-overflow-sub-run-tables-5
+sub-run-tables-5 : tie.Need-slice_bounds-run_tables-count-5
 sub-run-tables-5 c = search rules
 
-part-run-tables-start-5 : tie.Need-slice-bounds-run-tables-start-5
+part-run-tables-start-5 : tie.Need-slice_bounds-run_tables-start-5
 part-run-tables-start-5 c = search rules
 
-part-run-tables-end-5 : tie.Need-slice-bounds-run-tables-end-5
-part-run-tables-end-5 c = let q = c.before.before.before.before.before.before.before.before.before.before.before.before.before.before.before.before.before.before.before.before.before.before.before.before.before.before.before.before.before.before.requires.0 in omega (arith, few_units q, long_places q)
+part-run-tables-end-5 : tie.Need-slice_bounds-run_tables-end-9
+part-run-tables-end-5 c = let q = c.requires.0 in omega (arith, few_units q, long_places q)
 
-run-tables-requires : tie.Need-run-tables-requires
-run-tables-requires c κs = let q = c.before.before.before.before.before.before.before.before.before.before.before.before.before.before.before.before.before.before.before.before.before.before.before.before.before.before.before.before.before.before.before.before.before.before.before.before.before.before.before.before.before.before.requires in (parts_ready q.0, q.1, q.2)
+run-tables-requires : tie.Need-run_tables-requires
+run-tables-requires c κs = let q = c.requires in (parts_ready q.0, q.1, q.2)
 
-same_length : tie.Need-same-length
-same_length c = c.before.before.before.before.before.before.before.before.before.before.before.before.before.before.before.before.before.before.before.before.before.before.run_tables.auto.1.1.1.1.1.1.1.1.1.1.1.1.0
+same_length : tie.Need-shape_of-starts
+same_length c = c.run_tables.auto.starts
 
-same-length-2 : tie.Need-same-length-2
-same-length-2 c = c.before.before.before.before.before.before.before.before.before.before.before.before.before.before.before.before.before.before.before.before.before.before.run_tables.auto.1.1.1.1.1.1.1.1.1.1.1.1.1.0
+same-length-2 : tie.Need-shape_of-ends
+same-length-2 c = c.run_tables.auto.ends
 
-same-length-3 : tie.Need-same-length-3
-same-length-3 c = c.before.before.before.before.before.before.before.before.before.before.before.before.before.before.before.before.before.before.before.before.before.before.run_tables.auto.1.1.1.1.1.1.1.1.1.1.1.1.1.1.0
+same-length-3 : tie.Need-shape_of-units
+same-length-3 c = c.run_tables.auto.units
 
-same-length-4 : tie.Need-same-length-4
-same-length-4 c = c.before.before.before.before.before.before.before.before.before.before.before.before.before.before.before.before.before.before.before.before.before.before.run_tables.auto.1.1.1.1.1.1.1.1.1.1.1.1.1.1.1.0
+same-length-4 : tie.Need-shape_of-rest
+same-length-4 c = c.run_tables.auto.rest
 
-same-length-5 : tie.Need-same-length-5
-same-length-5 c = c.before.before.before.before.before.before.before.before.before.before.before.before.before.before.before.before.before.before.before.before.before.before.run_tables.auto.1.1.1.1.1.1.1.1.1.1.1.1.1.1.1.1.1.0
+same-length-5 : tie.Need-shape_of-added_bytes
+same-length-5 c = c.run_tables.auto.added_bytes
 
-same-length-6 : tie.Need-same-length-6
-same-length-6 c = c.before.before.before.before.before.before.before.before.before.before.before.before.before.before.before.before.before.before.before.before.before.before.run_tables.auto.1.1.1.1.1.1.1.1.1.1.1.1.1.1.1.1.1.1.0
+same-length-6 : tie.Need-shape_of-added_places
+same-length-6 c = c.run_tables.auto.added_places
 
-same-length-7 : tie.Need-same-length-7
-same-length-7 c = c.before.before.before.before.before.before.before.before.before.before.before.before.before.before.before.before.before.before.before.before.before.before.run_tables.auto.1.1.1.1.1.1.1.1.1.1.1.1.1.1.1.1.1.1.1.0
+same-length-7 : tie.Need-shape_of-added_lengths
+same-length-7 c = c.run_tables.auto.added_lengths
 
-same-length-8 : tie.Need-same-length-8
+same-length-8 : tie.Need-shape_of-out_units
 same-length-8 c = search rules
 
-same-length-9 : tie.Need-same-length-9
+same-length-9 : tie.Need-shape_of-pieces
 same-length-9 c = search rules
 
-same-length-10 : tie.Need-same-length-10
+same-length-10 : tie.Need-shape_of-entries
 same-length-10 c = search rules
 
-same-length-11 : tie.Need-same-length-11
+same-length-11 : tie.Need-shape_of-offsets
 same-length-11 c = search rules
 
 returns : tie.Need-returns
 returns c =
-    let s = c.before.before.before.before.before.before.before.before.before.before.before.before.before.before.before.before.before.before.before.before.before.before.before.before.before.before.before.before.before.before.before.before.before.before.before.before.before.before.before.before.before.before.before.before.before.before.before.before.before.before.before.before.before.before.before.before.before.before.before.before.before.before.before.before.before in
-    let e = c.before.before.before.before.before.before.before.before.before.before.before.before.before.before.before.before.before.before.before.before.before.before.run_tables.ensures in
+    let s = c in
+    let e = c.run_tables.ensures in
     (e.0 ∙ ap (stages_of s) (parts_are s.requires.0), e.1)
 
-pub run-loaded-spec : {M : Type 1} → statement M
-run-loaded-spec =
+pub run_loaded_spec : {M : Type 1} → statement M
+run_loaded_spec =
     tie.close
     (tie.spec
     add-names-end

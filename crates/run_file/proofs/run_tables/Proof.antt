@@ -42,30 +42,30 @@ base-is : (s : tie.Start) → base_of s ≡ names_in s.args.file.now (tables_of 
 unfolding names_in
 base-is s = refl
 
-names-room-requires : tie.Need-names-room-requires
+names-room-requires : tie.Need-names_room-more_names-requires
 names-room-requires c κs = search rules
 
-bytes-room-requires : tie.Need-bytes-room-requires
-bytes-room-requires c κs = let u = c.before.before.before.before.before.before.before.before.before.before.before.before.before.before.before.before.before.before.before.before.before.before.before.before.requires.0.usable in omega (arith, few_names u, measured u)
+bytes-room-requires : tie.Need-bytes_room-more_bytes-requires
+bytes-room-requires c κs = let u = c.requires.0.usable in omega (arith, few_names u, measured u)
 
-split-rows-requires : tie.Need-split-rows-requires
+split-rows-requires : tie.Need-split_rows-e-requires
 split-rows-requires c κs =
-    let s = c.before.before.before.before.before.before.before.before.before.before.before.before.before.before.before.before.before.before.before.before.before.before.before.before.before.before.before.before.before.before.before.before in
+    let s = c in
     let q = s.requires in (
       q.0,
       lent_long q.1 q.2,
       q.2,
-      room_beside q.1 (left_first s.args.most (length s.args.names.now) 4096 c.before.before.before.before.before.before.before.before.names_room_lem.ensures) (left_first s.args.most_bytes (sum s.args.lengths.now) 65535 c.before.before.before.before.before.before.before.bytes_room_lem.ensures),
+      room_beside q.1 (left_first s.args.most (length s.args.names.now) 4096 c.names_room-more_names.ensures) (left_first s.args.most_bytes (sum s.args.lengths.now) 65535 c.bytes_room-more_bytes.ensures),
     )
 
-order-and-walk-requires : tie.Need-order-and-walk-requires
+order-and-walk-requires : tie.Need-order_and_walk-requires
 order-and-walk-requires c κs =
-    let s = c.before.before.before.before.before.before.before.before.before.before.before.before.before.before.before.before.before.before.before.before.before.before.before.before.before.before.before.before.before.before.before.before.before.before.before.before.before.before.before.before.before.before.before.before.before.before.before.before.before.before.before.before.before.before.before in
+    let s = c in
     let q = s.requires in
-    let e = c.before.before.before.before.before.before.before.before.before.before.before.before.before.before.before.before.before.before.before.before.before.before.split_rows in
+    let e = c.split_rows-e in
     let u = q.0.usable in
     let base = length-names s.args.file.now s.args.names.now s.args.lengths.now (length s.args.names.now) in
-    let room = left_sum s.args.most (length s.args.names.now) 4096 c.before.before.before.before.before.before.before.before.before.before.before.before.before.before.before.before.before.before.before.before.before.before.before.before.before.before.before.before.before.before.before.names_room_lem.ensures (few_names u) in (
+    let room = left_sum s.args.most (length s.args.names.now) 4096 c.names_room-more_names.ensures (few_names u) in (
       record { usable = usable_rest u; images_are = q.0.images_are; order_is = q.0.order_is },
       record {
         long = long_same _ _ _ _ (record { starts = e.auto.1.1.1.1.1.1.1.1.1.1.1.1.0; ends = e.auto.1.1.1.1.1.1.1.1.1.1.1.1.1.0; units = e.auto.1.1.1.1.1.1.1.1.1.1.1.1.1.1.0; rest = e.auto.1.1.1.1.1.1.1.1.1.1.1.1.1.1.1.0 }) e.ensures.2 (lent_long q.1 q.2);
@@ -74,49 +74,49 @@ order-and-walk-requires c κs =
       },
     )
 
-same_length : tie.Need-same-length
+same_length : tie.Need-shape_of-starts
 same_length c = search rules
 
-same-length-2 : tie.Need-same-length-2
+same-length-2 : tie.Need-shape_of-ends
 same-length-2 c = search rules
 
-same-length-3 : tie.Need-same-length-3
+same-length-3 : tie.Need-shape_of-units
 same-length-3 c = search rules
 
-same-length-4 : tie.Need-same-length-4
+same-length-4 : tie.Need-shape_of-rest
 same-length-4 c = search rules
 
-same-length-5 : tie.Need-same-length-5
+same-length-5 : tie.Need-shape_of-added_bytes
 same-length-5 c = search rules
 
-same-length-6 : tie.Need-same-length-6
+same-length-6 : tie.Need-shape_of-added_places
 same-length-6 c = search rules
 
-same-length-7 : tie.Need-same-length-7
+same-length-7 : tie.Need-shape_of-added_lengths
 same-length-7 c = search rules
 
-same-length-8 : tie.Need-same-length-8
+same-length-8 : tie.Need-shape_of-out_units
 same-length-8 c = search rules
 
-same-length-9 : tie.Need-same-length-9
+same-length-9 : tie.Need-shape_of-pieces
 same-length-9 c = search rules
 
-same-length-10 : tie.Need-same-length-10
+same-length-10 : tie.Need-shape_of-entries
 same-length-10 c = search rules
 
-same-length-11 : tie.Need-same-length-11
+same-length-11 : tie.Need-shape_of-offsets
 same-length-11 c = search rules
 
 returns : tie.Need-returns
 unfolding rooms_in names_in
 returns c =
-    let s = c.before.before.before.before.before.before.before.before.before.before.before.before.before.before.before.before.before.before.before.before.before.before.before.before.before.before.before.before.before.before.before.before.before.before.before.before.before.before.before.before.before.before.before.before.before.before.before.before.before.before.before.before.before.before.before.before.before.before.before.before.before.before.before.before in
+    let s = c in
     let q = s.requires in
-    let e = c.before.before.before.before.before.before.before.before.before.before.before.before.before.before.before.before.before.before.before.before.before.before.before.before.before.before.before.before.before.before.before.split_rows in
-    let w = c.before.before.before.before.before.before.before.before.order_and_walk in
+    let e = c.split_rows-e in
+    let w = c.order_and_walk in
     let u = q.0.usable in
-    let counted = c.before.before.before.before.before.before.before.before.before.before.before.before.before.before.before.before.before.before.before.before.before.before.before.before.before.before.before.before.before.before.before.before.before.before.before.before.before.before.before.before.names_room_lem.ensures in
-    let sized = c.before.before.before.before.before.before.before.before.before.before.before.before.before.before.before.before.before.before.before.before.before.before.before.before.before.before.before.before.before.before.before.before.before.before.before.before.before.before.before.bytes_room_lem.ensures in (
+    let counted = c.names_room-more_names.ensures in
+    let sized = c.bytes_room-more_bytes.ensures in (
       stages_are s.args.file.now s.args.names.now s.args.lengths.now s.args.sections.now s.args.symbols.now s.args.relocs.now s.args.partials.now s.args.unit_places.now
           (base_of s) (rooms_of s) (base-is s) (w.ensures.0 (base_of s) _)
           (e.ensures.0 ∙ ap (split_table s.args.file.now (tables_of s) s.args.cap) (names_room_lem u s.args.most s.args.most_bytes s.args.cap (length s.args.out_units.now / 8) (output_of s) counted sized)),
@@ -125,8 +125,8 @@ returns c =
           (left_second s.args.most_bytes (sum s.args.lengths.now) 65535 sized) (left_first s.args.most_bytes (sum s.args.lengths.now) 65535 sized),
     )
 
-pub run-tables-spec : {M : Type 1} → statement M
-run-tables-spec =
+pub run_tables_spec : {M : Type 1} → statement M
+run_tables_spec =
     tie.close
     (tie.spec
     names-room-requires

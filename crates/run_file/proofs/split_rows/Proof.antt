@@ -14,21 +14,21 @@ use Rattle.run_file.proofs.split_rows.Reads as reads
 use Rattle.run_file.proofs.split_rows.Lts as lts
 use Rattle.run_splits.proofs.split_table.Reads as split-table-reads
 
-slice-aggregate-split-table : tie.Need-slice-aggregate-split-table
+slice-aggregate-split-table : tie.Need-slice_bounds-split_table-end
 slice-aggregate-split-table c = search rules
 
-slice-aggregate-split-table-2 : tie.Need-slice-aggregate-split-table-2
+slice-aggregate-split-table-2 : tie.Need-slice_bounds-split_table-end-2
 slice-aggregate-split-table-2 c = search rules
 
-slice-aggregate-split-table-3 : tie.Need-slice-aggregate-split-table-3
+slice-aggregate-split-table-3 : tie.Need-slice_bounds-split_table-end-3
 slice-aggregate-split-table-3 c = search rules
 
-slice-aggregate-split-table-4 : tie.Need-slice-aggregate-split-table-4
+slice-aggregate-split-table-4 : tie.Need-slice_bounds-split_table-end-4
 slice-aggregate-split-table-4 c = search rules
 
-split-table-requires : tie.Need-split-table-requires
+split-table-requires : tie.Need-split_table-requires
 split-table-requires c κs =
-    let q = c.before.before.before.before.before.before.before.before.before.before.before.before.before.before.before.before.before.before.before.before.before.before.before.before.before.before.before.before.before.before.requires in
+    let q = c.requires in
     let r = q.0 in (
       usable_parts r.usable,
       r.images_are,
@@ -44,31 +44,31 @@ split-table-requires c κs =
       q.2,
     )
 
-same_length : tie.Need-same-length
+same_length : tie.Need-shape_of-starts
 same_length c = search rules
 
-same-length-2 : tie.Need-same-length-2
+same-length-2 : tie.Need-shape_of-ends
 same-length-2 c = search rules
 
-same-length-3 : tie.Need-same-length-3
+same-length-3 : tie.Need-shape_of-units
 same-length-3 c = search rules
 
-same-length-4 : tie.Need-same-length-4
+same-length-4 : tie.Need-shape_of-rest
 same-length-4 c = search rules
 
-same-length-5 : tie.Need-same-length-5
+same-length-5 : tie.Need-shape_of-added_bytes
 same-length-5 c = search rules
 
-same-length-6 : tie.Need-same-length-6
+same-length-6 : tie.Need-shape_of-added_places
 same-length-6 c = search rules
 
-same-length-7 : tie.Need-same-length-7
+same-length-7 : tie.Need-shape_of-added_lengths
 same-length-7 c = search rules
 
 returns : tie.Need-returns
 returns c =
-    let a = c.before.before.before.before.before.before.before.before.before.before.before.before.before.before.before.before.before.before.before.before.before.before.before.before.before.before.before.before.before.before.before.before.before.before.before.before.before.before.before.before.before.before.before.before.before.before.before.before.before.args in
-    let e = c.before.before.before.before.before.before.before.before.before.before.before.before.before.before.before.before.before.before.split_table.ensures in
+    let a = c.args in
+    let e = c.split_table.ensures in
     (e.0 ∙ table_of_parts a.file.now (tables_with a.names.now a.lengths.now a.sections.now a.symbols.now a.relocs.now a.partials.now a.unit_places.now) _ _, e.1, e.2)
 
 pub split_rows_spec : {M : Type 1} → statement M

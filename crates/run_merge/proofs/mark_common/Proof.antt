@@ -14,43 +14,43 @@ use Rattle.run_merge.proofs.mark_common.Lts as lts
 use Rattle.common.proofs.update_common_splits.Reads as update-common-splits-reads
 
 -- src/lib.rt:39:13
-enum-known-r : tie.Need-enum-known-r
+enum-known-r : tie.Need-enum_known-r
 enum-known-r c = search rules
 
 -- src/lib.rt:43:13
-returns : tie.Need-returns
+returns : tie.Need-returns-in-Refused
 returns c =
-    let a = c.before.before.before.before.before.before.before.before.before.before.before.args in (
-      marked_refused _ (ap (λ (r : Merged). merged r (columns a.starts.now a.ends.now a.units.now a.rest.now)) c.before.r.given.1),
+    let a = c.args in (
+      marked_refused _ (ap (λ (r : Merged). merged r (columns a.starts.now a.ends.now a.units.now a.rest.now)) c.in-Refused.is),
       omega arith,
     )
 
 -- src/lib.rt:49:28
-enum-known-r-2 : tie.Need-enum-known-r-2
+enum-known-r-2 : tie.Need-enum_known-r-in-Accepted-1
 enum-known-r-2 c = search rules
 
 -- src/lib.rt:50:13
-update-common-splits-requires : tie.Need-update-common-splits-requires
+update-common-splits-requires : tie.Need-update_common_splits-requires
 update-common-splits-requires c κs =
-    let q = c.before.before.before.before.before.before.before.before.before.before.before.before.requires in
-    let e = ap count c.before.before.r2.given.1 in
+    let q = c.requires in
+    let e = ap count c.in-Accepted.is in
     (q.0, record { starts = omega (arith, e, q.1.starts); ends = omega (arith, e, q.1.ends); units = omega (arith, e, q.1.units); rest = omega (arith, e, q.1.rest) })
 
 -- src/lib.rt:53:13
-same_length : tie.Need-same-length
+same_length : tie.Need-shape_of-rest-in-Accepted
 same_length c = search rules
 
 -- src/lib.rt:53:13
-returns-2 : tie.Need-returns-2
+returns-2 : tie.Need-returns-in-Accepted
 returns-2 c =
-    let a = c.before.before.before.before.before.before.before.before.before.before.before.before.before.before.before.args in
-    let e = c.before.before.before.before.before.r2.given.1 in (
-      marked_left _ (ap (λ (r : Merged). merged r (columns a.starts.now a.ends.now a.units.now a.rest.now)) e) (common_left c.before.before.update_common_splits.result _ _ _ c.before.before.update_common_splits.ensures),
+    let a = c.args in
+    let e = c.in-Accepted.is in (
+      marked_left _ (ap (λ (r : Merged). merged r (columns a.starts.now a.ends.now a.units.now a.rest.now)) e) (common_left c.update_common_splits.result _ _ _ c.update_common_splits.ensures),
       omega (arith, ap count e),
     )
 
-pub mark-common-spec : {M : Type 1} → statement M
-mark-common-spec =
+pub mark_common_spec : {M : Type 1} → statement M
+mark_common_spec =
     tie.close
     (tie.spec
     enum-known-r

@@ -14,14 +14,14 @@ use Rattle.merge.proofs.add_splits.Reads as add-splits-reads
 use Rattle.run_merge.proofs.mark_common.Reads as mark-common-reads
 
 -- src/lib.rt:83:9
-add-splits-requires : tie.Need-add-splits-requires
+add-splits-requires : tie.Need-add_splits-r-requires
 add-splits-requires c κs = search rules
 
 -- src/lib.rt:84:5
-mark-common-requires : tie.Need-mark-common-requires
+mark-common-requires : tie.Need-mark_common-requires
 mark-common-requires c κs =
-    let q = c.before.before.before.before.before.before.before.before.before.before.before.before.before.before.before.before.before.before.before.before.before.before.before.before.before.before.requires in
-    let m = c.before.before.before.before.before.before.before.before.before.before.before.before.add_splits in
+    let q = c.requires in
+    let m = c.add_splits-r in
     let n = m.ensures.1 in (
       q.0,
       record {
@@ -33,34 +33,34 @@ mark-common-requires c κs =
     )
 
 -- src/lib.rt:59:1
-same_length : tie.Need-same-length
+same_length : tie.Need-shape_of-starts
 same_length c = search rules
 
 -- src/lib.rt:59:1
-same-length-2 : tie.Need-same-length-2
+same-length-2 : tie.Need-shape_of-ends
 same-length-2 c = search rules
 
 -- src/lib.rt:59:1
-same-length-3 : tie.Need-same-length-3
+same-length-3 : tie.Need-shape_of-units
 same-length-3 c = search rules
 
 -- src/lib.rt:59:1
-same-length-4 : tie.Need-same-length-4
+same-length-4 : tie.Need-shape_of-rest
 same-length-4 c = search rules
 
 -- src/lib.rt:59:1
 returns : tie.Need-returns
 unfolding tabulate
 returns c =
-    let a = c.before.before.before.before.before.before.before.before.before.before.before.before.before.before.before.before.before.before.before.before.before.before.before.before.before.before.before.before.before.args in
-    let m = c.before.before.before.before.before.before.before.before.before.before.before.before.before.before.before.add_splits in
-    let k = c.before.before.mark_common in (
+    let a = c.args in
+    let m = c.add_splits-r in
+    let k = c.mark_common in (
       k.ensures.0 ∙ ap (marked_in (bss_in a.file.now a.names.now a.lengths.now a.file.now a.sections.now)) m.ensures.0,
       omega (arith, k.ensures.1, m.ensures.1),
     )
 
-pub merge-partials-spec : {M : Type 1} → statement M
-merge-partials-spec =
+pub merge_partials_spec : {M : Type 1} → statement M
+merge_partials_spec =
     tie.close
     (tie.spec
     add-splits-requires

@@ -20,24 +20,24 @@ use Rattle.run_outputs.proofs.put_counts.Reads as put-counts-reads
 use Rattle.outputs.proofs.clear_from.Reads as clear-from-reads
 use Rattle.stage_splits.proofs.put_splits.Reads as put-splits-reads
 
-lay-names-requires : tie.Need-lay-names-requires
+lay-names-requires : tie.Need-lay_names-requires
 lay-names-requires c κs = search rules
 
-put-splits-requires : tie.Need-put-splits-requires
+put-splits-requires : tie.Need-put_splits-requires
 put-splits-requires c κs = search rules
 
-mul-clear-from : tie.Need-overflow-mul-clear-from
-mul-clear-from c = omega (arith, c.before.before.before.before.before.before.before.before.before.before.before.before.before.before.before.before.before.before.before.before.before.before.before.before.before.before.before.before.requires.units_there.few)
+mul-clear-from : tie.Need-overflow_mul-k
+mul-clear-from c = omega (arith, c.requires.units_there.few)
 
-clear-from-requires : tie.Need-clear-from-requires
+clear-from-requires : tie.Need-clear_from-requires
 clear-from-requires c κs = search rules
 
-lay-output-requires : tie.Need-lay-output-requires
-lay-output-requires c κs = c.before.before.before.before.before.before.before.before.before.before.before.before.before.before.before.before.before.before.before.before.before.before.before.before.before.before.before.before.before.before.before.before.before.before.requires.output
+lay-output-requires : tie.Need-lay_output-requires
+lay-output-requires c κs = c.requires.output
 
-put-counts-requires : tie.Need-put-counts-requires
+put-counts-requires : tie.Need-put_counts-requires
 put-counts-requires c κs =
-    let q = c.before.before.before.before.before.before.before.before.before.before.before.before.before.before.before.before.before.before.before.before.before.before.before.before.before.before.before.before.before.before.before.before.before.before.before.before.before.before.before.before.before.before.requires in
+    let q = c.requires in
     record {
       names = q.names.small;
       used = q.names.low;
@@ -48,53 +48,53 @@ put-counts-requires c κs =
       relocs = q.output.few_relocs;
     }
 
-same_length : tie.Need-same-length
+same_length : tie.Need-shape_of-out_ends
 same_length c = search rules
 
-same-length-2 : tie.Need-same-length-2
+same-length-2 : tie.Need-shape_of-out_bytes
 same-length-2 c = search rules
 
-same-length-3 : tie.Need-same-length-3
+same-length-3 : tie.Need-shape_of-out_splits
 same-length-3 c = search rules
 
-same-length-4 : tie.Need-same-length-4
+same-length-4 : tie.Need-shape_of-out_units
 same-length-4 c = search rules
 
-same-length-5 : tie.Need-same-length-5
+same-length-5 : tie.Need-shape_of-pieces
 same-length-5 c = search rules
 
-same-length-6 : tie.Need-same-length-6
+same-length-6 : tie.Need-shape_of-entries
 same-length-6 c = search rules
 
-same-length-7 : tie.Need-same-length-7
+same-length-7 : tie.Need-shape_of-offsets
 same-length-7 c = search rules
 
-same-length-8 : tie.Need-same-length-8
+same-length-8 : tie.Need-shape_of-counts
 same-length-8 c = search rules
 
 returns : tie.Need-returns
 returns c =
-    let a = c.before.before.before.before.before.before.before.before.before.before.before.before.before.before.before.before.before.before.before.before.before.before.before.before.before.before.before.before.before.before.before.before.before.before.before.before.before.before.before.before.before.before.before.before.before.args in
-    let q = c.before.before.before.before.before.before.before.before.before.before.before.before.before.before.before.before.before.before.before.before.before.before.before.before.before.before.before.before.before.before.before.before.before.before.before.before.before.before.before.before.before.before.before.before.before.requires in
+    let a = c.args in
+    let q = c.requires in
     let k = a.k in
     let beside' = beside a.added_bytes.now a.added_places.now a.added_lengths.now in
     let table = columns a.starts.now a.ends.now a.units.now a.rest.now in
-    let names = c.before.before.before.before.before.before.before.before.before.before.before.before.before.before.before.before.before.before.before.before.before.before.before.before.before.before.before.lay_names.ensures in
-    let output = c.before.before.before.before.before.before.before.before.before.before.lay_output.ensures in
+    let names = c.lay_names.ensures in
+    let output = c.lay_output.ensures in
     record {
       ends_are = names.0;
       bytes_are = names.1;
-      splits_are = c.before.before.before.before.before.before.before.before.before.before.before.before.before.before.before.before.before.before.before.before.before.put_splits.ensures;
-      units_are = c.before.before.before.before.before.before.before.before.before.before.before.before.before.before.before.before.clear_from.ensures ∙ cleared a.out_units.now _ (8 * k.units) (sym q.units_there.written) q.units_there.fit;
+      splits_are = c.put_splits.ensures;
+      units_are = c.clear_from.ensures ∙ cleared a.out_units.now _ (8 * k.units) (sym q.units_there.written) q.units_there.fit;
       pieces_are = output.pieces_are;
       symbols_are = output.symbols_are;
       relocs_are = output.relocs_are;
-      counted = c.before.before.put_counts.ensures
+      counted = c.put_counts.ensures
           ∙ ap (counts_of (length a.counts.now)) (kept-listed beside' table a.out_units.now a.pieces.now a.entries.now a.offsets.now k q.names.sum);
     }
 
-pub lay-spec : {M : Type 1} → statement M
-lay-spec =
+pub lay_spec : {M : Type 1} → statement M
+lay_spec =
     tie.close
     (tie.spec
     lay-names-requires

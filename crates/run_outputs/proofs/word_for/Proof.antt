@@ -9,32 +9,32 @@ use Rattle.run_outputs.proofs.word_for.Reads as reads
 use Rattle.run_outputs.proofs.word_for.Lts as lts
 use Rattle.obj.proofs.word_of.Reads as word-of-reads
 
-enum_told : tie.Need-enum-told
+enum_told : tie.Need-enum_told-1
 enum_told c = search rules
 
-enum-told-2 : tie.Need-enum-told-2
+enum-told-2 : tie.Need-enum_told-in-Cycle
 enum-told-2 c = search rules
 
-word-of-requires : tie.Need-word-of-requires
+word-of-requires : tie.Need-word_of-requires
 word-of-requires c κs = search rules
 
-enum-known-r : tie.Need-enum-known-r
+enum-known-r : tie.Need-enum_known-r
 enum-known-r c = search rules
 
-word-of-requires-2 : tie.Need-word-of-requires-2
+word-of-requires-2 : tie.Need-word_of-requires-in-Refused
 word-of-requires-2 c κs = search rules
 
-returns : tie.Need-returns
+returns : tie.Need-returns-in-Done
 returns c = search rules
 
-returns-2 : tie.Need-returns-2
+returns-2 : tie.Need-returns-in-Cycle
 returns-2 c = search rules
 
-returns-3 : tie.Need-returns-3
-returns-3 c = c.word-of2.ensures ∙ sym (ap word_of c.before.before.r.given.1)
+returns-3 : tie.Need-returns-in-Refused
+returns-3 c = c.word_of-in-Refused.ensures ∙ sym (ap word_of c.in-Refused.is)
 
-pub word-for-spec : {M : Type 1} → statement M
-word-for-spec =
+pub word_for_spec : {M : Type 1} → statement M
+word_for_spec =
     tie.close
     (tie.spec
     enum_told

@@ -19,40 +19,40 @@ invariant-loop lengths bytes₀ i₀ bytes i = (bytes + sum (drop i lengths) ≡
 abbrev decreases-loop : tie.decreases-loop
 decreases-loop lengths bytes₀ i₀ bytes i = length lengths - i
 
-loop-holds : tie.Need-loop-init invariant-loop decreases-loop
+loop-holds : tie.Need-loop-i-init invariant-loop decreases-loop
 loop-holds c = (zero-add _, omega arith, omega arith)
 
-shared-slice-read-bytes : tie.Need-shared-slice-read-bytes invariant-loop decreases-loop
+shared-slice-read-bytes : tie.Need-bounds-lengths-i invariant-loop decreases-loop
 shared-slice-read-bytes c = search rules
 
-cast-bytes : tie.Need-overflow-cast-bytes invariant-loop decreases-loop
-cast-bytes c = let small = (c.shared-slice-known.given c.before.before.loop.i).fits in omega (arith, small)
+cast-bytes : tie.Need-overflow_cast-bytes invariant-loop decreases-loop
+cast-bytes c = let small = (c.shared_slice_known-1.given c.loop-i.i).fits in omega (arith, small)
 
-add-bytes : tie.Need-overflow-add-bytes invariant-loop decreases-loop
-add-bytes c = let small = (c.shared-slice-known.given c.before.before.loop.i).fits in let h = c.before.before.before.requires in let i = c.before.before.loop.invariant in let q = c.before.loop-test.true in omega (arith, small, h, i.1, q)
+add-bytes : tie.Need-overflow_add-bytes invariant-loop decreases-loop
+add-bytes c = let small = (c.shared_slice_known-1.given c.loop-i.i).fits in let h = c.requires in let i = c.loop-i.invariant in let q = c.loop-i-test.true in omega (arith, small, h, i.1, q)
 
-add-i : tie.Need-overflow-add-i invariant-loop decreases-loop
-add-i c = let h = c.before.before.before.requires in let q = c.before.loop-test.true in omega (arith, h, q)
+add-i : tie.Need-overflow_add-i invariant-loop decreases-loop
+add-i c = let h = c.requires in let q = c.loop-i-test.true in omega (arith, h, q)
 
-loop-less : tie.Need-loop-smaller invariant-loop decreases-loop
-loop-less c = let q = c.before.loop-test.true in omega (arith, q)
+loop-less : tie.Need-loop-i-smaller invariant-loop decreases-loop
+loop-less c = let q = c.loop-i-test.true in omega (arith, q)
 
-loop-again : tie.Need-loop-preserved invariant-loop decreases-loop
+loop-again : tie.Need-loop-i-preserved invariant-loop decreases-loop
 loop-again c =
-    let small = (c.shared-slice-known.given c.before.before.loop.i).fits in
-    let i = c.before.before.loop.invariant in
-    let q = c.before.loop-test.true in
-    let turn = sum_turn c.before.before.before.args.lengths.now c.before.before.loop.i q in
+    let small = (c.shared_slice_known-1.given c.loop-i.i).fits in
+    let i = c.loop-i.invariant in
+    let q = c.loop-i-test.true in
+    let turn = sum_turn c.args.lengths.now c.loop-i.i q in
     (omega (arith, turn, i.0), omega (arith, small, i.1), omega (arith, q))
 
 returns : tie.Need-returns invariant-loop decreases-loop
 returns c =
-    let i = c.before.loop.invariant in
-    let none = sum-none c.before.before.args.lengths.now c.before.loop.i (omega (arith, c.loop-test.false)) in
+    let i = c.loop-i.invariant in
+    let none = sum-none c.args.lengths.now c.loop-i.i (omega (arith, c.loop-i-test.false)) in
     omega (arith, none, i.0)
 
-pub bytes-of-spec : {M : Type 1} → statement M
-bytes-of-spec =
+pub bytes_of_spec : {M : Type 1} → statement M
+bytes_of_spec =
     tie.close
     (tie.spec
     invariant-loop

@@ -7,7 +7,7 @@ use Rattle.lists.specs.Bounds.{lower}
 use Rattle.run_room.proofs.bytes_room.Statement.{statement}
 use Rattle.run_room.proofs.bytes_room.Tie as tie
 
-bytes-of-requires : tie.Need-bytes-of-requires
+bytes-of-requires : tie.Need-bytes_of-requires
 bytes-of-requires c κs = search rules
 
 left-requires : tie.Need-left-requires
@@ -19,7 +19,7 @@ lower-requires c κs = search rules
 returns : tie.Need-returns
 returns c =
     c.lower.ensures
-    ∙ ap (λ (n : ℕ). lower n c.before.before.before.before.args.most) (c.before.left.ensures ∙ ap (λ (n : ℕ). 65535 - n) c.before.before.bytes_of.ensures)
+    ∙ ap (λ (n : ℕ). lower n c.args.most) (c.left.ensures ∙ ap (λ (n : ℕ). 65535 - n) c.bytes_of.ensures)
 
-pub bytes-room-spec : {M : Type 1} → statement M
-bytes-room-spec = tie.close (tie.spec bytes-of-requires left-requires lower-requires returns)
+pub bytes_room_spec : {M : Type 1} → statement M
+bytes_room_spec = tie.close (tie.spec bytes-of-requires left-requires lower-requires returns)

@@ -8,11 +8,11 @@ use Rattle.run_room.proofs.lower.Tie as tie
 use Rattle.run_room.proofs.lower.Reads as reads
 use Rattle.run_room.proofs.lower.Lts as lts
 
-returns : tie.Need-returns
-returns c = sym (ap (λ (t : Bool). cond t c.before.args.a c.before.args.b) (lt-ltb c.before.args.a c.before.args.b c.if1.true))
+returns : tie.Need-returns-then-a-b
+returns c = sym (ap (λ (t : Bool). cond t c.args.a c.args.b) (lt-ltb c.args.a c.args.b c.if-a-b.true))
 
-returns-2 : tie.Need-returns-2
-returns-2 c = sym (ap (λ (t : Bool). cond t c.before.args.a c.before.args.b) (le-ltb c.before.args.a c.before.args.b c.if1.false))
+returns-2 : tie.Need-returns
+returns-2 c = sym (ap (λ (t : Bool). cond t c.args.a c.args.b) (le-ltb c.args.a c.args.b c.if-a-b.false))
 
 pub lower_spec : {M : Type 1} → statement M
 lower_spec = tie.close (tie.spec returns returns-2)

@@ -14,7 +14,7 @@ lower-requires : tie.Need-lower-requires
 lower-requires c κs = search rules
 
 returns : tie.Need-returns
-returns c = c.lower.ensures ∙ ap (λ (n : ℕ). lower n c.before.before.args.most) c.before.left.ensures
+returns c = c.lower.ensures ∙ ap (λ (n : ℕ). lower n c.args.most) c.left.ensures
 
-pub names-room-spec : {M : Type 1} → statement M
-names-room-spec = tie.close (tie.spec left-requires lower-requires returns)
+pub names_room_spec : {M : Type 1} → statement M
+names_room_spec = tie.close (tie.spec left-requires lower-requires returns)

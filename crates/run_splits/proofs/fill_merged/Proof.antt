@@ -22,32 +22,32 @@ use Rattle.run_splits.proofs.fill_merged.Lts as lts
 use Rattle.create_gap_splits.proofs.create_gap_splits.Reads as create-gap-splits-reads
 
 -- src/lib.rt:85:13
-enum-known-m : tie.Need-enum-known-m
+enum-known-m : tie.Need-enum_known-m
 enum-known-m c = search rules
 
 -- src/lib.rt:89:13
-returns : tie.Need-returns
+returns : tie.Need-returns-in-Refused
 returns c =
-    let a = c.before.before.before.before.before.before.before.before.before.before.before.before.before.before.before.before.before.before.before.before.before.before.args in (
+    let a = c.args in (
       filled_refused (image_of a.file.now a.symbols.now a.file.now a.names.now a.lengths.now)
           (sections_of a.file.now a.sections.now a.file.now a.images.now)
           (given (sections_in a.file.now a.sections.now) a.cap)
           (ceilings (names_of a.file.now a.names.now a.lengths.now (length a.names.now)) a.most a.most_bytes)
           (names_of a.file.now a.names.now a.lengths.now (length a.names.now))
-          (ap (λ (x : Merged). merged x (columns a.starts.now a.ends.now a.units.now a.rest.now)) c.before.m.given.1),
-      stand_none _ _ _ c.before.before.before.before.before.before.before.before.before.before.before.before.before.before.before.before.before.before.before.before.before.before.requires.10,
+          (ap (λ (x : Merged). merged x (columns a.starts.now a.ends.now a.units.now a.rest.now)) c.in-Refused.is),
+      stand_none _ _ _ c.requires.10,
       omega arith,
     )
 
 -- src/lib.rt:95:28
-enum-known-m-2 : tie.Need-enum-known-m-2
+enum-known-m-2 : tie.Need-enum_known-m-in-Accepted-1
 enum-known-m-2 c = search rules
 
 -- src/lib.rt:96:13
-create-gap-splits-requires : tie.Need-create-gap-splits-requires
+create-gap-splits-requires : tie.Need-create_gap_splits-requires
 create-gap-splits-requires c κs =
-    let q = c.before.before.before.before.before.before.before.before.before.before.before.before.before.before.before.before.before.before.before.before.before.before.before.before.before.before.before.before.before.before.before.before.requires in
-    let e = ap count c.before.before.before.before.before.before.before.before.before.before.before.m2.given.1 in (
+    let q = c.requires in
+    let e = ap count c.in-Accepted.is in (
       q.0,
       q.1,
       q.2,
@@ -62,62 +62,62 @@ create-gap-splits-requires c κs =
     )
 
 -- src/lib.rt:96:13
-same_length : tie.Need-same-length
+same_length : tie.Need-shape_of-starts-in-Accepted
 same_length c = search rules
 
 -- src/lib.rt:96:13
-same-length-2 : tie.Need-same-length-2
+same-length-2 : tie.Need-shape_of-ends-in-Accepted
 same-length-2 c = search rules
 
 -- src/lib.rt:96:13
-same-length-3 : tie.Need-same-length-3
+same-length-3 : tie.Need-shape_of-units-in-Accepted
 same-length-3 c = search rules
 
 -- src/lib.rt:96:13
-same-length-4 : tie.Need-same-length-4
+same-length-4 : tie.Need-shape_of-rest-in-Accepted
 same-length-4 c = search rules
 
 -- src/lib.rt:96:13
-same-length-5 : tie.Need-same-length-5
+same-length-5 : tie.Need-shape_of-added_bytes-in-Accepted
 same-length-5 c = search rules
 
 -- src/lib.rt:96:13
-same-length-6 : tie.Need-same-length-6
+same-length-6 : tie.Need-shape_of-added_places-in-Accepted
 same-length-6 c = search rules
 
 -- src/lib.rt:96:13
-same-length-7 : tie.Need-same-length-7
+same-length-7 : tie.Need-shape_of-added_lengths-in-Accepted
 same-length-7 c = search rules
 
 -- src/lib.rt:96:13
-same-length-8 : tie.Need-same-length-8
+same-length-8 : tie.Need-shape_of-marks-in-Accepted
 same-length-8 c = search rules
 
 -- src/lib.rt:96:13
-same-length-9 : tie.Need-same-length-9
+same-length-9 : tie.Need-shape_of-keys-in-Accepted
 same-length-9 c = search rules
 
 -- src/lib.rt:96:13
-same-length-10 : tie.Need-same-length-10
+same-length-10 : tie.Need-shape_of-gap_ends-in-Accepted
 same-length-10 c = search rules
 
 -- src/lib.rt:96:13
-returns-2 : tie.Need-returns-2
+returns-2 : tie.Need-returns-in-Accepted
 returns-2 c =
-    let a = c.before.before.before.before.before.before.before.before.before.before.before.before.before.before.before.before.before.before.before.before.before.before.before.before.before.before.before.before.before.before.before.before.before.before.before.before.before.before.before.before.before.before.before.before.before.before.before.before.before.before.before.before.before.args in
-    let r = c.before.before.before.before.before.before.before.before.before.before.before.before.before.before.before.before.before.before.before.before.create_gap_splits.ensures in (
+    let a = c.args in
+    let r = c.create_gap_splits.ensures in (
       filled_left (image_of a.file.now a.symbols.now a.file.now a.names.now a.lengths.now)
           (sections_of a.file.now a.sections.now a.file.now a.images.now)
           (given (sections_in a.file.now a.sections.now) a.cap)
           (ceilings (names_of a.file.now a.names.now a.lengths.now (length a.names.now)) a.most a.most_bytes)
           (names_of a.file.now a.names.now a.lengths.now (length a.names.now))
-          (ap (λ (x : Merged). merged x (columns a.starts.now a.ends.now a.units.now a.rest.now)) c.before.before.before.before.before.before.before.before.before.before.before.before.before.before.before.before.before.before.before.before.before.before.before.before.before.before.before.before.before.before.before.before.m2.given.1) r.0,
+          (ap (λ (x : Merged). merged x (columns a.starts.now a.ends.now a.units.now a.rest.now)) c.in-Accepted.is) r.0,
       r.1,
       r.2,
     )
 
-pub fill-merged-spec : {M : Type 1} → statement M
-fill-merged-spec =
+pub fill_merged_spec : {M : Type 1} → statement M
+fill_merged_spec =
     tie.close
     (tie.spec
     enum-known-m

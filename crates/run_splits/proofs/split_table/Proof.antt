@@ -21,16 +21,16 @@ use Rattle.run_splits.proofs.fill_merged.Reads as fill-merged-reads
 use Rattle.run_splits.proofs.trim_filled.Reads as trim-filled-reads
 
 -- src/lib.rt:266:9
-merge-partials-requires : tie.Need-merge-partials-requires
+merge-partials-requires : tie.Need-merge_partials-m-requires
 merge-partials-requires c κs =
-    let q = c.before.before.before.before.before.before.before.before.before.before.before.before.before.before.before.before.before.before.before.before.before.before.before.before.before.requires in
+    let q = c.requires in
     (sections_common q.0, sections_held q.0, partials_mergeable q.0, q.4)
 
 -- src/lib.rt:278:9
-fill-merged-requires : tie.Need-fill-merged-requires
+fill-merged-requires : tie.Need-fill_merged-e-requires
 fill-merged-requires c κs =
-    let q = c.before.before.before.before.before.before.before.before.before.before.before.before.before.before.before.before.before.before.before.before.before.before.before.before.before.before.before.before.before.before.before.before.before.before.before.before.before.before.before.before.before.before.before.before.requires in
-    let m = c.before.before.before.before.before.before.before.before.before.before.before.before.before.before.before.before.before.before.merge_partials in (
+    let q = c.requires in
+    let m = c.merge_partials-m in (
       tables-ordered q.0 _ q.2,
       images_kept q.0 _ q.1,
       symbols_sound q.0,
@@ -45,12 +45,12 @@ fill-merged-requires c κs =
     )
 
 -- src/lib.rt:303:5
-trim-filled-requires : tie.Need-trim-filled-requires
+trim-filled-requires : tie.Need-trim_filled-requires
 trim-filled-requires c κs =
-    let q = c.before.before.before.before.before.before.before.before.before.before.before.before.before.before.before.before.before.before.before.before.before.before.before.before.before.before.before.before.before.before.before.before.before.before.before.before.before.before.before.before.before.before.before.before.before.before.before.before.before.before.before.before.before.before.before.before.before.before.before.before.before.before.before.before.before.before.before.before.before.before.requires in
-    let a = c.before.before.before.before.before.before.before.before.before.before.before.before.before.before.before.before.before.before.before.before.before.before.before.before.before.before.before.before.before.before.before.before.before.before.before.before.before.before.before.before.before.before.before.before.before.before.before.before.before.before.before.before.before.before.before.before.before.before.before.before.before.before.before.before.before.before.before.before.before.before.args in
-    let m = c.before.before.before.before.before.before.before.before.before.before.before.before.before.before.before.before.before.before.before.before.before.before.before.before.before.before.before.before.before.before.before.before.before.before.before.before.before.before.before.before.before.before.before.before.merge_partials in
-    let f = c.before.before.before.before.before.before.before.before.before.before.before.before.before.before.before.before.before.before.before.before.before.before.before.before.before.fill_merged in (
+    let q = c.requires in
+    let a = c.args in
+    let m = c.merge_partials-m in
+    let f = c.fill_merged-e in (
       tables-ordered q.0 _ q.2,
       symbols_sound q.0,
       images_kept q.0 _ q.1,
@@ -61,64 +61,64 @@ trim-filled-requires c κs =
     )
 
 -- src/lib.rt:220:1
-same_length : tie.Need-same-length
-same_length c = c.before.before.before.before.before.before.before.before.before.before.before.before.before.before.before.before.before.before.before.before.before.before.before.before.before.before.before.before.before.before.fill_merged.auto.1.1.1.1.1.1.1.1.1.1.0 ∙ c.before.before.before.before.before.before.before.before.before.before.before.before.before.before.before.before.before.before.before.before.before.before.before.before.before.before.before.before.before.before.before.before.before.before.before.before.before.before.before.before.before.before.before.before.before.before.before.before.before.merge_partials.auto.1.1.1.1.1.0
+same_length : tie.Need-shape_of-starts
+same_length c = c.fill_merged-e.auto.starts ∙ c.merge_partials-m.auto.starts
 
 -- src/lib.rt:220:1
-same-length-2 : tie.Need-same-length-2
-same-length-2 c = c.before.before.before.before.trim_filled.auto.1.1.1.1.1.1.1.1.1.0 ∙ c.before.before.before.before.before.before.before.before.before.before.before.before.before.before.before.before.before.before.before.before.before.before.before.before.before.before.before.before.before.before.fill_merged.auto.1.1.1.1.1.1.1.1.1.1.1.0 ∙ c.before.before.before.before.before.before.before.before.before.before.before.before.before.before.before.before.before.before.before.before.before.before.before.before.before.before.before.before.before.before.before.before.before.before.before.before.before.before.before.before.before.before.before.before.before.before.before.before.before.merge_partials.auto.1.1.1.1.1.1.0
+same-length-2 : tie.Need-shape_of-ends
+same-length-2 c = c.trim_filled.auto.ends ∙ c.fill_merged-e.auto.ends ∙ c.merge_partials-m.auto.ends
 
 -- src/lib.rt:220:1
-same-length-3 : tie.Need-same-length-3
-same-length-3 c = c.before.before.before.before.before.before.before.before.before.before.before.before.before.before.before.before.before.before.before.before.before.before.before.before.before.before.before.before.before.before.fill_merged.auto.1.1.1.1.1.1.1.1.1.1.1.1.0 ∙ c.before.before.before.before.before.before.before.before.before.before.before.before.before.before.before.before.before.before.before.before.before.before.before.before.before.before.before.before.before.before.before.before.before.before.before.before.before.before.before.before.before.before.before.before.before.before.before.before.before.merge_partials.auto.1.1.1.1.1.1.1.0
+same-length-3 : tie.Need-shape_of-units
+same-length-3 c = c.fill_merged-e.auto.units ∙ c.merge_partials-m.auto.units
 
 -- src/lib.rt:220:1
-same-length-4 : tie.Need-same-length-4
-same-length-4 c = c.before.before.before.before.before.before.before.before.before.before.before.before.before.before.before.before.before.before.before.before.before.before.before.before.before.before.before.before.before.before.fill_merged.auto.1.1.1.1.1.1.1.1.1.1.1.1.1.0 ∙ c.before.before.before.before.before.before.before.before.before.before.before.before.before.before.before.before.before.before.before.before.before.before.before.before.before.before.before.before.before.before.before.before.before.before.before.before.before.before.before.before.before.before.before.before.before.before.before.before.before.merge_partials.auto.1.1.1.1.1.1.1.1.0
+same-length-4 : tie.Need-shape_of-rest
+same-length-4 c = c.fill_merged-e.auto.rest ∙ c.merge_partials-m.auto.rest
 
 -- src/lib.rt:220:1
-same-length-5 : tie.Need-same-length-5
+same-length-5 : tie.Need-shape_of-added_bytes
 same-length-5 c = search rules
 
 -- src/lib.rt:220:1
-same-length-6 : tie.Need-same-length-6
+same-length-6 : tie.Need-shape_of-added_places
 same-length-6 c = search rules
 
 -- src/lib.rt:220:1
-same-length-7 : tie.Need-same-length-7
+same-length-7 : tie.Need-shape_of-added_lengths
 same-length-7 c = search rules
 
 -- src/lib.rt:220:1
-same-length-8 : tie.Need-same-length-8
+same-length-8 : tie.Need-shape_of-marks
 same-length-8 c = search rules
 
 -- src/lib.rt:220:1
-same-length-9 : tie.Need-same-length-9
+same-length-9 : tie.Need-shape_of-keys
 same-length-9 c = search rules
 
 -- src/lib.rt:220:1
-same-length-10 : tie.Need-same-length-10
+same-length-10 : tie.Need-shape_of-gap_ends
 same-length-10 c = search rules
 
 -- src/lib.rt:220:1
-same-length-11 : tie.Need-same-length-11
+same-length-11 : tie.Need-shape_of-falls
 same-length-11 c = search rules
 
 -- src/lib.rt:220:1
 returns : tie.Need-returns
 returns c =
-    let q = c.before.before.before.before.before.before.before.before.before.before.before.before.before.before.before.before.before.before.before.before.before.before.before.before.before.before.before.before.before.before.before.before.before.before.before.before.before.before.before.before.before.before.before.before.before.before.before.before.before.before.before.before.before.before.before.before.before.before.before.before.before.before.before.before.before.before.before.before.before.before.before.before.before.before.before.requires in
-    let a = c.before.before.before.before.before.before.before.before.before.before.before.before.before.before.before.before.before.before.before.before.before.before.before.before.before.before.before.before.before.before.before.before.before.before.before.before.before.before.before.before.before.before.before.before.before.before.before.before.before.before.before.before.before.before.before.before.before.before.before.before.before.before.before.before.before.before.before.before.before.before.before.before.before.before.before.args in
-    let m = c.before.before.before.before.before.before.before.before.before.before.before.before.before.before.before.before.before.before.before.before.before.before.before.before.before.before.before.before.before.before.before.before.before.before.before.before.before.before.before.before.before.before.before.before.before.before.before.before.before.merge_partials in
-    let f = c.before.before.before.before.before.before.before.before.before.before.before.before.before.before.before.before.before.before.before.before.before.before.before.before.before.before.before.before.before.before.fill_merged in
-    let k = c.before.before.before.before.trim_filled in (
+    let q = c.requires in
+    let a = c.args in
+    let m = c.merge_partials-m in
+    let f = c.fill_merged-e in
+    let k = c.trim_filled in (
       table_is a.file.now (tables_with a.names.now a.lengths.now a.sections.now a.symbols.now [] a.partials.now []) a.cap (ceilings (names_of a.file.now a.names.now a.lengths.now (length a.names.now)) a.most a.most_bytes) a.images.now q.1 m.ensures.0 f.ensures.0 (k.ensures.0 _ _),
       stand_stays f.result k.result k.ensures.1 f.ensures.1.room f.ensures.1,
       splits_stay f.result k.result k.ensures.1 a.cap f.ensures.2,
     )
 
-pub split-table-spec : {M : Type 1} → statement M
-split-table-spec =
+pub split_table_spec : {M : Type 1} → statement M
+split_table_spec =
     tie.close
     (tie.spec
     merge-partials-requires

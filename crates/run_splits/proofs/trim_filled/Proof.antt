@@ -20,26 +20,26 @@ use Rattle.run_splits.proofs.after_trim.Reads as after-trim-reads
 use Rattle.run_trim.proofs.check_and_trim.Reads as check-and-trim-reads
 
 -- src/lib.rt:183:13
-enum-known-e : tie.Need-enum-known-e
+enum-known-e : tie.Need-enum_known-e
 enum-known-e c = search rules
 
 -- src/lib.rt:187:13
-returns : tie.Need-returns
+returns : tie.Need-returns-in-Refused
 returns c =
-    let a = c.before.before.before.before.before.before.before.before.before.before.before.before.before.before.before.args in
+    let a = c.args in
     trim_refused (checked_table (image_of a.file.now a.symbols.now a.file.now a.names.now a.lengths.now) (sections_of a.file.now a.sections.now a.file.now a.images.now))
-    (columns a.starts.now a.ends.now a.units.now a.rest.now) (columns a.starts.now a.ends.now a.units.now a.rest.now) c.before.e.given.1
+    (columns a.starts.now a.ends.now a.units.now a.rest.now) (columns a.starts.now a.ends.now a.units.now a.rest.now) c.in-Refused.is
 
 -- src/lib.rt:194:20
-enum-known-e-2 : tie.Need-enum-known-e-2
+enum-known-e-2 : tie.Need-enum_known-e-in-Accepted-1
 enum-known-e-2 c = search rules
 
 -- src/lib.rt:198:17
-check-and-trim-requires : tie.Need-check-and-trim-requires
+check-and-trim-requires : tie.Need-check_and_trim-a-requires
 check-and-trim-requires c κs =
-    let a = c.before.before.before.before.before.before.before.before.before.before.before.before.before.before.before.before.before.args in
-    let q = c.before.before.before.before.before.before.before.before.before.before.before.before.before.before.before.before.before.requires in
-    let e = c.before.before.before.e2.given.1 in (
+    let a = c.args in
+    let q = c.requires in
+    let e = c.in-Accepted.is in (
       q.0,
       q.1,
       q.2,
@@ -48,27 +48,27 @@ check-and-trim-requires c κs =
     )
 
 -- src/lib.rt:213:13
-after-trim-requires : tie.Need-after-trim-requires
+after-trim-requires : tie.Need-after_trim-requires
 after-trim-requires c κs = search rules
 
 -- src/lib.rt:213:13
-same_length : tie.Need-same-length
+same_length : tie.Need-shape_of-ends-in-Accepted
 same_length c = search rules
 
 -- src/lib.rt:213:13
-same-length-2 : tie.Need-same-length-2
+same-length-2 : tie.Need-shape_of-falls-in-Accepted
 same-length-2 c = search rules
 
 -- src/lib.rt:213:13
-returns-2 : tie.Need-returns-2
+returns-2 : tie.Need-returns-in-Accepted
 returns-2 c =
-    let a = c.before.before.before.before.before.before.before.before.before.before.before.before.before.before.before.before.before.before.before.before.before.before.before.args in
-    let k = c.before.before.before.before.before.check_and_trim in
+    let a = c.args in
+    let k = c.check_and_trim-a in
     trim_left (checked_table (image_of a.file.now a.symbols.now a.file.now a.names.now a.lengths.now) (sections_of a.file.now a.sections.now a.file.now a.images.now))
-    k.result (columns a.starts.now a.ends.now a.units.now a.rest.now) _ c.before.before.before.before.before.before.before.before.before.e2.given.1 c.after_trim.ensures k.ensures
+    k.result (columns a.starts.now a.ends.now a.units.now a.rest.now) _ c.in-Accepted.is c.after_trim.ensures k.ensures
 
-pub trim-filled-spec : {M : Type 1} → statement M
-trim-filled-spec =
+pub trim_filled_spec : {M : Type 1} → statement M
+trim_filled_spec =
     tie.close
     (tie.spec
     enum-known-e

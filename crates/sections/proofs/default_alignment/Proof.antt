@@ -7,16 +7,16 @@ use borrow.Author.Rules.{rules}
 use Rattle.sections.proofs.default_alignment.Statement.{statement}
 use Rattle.sections.proofs.default_alignment.Tie as tie
 
-is-four-aligned-requires : tie.Need-is-four-aligned-requires
+is-four-aligned-requires : tie.Need-is_four_aligned-requires
 is-four-aligned-requires c κs = search rules
 
-returns : tie.Need-returns
+returns : tie.Need-returns-then-head-is_four_aligned
 unfolding default_alignment
-returns c = sym (ap (λ (t : Bool). cond (eqb c.before.before.before.before.args.head.kind 0 || t) 4 8) (sym c.before.is_four_aligned.ensures) ∙ rw c.if1.true)
+returns c = sym (ap (λ (t : Bool). cond (eqb c.args.head.kind 0 || t) 4 8) (sym c.is_four_aligned.ensures) ∙ rw c.if-head-is_four_aligned.true)
 
-returns-2 : tie.Need-returns-2
+returns-2 : tie.Need-returns
 unfolding default_alignment
-returns-2 c = sym (ap (λ (t : Bool). cond (eqb c.before.before.before.before.args.head.kind 0 || t) 4 8) (sym c.before.is_four_aligned.ensures) ∙ rw c.if1.false)
+returns-2 c = sym (ap (λ (t : Bool). cond (eqb c.args.head.kind 0 || t) 4 8) (sym c.is_four_aligned.ensures) ∙ rw c.if-head-is_four_aligned.false)
 
-pub default-alignment-spec : {M : Type 1} → statement M
-default-alignment-spec = tie.close (tie.spec is-four-aligned-requires returns returns-2)
+pub default_alignment_spec : {M : Type 1} → statement M
+default_alignment_spec = tie.close (tie.spec is-four-aligned-requires returns returns-2)

@@ -11,31 +11,31 @@ use borrow.Author.Rules.{rules}
 use Rattle.sections.proofs.default_of.Statement.{statement}
 use Rattle.sections.proofs.default_of.Tie as tie
 
-section-at-requires : tie.Need-section-at-requires
-section-at-requires c κs = let s = c.before.before.before.before.before in s.requires.1.held s.args.k s.requires.2
+section-at-requires : tie.Need-section_at-head-requires
+section-at-requires c κs = let s = c in s.requires.1.held s.args.k s.requires.2
 
-index-requires : tie.Need-index-requires
+index-requires : tie.Need-index-name-requires
 index-requires c κs = search rules
 
-name-at-requires : tie.Need-name-at-requires
+name-at-requires : tie.Need-name_at-requires
 name-at-requires c κs =
-    let s = c.before.before.before.before.before.before.before in
-    let e = c.index.ensures ∙ ap (λ (h : Section). h.name) c.before.section_at_lem.ensures in
+    let s = c in
+    let e = c.index-name.ensures ∙ ap (λ (h : Section). h.name) c.section_at-head.ensures in
     name_held _ _ _ s.requires.0 _ (omega (arith, e, s.requires.1.named s.args.k s.requires.2))
 
-default-alignment-requires : tie.Need-default-alignment-requires
+default-alignment-requires : tie.Need-default_alignment-requires
 default-alignment-requires c κs = search rules
 
 returns : tie.Need-returns
 returns c =
-    let a = c.before.before.before.before.before.before.before.before.before.args in
+    let a = c.args in
     let name : ℕ → List ℕ = name_at a.name_bytes.now a.name_places.now a.name_lengths.now in
-    let head = c.before.before.before.section_at_lem.ensures in
+    let head = c.section_at-head.ensures in
     c.default_alignment.ensures
-    ∙ ap₂ default_alignment head (c.before.name_at_lem.ensures ∙ ap name (c.before.before.index.ensures ∙ ap (λ (h : Section). h.name) head))
+    ∙ ap₂ default_alignment head (c.name_at.ensures ∙ ap name (c.index-name.ensures ∙ ap (λ (h : Section). h.name) head))
 
-pub default-of-spec : {M : Type 1} → statement M
-default-of-spec =
+pub default_of_spec : {M : Type 1} → statement M
+default_of_spec =
     tie.close
     (tie.spec
     section-at-requires

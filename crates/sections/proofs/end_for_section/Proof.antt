@@ -19,58 +19,58 @@ abbrev image : tie.Start → Image
 image s = image_of s.args.b.now s.args.places.now s.args.name_bytes.now s.args.name_places.now s.args.name_lengths.now
 
 -- whether it is a list of pointers
-listed : (c : tie.After-is-pointer-list) → c.is_pointer_list.result ≡ is_pointer_list ((image c.before.before.before.before.before.before.before.before.before.before.before.before.before.before).name c.before.before.before.before.before.before.before.before.before.before.before.before.before.before.args.head.name)
-listed c = c.is_pointer_list.ensures ∙ ap is_pointer_list (c.before.name_at_lem.ensures ∙ ap (image c.before.before.before.before.before.before.before.before.before.before.before.before.before.before).name c.before.before.index.ensures)
+listed : (c : tie.After-is_pointer_list-list) → c.is_pointer_list-list.result ≡ is_pointer_list ((image c.before.before.before.before.before.before.before.before.before.before.before.before.before.before).name c.args.head.name)
+listed c = c.is_pointer_list-list.ensures ∙ ap is_pointer_list (c.name_at.ensures ∙ ap (image c.before.before.before.before.before.before.before.before.before.before.before.before.before.before).name c.index-k.ensures)
 
-add-end : tie.Need-overflow-add-end
+add-end : tie.Need-overflow_add-end
 add-end c = search rules
 
-returns : tie.Need-returns
-returns c = end_whole _ _ _ _ c.if1.true
+returns : tie.Need-returns-then-head
+returns c = end_whole _ _ _ _ c.if-head.true
 
-index-requires : tie.Need-index-requires
+index-requires : tie.Need-index-k-requires
 index-requires c κs = search rules
 
-name-at-requires : tie.Need-name-at-requires
+name-at-requires : tie.Need-name_at-requires
 name-at-requires c κs =
-    let s = c.before.before.before.before.before.before.before.before.before.before.before.before in
-    name_held _ _ _ s.requires.0.names.names _ (omega (arith, c.index.ensures, s.requires.1.named))
+    let s = c in
+    name_held _ _ _ s.requires.0.names.names _ (omega (arith, c.index-k.ensures, s.requires.1.named))
 
-is-pointer-list-requires : tie.Need-is-pointer-list-requires
+is-pointer-list-requires : tie.Need-is_pointer_list-list-requires
 is-pointer-list-requires c κs = search rules
 
-returns-2 : tie.Need-returns-2
-returns-2 c = end_short (image c.before.before.before.before.before.before.before.before.before.before.before.before.before.before.before.before) _ _ _ c.before.before.before.before.before.if1.false (ap (λ (t : Bool). t && ltb c.before.before.before.before.before.before.before.before.before.before.before.before.before.before.before.before.args.head.size 4) (sym (listed c.before.before)) ∙ c.if2.true)
+returns-2 : tie.Need-returns-then-list-head
+returns-2 c = end_short (image c.before.before.before.before.before.before.before.before.before.before.before.before.before.before.before.before) _ _ _ c.if-head.false (ap (λ (t : Bool). t && ltb c.args.head.size 4) (sym (listed c.before.before)) ∙ c.if-list-head.true)
 
-less-four-requires : tie.Need-less-four-requires
+less-four-requires : tie.Need-less_four-last-requires
 less-four-requires c κs =
-    let h = c.before.before.before.before.before.before.before.before.before.before.before.before.before.before.before.before in
-    let four : c.before.before.is_pointer_list.result ≡ true → 4 ≤ h.args.head.size = four_bytes _ h.args.head.size c.if2.false in
-    let long = h.requires.1.sized (skip_not h.args.head.kind h.args.head.size c.before.before.before.before.before.if1.false) in
+    let h = c in
+    let four : c.is_pointer_list-list.result ≡ true → 4 ≤ h.args.head.size = four_bytes _ h.args.head.size c.if-list-head.false in
+    let long = h.requires.1.sized (skip_not h.args.head.kind h.args.head.size c.if-head.false) in
     record { bytes = λ q. let f = four q in omega (arith, f, long); room = λ q. let f = four q in omega (arith, f) }
 
-for-section-requires : tie.Need-for-section-requires
+for-section-requires : tie.Need-for_section-part-requires
 for-section-requires c κs = search rules
 
 lower-requires : tie.Need-lower-requires
 lower-requires c κs =
-    let p = c.before.before.before.before.before.before.before.before.before.before.before.before.before.before.before.before.before.before.requires.0 in
-    record { readable = section_readable _ _ _ p.symbols _ c.for_section.ensures; names = p.names }
+    let p = c.requires.0 in
+    record { readable = section_readable _ _ _ p.symbols _ c.for_section-part.ensures; names = p.names }
 
-returns-3 : tie.Need-returns-3
+returns-3 : tie.Need-returns
 returns-3 c =
     let s = c.before.before.before.before.before.before.before.before.before.before.before.before.before.before.before.before.before.before.before in
     let g = image s in
     let h = s.args.head in
-    end_lowered g s.args.section h s.args.bytes.now c.before.before.before.before.before.before.before.before.if1.false
-    (ap (λ (t : Bool). t && ltb h.size 4) (sym (listed c.before.before.before.before.before)) ∙ c.before.before.before.if2.false)
+    end_lowered g s.args.section h s.args.bytes.now c.if-head.false
+    (ap (λ (t : Bool). t && ltb h.size 4) (sym (listed c.before.before.before.before.before)) ∙ c.if-list-head.false)
     _
     (c.lower.ensures.is
-    ∙ ap (λ (m : ℕ). lowered g m (reverse c.before.for_section.result.now)) (c.before.before.less_four.ensures ∙ ap (λ (t : Bool). less_four t s.args.bytes.now (h.address + h.size)) (listed c.before.before.before.before.before))
-    ∙ ap (λ (l : List ℕ). lowered g (less_four (is_pointer_list (g.name h.name)) s.args.bytes.now (h.address + h.size)) (reverse l)) c.before.for_section.ensures)
+    ∙ ap (λ (m : ℕ). lowered g m (reverse c.for_section-part.result.now)) (c.less_four-last.ensures ∙ ap (λ (t : Bool). less_four t s.args.bytes.now (h.address + h.size)) (listed c.before.before.before.before.before))
+    ∙ ap (λ (l : List ℕ). lowered g (less_four (is_pointer_list (g.name h.name)) s.args.bytes.now (h.address + h.size)) (reverse l)) c.for_section-part.ensures)
 
-pub end-for-section-spec : {M : Type 1} → statement M
-end-for-section-spec =
+pub end_for_section_spec : {M : Type 1} → statement M
+end_for_section_spec =
     tie.close
     (tie.spec
     add-end

@@ -15,37 +15,37 @@ invariant-loop bytes i₀ i = all_zero (drop i bytes) ≡ all_zero bytes
 abbrev decreases-loop : tie.decreases-loop
 decreases-loop bytes i₀ i = length bytes - i
 
-loop-holds : tie.Need-loop-init invariant-loop decreases-loop
+loop-holds : tie.Need-loop-i-init invariant-loop decreases-loop
 loop-holds c = refl
 
-shared-slice-read-if1 : tie.Need-shared-slice-read-if1 invariant-loop decreases-loop
+shared-slice-read-if1 : tie.Need-bounds-bytes-i invariant-loop decreases-loop
 shared-slice-read-if1 c = omega arith
 
-returns : tie.Need-returns invariant-loop decreases-loop
+returns : tie.Need-returns-then-bytes-i-ne0 invariant-loop decreases-loop
 returns c =
-    let a = c.before.before.before.before.args in
-    let i = c.before.before.before.loop.i in
-    sym (sym c.before.before.before.loop.invariant ∙ zero_turn a.bytes.now i (omega arith) ∙ rw (ne_eqb _ _ c.if1.true))
+    let a = c.args in
+    let i = c.loop-i.i in
+    sym (sym c.loop-i.invariant ∙ zero_turn a.bytes.now i (omega arith) ∙ rw (ne_eqb _ _ c.if-bytes-i-ne0.true))
 
-add-i : tie.Need-overflow-add-i invariant-loop decreases-loop
+add-i : tie.Need-overflow_add-i invariant-loop decreases-loop
 add-i c = omega arith
 
-loop-less : tie.Need-loop-smaller invariant-loop decreases-loop
+loop-less : tie.Need-loop-i-smaller invariant-loop decreases-loop
 loop-less c = omega arith
 
-loop-again : tie.Need-loop-preserved invariant-loop decreases-loop
+loop-again : tie.Need-loop-i-preserved invariant-loop decreases-loop
 loop-again c =
-    let a = c.before.before.before.before.args in
-    let i = c.before.before.before.loop.i in
-    sym (zero_turn a.bytes.now i (omega arith) ∙ rw (eq-eqb _ _ c.if1.false)) ∙ c.before.before.before.loop.invariant
+    let a = c.args in
+    let i = c.loop-i.i in
+    sym (zero_turn a.bytes.now i (omega arith) ∙ rw (eq-eqb _ _ c.if-bytes-i-ne0.false)) ∙ c.loop-i.invariant
 
-returns-2 : tie.Need-returns-2 invariant-loop decreases-loop
+returns-2 : tie.Need-returns invariant-loop decreases-loop
 returns-2 c =
-    let a = c.before.before.args in
-    sym (sym c.before.loop.invariant ∙ zero_done a.bytes.now c.before.loop.i (omega arith))
+    let a = c.args in
+    sym (sym c.loop-i.invariant ∙ zero_done a.bytes.now c.loop-i.i (omega arith))
 
-pub is-zero-spec : {M : Type 1} → statement M
-is-zero-spec =
+pub is_zero_spec : {M : Type 1} → statement M
+is_zero_spec =
     tie.close
     (tie.spec
     invariant-loop

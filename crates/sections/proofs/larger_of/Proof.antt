@@ -5,11 +5,11 @@ use Rattle.lists.specs.Outcome.{accepted}
 use Rattle.sections.proofs.larger_of.Statement.{statement}
 use Rattle.sections.proofs.larger_of.Tie as tie
 
-returns : tie.Need-returns
-returns c = ap accepted (larger_symbol _ _ c.if1.true)
+returns : tie.Need-returns-then-least-highest
+returns c = ap accepted (larger_symbol _ _ c.if-least-highest.true)
 
-returns-2 : tie.Need-returns-2
-returns-2 c = ap accepted (larger_default _ _ c.if1.false)
+returns-2 : tie.Need-returns
+returns-2 c = ap accepted (larger_default _ _ c.if-least-highest.false)
 
-pub larger-of-spec : {M : Type 1} → statement M
-larger-of-spec = tie.close (tie.spec returns returns-2)
+pub larger_of_spec : {M : Type 1} → statement M
+larger_of_spec = tie.close (tie.spec returns returns-2)

@@ -4,20 +4,20 @@ use borrow.Author.Rules.{rules}
 use Rattle.sections.proofs.less_four.Statement.{statement}
 use Rattle.sections.proofs.less_four.Tie as tie
 
-ends-zero-requires : tie.Need-ends-zero-requires
-ends-zero-requires c κs = c.before.before.requires.bytes c.if1.true
+ends-zero-requires : tie.Need-ends_zero-requires
+ends-zero-requires c κs = c.requires.bytes c.if-list.true
 
-sub-result : tie.Need-overflow-sub-result
-sub-result c = c.before.before.before.before.requires.room c.before.before.if1.true
+sub-result : tie.Need-overflow_sub-result
+sub-result c = c.requires.room c.if-list.true
 
-returns : tie.Need-returns
-returns c = rw (c.before.before.if1.true, sym c.before.ends_zero.ensures, c.if2.true)
+returns : tie.Need-returns-then-ends_zero
+returns c = rw (c.if-list.true, sym c.ends_zero.ensures, c.if-ends_zero.true)
 
-returns-2 : tie.Need-returns-2
-returns-2 c = rw (c.before.before.if1.true, sym c.before.ends_zero.ensures, c.if2.false)
+returns-2 : tie.Need-returns-then-list
+returns-2 c = rw (c.if-list.true, sym c.ends_zero.ensures, c.if-ends_zero.false)
 
-returns-3 : tie.Need-returns-3
+returns-3 : tie.Need-returns
 returns-3 c = search rules
 
-pub less-four-spec : {M : Type 1} → statement M
-less-four-spec = tie.close (tie.spec ends-zero-requires sub-result returns returns-2 returns-3)
+pub less_four_spec : {M : Type 1} → statement M
+less_four_spec = tie.close (tie.spec ends-zero-requires sub-result returns returns-2 returns-3)

@@ -29,86 +29,86 @@ abbrev image : tie.Start invariant-loop decreases-loop → Image
 image s = image_of s.args.b.now s.args.places.now s.args.name_bytes.now s.args.name_places.now s.args.name_lengths.now
 
 -- the number at j - 1 is a symbol's
-inside : (c : tie.After-number invariant-loop decreases-loop) → c.number.result < length c.before.before.before.before.before.before.before.before.before.args.places.now
-inside c = rw c.number.ensures (all_at _ 0 c.before.before.before.before.before.before.before.before.before.requires.readable.inside (omega arith))
+inside : (c : tie.After-number invariant-loop decreases-loop) → c.number.result < length c.args.places.now
+inside c = rw c.number.ensures (all_at _ 0 c.requires.readable.inside (omega arith))
 
 -- places after the test: the symbol that it is about
-abbrev here : tie.After-is-object-below invariant-loop decreases-loop → ℕ
-here c = get_or c.before.before.before.before.before.before.before.before.before.before.before.args.part.now (c.before.before.before.before.loop.j - 1) 0
+abbrev here : tie.After-is_object_below invariant-loop decreases-loop → ℕ
+here c = get_or c.args.part.now (c.loop-j.j - 1) 0
 
-is : (c : tie.After-is-object-below invariant-loop decreases-loop) → c.before.symbol_at_lem.result ≡ (image c.before.before.before.before.before.before.before.before.before.before.before).symbol (here c)
-is c = c.before.symbol_at_lem.ensures ∙ ap (image c.before.before.before.before.before.before.before.before.before.before.before).symbol c.before.before.number.ensures
+is : (c : tie.After-is_object_below invariant-loop decreases-loop) → c.symbol_at-y.result ≡ (image c.before.before.before.before.before.before.before.before.before.before.before).symbol (here c)
+is c = c.symbol_at-y.ensures ∙ ap (image c.before.before.before.before.before.before.before.before.before.before.before).symbol c.number.ensures
 
-tested : (c : tie.After-is-object-below invariant-loop decreases-loop) → object_below c.before.before.before.before.loop.low ((image c.before.before.before.before.before.before.before.before.before.before.before).symbol (here c)) ≡ c.is_object_below.result
-tested c = sym (c.is_object_below.ensures ∙ ap (object_below c.before.before.before.before.loop.low) (is c))
+tested : (c : tie.After-is_object_below invariant-loop decreases-loop) → object_below c.loop-j.low ((image c.before.before.before.before.before.before.before.before.before.before.before).symbol (here c)) ≡ c.is_object_below.result
+tested c = sym (c.is_object_below.ensures ∙ ap (object_below c.loop-j.low) (is c))
 
-turn : (c : tie.After-is-object-below invariant-loop decreases-loop) → let g = image c.before.before.before.before.before.before.before.before.before.before.before in let l = c.before.before.before.before.loop in let y = g.symbol (here c) in let rest = reverse (take (l.j - 1) c.before.before.before.before.before.before.before.before.before.before.before.args.part.now) in
-    lowered g l.low (reverse (take l.j c.before.before.before.before.before.before.before.before.before.before.before.args.part.now)) ≡ cond (object_below l.low y) (cond (is_linker_object (g.name y.name)) (lowered g y.address rest) l.low) (lowered g l.low rest)
-turn c = lower_turn (image c.before.before.before.before.before.before.before.before.before.before.before) c.before.before.before.before.loop.low c.before.before.before.before.before.before.before.before.before.before.before.args.part.now c.before.before.before.before.loop.j c.before.before.before.loop-test.true c.before.before.before.before.loop.invariant.0
+turn : (c : tie.After-is_object_below invariant-loop decreases-loop) → let g = image c.before.before.before.before.before.before.before.before.before.before.before in let l = c.loop-j in let y = g.symbol (here c) in let rest = reverse (take (l.j - 1) c.args.part.now) in
+    lowered g l.low (reverse (take l.j c.args.part.now)) ≡ cond (object_below l.low y) (cond (is_linker_object (g.name y.name)) (lowered g y.address rest) l.low) (lowered g l.low rest)
+turn c = lower_turn (image c.before.before.before.before.before.before.before.before.before.before.before) c.loop-j.low c.args.part.now c.loop-j.j c.loop-j-test.true c.loop-j.invariant.0
 
-named : (c : tie.After-is-linker-generated-object invariant-loop decreases-loop) → let g = image c.before.before.before.before.before.before.before.before.before.before.before.before.before.before.before in is_linker_object (g.name (g.symbol (here c.before.before.before.before)).name) ≡ c.is_linker_generated_object.result
-named c = sym (c.is_linker_generated_object.ensures ∙ ap is_linker_object (c.before.name_at_lem.ensures ∙ ap (image c.before.before.before.before.before.before.before.before.before.before.before.before.before.before.before).name (c.before.before.index.ensures ∙ ap (λ (y : Symbol). y.name) (is c.before.before.before.before))))
+named : (c : tie.After-is_linker_generated_object invariant-loop decreases-loop) → let g = image c.before.before.before.before.before.before.before.before.before.before.before.before.before.before.before in is_linker_object (g.name (g.symbol (here c.before.before.before.before)).name) ≡ c.is_linker_generated_object.result
+named c = sym (c.is_linker_generated_object.ensures ∙ ap is_linker_object (c.name_at.ensures ∙ ap (image c.before.before.before.before.before.before.before.before.before.before.before.before.before.before.before).name (c.index-k.ensures ∙ ap (λ (y : Symbol). y.name) (is c.before.before.before.before))))
 
-loop-holds : tie.Need-loop-init invariant-loop decreases-loop
-loop-holds c = (omega arith, omega arith, lower-start (image c.before.before.before.before.before.before) c.before.before.before.before.before.before.args.end c.before.before.before.before.before.before.args.part.now)
+loop-holds : tie.Need-loop-j-init invariant-loop decreases-loop
+loop-holds c = (omega arith, omega arith, lower-start (image c.before.before.before.before.before.before) c.args.end c.args.part.now)
 
-sub-j : tie.Need-overflow-sub-j invariant-loop decreases-loop
+sub-j : tie.Need-overflow_sub-j invariant-loop decreases-loop
 sub-j c = omega arith
 
 number-requires : tie.Need-number-requires invariant-loop decreases-loop
 number-requires c κs = omega arith
 
-symbol-at-requires : tie.Need-symbol-at-requires invariant-loop decreases-loop
-symbol-at-requires c κs = held _ _ c.before.before.before.before.before.before.before.before.before.requires.readable.whole _ (inside c)
+symbol-at-requires : tie.Need-symbol_at-y-requires invariant-loop decreases-loop
+symbol-at-requires c κs = held _ _ c.requires.readable.whole _ (inside c)
 
-is-object-below-requires : tie.Need-is-object-below-requires invariant-loop decreases-loop
+is-object-below-requires : tie.Need-is_object_below-requires invariant-loop decreases-loop
 is-object-below-requires c κs = tt
 
-index-requires : tie.Need-index-requires invariant-loop decreases-loop
+index-requires : tie.Need-index-k-requires invariant-loop decreases-loop
 index-requires c κs = tt
 
-name-at-requires : tie.Need-name-at-requires invariant-loop decreases-loop
+name-at-requires : tie.Need-name_at-requires invariant-loop decreases-loop
 name-at-requires c κs =
-    let p = c.before.before.before.before.before.before.before.before.before.before.before.before.before.requires in
+    let p = c.requires in
     name_held _ _ _ p.names.names _
-    (omega (arith, c.index.ensures, ap (λ (y : Symbol). y.name) c.before.before.before.symbol_at_lem.ensures, p.names.named _ (inside c.before.before.before.before)))
+    (omega (arith, c.index-k.ensures, ap (λ (y : Symbol). y.name) c.symbol_at-y.ensures, p.names.named _ (inside c.before.before.before.before)))
 
-is-linker-generated-object-requires : tie.Need-is-linker-generated-object-requires invariant-loop decreases-loop
+is-linker-generated-object-requires : tie.Need-is_linker_generated_object-requires invariant-loop decreases-loop
 is-linker-generated-object-requires c κs = tt
 
-loop-less : tie.Need-loop-smaller invariant-loop decreases-loop
+loop-less : tie.Need-loop-j-smaller-then-is_linker_generated_object invariant-loop decreases-loop
 loop-less c = omega arith
 
-loop-again : tie.Need-loop-preserved invariant-loop decreases-loop
+loop-again : tie.Need-loop-j-preserved-then-is_linker_generated_object invariant-loop decreases-loop
 loop-again c =
-    let l = c.before.before.before.before.before.before.before.before.before.loop in
+    let l = c.loop-j in
     let a = c.before.before.before.before.before in
-    let h : (symbol_of c.before.before.before.before.before.before.before.before.before.before.before.before.before.before.before.before.args.b.now c.before.before.before.before.before.before.before.before.before.before.before.before.before.before.before.before.args.places.now (here a)).address < l.low = object_below_lem l.low ((image c.before.before.before.before.before.before.before.before.before.before.before.before.before.before.before.before).symbol (here a)) (tested a ∙ c.before.before.before.before.if1.true) in
+    let h : (symbol_of c.args.b.now c.args.places.now (here a)).address < l.low = object_below_lem l.low ((image c.before.before.before.before.before.before.before.before.before.before.before.before.before.before.before.before).symbol (here a)) (tested a ∙ c.if-is_object_below.true) in
     let e = ap (λ (y : Symbol). y.address) (is a) in (
       omega arith,
       omega (arith, h, e, l.invariant.1),
-      ap (λ (m : ℕ). lowered (image c.before.before.before.before.before.before.before.before.before.before.before.before.before.before.before.before) m (reverse (take (l.j - 1) c.before.before.before.before.before.before.before.before.before.before.before.before.before.before.before.before.args.part.now))) e
-          ∙ sym (turn a ∙ rw (tested a ∙ c.before.before.before.before.if1.true, named c.before ∙ c.if2.true)) ∙ l.invariant.2,
+      ap (λ (m : ℕ). lowered (image c.before.before.before.before.before.before.before.before.before.before.before.before.before.before.before.before) m (reverse (take (l.j - 1) c.args.part.now))) e
+          ∙ sym (turn a ∙ rw (tested a ∙ c.if-is_object_below.true, named c.before ∙ c.if-is_linker_generated_object.true)) ∙ l.invariant.2,
     )
 
-returns : tie.Need-returns invariant-loop decreases-loop
+returns : tie.Need-returns-else-is_linker_generated_object invariant-loop decreases-loop
 returns c =
-    let l = c.before.before.before.before.before.before.before.before.before.loop in
+    let l = c.loop-j in
     let a = c.before.before.before.before.before in
-    record { is = sym (turn a ∙ rw (tested a ∙ c.before.before.before.before.if1.true, named c.before ∙ c.if2.false)) ∙ l.invariant.2; small = l.invariant.1 }
+    record { is = sym (turn a ∙ rw (tested a ∙ c.if-is_object_below.true, named c.before ∙ c.if-is_linker_generated_object.false)) ∙ l.invariant.2; small = l.invariant.1 }
 
-loop-less-2 : tie.Need-loop-smaller-2 invariant-loop decreases-loop
+loop-less-2 : tie.Need-loop-j-smaller invariant-loop decreases-loop
 loop-less-2 c = omega arith
 
-loop-again-2 : tie.Need-loop-preserved-2 invariant-loop decreases-loop
+loop-again-2 : tie.Need-loop-j-preserved invariant-loop decreases-loop
 loop-again-2 c =
-    let l = c.before.before.before.before.before.loop in
-    (omega arith, l.invariant.1, sym (turn c.before ∙ rw (tested c.before ∙ c.if1.false)) ∙ l.invariant.2)
+    let l = c.loop-j in
+    (omega arith, l.invariant.1, sym (turn c.before ∙ rw (tested c.before ∙ c.if-is_object_below.false)) ∙ l.invariant.2)
 
-returns-2 : tie.Need-returns-2 invariant-loop decreases-loop
+returns-2 : tie.Need-returns invariant-loop decreases-loop
 returns-2 c =
-    let l = c.before.loop in
-    record { is = sym (lower_end (image c.before.before.before.before.before.before.before.before) l.low c.before.before.before.before.before.before.before.before.args.part.now l.j (omega arith)) ∙ l.invariant.2; small = l.invariant.1 }
+    let l = c.loop-j in
+    record { is = sym (lower_end (image c.before.before.before.before.before.before.before.before) l.low c.args.part.now l.j (omega arith)) ∙ l.invariant.2; small = l.invariant.1 }
 
 pub lower_spec : {M : Type 1} → statement M
 lower_spec =

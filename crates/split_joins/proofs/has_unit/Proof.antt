@@ -20,31 +20,31 @@ invariant-loop units from to unit any₀ k₀ any k =
 abbrev decreases-loop : tie.decreases-loop
 decreases-loop units from to unit any₀ k₀ any k = to - k
 
-loop-holds : tie.Need-loop-init invariant-loop decreases-loop
+loop-holds : tie.Need-loop-k-init invariant-loop decreases-loop
 loop-holds c = (omega arith, refl)
 
-mul-any : tie.Need-overflow-mul-any invariant-loop decreases-loop
+mul-any : tie.Need-offset_bounds-units-k invariant-loop decreases-loop
 mul-any c = omega arith
 
-shared-slice-read-any : tie.Need-shared-slice-read-any invariant-loop decreases-loop
+shared-slice-read-any : tie.Need-bounds-units-k invariant-loop decreases-loop
 shared-slice-read-any c = omega arith
 
-add-k : tie.Need-overflow-add-k invariant-loop decreases-loop
+add-k : tie.Need-overflow_add-k invariant-loop decreases-loop
 add-k c = omega arith
 
-loop-less : tie.Need-loop-smaller invariant-loop decreases-loop
+loop-less : tie.Need-loop-k-smaller invariant-loop decreases-loop
 loop-less c = omega arith
 
-loop-again : tie.Need-loop-preserved invariant-loop decreases-loop
+loop-again : tie.Need-loop-k-preserved invariant-loop decreases-loop
 loop-again c =
-    let l = c.before.before.loop in
-    (omega arith, some_row _ _ _ l.k l.any c.before.loop-test.true ∙ l.invariant.1)
+    let l = c.loop-k in
+    (omega arith, some_row _ _ _ l.k l.any c.loop-k-test.true ∙ l.invariant.1)
 
 returns : tie.Need-returns invariant-loop decreases-loop
-returns c = let l = c.before.loop in sym (some_ended _ _ _ l.k l.any c.loop-test.false) ∙ l.invariant.1
+returns c = let l = c.loop-k in sym (some_ended _ _ _ l.k l.any c.loop-k-test.false) ∙ l.invariant.1
 
-pub has-unit-spec : {M : Type 1} → statement M
-has-unit-spec =
+pub has_unit_spec : {M : Type 1} → statement M
+has_unit_spec =
     tie.close
     (tie.spec
     invariant-loop

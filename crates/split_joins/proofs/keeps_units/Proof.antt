@@ -20,34 +20,34 @@ invariant-loop units n first stop unit i₀ i =
 abbrev decreases-loop : tie.decreases-loop
 decreases-loop units n first stop unit i₀ i = stop - i
 
-loop-holds : tie.Need-loop-init invariant-loop decreases-loop
+loop-holds : tie.Need-loop-i-init invariant-loop decreases-loop
 loop-holds c = (omega arith, omega arith, λ k h l. absurd (let z : ⊥ = omega arith in z))
 
-mul-u : tie.Need-overflow-mul-u invariant-loop decreases-loop
+mul-u : tie.Need-offset_bounds-units-i invariant-loop decreases-loop
 mul-u c = omega arith
 
-shared-slice-read-u : tie.Need-shared-slice-read-u invariant-loop decreases-loop
+shared-slice-read-u : tie.Need-bounds-units-i invariant-loop decreases-loop
 shared-slice-read-u c = omega arith
 
-has-unit-requires : tie.Need-has-unit-requires invariant-loop decreases-loop
+has-unit-requires : tie.Need-has_unit-before-requires invariant-loop decreases-loop
 has-unit-requires c κs = (omega arith, omega arith)
 
-has-unit-requires-2 : tie.Need-has-unit-requires-2 invariant-loop decreases-loop
+has-unit-requires-2 : tie.Need-has_unit-behind-requires invariant-loop decreases-loop
 has-unit-requires-2 c κs = (omega arith, omega arith)
 
-returns : tie.Need-returns invariant-loop decreases-loop
+returns : tie.Need-returns-then-before-behind invariant-loop decreases-loop
 returns c = λ e. absurd (never e)
 
-add-i : tie.Need-overflow-add-i invariant-loop decreases-loop
+add-i : tie.Need-overflow_add-i invariant-loop decreases-loop
 add-i c = omega arith
 
-loop-less : tie.Need-loop-smaller invariant-loop decreases-loop
+loop-less : tie.Need-loop-i-smaller invariant-loop decreases-loop
 loop-less c = omega arith
 
-loop-again : tie.Need-loop-preserved invariant-loop decreases-loop
+loop-again : tie.Need-loop-i-preserved invariant-loop decreases-loop
 loop-again c =
-    let l = c.before.before.before.loop in
-    let a = c.before.before.before.before.before.args in
+    let l = c.loop-i in
+    let a = c.args in
     let u : ℕ → ℕ = λ j. get_or a.units.now j 0 in (
       omega arith,
       omega arith,
@@ -57,14 +57,14 @@ loop-again c =
           let none = or_false w.1.result w.2.result w.3.left in
           alone_none u a.n a.first a.stop a.unit (u l.i) (omega arith) (sym w.1.ensures ∙ none.0) (sym w.2.ensures ∙ none.1))
           (λ w. alone_same u a.n a.first a.stop a.unit (u l.i) (omega (arith, w.left)))
-          c.if1.branch),
+          c.if-u-unit.branch),
     )
 
-returns-2 : tie.Need-returns-2 invariant-loop decreases-loop
-returns-2 c = let l = c.before.loop in λ e k h m. l.invariant.2 k h (omega arith)
+returns-2 : tie.Need-returns invariant-loop decreases-loop
+returns-2 c = let l = c.loop-i in λ e k h m. l.invariant.2 k h (omega arith)
 
-pub keeps-units-spec : {M : Type 1} → statement M
-keeps-units-spec =
+pub keeps_units_spec : {M : Type 1} → statement M
+keeps_units_spec =
     tie.close
     (tie.spec
     invariant-loop

@@ -21,35 +21,35 @@ invariant-loop starts ends units rest rows n low end from i₀ i =
 abbrev decreases-loop : tie.decreases-loop
 decreases-loop starts ends units rest rows n low end from i₀ i = rows - i
 
-loop-holds : tie.Need-loop-init invariant-loop decreases-loop
+loop-holds : tie.Need-loop-i-init invariant-loop decreases-loop
 loop-holds c = (omega arith, omega arith, refl)
 
-cast-is-within : tie.Need-overflow-cast-is-within invariant-loop decreases-loop
+cast-is-within : tie.Need-overflow_cast-n invariant-loop decreases-loop
 cast-is-within c = omega arith
 
-mul-is-within : tie.Need-overflow-mul-is-within invariant-loop decreases-loop
+mul-is-within : tie.Need-offset_bounds-starts-i invariant-loop decreases-loop
 mul-is-within c = omega arith
 
-shared-slice-read-is-within : tie.Need-shared-slice-read-is-within invariant-loop decreases-loop
+shared-slice-read-is-within : tie.Need-bounds-starts-i invariant-loop decreases-loop
 shared-slice-read-is-within c = omega arith
 
-mul-is-within-2 : tie.Need-overflow-mul-is-within-2 invariant-loop decreases-loop
+mul-is-within-2 : tie.Need-offset_bounds-rest-i invariant-loop decreases-loop
 mul-is-within-2 c = omega arith
 
-shared-slice-read-is-within-2 : tie.Need-shared-slice-read-is-within-2 invariant-loop decreases-loop
+shared-slice-read-is-within-2 : tie.Need-bounds-rest-i invariant-loop decreases-loop
 shared-slice-read-is-within-2 c = omega arith
 
-is-within-requires : tie.Need-is-within-requires invariant-loop decreases-loop
+is-within-requires : tie.Need-is_within-requires invariant-loop decreases-loop
 is-within-requires c κs = tt
 
-returns : tie.Need-returns invariant-loop decreases-loop
+returns : tie.Need-returns-then-is_within invariant-loop decreases-loop
 unfolding row_of
 returns c =
-    let l = c.before.before.before.before.before.loop in
-    let a = c.before.before.before.before.before.before.before.before.before.before.args in
-    let h = c.before.before.before.before.loop-test.true in
+    let l = c.loop-i in
+    let a = c.args in
+    let h = c.loop-i-test.true in
     let f = row_at (columns a.starts.now a.ends.now a.units.now a.rest.now) in
-    let p = sym c.before.is_Within.ensures ∙ c.if1.true in
+    let p = sym c.is_within.ensures ∙ c.if-is_within.true in
     record {
       is = l.invariant.2 ∙ filter_hit (within a.n a.low a.end) f a.rows l.i h p ∙ rw (lt-ltb l.i a.rows h);
       past = omega arith;
@@ -57,26 +57,26 @@ returns c =
       passes = λ _. p;
     }
 
-add-i : tie.Need-overflow-add-i invariant-loop decreases-loop
+add-i : tie.Need-overflow_add-i invariant-loop decreases-loop
 add-i c = omega arith
 
-loop-less : tie.Need-loop-smaller invariant-loop decreases-loop
+loop-less : tie.Need-loop-i-smaller invariant-loop decreases-loop
 loop-less c = omega arith
 
-loop-again : tie.Need-loop-preserved invariant-loop decreases-loop
+loop-again : tie.Need-loop-i-preserved invariant-loop decreases-loop
 unfolding row_of
 loop-again c =
-    let l = c.before.before.before.before.before.loop in
-    let a = c.before.before.before.before.before.before.before.before.before.before.args in
+    let l = c.loop-i in
+    let a = c.args in
     let f = row_at (columns a.starts.now a.ends.now a.units.now a.rest.now) in
-    let miss = filter_miss (within a.n a.low a.end) f a.rows l.i c.before.before.before.before.loop-test.true (sym c.before.is_Within.ensures ∙ c.if1.false) in
+    let miss = filter_miss (within a.n a.low a.end) f a.rows l.i c.loop-i-test.true (sym c.is_within.ensures ∙ c.if-is_within.false) in
     (omega arith, omega arith, l.invariant.2 ∙ miss)
 
-returns-2 : tie.Need-returns-2 invariant-loop decreases-loop
+returns-2 : tie.Need-returns invariant-loop decreases-loop
 returns-2 c =
-    let l = c.before.loop in
-    let a = c.before.before.before.before.before.before.args in
-    let h = c.loop-test.false in
+    let l = c.loop-i in
+    let a = c.args in
+    let h = c.loop-i-test.false in
     let f = row_at (columns a.starts.now a.ends.now a.units.now a.rest.now) in
     record {
       is = l.invariant.2 ∙ filter_none (within a.n a.low a.end) f a.rows l.i h ∙ rw (le-ltb l.i a.rows h);
@@ -85,8 +85,8 @@ returns-2 c =
       passes = λ q. absurd (omega arith);
     }
 
-pub next-split-spec : {M : Type 1} → statement M
-next-split-spec =
+pub next_split_spec : {M : Type 1} → statement M
+next_split_spec =
     tie.close
     (tie.spec
     invariant-loop

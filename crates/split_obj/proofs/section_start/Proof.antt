@@ -5,11 +5,11 @@ use borrow.Author.Rules.{rules}
 use Rattle.split_obj.proofs.section_start.Statement.{statement}
 use Rattle.split_obj.proofs.section_start.Tie as tie
 
-section-at-requires : tie.Need-section-at-requires
+section-at-requires : tie.Need-section_at-head-requires
 section-at-requires c κs = search rules
 
 returns : tie.Need-returns
-returns c = ap (λ (h : Section). h.address) c.section_at_lem.ensures
+returns c = ap (λ (h : Section). h.address) c.section_at-head.ensures
 
-pub section-start-spec : {M : Type 1} → statement M
-section-start-spec = tie.close (tie.spec section-at-requires returns)
+pub section_start_spec : {M : Type 1} → statement M
+section_start_spec = tie.close (tie.spec section-at-requires returns)

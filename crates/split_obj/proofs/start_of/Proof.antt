@@ -4,17 +4,17 @@ use borrow.Author.Rules.{rules}
 use Rattle.split_obj.proofs.start_of.Statement.{statement}
 use Rattle.split_obj.proofs.start_of.Tie as tie
 
-mul-result : tie.Need-overflow-mul-result
+mul-result : tie.Need-offset_bounds-starts-j
 mul-result c = search rules
 
-shared-slice-read-result : tie.Need-shared-slice-read-result
+shared-slice-read-result : tie.Need-bounds-starts-j
 shared-slice-read-result c = search rules
 
-returns : tie.Need-returns
-returns c = rw (lt-ltb _ _ c.before.if1.true)
+returns : tie.Need-returns-then-j-rows
+returns c = rw (lt-ltb _ _ c.if-j-rows.true)
 
-returns-2 : tie.Need-returns-2
-returns-2 c = rw (le-ltb _ _ c.if1.false)
+returns-2 : tie.Need-returns
+returns-2 c = rw (le-ltb _ _ c.if-j-rows.false)
 
-pub start-of-spec : {M : Type 1} → statement M
-start-of-spec = tie.close (tie.spec mul-result shared-slice-read-result returns returns-2)
+pub start_of_spec : {M : Type 1} → statement M
+start_of_spec = tie.close (tie.spec mul-result shared-slice-read-result returns returns-2)

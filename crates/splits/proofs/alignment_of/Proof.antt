@@ -7,24 +7,24 @@ use borrow.Author.Rules.{rules}
 use Rattle.splits.proofs.alignment_of.Statement.{statement}
 use Rattle.splits.proofs.alignment_of.Tie as tie
 
-returns : tie.Need-returns
-returns c = sym (ap alignment_of c.if1.true ∙ alignment_none)
+returns : tie.Need-returns-then-bits-eq0
+returns c = sym (ap alignment_of c.if-bits-eq0.true ∙ alignment_none)
 
-returns-2 : tie.Need-returns-2
-returns-2 c = sym (alignment_past c.before.before.args.bits c.if2.true)
+returns-2 : tie.Need-returns-then-bits-gt17
+returns-2 c = sym (alignment_past c.args.bits c.if-bits-gt17.true)
 
-sub-result : tie.Need-overflow-sub-result
+sub-result : tie.Need-overflow_sub-result
 sub-result c = search rules
 
-cast-result : tie.Need-overflow-cast-result
+cast-result : tie.Need-overflow_cast-result
 cast-result c = search rules
 
-shl-result : tie.Need-overflow-shl-result
+shl-result : tie.Need-overflow_shl-result
 shl-result c = search rules
 
-returns-3 : tie.Need-returns-3
-returns-3 c = alignment_shifted c.before.before.args.bits (search rules) (search rules)
+returns-3 : tie.Need-returns
+returns-3 c = alignment_shifted c.args.bits (search rules) (search rules)
 
-pub alignment-of-spec : {M : Type 1} → statement M
-alignment-of-spec =
+pub alignment_of_spec : {M : Type 1} → statement M
+alignment_of_spec =
     tie.close (tie.spec returns returns-2 sub-result cast-result shl-result returns-3)

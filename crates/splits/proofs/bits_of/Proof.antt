@@ -13,25 +13,25 @@ use Rattle.splits.proofs.Alignment.{alignment_none, alignment_good, alignment_bi
 use Rattle.splits.proofs.bits_of.Statement.{statement}
 use Rattle.splits.proofs.bits_of.Tie as tie
 
-returns : tie.Need-returns
-returns c = (alignment_none ∙ sym c.if1.true, omega arith)
+returns : tie.Need-returns-then-alignment-eq0
+returns c = (alignment_none ∙ sym c.if-alignment-eq0.true, omega arith)
 
 -- an alignment that is given is good
-given-good : (c : tie.Else1) → good_align c.before.args.alignment ≡ true
-given-good c = not_bad c.before.args.alignment (alignment_good c.before.args.alignment c.before.requires) c.if1.false
+given-good : (c : tie.Else-alignment-eq0) → good_align c.args.alignment ≡ true
+given-good c = not_bad c.args.alignment (alignment_good c.args.alignment c.requires) c.if-alignment-eq0.false
 
-small : (c : tie.Else1) → count_trailing_zeros 32 c.before.args.alignment ≤ 16
-small c = good_exponent c.before.args.alignment (given-good c)
+small : (c : tie.Else-alignment-eq0) → count_trailing_zeros 32 c.args.alignment ≤ 16
+small c = good_exponent c.args.alignment (given-good c)
 
-cast-result : tie.Need-overflow-cast-result
+cast-result : tie.Need-overflow_cast-result
 cast-result c = omega (arith, small c)
 
-add-result : tie.Need-overflow-add-result
+add-result : tie.Need-overflow_add-result
 add-result c = omega (arith, small c)
 
-returns-2 : tie.Need-returns-2
+returns-2 : tie.Need-returns
 returns-2 c =
-    (ap alignment_of (add-one (count_trailing_zeros 32 c.before.args.alignment)) ∙ alignment_bits c.before.args.alignment (given-good c), omega (arith, small c))
+    (ap alignment_of (add-one (count_trailing_zeros 32 c.args.alignment)) ∙ alignment_bits c.args.alignment (given-good c), omega (arith, small c))
 
-pub bits-of-spec : {M : Type 1} → statement M
-bits-of-spec = tie.close (tie.spec returns cast-result add-result returns-2)
+pub bits_of_spec : {M : Type 1} → statement M
+bits_of_spec = tie.close (tie.spec returns cast-result add-result returns-2)

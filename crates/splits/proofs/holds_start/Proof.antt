@@ -15,34 +15,34 @@ invariant-loop starts at from to any₀ k₀ any k = (k ≤ 32) × Left (λ (s :
 abbrev decreases-loop : tie.decreases-loop
 decreases-loop starts at from to any₀ k₀ any k = 32 - k
 
-loop-holds : tie.Need-loop-init invariant-loop decreases-loop
+loop-holds : tie.Need-loop-k-init invariant-loop decreases-loop
 loop-holds c = (omega arith, left_start _ _ _ _)
 
-add_start : tie.Need-overflow-add-start invariant-loop decreases-loop
+add_start : tie.Need-overflow_add-start invariant-loop decreases-loop
 add_start c = omega arith
 
-mul-start : tie.Need-overflow-mul-start invariant-loop decreases-loop
+mul-start : tie.Need-offset_bounds-starts-at invariant-loop decreases-loop
 mul-start c = omega arith
 
-shared-slice-read-start : tie.Need-shared-slice-read-start invariant-loop decreases-loop
+shared-slice-read-start : tie.Need-bounds-starts-at invariant-loop decreases-loop
 shared-slice-read-start c = omega arith
 
-add-k : tie.Need-overflow-add-k invariant-loop decreases-loop
+add-k : tie.Need-overflow_add-k invariant-loop decreases-loop
 add-k c = omega arith
 
-loop-less : tie.Need-loop-smaller invariant-loop decreases-loop
+loop-less : tie.Need-loop-k-smaller invariant-loop decreases-loop
 loop-less c = omega arith
 
-loop-again : tie.Need-loop-preserved invariant-loop decreases-loop
+loop-again : tie.Need-loop-k-preserved invariant-loop decreases-loop
 loop-again c =
-    let l = c.before.before.loop in
-    (omega arith, left_turn _ _ _ _ l.any l.k c.before.loop-test.true l.invariant.1)
+    let l = c.loop-k in
+    (omega arith, left_turn _ _ _ _ l.any l.k c.loop-k-test.true l.invariant.1)
 
 returns : tie.Need-returns invariant-loop decreases-loop
-returns c = let l = c.before.loop in left_end _ _ _ _ l.any l.k c.loop-test.false l.invariant.1
+returns c = let l = c.loop-k in left_end _ _ _ _ l.any l.k c.loop-k-test.false l.invariant.1
 
-pub holds-start-spec : {M : Type 1} → statement M
-holds-start-spec =
+pub holds_start_spec : {M : Type 1} → statement M
+holds_start_spec =
     tie.close
     (tie.spec
     invariant-loop

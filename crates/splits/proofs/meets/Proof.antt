@@ -38,13 +38,13 @@ invariant-loop starts ends units rest n section from to unit any₀ hand₀ othe
 abbrev decreases-loop : tie.decreases-loop
 decreases-loop starts ends units rest n section from to unit any₀ hand₀ other₀ i₀ any hand other i = n - i
 
-next-within-requires : tie.Need-next-within-requires invariant-loop decreases-loop
-next-within-requires c κs = (c.before.before.before.before.requires, omega arith)
+next-within-requires : tie.Need-next_within-i-requires invariant-loop decreases-loop
+next-within-requires c κs = (c.requires, omega arith)
 
-loop-holds : tie.Need-loop-init invariant-loop decreases-loop
+loop-holds : tie.Need-loop-i-init invariant-loop decreases-loop
 loop-holds c =
-    let a = c.before.before.before.before.before.args in
-    let r = c.next_within in
+    let a = c.args in
+    let r = c.next_within-i in
     let h = r.ensures in
     let c₀ = columns a.starts.now a.ends.now a.units.now a.rest.now in
     let p = within a.section a.from a.to in (
@@ -56,42 +56,42 @@ loop-holds c =
           (λ k m. ap (λ (b : Bool). b && (not (is_auto (row_at c₀ k)) && not (eqb (row_at c₀ k).unit a.unit))) (h.2 k (omega arith) m)),
     )
 
-mul-is-hand : tie.Need-overflow-mul-is-hand invariant-loop decreases-loop
+mul-is-hand : tie.Need-offset_bounds-rest-i invariant-loop decreases-loop
 mul-is-hand c = omega arith
 
-shared-slice-read-is-hand : tie.Need-shared-slice-read-is-hand invariant-loop decreases-loop
+shared-slice-read-is-hand : tie.Need-bounds-rest-i invariant-loop decreases-loop
 shared-slice-read-is-hand c = omega arith
 
-is-hand-requires : tie.Need-is-hand-requires invariant-loop decreases-loop
+is-hand-requires : tie.Need-is_hand-by_hand-requires invariant-loop decreases-loop
 is-hand-requires c κs = tt
 
-mul-of-other : tie.Need-overflow-mul-of-other invariant-loop decreases-loop
+mul-of-other : tie.Need-offset_bounds-units-i invariant-loop decreases-loop
 mul-of-other c = omega arith
 
-shared-slice-read-of-other : tie.Need-shared-slice-read-of-other invariant-loop decreases-loop
+shared-slice-read-of-other : tie.Need-bounds-units-i invariant-loop decreases-loop
 shared-slice-read-of-other c = omega arith
 
-add-next-within : tie.Need-overflow-add-next-within invariant-loop decreases-loop
+add-next-within : tie.Need-overflow_add-i invariant-loop decreases-loop
 add-next-within c = omega arith
 
-next-within-requires-2 : tie.Need-next-within-requires-2 invariant-loop decreases-loop
-next-within-requires-2 c κs = (c.before.before.before.before.before.before.before.before.before.before.requires, omega arith)
+next-within-requires-2 : tie.Need-next_within-i-requires-in-loop-i invariant-loop decreases-loop
+next-within-requires-2 c κs = (c.requires, omega arith)
 
-loop-less : tie.Need-loop-smaller invariant-loop decreases-loop
-loop-less c = let h = c.next-within2.ensures in omega (arith, h.0, h.1)
+loop-less : tie.Need-loop-i-smaller invariant-loop decreases-loop
+loop-less c = let h = c.next_within-i-in-loop-i.ensures in omega (arith, h.0, h.1)
 
-loop-again : tie.Need-loop-preserved invariant-loop decreases-loop
+loop-again : tie.Need-loop-i-preserved invariant-loop decreases-loop
 unfolding row_of
 loop-again c =
-    let l = c.before.before.before.before.before.loop in
-    let a = c.before.before.before.before.before.before.before.before.before.before.before.args in
-    let t = c.before.before.before.before.loop-test.true in
-    let r = c.next-within2 in
+    let l = c.loop-i in
+    let a = c.args in
+    let t = c.loop-i-test.true in
+    let r = c.next_within-i-in-loop-i in
     let h = r.ensures in
     let f = row_at (columns a.starts.now a.ends.now a.units.now a.rest.now) in
     let p = within a.section a.from a.to in
     let inside = l.invariant.1 t in
-    let by_hand = c.before.before.is_hand.ensures in
+    let by_hand = c.is_hand-by_hand.ensures in
     let of_other = not (eqb (get_or a.units.now l.i 0) a.unit) in
     let left : (Split → Bool) → Bool = λ q. some q (tabulate f r.result (a.n - r.result)) in (
       h.1,
@@ -110,17 +110,17 @@ loop-again c =
 
 returns : tie.Need-returns invariant-loop decreases-loop
 returns c =
-    let l = c.before.loop in
-    let a = c.before.before.before.before.before.before.before.args in
+    let l = c.loop-i in
+    let a = c.args in
     let f = row_at (columns a.starts.now a.ends.now a.units.now a.rest.now) in
     record {
-      any = sym (some_ended _ f a.n l.i l.any c.loop-test.false) ∙ l.invariant.2;
-      hand = sym (some_ended _ f a.n l.i l.hand c.loop-test.false) ∙ l.invariant.3;
-      other = sym (some_ended _ f a.n l.i l.other c.loop-test.false) ∙ l.invariant.4;
+      any = sym (some_ended _ f a.n l.i l.any c.loop-i-test.false) ∙ l.invariant.2;
+      hand = sym (some_ended _ f a.n l.i l.hand c.loop-i-test.false) ∙ l.invariant.3;
+      other = sym (some_ended _ f a.n l.i l.other c.loop-i-test.false) ∙ l.invariant.4;
     }
 
-pub meets-spec : {M : Type 1} → statement M
-meets-spec =
+pub meets_spec : {M : Type 1} → statement M
+meets_spec =
     tie.close
     (tie.spec
     invariant-loop

@@ -7,28 +7,28 @@ use Rattle.splits.proofs.Blocks.{block_none}
 use Rattle.splits.proofs.next_in_block.Statement.{statement}
 use Rattle.splits.proofs.next_in_block.Tie as tie
 
-holds-unit-requires : tie.Need-holds-unit-requires
-holds-unit-requires c κs = c.before.before.before.before.requires.units
+holds-unit-requires : tie.Need-holds_unit-requires
+holds-unit-requires c κs = c.requires.units
 
-add-next-in-rows : tie.Need-overflow-add-next-in-rows
+add-next-in-rows : tie.Need-overflow_add-at
 add-next-in-rows c = omega arith
 
-next-in-rows-requires : tie.Need-next-in-rows-requires
-next-in-rows-requires c κs = (c.before.before.before.before.before.before.requires, omega arith)
+next-in-rows-requires : tie.Need-next_in_rows-requires
+next-in-rows-requires c κs = (c.requires, omega arith)
 
-returns : tie.Need-returns
+returns : tie.Need-returns-then-holds_unit
 returns c = c.next_in_rows.ensures
 
-add-result : tie.Need-overflow-add-result
+add-result : tie.Need-overflow_add-result
 add-result c = omega arith
 
-returns-2 : tie.Need-returns-2
+returns-2 : tie.Need-returns
 returns-2 c =
-    let a = c.before.before.before.before.before.before.args in
-    block_none a.section a.unit (columns a.starts.now a.ends.now a.units.now a.rest.now) a.at 32 (sym c.before.holds_unit.ensures ∙ c.if1.false)
+    let a = c.args in
+    block_none a.section a.unit (columns a.starts.now a.ends.now a.units.now a.rest.now) a.at 32 (sym c.holds_unit.ensures ∙ c.if-holds_unit.false)
 
-pub next-in-block-spec : {M : Type 1} → statement M
-next-in-block-spec =
+pub next_in_block_spec : {M : Type 1} → statement M
+next_in_block_spec =
     tie.close
     (tie.spec
     holds-unit-requires

@@ -20,57 +20,57 @@ invariant-loop starts ends units rest n section unit at i₀ i =
 abbrev decreases-loop : tie.decreases-loop
 decreases-loop starts ends units rest n section unit at i₀ i = n - i
 
-loop-holds : tie.Need-loop-init invariant-loop decreases-loop
+loop-holds : tie.Need-loop-i-init invariant-loop decreases-loop
 loop-holds c = (omega arith, omega arith, refl)
 
-sub-loop : tie.Need-overflow-sub-loop invariant-loop decreases-loop
+sub-loop : tie.Need-overflow_sub-n invariant-loop decreases-loop
 sub-loop c = omega arith
 
-next-in-block-requires : tie.Need-next-in-block-requires invariant-loop decreases-loop
+next-in-block-requires : tie.Need-next_in_block-k-requires invariant-loop decreases-loop
 next-in-block-requires c κs = record { starts = omega arith; ends = omega arith; units = omega arith; rest = omega arith }
 
-add-if1 : tie.Need-overflow-add-if1 invariant-loop decreases-loop
+add-if1 : tie.Need-overflow_add-i invariant-loop decreases-loop
 add-if1 c = omega arith
 
-returns : tie.Need-returns invariant-loop decreases-loop
+returns : tie.Need-returns-then-k-i invariant-loop decreases-loop
 returns c =
-    let l = c.before.before.before.loop in
-    let a = c.before.before.before.before.before.before.before.before.args in
-    let b = c.before.next_in_block in
+    let l = c.loop-i in
+    let a = c.args in
+    let b = c.next_in_block-k in
     let h = b.ensures in
     let c₀ = columns a.starts.now a.ends.now a.units.now a.rest.now in
     record {
-      is = l.invariant.2 ∙ block_hit (of_unit a.section a.unit) c₀ a.n (l.i + 32) l.i b.result (omega arith) (omega arith) h c.if1.true;
+      is = l.invariant.2 ∙ block_hit (of_unit a.section a.unit) c₀ a.n (l.i + 32) l.i b.result (omega arith) (omega arith) h c.if-k-i.true;
       past = omega (arith, h.past);
       small = omega (arith, h.small);
     }
 
-add-i : tie.Need-overflow-add-i invariant-loop decreases-loop
+add-i : tie.Need-overflow_add-i-in-loop-i invariant-loop decreases-loop
 add-i c = omega arith
 
-loop-less : tie.Need-loop-smaller invariant-loop decreases-loop
+loop-less : tie.Need-loop-i-smaller invariant-loop decreases-loop
 loop-less c = omega arith
 
-loop-again : tie.Need-loop-preserved invariant-loop decreases-loop
+loop-again : tie.Need-loop-i-preserved invariant-loop decreases-loop
 loop-again c =
-    let l = c.before.before.before.loop in
-    let a = c.before.before.before.before.before.before.before.before.args in
-    let b = c.before.next_in_block in
+    let l = c.loop-i in
+    let a = c.args in
+    let b = c.next_in_block-k in
     let c₀ = columns a.starts.now a.ends.now a.units.now a.rest.now in
-    let miss = block_miss (of_unit a.section a.unit) c₀ a.n (l.i + 32) l.i b.result (omega arith) (omega arith) b.ensures c.if1.false in
+    let miss = block_miss (of_unit a.section a.unit) c₀ a.n (l.i + 32) l.i b.result (omega arith) (omega arith) b.ensures c.if-k-i.false in
     (omega arith, omega arith, l.invariant.2 ∙ miss)
 
-next-in-rows-requires : tie.Need-next-in-rows-requires invariant-loop decreases-loop
-next-in-rows-requires c κs = (c.before.before.before.before.before.before.requires.0, omega arith)
+next-in-rows-requires : tie.Need-next_in_rows-requires invariant-loop decreases-loop
+next-in-rows-requires c κs = (c.requires.0, omega arith)
 
-returns-2 : tie.Need-returns-2 invariant-loop decreases-loop
+returns-2 : tie.Need-returns invariant-loop decreases-loop
 returns-2 c =
-    let l = c.before.before.loop in
+    let l = c.loop-i in
     let h = c.next_in_rows.ensures in
     record { is = l.invariant.2 ∙ h.is; past = omega (arith, h.past); small = h.small }
 
-pub next-of-unit-spec : {M : Type 1} → statement M
-next-of-unit-spec =
+pub next_of_unit_spec : {M : Type 1} → statement M
+next_of_unit_spec =
     tie.close
     (tie.spec
     invariant-loop

@@ -10,24 +10,24 @@ use borrow.Author.Rules.{rules}
 use Rattle.splits.proofs.put_split.Statement.{statement}
 use Rattle.splits.proofs.put_split.Tie as tie
 
-put-partial-requires : tie.Need-put-partial-requires
+put-partial-requires : tie.Need-put_partial-requires
 put-partial-requires c κs = search rules
 
-add-put16 : tie.Need-overflow-add-put16
+add-put16 : tie.Need-overflow_add-at
 add-put16 c = search rules
 
 put16-requires : tie.Need-put16-requires
 put16-requires c κs = search rules
 
-same_length : tie.Need-same-length
+same_length : tie.Need-shape_of-out
 same_length c = search rules
 
 returns : tie.Need-returns
 unfolding split_bytes partial_bytes
 returns c =
-    let written = c.before.before.before.before.before.before in
-    let a = written.before.before.before.args in
-    sets_then a.out.now a.at (partial_bytes a.s) (a.at + partial_width) (enc16 a.s.origin) c.before.before.put16.ensures written.put_partial.ensures refl
+    let written = c in
+    let a = written.args in
+    sets_then a.out.now a.at (partial_bytes a.s) (a.at + partial_width) (enc16 a.s.origin) c.put16.ensures written.put_partial.ensures refl
 
-pub put-split-spec : {M : Type 1} → statement M
-put-split-spec = tie.close (tie.spec put-partial-requires add-put16 put16-requires same_length returns)
+pub put_split_spec : {M : Type 1} → statement M
+put_split_spec = tie.close (tie.spec put-partial-requires add-put16 put16-requires same_length returns)

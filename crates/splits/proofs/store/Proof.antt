@@ -25,47 +25,47 @@ invariant-loop starts ends units rest n out₀ i₀ out i =
 abbrev decreases-loop : tie.decreases-loop
 decreases-loop starts ends units rest n out₀ i₀ out i = n - i
 
-loop-holds : tie.Need-loop-init invariant-loop decreases-loop
-loop-holds c = (omega arith, refl, ap (λ (l : List Split). sets c.before.before.before.before.before.args.out.now 0 (table_bytes l)) (tabulate_all _ _))
+loop-holds : tie.Need-loop-i-init invariant-loop decreases-loop
+loop-holds c = (omega arith, refl, ap (λ (l : List Split). sets c.args.out.now 0 (table_bytes l)) (tabulate_all _ _))
 
-row-requires : tie.Need-row-requires invariant-loop decreases-loop
+row-requires : tie.Need-row-s-requires invariant-loop decreases-loop
 row-requires c κs =
-    let q = c.before.before.before.before.before.before.before.requires.0 in
+    let q = c.requires.0 in
     record { starts = omega arith; ends = omega arith; units = omega arith; rest = omega arith }
 
-mul-put-split : tie.Need-overflow-mul-put-split invariant-loop decreases-loop
+mul-put-split : tie.Need-overflow_mul-i invariant-loop decreases-loop
 mul-put-split c = omega arith
 
-put-split-requires : tie.Need-put-split-requires invariant-loop decreases-loop
+put-split-requires : tie.Need-put_split-requires invariant-loop decreases-loop
 put-split-requires c κs = omega arith
 
-add-i : tie.Need-overflow-add-i invariant-loop decreases-loop
+add-i : tie.Need-overflow_add-i invariant-loop decreases-loop
 add-i c = omega arith
 
-loop-less : tie.Need-loop-smaller invariant-loop decreases-loop
+loop-less : tie.Need-loop-i-smaller invariant-loop decreases-loop
 loop-less c = omega arith
 
-loop-again : tie.Need-loop-preserved invariant-loop decreases-loop
+loop-again : tie.Need-loop-i-preserved invariant-loop decreases-loop
 loop-again c =
-    let l = c.before.before.before.before.before.before.loop in
-    let a = c.before.before.before.before.before.before.before.before.before.before.before.before.args in
+    let l = c.loop-i in
+    let a = c.args in
     let f = row_at (columns a.starts.now a.ends.now a.units.now a.rest.now) in
-    let w = c.before.before.put_split.ensures ∙ ap (λ (s : Split). sets l.out (split_width * l.i) (split_bytes s)) c.before.before.before.before.row.ensures in (
+    let w = c.put_split.ensures ∙ ap (λ (s : Split). sets l.out (split_width * l.i) (split_bytes s)) c.row-s.ensures in (
       omega arith,
-      c.before.before.put_split.auto.0 ∙ l.invariant.1,
+      c.put_split.auto.out ∙ l.invariant.1,
       ap (λ (b : List ℕ). sets b (split_width * (l.i + 1)) (table_bytes (tabulate f (l.i + 1) (a.n - (l.i + 1))))) w
-          ∙ written_turn l.out f a.n l.i c.before.before.before.before.before.loop-test.true
+          ∙ written_turn l.out f a.n l.i c.loop-i-test.true
           ∙ l.invariant.2,
     )
 
-same_length : tie.Need-same-length invariant-loop decreases-loop
-same_length c = c.before.loop.invariant.1
+same_length : tie.Need-shape_of-out invariant-loop decreases-loop
+same_length c = c.loop-i.invariant.1
 
 returns : tie.Need-returns invariant-loop decreases-loop
 returns c =
-    let a = c.before.before.before.before.before.before.before.args in
+    let a = c.args in
     let f = row_at (columns a.starts.now a.ends.now a.units.now a.rest.now) in
-    sym (written_all c.before.loop.out f a.n c.before.loop.i c.loop-test.false) ∙ c.before.loop.invariant.2
+    sym (written_all c.loop-i.out f a.n c.loop-i.i c.loop-i-test.false) ∙ c.loop-i.invariant.2
 
 pub store_spec : {M : Type 1} → statement M
 store_spec =

@@ -19,51 +19,51 @@ invariant-loop starts ends units rest n section from to at i₀ i =
 abbrev decreases-loop : tie.decreases-loop
 decreases-loop starts ends units rest n section from to at i₀ i = n - i
 
-loop-holds : tie.Need-loop-init invariant-loop decreases-loop
+loop-holds : tie.Need-loop-i-init invariant-loop decreases-loop
 loop-holds c = (omega arith, omega arith, λ k h l. absurd (let z : ⊥ = omega arith in z))
 
-mul-is-within : tie.Need-overflow-mul-is-within invariant-loop decreases-loop
+mul-is-within : tie.Need-offset_bounds-starts-i invariant-loop decreases-loop
 mul-is-within c = omega arith
 
-shared-slice-read-is-within : tie.Need-shared-slice-read-is-within invariant-loop decreases-loop
+shared-slice-read-is-within : tie.Need-bounds-starts-i invariant-loop decreases-loop
 shared-slice-read-is-within c = omega arith
 
-mul-is-within-2 : tie.Need-overflow-mul-is-within-2 invariant-loop decreases-loop
+mul-is-within-2 : tie.Need-offset_bounds-rest-i invariant-loop decreases-loop
 mul-is-within-2 c = omega arith
 
-shared-slice-read-is-within-2 : tie.Need-shared-slice-read-is-within-2 invariant-loop decreases-loop
+shared-slice-read-is-within-2 : tie.Need-bounds-rest-i invariant-loop decreases-loop
 shared-slice-read-is-within-2 c = omega arith
 
-is-within-requires : tie.Need-is-within-requires invariant-loop decreases-loop
+is-within-requires : tie.Need-is_within-requires invariant-loop decreases-loop
 is-within-requires c κs = tt
 
-returns : tie.Need-returns invariant-loop decreases-loop
+returns : tie.Need-returns-then-is_within invariant-loop decreases-loop
 unfolding row_of
 returns c =
-    let l = c.before.before.before.before.before.loop in
-    (omega arith, omega arith, l.invariant.2, λ h. sym c.before.is_Within.ensures ∙ c.if1.true)
+    let l = c.loop-i in
+    (omega arith, omega arith, l.invariant.2, λ h. sym c.is_within.ensures ∙ c.if-is_within.true)
 
-add-i : tie.Need-overflow-add-i invariant-loop decreases-loop
+add-i : tie.Need-overflow_add-i invariant-loop decreases-loop
 add-i c = omega arith
 
-loop-less : tie.Need-loop-smaller invariant-loop decreases-loop
+loop-less : tie.Need-loop-i-smaller invariant-loop decreases-loop
 loop-less c = omega arith
 
-loop-again : tie.Need-loop-preserved invariant-loop decreases-loop
+loop-again : tie.Need-loop-i-preserved invariant-loop decreases-loop
 unfolding row_of
 loop-again c =
-    let l = c.before.before.before.before.before.loop in
-    let a = c.before.before.before.before.before.before.before.before.before.before.args in
+    let l = c.loop-i in
+    let a = c.args in
     let f = row_at (columns a.starts.now a.ends.now a.units.now a.rest.now) in
-    (omega arith, omega arith, none_more (λ k. within a.section a.from a.to (f k)) a.at l.i l.invariant.2 (sym c.before.is_Within.ensures ∙ c.if1.false))
+    (omega arith, omega arith, none_more (λ k. within a.section a.from a.to (f k)) a.at l.i l.invariant.2 (sym c.is_within.ensures ∙ c.if-is_within.false))
 
-returns-2 : tie.Need-returns-2 invariant-loop decreases-loop
+returns-2 : tie.Need-returns invariant-loop decreases-loop
 returns-2 c =
-    let l = c.before.loop in
+    let l = c.loop-i in
     (omega arith, omega arith, l.invariant.2, λ h. absurd (let z : ⊥ = omega arith in z))
 
-pub within-in-rows-spec : {M : Type 1} → statement M
-within-in-rows-spec =
+pub within_in_rows_spec : {M : Type 1} → statement M
+within_in_rows_spec =
     tie.close
     (tie.spec
     invariant-loop

@@ -12,23 +12,23 @@ use borrow.Author.Rules.{rules}
 use Rattle.srecord_lines.proofs.put_tail.Statement.{statement}
 use Rattle.srecord_lines.proofs.put_tail.Tie as tie
 
-put-hex-requires : tie.Need-put-hex-requires
+put-hex-requires : tie.Need-put_hex-requires
 put-hex-requires c κs = search rules
 
-add-out : tie.Need-overflow-add-out
+add-out : tie.Need-overflow_add-out
 add-out c = search rules
 
-slice-write-out : tie.Need-slice-write-out
+slice-write-out : tie.Need-bounds-out-at
 slice-write-out c = search rules
 
-same_length : tie.Need-same-length
+same_length : tie.Need-shape_of-out
 same_length c = search rules
 
 returns : tie.Need-returns
 unfolding line_tail hexes
 returns c =
-    let a = c.before.before.before.before.before.args in
-    sets_then a.out.now a.at (hexes (a.check ∷ [])) (a.at + 2) (10 ∷ []) refl c.before.before.put_hex.ensures (omega arith)
+    let a = c.args in
+    sets_then a.out.now a.at (hexes (a.check ∷ [])) (a.at + 2) (10 ∷ []) refl c.put_hex.ensures (omega arith)
 
-pub put-tail-spec : {M : Type 1} → statement M
-put-tail-spec = tie.close (tie.spec put-hex-requires add-out slice-write-out same_length returns)
+pub put_tail_spec : {M : Type 1} → statement M
+put_tail_spec = tie.close (tie.spec put-hex-requires add-out slice-write-out same_length returns)

@@ -7,17 +7,17 @@ use borrow.Author.Rules.{rules}
 use Rattle.srecord_lines.proofs.sum_address.Statement.{statement}
 use Rattle.srecord_lines.proofs.sum_address.Tie as tie
 
-add-result : tie.Need-overflow-add-result
+add-result : tie.Need-overflow_add-result
 add-result c = search rules
 
-add-result-2 : tie.Need-overflow-add-result-2
+add-result-2 : tie.Need-overflow_add-result-2
 add-result-2 c = search rules
 
-add-result-3 : tie.Need-overflow-add-result-3
+add-result-3 : tie.Need-overflow_add-result-3
 add-result-3 c = search rules
 
 returns : tie.Need-returns
 returns c = record { is = sum_address_is c.args.address; small = omega arith }
 
-pub sum-address-spec : {M : Type 1} → statement M
-sum-address-spec = tie.close (tie.spec add-result add-result-2 add-result-3 returns)
+pub sum_address_spec : {M : Type 1} → statement M
+sum_address_spec = tie.close (tie.spec add-result add-result-2 add-result-3 returns)

@@ -15,39 +15,39 @@ invariant-loop bytes total₀ i₀ total i = (i ≤ length bytes) × (total + su
 abbrev decreases-loop : tie.decreases-loop
 decreases-loop bytes total₀ i₀ total i = length bytes - i
 
-loop-holds : tie.Need-loop-init invariant-loop decreases-loop
+loop-holds : tie.Need-loop-i-init invariant-loop decreases-loop
 loop-holds c = (omega arith, omega arith, omega arith)
 
-shared-slice-read-total : tie.Need-shared-slice-read-total invariant-loop decreases-loop
+shared-slice-read-total : tie.Need-bounds-bytes-i invariant-loop decreases-loop
 shared-slice-read-total c = omega arith
 
-cast-total : tie.Need-overflow-cast-total invariant-loop decreases-loop
-cast-total c = omega (arith, c.shared-slice-known.given c.before.before.loop.i)
+cast-total : tie.Need-overflow_cast-total invariant-loop decreases-loop
+cast-total c = omega (arith, c.shared_slice_known-1.given c.loop-i.i)
 
-add_total : tie.Need-overflow-add-total invariant-loop decreases-loop
-add_total c = omega (arith, c.shared-slice-known.given c.before.before.loop.i)
+add_total : tie.Need-overflow_add-total invariant-loop decreases-loop
+add_total c = omega (arith, c.shared_slice_known-1.given c.loop-i.i)
 
-add-i : tie.Need-overflow-add-i invariant-loop decreases-loop
+add-i : tie.Need-overflow_add-i invariant-loop decreases-loop
 add-i c = omega arith
 
-loop-less : tie.Need-loop-smaller invariant-loop decreases-loop
+loop-less : tie.Need-loop-i-smaller invariant-loop decreases-loop
 loop-less c = omega arith
 
-loop-again : tie.Need-loop-preserved invariant-loop decreases-loop
+loop-again : tie.Need-loop-i-preserved invariant-loop decreases-loop
 loop-again c =
-    let l = c.before.before.loop in
-    let small = c.shared-slice-known.given l.i in
-    (omega arith, omega (arith, sum_turn c.before.before.before.args.bytes.now l.i c.before.loop-test.true, l.invariant.1), omega arith)
+    let l = c.loop-i in
+    let small = c.shared_slice_known-1.given l.i in
+    (omega arith, omega (arith, sum_turn c.args.bytes.now l.i c.loop-i-test.true, l.invariant.1), omega arith)
 
 returns : tie.Need-returns invariant-loop decreases-loop
 returns c =
-    let l = c.before.loop in
-    let b = c.before.before.args.bytes.now in
-    let z = sum-none (drop l.i b) (drop_of_length-le b c.loop-test.false) in
-    record { is = omega (arith, l.invariant.1, z); small = omega (arith, c.before.before.requires) }
+    let l = c.loop-i in
+    let b = c.args.bytes.now in
+    let z = sum-none (drop l.i b) (drop_of_length-le b c.loop-i-test.false) in
+    record { is = omega (arith, l.invariant.1, z); small = omega (arith, c.requires) }
 
-pub sum-of-spec : {M : Type 1} → statement M
-sum-of-spec =
+pub sum_of_spec : {M : Type 1} → statement M
+sum_of_spec =
     tie.close
     (tie.spec
     invariant-loop

@@ -15,28 +15,28 @@ invariant-loop out at m line₀ i₀ line i = (i ≤ m) × (length line ≡ 16) 
 abbrev decreases-loop : tie.decreases-loop
 decreases-loop out at m line₀ i₀ line i = m - i
 
-loop-holds : tie.Need-loop-init invariant-loop decreases-loop
+loop-holds : tie.Need-loop-i-init invariant-loop decreases-loop
 loop-holds c = (omega arith, refl, refl)
 
-add-line : tie.Need-overflow-add-line invariant-loop decreases-loop
+add-line : tie.Need-overflow_add-line invariant-loop decreases-loop
 add-line c = omega arith
 
-shared-slice-read-line : tie.Need-shared-slice-read-line invariant-loop decreases-loop
+shared-slice-read-line : tie.Need-bounds-out-at invariant-loop decreases-loop
 shared-slice-read-line c = omega arith
 
-array-write-line : tie.Need-array-write-line invariant-loop decreases-loop
+array-write-line : tie.Need-bounds-line-i invariant-loop decreases-loop
 array-write-line c = omega arith
 
-add-i : tie.Need-overflow-add-i invariant-loop decreases-loop
+add-i : tie.Need-overflow_add-i invariant-loop decreases-loop
 add-i c = omega arith
 
-loop-less : tie.Need-loop-smaller invariant-loop decreases-loop
+loop-less : tie.Need-loop-i-smaller invariant-loop decreases-loop
 loop-less c = omega arith
 
-loop-again : tie.Need-loop-preserved invariant-loop decreases-loop
+loop-again : tie.Need-loop-i-preserved invariant-loop decreases-loop
 loop-again c =
-    let l = c.before.before.loop in
-    let a = c.before.before.before.args in
+    let l = c.loop-i in
+    let a = c.args in
     let b = a.out.now in (
       omega arith,
       simp length-set l.invariant.1,
@@ -45,13 +45,13 @@ loop-again c =
 
 returns : tie.Need-returns invariant-loop decreases-loop
 returns c =
-    let l = c.before.loop in
-    let a = c.before.before.args in
+    let l = c.loop-i in
+    let a = c.args in
     let e : l.i ≡ a.m = omega arith in
     ap (λ (k : ℕ). take k l.line) (sym e) ∙ l.invariant.2 ∙ ap (λ (k : ℕ). take k (drop a.at a.out.now)) e
 
-pub copied-spec : {M : Type 1} → statement M
-copied-spec =
+pub copied_spec : {M : Type 1} → statement M
+copied_spec =
     tie.close
     (tie.spec
     invariant-loop

@@ -12,69 +12,69 @@ use borrow.Author.Rules.{rules}
 use Rattle.stage_gaps.proofs.give_filled.Statement.{statement}
 use Rattle.stage_gaps.proofs.give_filled.Tie as tie
 
-enum-known-r : tie.Need-enum-known-r
+enum-known-r : tie.Need-enum_known-r
 enum-known-r c = search rules
 
-returns : tie.Need-returns
+returns : tie.Need-returns-in-Refused
 returns c =
-    let a = c.before.before.before.before.before.before.before.before.before.before.before.before.before.before.before.before.before.args in
-    gives_refused (ap (meant (names_of a.name_bytes.now a.name_places.now a.name_lengths.now (length a.name_places.now)) (beside a.added_bytes.now a.added_places.now a.added_lengths.now) (columns a.starts.now a.ends.now a.units.now a.rest.now)) c.before.r.given.1) refl
+    let a = c.args in
+    gives_refused (ap (meant (names_of a.name_bytes.now a.name_places.now a.name_lengths.now (length a.name_places.now)) (beside a.added_bytes.now a.added_places.now a.added_lengths.now) (columns a.starts.now a.ends.now a.units.now a.rest.now)) c.in-Refused.is) refl
 
-enum-known-r-2 : tie.Need-enum-known-r-2
+enum-known-r-2 : tie.Need-enum_known-r-in-Accepted-1
 enum-known-r-2 c = search rules
 
-give-names-requires : tie.Need-give-names-requires
+give-names-requires : tie.Need-give_names-bytes-requires
 give-names-requires c κs =
-    let a = c.before.before.before.before.before.before.before.before.before.before.before.before.before.before.before.before.before.before.before.args in
-    let q = c.before.before.before.before.before.before.before.before.before.before.before.before.before.before.before.before.before.before.before.requires in
-    let e = c.before.before.before.r2.given.1 in
+    let a = c.args in
+    let q = c.requires in
+    let e = c.in-Accepted.is in
     (q.0, (stand_as (names_of a.name_bytes.now a.name_places.now a.name_lengths.now (length a.name_places.now)) (beside a.added_bytes.now a.added_places.now a.added_lengths.now) e q.2).packed.named, names_fit (names_of a.name_bytes.now a.name_places.now a.name_lengths.now (length a.name_places.now)) (beside a.added_bytes.now a.added_places.now a.added_lengths.now) e q.1 q.2)
 
-put-splits-requires : tie.Need-put-splits-requires
+put-splits-requires : tie.Need-put_splits-requires
 put-splits-requires c κs =
-    let q = c.before.before.before.before.before.before.before.before.before.before.before.before.before.before.before.before.before.before.before.before.before.before.before.before.before.requires in
-    let e = ap splits c.before.before.before.before.before.before.before.before.before.r2.given.1 in (
+    let q = c.requires in
+    let e = ap splits c.in-Accepted.is in (
       record { starts = omega (arith, e, q.3.starts); ends = omega (arith, e, q.3.ends); units = omega (arith, e, q.3.units); rest = omega (arith, e, q.3.rest) },
       omega (arith, e, q.4),
     )
 
-add-give-counts : tie.Need-overflow-add-give-counts
+add-give-counts : tie.Need-overflow_add-name_places
 add-give-counts c =
-    let a = c.before.before.before.before.before.before.before.before.before.before.before.before.before.before.before.before.before.before.before.before.before.before.before.before.before.before.before.before.before.args in
-    let q = c.before.before.before.before.before.before.before.before.before.before.before.before.before.before.before.before.before.before.before.before.before.before.before.before.before.before.before.before.before.requires in
-    omega (arith, names_few (names_of a.name_bytes.now a.name_places.now a.name_lengths.now (length a.name_places.now)) (beside a.added_bytes.now a.added_places.now a.added_lengths.now) c.before.before.before.before.before.before.before.before.before.before.before.before.before.r2.given.1 q.1 q.2 (length-names a.name_bytes.now a.name_places.now a.name_lengths.now (length a.name_places.now)))
+    let a = c.args in
+    let q = c.requires in
+    omega (arith, names_few (names_of a.name_bytes.now a.name_places.now a.name_lengths.now (length a.name_places.now)) (beside a.added_bytes.now a.added_places.now a.added_lengths.now) c.in-Accepted.is q.1 q.2 (length-names a.name_bytes.now a.name_places.now a.name_lengths.now (length a.name_places.now)))
 
-give-counts-requires : tie.Need-give-counts-requires
+give-counts-requires : tie.Need-give_counts-requires
 give-counts-requires c κs =
-    let a = c.before.before.before.before.before.before.before.before.before.before.before.before.before.before.before.before.before.before.before.before.before.before.before.before.before.before.before.before.before.args in
-    let q = c.before.before.before.before.before.before.before.before.before.before.before.before.before.before.before.before.before.before.before.before.before.before.before.before.before.before.before.before.before.requires in
-    let e = c.before.before.before.before.before.before.before.before.before.before.before.before.before.r2.given.1 in (
+    let a = c.args in
+    let q = c.requires in
+    let e = c.in-Accepted.is in (
       omega (arith, names_few (names_of a.name_bytes.now a.name_places.now a.name_lengths.now (length a.name_places.now)) (beside a.added_bytes.now a.added_places.now a.added_lengths.now) e q.1 q.2 (length-names a.name_bytes.now a.name_places.now a.name_lengths.now (length a.name_places.now))),
-      bytes_few (names_of a.name_bytes.now a.name_places.now a.name_lengths.now (length a.name_places.now)) (beside a.added_bytes.now a.added_places.now a.added_lengths.now) e q.1 q.2 c.before.before.before.before.before.before.before.before.before.give_names.ensures,
+      bytes_few (names_of a.name_bytes.now a.name_places.now a.name_lengths.now (length a.name_places.now)) (beside a.added_bytes.now a.added_places.now a.added_lengths.now) e q.1 q.2 c.give_names-bytes.ensures,
       omega (arith, ap splits e, q.5),
     )
 
-same_length : tie.Need-same-length
+same_length : tie.Need-shape_of-out_ends-in-Accepted
 same_length c = search rules
 
-same-length-2 : tie.Need-same-length-2
+same-length-2 : tie.Need-shape_of-out_bytes-in-Accepted
 same-length-2 c = search rules
 
-same-length-3 : tie.Need-same-length-3
+same-length-3 : tie.Need-shape_of-out-in-Accepted
 same-length-3 c = search rules
 
-same-length-4 : tie.Need-same-length-4
+same-length-4 : tie.Need-shape_of-counts-in-Accepted
 same-length-4 c = search rules
 
-returns-2 : tie.Need-returns-2
+returns-2 : tie.Need-returns-in-Accepted
 returns-2 c =
-    let a = c.before.before.before.before.before.before.before.before.before.before.before.before.before.before.before.before.before.before.before.before.before.before.before.before.before.before.before.before.before.before.before.before.args in
+    let a = c.args in
     let k = c.before.before.before.before.before.before.before.before.before.before.before.before.before.before.before.before.r2.given in
     gives_laid (ap (meant (names_of a.name_bytes.now a.name_places.now a.name_lengths.now (length a.name_places.now)) (beside a.added_bytes.now a.added_places.now a.added_lengths.now) (columns a.starts.now a.ends.now a.units.now a.rest.now)) k.1) refl
-    (filled_laid (names_of a.name_bytes.now a.name_places.now a.name_lengths.now (length a.name_places.now)) (beside a.added_bytes.now a.added_places.now a.added_lengths.now) (columns a.starts.now a.ends.now a.units.now a.rest.now) k.0.0 k.0.1.1.0 c.before.before.before.before.before.before.before.before.before.before.before.before.give_names.ensures c.before.before.before.before.before.before.put_splits.ensures (length-names a.name_bytes.now a.name_places.now a.name_lengths.now (length a.name_places.now)) c.before.before.give_counts.ensures)
+    (filled_laid (names_of a.name_bytes.now a.name_places.now a.name_lengths.now (length a.name_places.now)) (beside a.added_bytes.now a.added_places.now a.added_lengths.now) (columns a.starts.now a.ends.now a.units.now a.rest.now) k.0.0 k.0.1.1.0 c.give_names-bytes.ensures c.put_splits.ensures (length-names a.name_bytes.now a.name_places.now a.name_lengths.now (length a.name_places.now)) c.give_counts.ensures)
 
-pub give-filled-spec : {M : Type 1} → statement M
-give-filled-spec =
+pub give_filled_spec : {M : Type 1} → statement M
+give_filled_spec =
     tie.close
     (tie.spec
     enum-known-r

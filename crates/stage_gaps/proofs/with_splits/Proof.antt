@@ -5,42 +5,42 @@ use borrow.Author.Rules.{rules}
 use Rattle.stage_gaps.proofs.with_splits.Statement.{statement}
 use Rattle.stage_gaps.proofs.with_splits.Tie as tie
 
-slice-aggregate-from-splits : tie.Need-slice-aggregate-from-splits
+slice-aggregate-from-splits : tie.Need-slice_bounds-from_splits-end
 slice-aggregate-from-splits c = search rules
 
-slice-aggregate-from-splits-2 : tie.Need-slice-aggregate-from-splits-2
+slice-aggregate-from-splits-2 : tie.Need-slice_bounds-from_splits-end-2
 slice-aggregate-from-splits-2 c = search rules
 
-slice-aggregate-from-splits-3 : tie.Need-slice-aggregate-from-splits-3
+slice-aggregate-from-splits-3 : tie.Need-slice_bounds-from_splits-end-3
 slice-aggregate-from-splits-3 c = search rules
 
-slice-aggregate-from-splits-4 : tie.Need-slice-aggregate-from-splits-4
+slice-aggregate-from-splits-4 : tie.Need-slice_bounds-from_splits-end-4
 slice-aggregate-from-splits-4 c = search rules
 
-slice-aggregate-from-splits-5 : tie.Need-slice-aggregate-from-splits-5
+slice-aggregate-from-splits-5 : tie.Need-slice_bounds-from_splits-end-5
 slice-aggregate-from-splits-5 c = search rules
 
-slice-aggregate-from-splits-6 : tie.Need-slice-aggregate-from-splits-6
+slice-aggregate-from-splits-6 : tie.Need-slice_bounds-from_splits-end-6
 slice-aggregate-from-splits-6 c = search rules
 
-slice-aggregate-from-splits-7 : tie.Need-slice-aggregate-from-splits-7
+slice-aggregate-from-splits-7 : tie.Need-slice_bounds-from_splits-end-7
 slice-aggregate-from-splits-7 c = search rules
 
-slice-aggregate-from-splits-8 : tie.Need-slice-aggregate-from-splits-8
+slice-aggregate-from-splits-8 : tie.Need-slice_bounds-from_splits-end-8
 slice-aggregate-from-splits-8 c = search rules
 
-slice-aggregate-from-splits-9 : tie.Need-slice-aggregate-from-splits-9
+slice-aggregate-from-splits-9 : tie.Need-slice_bounds-from_splits-end-9
 slice-aggregate-from-splits-9 c = search rules
 
-slice-aggregate-from-splits-10 : tie.Need-slice-aggregate-from-splits-10
+slice-aggregate-from-splits-10 : tie.Need-slice_bounds-from_splits-end-10
 slice-aggregate-from-splits-10 c = search rules
 
-slice-aggregate-from-splits-11 : tie.Need-slice-aggregate-from-splits-11
+slice-aggregate-from-splits-11 : tie.Need-slice_bounds-from_splits-end-11
 slice-aggregate-from-splits-11 c = search rules
 
-from-splits-requires : tie.Need-from-splits-requires
+from-splits-requires : tie.Need-from_splits-requires
 from-splits-requires c κs =
-    let q = c.before.before.before.before.before.before.before.before.before.before.before.before.before.before.before.before.before.before.before.before.before.before.before.before.before.before.before.before.before.before.before.before.requires in (
+    let q = c.requires in (
       q.0,
       q.1,
       q.2,
@@ -60,23 +60,23 @@ from-splits-requires c κs =
       q.5,
     )
 
-same_length : tie.Need-same-length
-same_length c = c.before.before.before.before.before.before.before.before.before.before.before.before.before.before.before.before.before.before.before.from_splits.auto.1.1.1.1.1.1.1.1.1.1.1.1.1.1.1.1.1.1.1.1.1.1.1.1.1.1.0
+same_length : tie.Need-shape_of-out_ends
+same_length c = c.from_splits.auto.out_ends
 
-same-length-2 : tie.Need-same-length-2
-same-length-2 c = c.before.before.before.before.before.before.before.before.before.before.before.before.before.before.before.before.before.before.before.from_splits.auto.1.1.1.1.1.1.1.1.1.1.1.1.1.1.1.1.1.1.1.1.1.1.1.1.1.1.1.0
+same-length-2 : tie.Need-shape_of-out_bytes
+same-length-2 c = c.from_splits.auto.out_bytes
 
-same-length-3 : tie.Need-same-length-3
-same-length-3 c = c.before.before.before.before.before.before.before.before.before.before.before.before.before.before.before.before.before.before.before.from_splits.auto.1.1.1.1.1.1.1.1.1.1.1.1.1.1.1.1.1.1.1.1.1.1.1.1.1.1.1.1.0
+same-length-3 : tie.Need-shape_of-out
+same-length-3 c = c.from_splits.auto.out
 
-same-length-4 : tie.Need-same-length-4
-same-length-4 c = c.before.before.before.before.before.before.before.before.before.before.before.before.before.before.before.before.before.before.before.from_splits.auto.1.1.1.1.1.1.1.1.1.1.1.1.1.1.1.1.1.1.1.1.1.1.1.1.1.1.1.1.1.0
+same-length-4 : tie.Need-shape_of-counts
+same-length-4 c = c.from_splits.auto.counts
 
 returns : tie.Need-returns
-returns c = c.before.before.before.before.before.before.before.before.before.before.before.before.before.before.before.before.before.before.before.from_splits.ensures
+returns c = c.from_splits.ensures
 
-pub with-splits-spec : {M : Type 1} → statement M
-with-splits-spec =
+pub with_splits_spec : {M : Type 1} → statement M
+with_splits_spec =
     tie.close
     (tie.spec
     slice-aggregate-from-splits

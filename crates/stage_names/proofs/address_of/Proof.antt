@@ -6,14 +6,14 @@ use borrow.Author.Rules.{rules}
 use Rattle.stage_names.proofs.address_of.Statement.{statement}
 use Rattle.stage_names.proofs.address_of.Tie as tie
 
-cast-result : tie.Need-overflow-cast-result
+cast-result : tie.Need-overflow_cast-result
 cast-result c = search rules
 
-returns : tie.Need-returns
-returns c = ap (λ (t : Bool). cond t c.before.args.n 4294967295) (sym (lt-ltb _ _ c.if1.true))
+returns : tie.Need-returns-then-n-lt4294967296
+returns c = ap (λ (t : Bool). cond t c.args.n 4294967295) (sym (lt-ltb _ _ c.if-n-lt4294967296.true))
 
-returns-2 : tie.Need-returns-2
-returns-2 c = ap (λ (t : Bool). cond t c.before.args.n 4294967295) (sym (le-ltb _ _ c.if1.false))
+returns-2 : tie.Need-returns
+returns-2 c = ap (λ (t : Bool). cond t c.args.n 4294967295) (sym (le-ltb _ _ c.if-n-lt4294967296.false))
 
-pub address-of-spec : {M : Type 1} → statement M
-address-of-spec = tie.close (tie.spec cast-result returns returns-2)
+pub address_of_spec : {M : Type 1} → statement M
+address_of_spec = tie.close (tie.spec cast-result returns returns-2)

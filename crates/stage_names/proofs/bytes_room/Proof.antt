@@ -6,13 +6,13 @@ use Rattle.stage_names.specs.StageNames.{bytes_room}
 use Rattle.stage_names.proofs.bytes_room.Statement.{statement}
 use Rattle.stage_names.proofs.bytes_room.Tie as tie
 
-returns : tie.Need-returns
+returns : tie.Need-returns-then-size-lt65535
 unfolding bytes_room
-returns c = ap (λ (t : Bool). cond t c.before.args.size 65535) (sym (lt-ltb _ _ c.if1.true))
+returns c = ap (λ (t : Bool). cond t c.args.size 65535) (sym (lt-ltb _ _ c.if-size-lt65535.true))
 
-returns-2 : tie.Need-returns-2
+returns-2 : tie.Need-returns
 unfolding bytes_room
-returns-2 c = ap (λ (t : Bool). cond t c.before.args.size 65535) (sym (le-ltb _ _ c.if1.false))
+returns-2 c = ap (λ (t : Bool). cond t c.args.size 65535) (sym (le-ltb _ _ c.if-size-lt65535.false))
 
-pub bytes-room-spec : {M : Type 1} → statement M
-bytes-room-spec = tie.close (tie.spec returns returns-2)
+pub bytes_room_spec : {M : Type 1} → statement M
+bytes_room_spec = tie.close (tie.spec returns returns-2)

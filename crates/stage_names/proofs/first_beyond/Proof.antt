@@ -19,40 +19,40 @@ invariant-loop ends most most_bytes n i₀ i = (i ≤ n) × (i ≤ most) × (fir
 abbrev decreases-loop : tie.decreases-loop
 decreases-loop ends most most_bytes n i₀ i = n - i
 
-loop-holds : tie.Need-loop-init invariant-loop decreases-loop
+loop-holds : tie.Need-loop-i-init invariant-loop decreases-loop
 loop-holds c = (omega arith, omega arith, rw sub-zero)
 
-is-beyond-requires : tie.Need-is-beyond-requires invariant-loop decreases-loop
+is-beyond-requires : tie.Need-is_beyond-requires invariant-loop decreases-loop
 is-beyond-requires c κs = omega arith
 
-returns : tie.Need-returns invariant-loop decreases-loop
+returns : tie.Need-returns-then-is_beyond invariant-loop decreases-loop
 unfolding first_beyond
 returns c =
-    let t = c.before.before in
+    let t = c in
     record {
-      is = sym (first_here _ _ _ t.loop-test.true (sym c.before.is_beyond.ensures ∙ c.if1.true)) ∙ t.before.loop.invariant.2;
-      low = λ h. t.before.loop.invariant.1;
+      is = sym (first_here _ _ _ t.loop-i-test.true (sym c.is_beyond.ensures ∙ c.if-is_beyond.true)) ∙ t.loop-i.invariant.2;
+      low = λ h. t.loop-i.invariant.1;
     }
 
-add-i : tie.Need-overflow-add-i invariant-loop decreases-loop
+add-i : tie.Need-overflow_add-i invariant-loop decreases-loop
 add-i c = omega arith
 
-loop-less : tie.Need-loop-smaller invariant-loop decreases-loop
+loop-less : tie.Need-loop-i-smaller invariant-loop decreases-loop
 loop-less c = omega arith
 
-loop-again : tie.Need-loop-preserved invariant-loop decreases-loop
+loop-again : tie.Need-loop-i-preserved invariant-loop decreases-loop
 loop-again c =
-    let t = c.before.before in
-    let a = t.before.before.before.args in
-    let no = sym c.before.is_beyond.ensures ∙ c.if1.false in
-    (omega arith, not_beyond a.most a.most_bytes a.ends.now t.before.loop.i no, sym (first_on _ _ _ t.loop-test.true no) ∙ t.before.loop.invariant.2)
+    let t = c in
+    let a = t.args in
+    let no = sym c.is_beyond.ensures ∙ c.if-is_beyond.false in
+    (omega arith, not_beyond a.most a.most_bytes a.ends.now t.loop-i.i no, sym (first_on _ _ _ t.loop-i-test.true no) ∙ t.loop-i.invariant.2)
 
-returns-2 : tie.Need-returns-2 invariant-loop decreases-loop
+returns-2 : tie.Need-returns invariant-loop decreases-loop
 unfolding first_beyond
-returns-2 c = record { is = sym (first_end _ _ _ c.loop-test.false) ∙ c.before.loop.invariant.2; low = λ h. c.before.loop.invariant.1 }
+returns-2 c = record { is = sym (first_end _ _ _ c.loop-i-test.false) ∙ c.loop-i.invariant.2; low = λ h. c.loop-i.invariant.1 }
 
-pub first-beyond-spec : {M : Type 1} → statement M
-first-beyond-spec =
+pub first_beyond_spec : {M : Type 1} → statement M
+first_beyond_spec =
     tie.close
     (tie.spec
     invariant-loop

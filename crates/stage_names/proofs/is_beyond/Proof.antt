@@ -7,17 +7,17 @@ use borrow.Author.Rules.{rules}
 use Rattle.stage_names.proofs.is_beyond.Statement.{statement}
 use Rattle.stage_names.proofs.is_beyond.Tie as tie
 
-mul-get16 : tie.Need-overflow-mul-get16
+mul-get16 : tie.Need-overflow_mul-k
 mul-get16 c = search rules
 
-get16-requires : tie.Need-get16-requires
+get16-requires : tie.Need-get16-end-requires
 get16-requires c κs = search rules
 
-cast-end : tie.Need-overflow-cast-end
+cast-end : tie.Need-overflow_cast-end
 cast-end c = search rules
 
 returns : tie.Need-returns
-returns c = let a = c.before.before.args in ap (λ (e : ℕ). leb a.most a.k || ltb a.most_bytes e) c.get16.ensures
+returns c = let a = c.args in ap (λ (e : ℕ). leb a.most a.k || ltb a.most_bytes e) c.get16-end.ensures
 
-pub is-beyond-spec : {M : Type 1} → statement M
-is-beyond-spec = tie.close (tie.spec mul-get16 get16-requires cast-end returns)
+pub is_beyond_spec : {M : Type 1} → statement M
+is_beyond_spec = tie.close (tie.spec mul-get16 get16-requires cast-end returns)

@@ -7,13 +7,13 @@ use Rattle.stage_names.specs.StageNames.{names_room}
 use Rattle.stage_names.proofs.names_room.Statement.{statement}
 use Rattle.stage_names.proofs.names_room.Tie as tie
 
-returns : tie.Need-returns
+returns : tie.Need-returns-then-whole-lt4096
 unfolding names_room
-returns c = ap (λ (t : Bool). cond t (c.before.args.size / 2) 4096) (sym (lt-ltb _ _ c.if1.true))
+returns c = ap (λ (t : Bool). cond t (c.args.size / 2) 4096) (sym (lt-ltb _ _ c.if-whole-lt4096.true))
 
-returns-2 : tie.Need-returns-2
+returns-2 : tie.Need-returns
 unfolding names_room
-returns-2 c = ap (λ (t : Bool). cond t (c.before.args.size / 2) 4096) (sym (le-ltb _ _ c.if1.false))
+returns-2 c = ap (λ (t : Bool). cond t (c.args.size / 2) 4096) (sym (le-ltb _ _ c.if-whole-lt4096.false))
 
-pub names-room-spec : {M : Type 1} → statement M
-names-room-spec = tie.close (tie.spec returns returns-2)
+pub names_room_spec : {M : Type 1} → statement M
+names_room_spec = tie.close (tie.spec returns returns-2)

@@ -12,39 +12,39 @@ use borrow.Author.Rules.{rules}
 use Rattle.stage_splits.proofs.give_splits.Statement.{statement}
 use Rattle.stage_splits.proofs.give_splits.Tie as tie
 
-put-splits-requires : tie.Need-put-splits-requires
+put-splits-requires : tie.Need-put_splits-requires
 put-splits-requires c κs = search rules
 
-clear-from-requires : tie.Need-clear-from-requires
+clear-from-requires : tie.Need-clear_from-requires
 clear-from-requires c κs = search rules
 
-cast-put-count : tie.Need-overflow-cast-put-count
+cast-put-count : tie.Need-overflow_cast-n
 cast-put-count c = search rules
 
-put-count-requires : tie.Need-put-count-requires
+put-count-requires : tie.Need-put_count-requires
 put-count-requires c κs = search rules
 
-same_length : tie.Need-same-length
+same_length : tie.Need-shape_of-out
 same_length c = search rules
 
-same-length-2 : tie.Need-same-length-2
+same-length-2 : tie.Need-shape_of-counts
 same-length-2 c = search rules
 
 returns : tie.Need-returns
 returns c =
-    let a = c.before.before.before.before.before.before.before.before.before.before.before.before.before.before.before.before.before.before.args in
+    let a = c.args in
     let k = length-tabulate (row_at (columns a.starts.now a.ends.now a.units.now a.rest.now)) 0 a.n in
     record {
-      splits = c.before.before.before.before.before.before.before.before.before.before.put_splits.ensures;
+      splits = c.put_splits.ensures;
       counted =
-          c.before.before.put_count.ensures
-          ∙ ap (store_count 0 a.n) c.before.before.before.before.before.before.clear_from.ensures
+          c.put_count.ensures
+          ∙ ap (store_count 0 a.n) c.clear_from.ensures
           ∙ one_count _ a.n a.counts.now refl
           ∙ ap (λ (n : ℕ). counts_of (length a.counts.now) (n ∷ [])) (sym k);
     }
 
-pub give-splits-spec : {M : Type 1} → statement M
-give-splits-spec =
+pub give_splits_spec : {M : Type 1} → statement M
+give_splits_spec =
     tie.close
     (tie.spec
     put-splits-requires

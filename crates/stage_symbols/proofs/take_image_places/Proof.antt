@@ -16,37 +16,37 @@ invariant-loop b column₀ i₀ column i =
 abbrev decreases-loop : tie.decreases-loop
 decreases-loop b column₀ i₀ column i = length column - i
 
-loop-holds : tie.Need-loop-init invariant-loop decreases-loop
+loop-holds : tie.Need-loop-i-init invariant-loop decreases-loop
 loop-holds c = (omega arith, refl, omega arith, refl)
 
-same_length : tie.Need-same-length invariant-loop decreases-loop
-same_length c = c.before.before.loop.invariant.1
+same_length : tie.Need-shape_of-column-then-b-i invariant-loop decreases-loop
+same_length c = c.loop-i.invariant.1
 
-returns : tie.Need-returns invariant-loop decreases-loop
-returns c = places_end _ _ _ c.before.before.loop.invariant.0 c.before.before.loop.invariant.2 c.if1.true c.before.before.loop.invariant.3
+returns : tie.Need-returns-then-b-i invariant-loop decreases-loop
+returns c = places_end _ _ _ c.loop-i.invariant.0 c.loop-i.invariant.2 c.if-b-i.true c.loop-i.invariant.3
 
-mul-get32 : tie.Need-overflow-mul-get32 invariant-loop decreases-loop
+mul-get32 : tie.Need-overflow_mul-i invariant-loop decreases-loop
 mul-get32 c = omega arith
 
 get32-requires : tie.Need-get32-requires invariant-loop decreases-loop
 get32-requires c κs = omega arith
 
-mul-column : tie.Need-overflow-mul-column invariant-loop decreases-loop
+mul-column : tie.Need-offset_bounds-column-i invariant-loop decreases-loop
 mul-column c = omega arith
 
-slice-write-column : tie.Need-slice-write-column invariant-loop decreases-loop
+slice-write-column : tie.Need-bounds-column-i invariant-loop decreases-loop
 slice-write-column c = omega arith
 
-add-i : tie.Need-overflow-add-i invariant-loop decreases-loop
+add-i : tie.Need-overflow_add-i invariant-loop decreases-loop
 add-i c = omega arith
 
-loop-less : tie.Need-loop-smaller invariant-loop decreases-loop
+loop-less : tie.Need-loop-i-smaller invariant-loop decreases-loop
 loop-less c = simp length-set (omega arith)
 
-loop-again : tie.Need-loop-preserved invariant-loop decreases-loop
+loop-again : tie.Need-loop-i-preserved invariant-loop decreases-loop
 loop-again c =
-    let l = c.before.before.before.loop in
-    let b = c.before.before.before.before.before.before.args.b.now in
+    let l = c.loop-i in
+    let b = c.args.b.now in
     let inside : l.i < length l.column = omega arith in
     let known : l.i < length b / 4 = omega arith in (
       simp length-set (omega arith),
@@ -55,14 +55,14 @@ loop-again c =
       place_more b l.column l.i inside known c.get32.ensures l.invariant.3,
     )
 
-same-length-2 : tie.Need-same-length-2 invariant-loop decreases-loop
-same-length-2 c = c.before.loop.invariant.1
+same-length-2 : tie.Need-shape_of-column invariant-loop decreases-loop
+same-length-2 c = c.loop-i.invariant.1
 
-returns-2 : tie.Need-returns-2 invariant-loop decreases-loop
-returns-2 c = column_end _ _ _ c.before.loop.invariant.0 c.loop-test.false c.before.loop.invariant.3
+returns-2 : tie.Need-returns invariant-loop decreases-loop
+returns-2 c = column_end _ _ _ c.loop-i.invariant.0 c.loop-i-test.false c.loop-i.invariant.3
 
-pub take-image-places-spec : {M : Type 1} → statement M
-take-image-places-spec =
+pub take_image_places_spec : {M : Type 1} → statement M
+take_image_places_spec =
     tie.close
     (tie.spec
     invariant-loop

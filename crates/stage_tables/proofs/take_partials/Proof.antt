@@ -17,49 +17,49 @@ use Rattle.stage_tables.proofs.take_partials.Tie as tie
 unfoldable fault : tie.Start → List ℕ → ℕ → ℕ
 fault s p = let a = s.args in partial_fault a.lengths.now (partials_in a.b.now p)
 
-fill-table-requires : tie.Need-fill-table-requires
+fill-table-requires : tie.Need-fill_table-size-requires
 fill-table-requires c κs = search rules
 
-enum_told : tie.Need-enum-told
+enum_told : tie.Need-enum_told-1
 enum_told c = search rules
 
-same_length : tie.Need-same-length
+same_length : tie.Need-shape_of-places-in-Refused
 same_length c = search rules
 
-returns : tie.Need-returns
+returns : tie.Need-returns-in-Refused
 unfolding fault
 returns c =
-    let s = c.before.before.before.before.before.before.before.before.before in
-    size_refused partial_width _ s.args.b.now _ c.before.before.before.before.fill_table.ensures (fault s (stage_places partial_width (length s.args.b.now / partial_width))) (ap meaning c.enum_told.given.1)
+    let s = c.before.before.before.before.before.before.before.before in
+    size_refused partial_width _ s.args.b.now _ c.fill_table-size.ensures (fault s (stage_places partial_width (length s.args.b.now / partial_width))) (ap meaning c.in-Refused.is)
 
-enum-told-2 : tie.Need-enum-told-2
+enum-told-2 : tie.Need-enum_told-in_default
 enum-told-2 c = search rules
 
-slice-reshare-prefix-check-partials : tie.Need-slice-reshare-prefix-check-partials
+slice-reshare-prefix-check-partials : tie.Need-slice_bounds-check_partials-end
 slice-reshare-prefix-check-partials c =
-    let s = c.before.before.before.before.before.before.before.before.before in
-    let t = c.before.before.before.before.fill_table in
-    omega (arith, size_few partial_width s.args.ceiling s.args.b.now t.new.1.1.1.0 t.ensures (ap meaning c.enum-told2.given.1), t.auto.1.1.1.0, s.requires.long)
+    let s = c in
+    let t = c.fill_table-size in
+    omega (arith, size_few partial_width s.args.ceiling s.args.b.now t.new.1.1.1.0 t.ensures (ap meaning c.in_default.is), t.auto.1.1.1.0, s.requires.long)
 
-slice-aggregate-check-partials : tie.Need-slice-aggregate-check-partials
-slice-aggregate-check-partials c = sym (size_places partial_width _ c.before.before.before.before.before.before.before.before.before.before.args.b.now _ c.before.before.before.before.before.fill_table.ensures (ap meaning c.before.enum-told2.given.1))
+slice-aggregate-check-partials : tie.Need-slice_bounds-check_partials-end-2
+slice-aggregate-check-partials c = sym (size_places partial_width _ c.args.b.now _ c.fill_table-size.ensures (ap meaning c.in_default.is))
 
-check-partials-requires : tie.Need-check-partials-requires
+check-partials-requires : tie.Need-check_partials-requires
 check-partials-requires c κs =
-    let s = c.before.before.before.before.before.before.before.before.before.before in
-    size_held partial_width _ s.args.b.now _ c.before.before.before.before.before.fill_table.ensures (ap meaning c.before.enum-told2.given.1) s.requires.few
+    let s = c in
+    size_held partial_width _ s.args.b.now _ c.fill_table-size.ensures (ap meaning c.in_default.is) s.requires.few
 
-same-length-2 : tie.Need-same-length-2
+same-length-2 : tie.Need-shape_of-places
 same-length-2 c = search rules
 
-returns-2 : tie.Need-returns-2
+returns-2 : tie.Need-returns
 unfolding fault
 returns-2 c =
-    let s = c.before.before.before.before.before.before.before.before.before.before.before in
-    records_said partial_width _ s.args.b.now _ c.before.before.before.before.before.before.fill_table.ensures (ap meaning c.before.before.enum-told2.given.1) (fault s) c.check_partials.ensures
+    let s = c in
+    records_said partial_width _ s.args.b.now _ c.fill_table-size.ensures (ap meaning c.in_default.is) (fault s) c.check_partials.ensures
 
-pub take-partials-spec : {M : Type 1} → statement M
-take-partials-spec =
+pub take_partials_spec : {M : Type 1} → statement M
+take_partials_spec =
     tie.close
     (tie.spec
     fill-table-requires

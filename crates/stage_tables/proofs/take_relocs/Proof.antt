@@ -17,52 +17,52 @@ use Rattle.stage_tables.proofs.take_relocs.Tie as tie
 unfoldable fault : tie.Start → List ℕ → ℕ → ℕ
 fault s p = let a = s.args in reloc_fault (sections_in a.heads.now a.head_places.now) a.symbols (relocs_in a.b.now p)
 
-fill-table-requires : tie.Need-fill-table-requires
+fill-table-requires : tie.Need-fill_table-size-requires
 fill-table-requires c κs = search rules
 
-enum_told : tie.Need-enum-told
+enum_told : tie.Need-enum_told-1
 enum_told c = search rules
 
-same_length : tie.Need-same-length
+same_length : tie.Need-shape_of-places-in-Refused
 same_length c = search rules
 
-returns : tie.Need-returns
+returns : tie.Need-returns-in-Refused
 unfolding fault
 returns c =
-    let s = c.before.before.before.before.before.before.before.before.before.before.before in
-    size_refused 23 _ s.args.b.now _ c.before.before.before.before.fill_table.ensures (fault s (stage_places 23 (length s.args.b.now / 23))) (ap meaning c.enum_told.given.1)
+    let s = c.before.before.before.before.before.before.before.before.before.before in
+    size_refused 23 _ s.args.b.now _ c.fill_table-size.ensures (fault s (stage_places 23 (length s.args.b.now / 23))) (ap meaning c.in-Refused.is)
 
-enum-told-2 : tie.Need-enum-told-2
+enum-told-2 : tie.Need-enum_told-in_default
 enum-told-2 c = search rules
 
-slice-reshare-prefix-check-relocs : tie.Need-slice-reshare-prefix-check-relocs
+slice-reshare-prefix-check-relocs : tie.Need-slice_bounds-check_relocs-end
 slice-reshare-prefix-check-relocs c =
-    let s = c.before.before.before.before.before.before.before.before.before.before.before in
-    let t = c.before.before.before.before.fill_table in
-    omega (arith, size_few 23 s.args.ceiling s.args.b.now t.new.1.1.1.0 t.ensures (ap meaning c.enum-told2.given.1), t.auto.1.1.1.0, s.requires.1.long)
+    let s = c in
+    let t = c.fill_table-size in
+    omega (arith, size_few 23 s.args.ceiling s.args.b.now t.new.1.1.1.0 t.ensures (ap meaning c.in_default.is), t.auto.1.1.1.0, s.requires.1.long)
 
-slice-aggregate-check-relocs : tie.Need-slice-aggregate-check-relocs
-slice-aggregate-check-relocs c = sym (size_places 23 _ c.before.before.before.before.before.before.before.before.before.before.before.before.args.b.now _ c.before.before.before.before.before.fill_table.ensures (ap meaning c.before.enum-told2.given.1))
+slice-aggregate-check-relocs : tie.Need-slice_bounds-check_relocs-end-2
+slice-aggregate-check-relocs c = sym (size_places 23 _ c.args.b.now _ c.fill_table-size.ensures (ap meaning c.in_default.is))
 
-check-relocs-requires : tie.Need-check-relocs-requires
+check-relocs-requires : tie.Need-check_relocs-requires
 check-relocs-requires c κs =
-    let s = c.before.before.before.before.before.before.before.before.before.before.before.before.before in
-    (s.requires.0, size_held 23 _ s.args.b.now _ c.before.before.before.before.before.before.fill_table.ensures (ap meaning c.before.before.enum-told2.given.1) s.requires.1.few, s.requires.2)
+    let s = c in
+    (s.requires.0, size_held 23 _ s.args.b.now _ c.fill_table-size.ensures (ap meaning c.in_default.is) s.requires.1.few, s.requires.2)
 
-same-length-2 : tie.Need-same-length-2
+same-length-2 : tie.Need-shape_of-places
 same-length-2 c = search rules
 
-same-length-3 : tie.Need-same-length-3
+same-length-3 : tie.Need-shape_of-floors
 same-length-3 c = search rules
 
-returns-2 : tie.Need-returns-2
+returns-2 : tie.Need-returns
 unfolding fault
 returns-2 c =
-    let s = c.before.before.before.before.before.before.before.before.before.before.before.before.before.before.before.before in
-    records_said 23 _ s.args.b.now _ c.before.before.before.before.before.before.before.before.before.fill_table.ensures (ap meaning c.before.before.before.before.before.enum-told2.given.1) (fault s) c.before.before.check_relocs.ensures
+    let s = c in
+    records_said 23 _ s.args.b.now _ c.fill_table-size.ensures (ap meaning c.in_default.is) (fault s) c.check_relocs.ensures
 
-pub take-relocs-spec : {M : Type 1} → statement M
-take-relocs-spec =
+pub take_relocs_spec : {M : Type 1} → statement M
+take_relocs_spec =
     tie.close
     (tie.spec
     fill-table-requires

@@ -17,49 +17,49 @@ use Rattle.stage_tables.proofs.take_sections.Tie as tie
 unfoldable fault : tie.Start → List ℕ → ℕ → ℕ
 fault s p = let a = s.args in section_fault a.lengths.now (sections_in a.b.now p)
 
-fill-table-requires : tie.Need-fill-table-requires
+fill-table-requires : tie.Need-fill_table-size-requires
 fill-table-requires c κs = search rules
 
-enum_told : tie.Need-enum-told
+enum_told : tie.Need-enum_told-1
 enum_told c = search rules
 
-same_length : tie.Need-same-length
+same_length : tie.Need-shape_of-places-in-Refused
 same_length c = search rules
 
-returns : tie.Need-returns
+returns : tie.Need-returns-in-Refused
 unfolding fault
 returns c =
-    let s = c.before.before.before.before.before.before.before.before.before in
-    size_refused 15 _ s.args.b.now _ c.before.before.before.before.fill_table.ensures (fault s (stage_places 15 (length s.args.b.now / 15))) (ap meaning c.enum_told.given.1)
+    let s = c.before.before.before.before.before.before.before.before in
+    size_refused 15 _ s.args.b.now _ c.fill_table-size.ensures (fault s (stage_places 15 (length s.args.b.now / 15))) (ap meaning c.in-Refused.is)
 
-enum-told-2 : tie.Need-enum-told-2
+enum-told-2 : tie.Need-enum_told-in_default
 enum-told-2 c = search rules
 
-slice-reshare-prefix-check-sections : tie.Need-slice-reshare-prefix-check-sections
+slice-reshare-prefix-check-sections : tie.Need-slice_bounds-check_sections-end
 slice-reshare-prefix-check-sections c =
-    let s = c.before.before.before.before.before.before.before.before.before in
-    let t = c.before.before.before.before.fill_table in
-    omega (arith, size_few 15 s.args.ceiling s.args.b.now t.new.1.1.1.0 t.ensures (ap meaning c.enum-told2.given.1), t.auto.1.1.1.0, s.requires.long)
+    let s = c in
+    let t = c.fill_table-size in
+    omega (arith, size_few 15 s.args.ceiling s.args.b.now t.new.1.1.1.0 t.ensures (ap meaning c.in_default.is), t.auto.1.1.1.0, s.requires.long)
 
-slice-aggregate-check-sections : tie.Need-slice-aggregate-check-sections
-slice-aggregate-check-sections c = sym (size_places 15 _ c.before.before.before.before.before.before.before.before.before.before.args.b.now _ c.before.before.before.before.before.fill_table.ensures (ap meaning c.before.enum-told2.given.1))
+slice-aggregate-check-sections : tie.Need-slice_bounds-check_sections-end-2
+slice-aggregate-check-sections c = sym (size_places 15 _ c.args.b.now _ c.fill_table-size.ensures (ap meaning c.in_default.is))
 
-check-sections-requires : tie.Need-check-sections-requires
+check-sections-requires : tie.Need-check_sections-requires
 check-sections-requires c κs =
-    let s = c.before.before.before.before.before.before.before.before.before.before in
-    size_held 15 _ s.args.b.now _ c.before.before.before.before.before.fill_table.ensures (ap meaning c.before.enum-told2.given.1) s.requires.few
+    let s = c in
+    size_held 15 _ s.args.b.now _ c.fill_table-size.ensures (ap meaning c.in_default.is) s.requires.few
 
-same-length-2 : tie.Need-same-length-2
+same-length-2 : tie.Need-shape_of-places
 same-length-2 c = search rules
 
-returns-2 : tie.Need-returns-2
+returns-2 : tie.Need-returns
 unfolding fault
 returns-2 c =
-    let s = c.before.before.before.before.before.before.before.before.before.before.before in
-    records_said 15 _ s.args.b.now _ c.before.before.before.before.before.before.fill_table.ensures (ap meaning c.before.before.enum-told2.given.1) (fault s) c.check_sections.ensures
+    let s = c in
+    records_said 15 _ s.args.b.now _ c.fill_table-size.ensures (ap meaning c.in_default.is) (fault s) c.check_sections.ensures
 
-pub take-sections-spec : {M : Type 1} → statement M
-take-sections-spec =
+pub take_sections_spec : {M : Type 1} → statement M
+take_sections_spec =
     tie.close
     (tie.spec
     fill-table-requires

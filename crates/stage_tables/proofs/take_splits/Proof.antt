@@ -17,49 +17,49 @@ use Rattle.stage_tables.proofs.take_splits.Tie as tie
 unfoldable fault : tie.Start → List ℕ → ℕ → ℕ
 fault s p = let a = s.args in split_fault a.lengths.now (sections_in a.heads.now a.head_places.now) (splits_in a.b.now p)
 
-fill-table-requires : tie.Need-fill-table-requires
+fill-table-requires : tie.Need-fill_table-size-requires
 fill-table-requires c κs = search rules
 
-enum_told : tie.Need-enum-told
+enum_told : tie.Need-enum_told-1
 enum_told c = search rules
 
-same_length : tie.Need-same-length
+same_length : tie.Need-shape_of-places-in-Refused
 same_length c = search rules
 
-returns : tie.Need-returns
+returns : tie.Need-returns-in-Refused
 unfolding fault
 returns c =
-    let s = c.before.before.before.before.before.before.before.before.before.before.before in
-    size_refused split_width _ s.args.b.now _ c.before.before.before.before.fill_table.ensures (fault s (stage_places split_width (length s.args.b.now / split_width))) (ap meaning c.enum_told.given.1)
+    let s = c.before.before.before.before.before.before.before.before.before.before in
+    size_refused split_width _ s.args.b.now _ c.fill_table-size.ensures (fault s (stage_places split_width (length s.args.b.now / split_width))) (ap meaning c.in-Refused.is)
 
-enum-told-2 : tie.Need-enum-told-2
+enum-told-2 : tie.Need-enum_told-in_default
 enum-told-2 c = search rules
 
-slice-reshare-prefix-check-splits : tie.Need-slice-reshare-prefix-check-splits
+slice-reshare-prefix-check-splits : tie.Need-slice_bounds-check_splits-end
 slice-reshare-prefix-check-splits c =
-    let s = c.before.before.before.before.before.before.before.before.before.before.before in
-    let t = c.before.before.before.before.fill_table in
-    omega (arith, size_few split_width s.args.ceiling s.args.b.now t.new.1.1.1.0 t.ensures (ap meaning c.enum-told2.given.1), t.auto.1.1.1.0, s.requires.1.long)
+    let s = c in
+    let t = c.fill_table-size in
+    omega (arith, size_few split_width s.args.ceiling s.args.b.now t.new.1.1.1.0 t.ensures (ap meaning c.in_default.is), t.auto.1.1.1.0, s.requires.1.long)
 
-slice-aggregate-check-splits : tie.Need-slice-aggregate-check-splits
-slice-aggregate-check-splits c = sym (size_places split_width _ c.before.before.before.before.before.before.before.before.before.before.before.before.args.b.now _ c.before.before.before.before.before.fill_table.ensures (ap meaning c.before.enum-told2.given.1))
+slice-aggregate-check-splits : tie.Need-slice_bounds-check_splits-end-2
+slice-aggregate-check-splits c = sym (size_places split_width _ c.args.b.now _ c.fill_table-size.ensures (ap meaning c.in_default.is))
 
-check-splits-requires : tie.Need-check-splits-requires
+check-splits-requires : tie.Need-check_splits-requires
 check-splits-requires c κs =
-    let s = c.before.before.before.before.before.before.before.before.before.before.before.before in
-    (s.requires.0, size_held split_width _ s.args.b.now _ c.before.before.before.before.before.fill_table.ensures (ap meaning c.before.enum-told2.given.1) s.requires.1.few)
+    let s = c in
+    (s.requires.0, size_held split_width _ s.args.b.now _ c.fill_table-size.ensures (ap meaning c.in_default.is) s.requires.1.few)
 
-same-length-2 : tie.Need-same-length-2
+same-length-2 : tie.Need-shape_of-places
 same-length-2 c = search rules
 
-returns-2 : tie.Need-returns-2
+returns-2 : tie.Need-returns
 unfolding fault
 returns-2 c =
-    let s = c.before.before.before.before.before.before.before.before.before.before.before.before.before in
-    records_said split_width _ s.args.b.now _ c.before.before.before.before.before.before.fill_table.ensures (ap meaning c.before.before.enum-told2.given.1) (fault s) c.check_splits.ensures
+    let s = c in
+    records_said split_width _ s.args.b.now _ c.fill_table-size.ensures (ap meaning c.in_default.is) (fault s) c.check_splits.ensures
 
-pub take-splits-spec : {M : Type 1} → statement M
-take-splits-spec =
+pub take_splits_spec : {M : Type 1} → statement M
+take_splits_spec =
     tie.close
     (tie.spec
     fill-table-requires

@@ -9,16 +9,16 @@ use Rattle.stage_walk.specs.Room.{room_for}
 use Rattle.stage_walk.proofs.room_for.Statement.{statement}
 use Rattle.stage_walk.proofs.room_for.Tie as tie
 
-div-whole : tie.Need-nonzero-div-whole
+div-whole : tie.Need-nonzero_div-whole
 div-whole c = omega (arith, c.requires)
 
-returns : tie.Need-returns
+returns : tie.Need-returns-then-whole-ceiling
 unfolding room_for
-returns c = ap (λ (t : Bool). cond t (c.before.args.size / c.before.args.width) c.before.args.ceiling) (sym (lt-ltb _ _ c.if1.true))
+returns c = ap (λ (t : Bool). cond t (c.args.size / c.args.width) c.args.ceiling) (sym (lt-ltb _ _ c.if-whole-ceiling.true))
 
-returns-2 : tie.Need-returns-2
+returns-2 : tie.Need-returns
 unfolding room_for
-returns-2 c = ap (λ (t : Bool). cond t (c.before.args.size / c.before.args.width) c.before.args.ceiling) (sym (le-ltb _ _ c.if1.false))
+returns-2 c = ap (λ (t : Bool). cond t (c.args.size / c.args.width) c.args.ceiling) (sym (le-ltb _ _ c.if-whole-ceiling.false))
 
-pub room-for-spec : {M : Type 1} → statement M
-room-for-spec = tie.close (tie.spec div-whole returns returns-2)
+pub room_for_spec : {M : Type 1} → statement M
+room_for_spec = tie.close (tie.spec div-whole returns returns-2)

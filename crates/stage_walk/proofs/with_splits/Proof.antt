@@ -4,24 +4,24 @@ use borrow.Author.Rules.{rules}
 use Rattle.stage_walk.proofs.with_splits.Statement.{statement}
 use Rattle.stage_walk.proofs.with_splits.Tie as tie
 
-slice-aggregate-from-splits : tie.Need-slice-aggregate-from-splits
+slice-aggregate-from-splits : tie.Need-slice_bounds-from_splits-end
 slice-aggregate-from-splits c = search rules
 
-slice-aggregate-from-splits-2 : tie.Need-slice-aggregate-from-splits-2
+slice-aggregate-from-splits-2 : tie.Need-slice_bounds-from_splits-end-2
 slice-aggregate-from-splits-2 c = search rules
 
-slice-aggregate-from-splits-3 : tie.Need-slice-aggregate-from-splits-3
+slice-aggregate-from-splits-3 : tie.Need-slice_bounds-from_splits-end-3
 slice-aggregate-from-splits-3 c = search rules
 
-slice-aggregate-from-splits-4 : tie.Need-slice-aggregate-from-splits-4
+slice-aggregate-from-splits-4 : tie.Need-slice_bounds-from_splits-end-4
 slice-aggregate-from-splits-4 c = search rules
 
-slice-aggregate-from-splits-5 : tie.Need-slice-aggregate-from-splits-5
+slice-aggregate-from-splits-5 : tie.Need-slice_bounds-from_splits-end-5
 slice-aggregate-from-splits-5 c = search rules
 
-from-splits-requires : tie.Need-from-splits-requires
+from-splits-requires : tie.Need-from_splits-requires
 from-splits-requires c κs =
-    let p = c.before.before.before.before.before.before.before.before.before.before.before.before.before.before.before.before.before.before.before.before.before.before.before.before.before.requires in (
+    let p = c.requires in (
       p.0,
       p.1,
       p.2,
@@ -30,20 +30,20 @@ from-splits-requires c κs =
       record { places_long = search rules; starts_long = search rules; ends_long = search rules; units_long = search rules; rest_long = search rules },
     )
 
-same_length : tie.Need-same-length
-same_length c = c.before.before.before.before.before.before.before.before.before.before.before.from_splits.auto.1.1.1.1.1.1.1.1.1.1.1.1.1.1.1.1.1.1.1.0
+same_length : tie.Need-shape_of-pieces
+same_length c = c.from_splits.auto.pieces
 
-same-length-2 : tie.Need-same-length-2
-same-length-2 c = c.before.before.before.before.before.before.before.before.before.before.before.from_splits.auto.1.1.1.1.1.1.1.1.1.1.1.1.1.1.1.1.1.1.1.1.0
+same-length-2 : tie.Need-shape_of-entries
+same-length-2 c = c.from_splits.auto.entries
 
-same-length-3 : tie.Need-same-length-3
-same-length-3 c = c.before.before.before.before.before.before.before.before.before.before.before.from_splits.auto.1.1.1.1.1.1.1.1.1.1.1.1.1.1.1.1.1.1.1.1.1.0
+same-length-3 : tie.Need-shape_of-offsets
+same-length-3 c = c.from_splits.auto.offsets
 
 returns : tie.Need-returns
-returns c = c.before.before.before.before.before.before.before.before.before.before.before.from_splits.ensures
+returns c = c.from_splits.ensures
 
-pub with-splits-spec : {M : Type 1} → statement M
-with-splits-spec =
+pub with_splits_spec : {M : Type 1} → statement M
+with_splits_spec =
     tie.close
     (tie.spec
     slice-aggregate-from-splits

@@ -6,14 +6,14 @@ use borrow.Author.Rules.{rules}
 use Rattle.symbols.proofs.backwards.Statement.{statement}
 use Rattle.symbols.proofs.backwards.Tie as tie
 
-has-symbols-requires : tie.Need-has-symbols-requires
+has-symbols-requires : tie.Need-has_symbols-requires
 has-symbols-requires c κs = search rules
 
-returns : tie.Need-returns
-returns c = c.has_symbols.ensures ∙ sym (and_holds (lt-ltb _ _ c.before.if1.true))
+returns : tie.Need-returns-then-end-start
+returns c = c.has_symbols.ensures ∙ sym (and_holds (lt-ltb _ _ c.if-end-start.true))
 
-returns-2 : tie.Need-returns-2
-returns-2 c = rw (le-ltb _ _ c.if1.false)
+returns-2 : tie.Need-returns
+returns-2 c = rw (le-ltb _ _ c.if-end-start.false)
 
-pub backwards-spec : {M : Type 1} → statement M
-backwards-spec = tie.close (tie.spec has-symbols-requires returns returns-2)
+pub backwards_spec : {M : Type 1} → statement M
+backwards_spec = tie.close (tie.spec has-symbols-requires returns returns-2)

@@ -5,17 +5,17 @@ use borrow.Author.Rules.{rules}
 use Rattle.symbols.proofs.for_section.Statement.{statement}
 use Rattle.symbols.proofs.for_section.Tie as tie
 
-key-of-requires : tie.Need-key-of-requires
+key-of-requires : tie.Need-key_of-low-requires
 key-of-requires c κs = search rules
 
-add-part-of : tie.Need-overflow-add-part-of
+add-part-of : tie.Need-overflow_add-low
 add-part-of c = search rules
 
-part-of-requires : tie.Need-part-of-requires
+part-of-requires : tie.Need-part_of-requires
 part-of-requires c κs = search rules
 
 returns : tie.Need-returns
-returns c = c.part_of_lem.ensures ∙ whole_section _ _ _ c.before.before.before.before.before.requires (λ j. (c.before.before.before.before.shared-slice-known.given j).fits) _ _ c.before.key_of_lem.ensures.is
+returns c = c.part_of.ensures ∙ whole_section _ _ _ c.requires (λ j. (c.shared_slice_known-1.given j).fits) _ _ c.key_of-low.ensures.is
 
-pub for-section-spec : {M : Type 1} → statement M
-for-section-spec = tie.close (tie.spec key-of-requires add-part-of part-of-requires returns)
+pub for_section_spec : {M : Type 1} → statement M
+for_section_spec = tie.close (tie.spec key-of-requires add-part-of part-of-requires returns)

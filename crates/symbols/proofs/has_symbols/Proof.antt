@@ -10,11 +10,11 @@ use borrow.Author.Rules.{rules}
 use Rattle.symbols.proofs.has_symbols.Statement.{statement}
 use Rattle.symbols.proofs.has_symbols.Tie as tie
 
-for-section-requires : tie.Need-for-section-requires
+for-section-requires : tie.Need-for_section-part-requires
 for-section-requires c κs = search rules
 
 returns : tie.Need-returns
-returns c = ap (λ (l : List ℕ). not (eqb (length l) 0)) c.for_section.ensures ∙ has_some _ _ _
+returns c = ap (λ (l : List ℕ). not (eqb (length l) 0)) c.for_section-part.ensures ∙ has_some _ _ _
 
-pub has-symbols-spec : {M : Type 1} → statement M
-has-symbols-spec = tie.close (tie.spec for-section-requires returns)
+pub has_symbols_spec : {M : Type 1} → statement M
+has_symbols_spec = tie.close (tie.spec for-section-requires returns)

@@ -15,25 +15,25 @@ use Rattle.symbols.proofs.highest_in.Tie as tie
 backwards-requires : tie.Need-backwards-requires
 backwards-requires c κs = search rules
 
-returns : tie.Need-returns
+returns : tie.Need-returns-then-backwards
 unfolding highest_in
-returns c = sym (fails 11 _ _ _ _ (sym c.before.backwards.ensures ∙ c.if1.true))
+returns c = sym (fails 11 _ _ _ _ (sym c.backwards.ensures ∙ c.if-backwards.true))
 
-for-section-range-requires : tie.Need-for-section-range-requires
+for-section-range-requires : tie.Need-for_section_range-part-requires
 for-section-range-requires c κs = search rules
 
-highest-of-requires : tie.Need-highest-of-requires
-highest-of-requires c κs = part_readable _ _ _ c.before.before.before.before.before.before.requires _ _ c.for_section_range.ensures
+highest-of-requires : tie.Need-highest_of-requires
+highest-of-requires c κs = part_readable _ _ _ c.requires _ _ c.for_section_range-part.ensures
 
-returns-2 : tie.Need-returns-2
+returns-2 : tie.Need-returns
 unfolding highest_in
 returns-2 c =
-    let a = c.before.before.before.before.before.before.before.args in
-    sym (passes 11 _ _ _ _ (sym c.before.before.before.backwards.ensures ∙ c.before.before.if1.false)
-    ∙ ap accepted (sym (c.highest_of_lem.ensures
-    ∙ ap (λ (l : List ℕ). highest_of (symbol_of a.b.now a.places.now) (keep_if (λ i. sized (symbol_of a.b.now a.places.now i)) l)) c.before.for_section_range.ensures)))
+    let a = c.args in
+    sym (passes 11 _ _ _ _ (sym c.backwards.ensures ∙ c.if-backwards.false)
+    ∙ ap accepted (sym (c.highest_of.ensures
+    ∙ ap (λ (l : List ℕ). highest_of (symbol_of a.b.now a.places.now) (keep_if (λ i. sized (symbol_of a.b.now a.places.now i)) l)) c.for_section_range-part.ensures)))
 
-pub highest-in-spec : {M : Type 1} → statement M
-highest-in-spec =
+pub highest_in_spec : {M : Type 1} → statement M
+highest_in_spec =
     tie.close
     (tie.spec backwards-requires returns for-section-range-requires highest-of-requires returns-2)

@@ -17,37 +17,37 @@ invariant-loop b places part most₀ j₀ most j =
 abbrev decreases-loop : tie.decreases-loop
 decreases-loop b places part most₀ j₀ most j = length part - j
 
-loop-holds : tie.Need-loop-init invariant-loop decreases-loop
+loop-holds : tie.Need-loop-j-init invariant-loop decreases-loop
 loop-holds c = (omega arith, highest_start _ _)
 
 number-requires : tie.Need-number-requires invariant-loop decreases-loop
 number-requires c κs = omega arith
 
-symbol-at-requires : tie.Need-symbol-at-requires invariant-loop decreases-loop
-symbol-at-requires c κs = held_at _ _ _ c.before.before.before.before.before.before.requires _ _ (omega arith) c.number.ensures
+symbol-at-requires : tie.Need-symbol_at-y-requires invariant-loop decreases-loop
+symbol-at-requires c κs = held_at _ _ _ c.requires _ _ (omega arith) c.number.ensures
 
-raised-requires : tie.Need-raised-requires invariant-loop decreases-loop
+raised-requires : tie.Need-raised-most-requires invariant-loop decreases-loop
 raised-requires c κs = tt
 
-add-j : tie.Need-overflow-add-j invariant-loop decreases-loop
+add-j : tie.Need-overflow_add-j invariant-loop decreases-loop
 add-j c = omega arith
 
-loop-less : tie.Need-loop-smaller invariant-loop decreases-loop
+loop-less : tie.Need-loop-j-smaller invariant-loop decreases-loop
 loop-less c = omega arith
 
-loop-again : tie.Need-loop-preserved invariant-loop decreases-loop
+loop-again : tie.Need-loop-j-preserved invariant-loop decreases-loop
 loop-again c =
-    let a = c.before.before.before.before.before.before.before.before.args in
-    let l = c.before.before.before.before.loop in
-    let e : c.raised.result ≡ raise l.most (symbol_of a.b.now a.places.now (get_or a.part.now l.j 0)) =
-    c.raised.ensures ∙ ap (raise l.most) (c.before.symbol_at_lem.ensures ∙ ap (symbol_of a.b.now a.places.now) c.before.before.number.ensures) in
-    (omega arith, rw e (sym (highest_turn (symbol_of a.b.now a.places.now) a.part.now l.j l.most c.before.before.before.loop-test.true) ∙ l.invariant.1))
+    let a = c.args in
+    let l = c.loop-j in
+    let e : c.raised-most.result ≡ raise l.most (symbol_of a.b.now a.places.now (get_or a.part.now l.j 0)) =
+    c.raised-most.ensures ∙ ap (raise l.most) (c.symbol_at-y.ensures ∙ ap (symbol_of a.b.now a.places.now) c.number.ensures) in
+    (omega arith, rw e (sym (highest_turn (symbol_of a.b.now a.places.now) a.part.now l.j l.most c.loop-j-test.true) ∙ l.invariant.1))
 
 returns : tie.Need-returns invariant-loop decreases-loop
-returns c = sym (highest_end _ _ _ _ c.loop-test.false) ∙ c.before.loop.invariant.1
+returns c = sym (highest_end _ _ _ _ c.loop-j-test.false) ∙ c.loop-j.invariant.1
 
-pub highest-of-spec : {M : Type 1} → statement M
-highest-of-spec =
+pub highest_of_spec : {M : Type 1} → statement M
+highest_of_spec =
     tie.close
     (tie.spec
     invariant-loop

@@ -30,81 +30,81 @@ invariant-loop b places order objects section address j₀ j =
 abbrev decreases-loop : tie.decreases-loop
 decreases-loop b places order objects section address j₀ j = j
 
-abbrev start : tie.After-symbol-at invariant-loop decreases-loop → tie.Start invariant-loop decreases-loop
+abbrev start : tie.After-symbol_at-y invariant-loop decreases-loop → tie.Start invariant-loop decreases-loop
 start c = c.before.before.before.before.before.before.before.before.before
 
 -- the symbol at j - 1
-abbrev here : tie.After-symbol-at invariant-loop decreases-loop → ℕ
-here c = get_or (start c).args.order.now (c.before.before.before.loop.j - 1) 0
+abbrev here : tie.After-symbol_at-y invariant-loop decreases-loop → ℕ
+here c = get_or (start c).args.order.now (c.loop-j.j - 1) 0
 
-is-here : (c : tie.After-symbol-at invariant-loop decreases-loop) → c.symbol_at_lem.result ≡ symbol_of (start c).args.b.now (start c).args.places.now (here c)
-is-here c = c.symbol_at_lem.ensures ∙ ap (symbol_of (start c).args.b.now (start c).args.places.now) c.before.number.ensures
+is-here : (c : tie.After-symbol_at-y invariant-loop decreases-loop) → c.symbol_at-y.result ≡ symbol_of (start c).args.b.now (start c).args.places.now (here c)
+is-here c = c.symbol_at-y.ensures ∙ ap (symbol_of (start c).args.b.now (start c).args.places.now) c.number-i.ensures
 
 -- what is kept to before j, if the symbol at j - 1 passes the test or fails it
-turn : (c : tie.After-is-sized-unstripped invariant-loop decreases-loop)
+turn : (c : tie.After-is_sized_unstripped invariant-loop decreases-loop)
     → let a = (start c.before.before.before).args in
-    let j = c.before.before.before.before.before.before.loop.j in
+    let j = c.loop-j.j in
     kept a.b.now a.places.now a.order.now a.objects a.section j
     ≡ cond c.is_sized_unstripped.result (At (here c.before.before.before)) (kept a.b.now a.places.now a.order.now a.objects a.section (j - 1))
 turn c =
     let r = c.before.before.before in
     let s = start r in
-    let l = r.before.before.before.loop in
-    let h = section_begun _ _ _ s.pre (λ j. (c.before.before.before.before.before.before.before.before.before.before.before.shared-slice-known.given j).fits) s.args.section (l.j - 1) _ (omega arith) (is-here r) c.before.if1.false in
+    let l = r.loop-j in
+    let h = section_begun _ _ _ s.requires (λ j. (c.shared_slice_known-1.given j).fits) s.args.section (l.j - 1) _ (omega arith) (is-here r) c.if-y-section.false in
     last_from_lem _ _ _ l.j (omega (arith, h)) l.invariant.0
     ∙ ap (λ (t : Bool). cond t (At (here r)) (kept s.args.b.now s.args.places.now s.args.order.now s.args.objects s.args.section (l.j - 1)))
     (sym (c.is_sized_unstripped.ensures ∙ ap (sized_unstripped s.args.objects) (is-here r)))
 
-key-of-requires : tie.Need-key-of-requires invariant-loop decreases-loop
+key-of-requires : tie.Need-key_of-requires invariant-loop decreases-loop
 key-of-requires c κs = tt
 
-first-at-requires : tie.Need-first-at-requires invariant-loop decreases-loop
-first-at-requires c κs = c.before.before.before.before.requires
+first-at-requires : tie.Need-first_at-j-requires invariant-loop decreases-loop
+first-at-requires c κs = c.requires
 
-loop-holds : tie.Need-loop-init invariant-loop decreases-loop
+loop-holds : tie.Need-loop-j-init invariant-loop decreases-loop
 loop-holds c =
-    let s = c.before.before.before.before.before in
+    let s = c in
     let a = s.args in (
-      c.first_at.ensures.small,
+      c.first_at-j.ensures.small,
       ap (λ (l : List ℕ). last_or Nothing (keep_if (λ i. sized_unstripped a.objects (symbol_of a.b.now a.places.now i)) l))
-          (part-some _ _ _ s.requires (key a.section 0) _ _ _ refl c.first_at.ensures.is
-          ∙ below-part _ _ _ s.requires (λ j. (c.before.before.before.before.shared-slice-known.given j).fits) a.section _ _ a.address (omega arith) c.before.key_of_lem.ensures.is refl),
+          (part-some _ _ _ s.requires (key a.section 0) _ _ _ refl c.first_at-j.ensures.is
+          ∙ below-part _ _ _ s.requires (λ j. (c.shared_slice_known-1.given j).fits) a.section _ _ a.address (omega arith) c.key_of.ensures.is refl),
     )
 
-sub-j : tie.Need-overflow-sub-j invariant-loop decreases-loop
+sub-j : tie.Need-overflow_sub-j invariant-loop decreases-loop
 sub-j c = omega arith
 
-number-requires : tie.Need-number-requires invariant-loop decreases-loop
+number-requires : tie.Need-number-i-requires invariant-loop decreases-loop
 number-requires c κs = omega arith
 
-symbol-at-requires : tie.Need-symbol-at-requires invariant-loop decreases-loop
-symbol-at-requires c κs = held_at _ _ _ (order_readable _ _ _ c.before.before.before.before.before.before.before.before.requires) _ _ (omega arith) c.number.ensures
+symbol-at-requires : tie.Need-symbol_at-y-requires invariant-loop decreases-loop
+symbol-at-requires c κs = held_at _ _ _ (order_readable _ _ _ c.requires) _ _ (omega arith) c.number-i.ensures
 
-returns : tie.Need-returns invariant-loop decreases-loop
+returns : tie.Need-returns-then-y-section invariant-loop decreases-loop
 returns c =
     let r = c.before.before in
     let s = start r in
-    let l = r.before.before.before.loop in
-    let h = section_later _ _ _ s.pre (λ j. (c.before.before.before.before.before.before.before.before.before.before.shared-slice-known.given j).fits) s.args.section (l.j - 1) _ (omega arith) (is-here r) c.if1.true in
+    let l = r.loop-j in
+    let h = section_later _ _ _ s.requires (λ j. (c.shared_slice_known-1.given j).fits) s.args.section (l.j - 1) _ (omega arith) (is-here r) c.if-y-section.true in
     sym (last_none _ _ _ l.j (omega (arith, h))) ∙ l.invariant.1
 
-is-sized-unstripped-requires : tie.Need-is-sized-unstripped-requires invariant-loop decreases-loop
+is-sized-unstripped-requires : tie.Need-is_sized_unstripped-requires invariant-loop decreases-loop
 is-sized-unstripped-requires c κs = tt
 
-returns-2 : tie.Need-returns-2 invariant-loop decreases-loop
-returns-2 c = ap At c.before.before.before.before.before.number.ensures ∙ sym (turn c.before ∙ rw c.if2.true) ∙ c.before.before.before.before.before.before.before.loop.invariant.1
+returns-2 : tie.Need-returns-then-is_sized_unstripped invariant-loop decreases-loop
+returns-2 c = ap At c.number-i.ensures ∙ sym (turn c.before ∙ rw c.if-is_sized_unstripped.true) ∙ c.loop-j.invariant.1
 
-loop-less : tie.Need-loop-smaller invariant-loop decreases-loop
+loop-less : tie.Need-loop-j-smaller invariant-loop decreases-loop
 loop-less c = omega arith
 
-loop-again : tie.Need-loop-preserved invariant-loop decreases-loop
-loop-again c = (omega arith, sym (turn c.before ∙ rw c.if2.false) ∙ c.before.before.before.before.before.before.before.loop.invariant.1)
+loop-again : tie.Need-loop-j-preserved invariant-loop decreases-loop
+loop-again c = (omega arith, sym (turn c.before ∙ rw c.if-is_sized_unstripped.false) ∙ c.loop-j.invariant.1)
 
-returns-3 : tie.Need-returns-3 invariant-loop decreases-loop
-returns-3 c = let l = c.before.loop in sym (last_none _ _ _ l.j (omega arith)) ∙ l.invariant.1
+returns-3 : tie.Need-returns invariant-loop decreases-loop
+returns-3 c = let l = c.loop-j in sym (last_none _ _ _ l.j (omega arith)) ∙ l.invariant.1
 
-pub last-below-spec : {M : Type 1} → statement M
-last-below-spec =
+pub last_below_spec : {M : Type 1} → statement M
+last_below_spec =
     tie.close
     (tie.spec
     invariant-loop

@@ -27,50 +27,50 @@ abbrev kept : (s : tie.Start invariant-loop decreases-loop) → ℕ → Found
 kept s j = last_or Nothing (keep_if (λ i. sized_unstripped s.args.objects (symbol_of s.args.b.now s.args.places.now i)) (take j s.args.part.now))
 
 -- the symbol at j - 1
-abbrev here : (c : tie.After-is-sized-unstripped invariant-loop decreases-loop) → ℕ
-here c = get_or c.before.before.before.before.before.before.before.before.args.part.now (c.before.before.before.before.loop.j - 1) 0
+abbrev here : (c : tie.After-is_sized_unstripped invariant-loop decreases-loop) → ℕ
+here c = get_or c.args.part.now (c.loop-j.j - 1) 0
 
-abbrev passes : (c : tie.After-is-sized-unstripped invariant-loop decreases-loop) → Bool
-passes c = let s = c.before.before.before.before.before.before.before.before.args in sized_unstripped s.objects (symbol_of s.b.now s.places.now (here c))
+abbrev passes : (c : tie.After-is_sized_unstripped invariant-loop decreases-loop) → Bool
+passes c = let s = c.args in sized_unstripped s.objects (symbol_of s.b.now s.places.now (here c))
 
-tested : (c : tie.After-is-sized-unstripped invariant-loop decreases-loop) → passes c ≡ c.is_sized_unstripped.result
+tested : (c : tie.After-is_sized_unstripped invariant-loop decreases-loop) → passes c ≡ c.is_sized_unstripped.result
 tested c =
-    let s = c.before.before.before.before.before.before.before.before.args in
-    sym (c.is_sized_unstripped.ensures ∙ ap (sized_unstripped s.objects) (c.before.symbol_at_lem.ensures ∙ ap (symbol_of s.b.now s.places.now) c.before.before.number.ensures))
+    let s = c.args in
+    sym (c.is_sized_unstripped.ensures ∙ ap (sized_unstripped s.objects) (c.symbol_at.ensures ∙ ap (symbol_of s.b.now s.places.now) c.number-i.ensures))
 
-turn : (c : tie.After-is-sized-unstripped invariant-loop decreases-loop) → kept c.before.before.before.before.before.before.before.before c.before.before.before.before.loop.j ≡ cond (passes c) (At (here c)) (kept c.before.before.before.before.before.before.before.before (c.before.before.before.before.loop.j - 1))
-turn c = last_turn _ _ _ _ c.before.before.before.loop-test.true c.before.before.before.before.loop.invariant.0
+turn : (c : tie.After-is_sized_unstripped invariant-loop decreases-loop) → kept c.before.before.before.before.before.before.before.before c.loop-j.j ≡ cond (passes c) (At (here c)) (kept c.before.before.before.before.before.before.before.before (c.loop-j.j - 1))
+turn c = last_turn _ _ _ _ c.loop-j-test.true c.loop-j.invariant.0
 
-loop-holds : tie.Need-loop-init invariant-loop decreases-loop
+loop-holds : tie.Need-loop-j-init invariant-loop decreases-loop
 loop-holds c = (omega arith, rw take-length)
 
-sub-j : tie.Need-overflow-sub-j invariant-loop decreases-loop
+sub-j : tie.Need-overflow_sub-j invariant-loop decreases-loop
 sub-j c = omega arith
 
-number-requires : tie.Need-number-requires invariant-loop decreases-loop
+number-requires : tie.Need-number-i-requires invariant-loop decreases-loop
 number-requires c κs = omega arith
 
-symbol-at-requires : tie.Need-symbol-at-requires invariant-loop decreases-loop
-symbol-at-requires c κs = held_at _ _ _ c.before.before.before.before.before.before.requires _ _ (omega arith) c.number.ensures
+symbol-at-requires : tie.Need-symbol_at-requires invariant-loop decreases-loop
+symbol-at-requires c κs = held_at _ _ _ c.requires _ _ (omega arith) c.number-i.ensures
 
-is-sized-unstripped-requires : tie.Need-is-sized-unstripped-requires invariant-loop decreases-loop
+is-sized-unstripped-requires : tie.Need-is_sized_unstripped-requires invariant-loop decreases-loop
 is-sized-unstripped-requires c κs = tt
 
-returns : tie.Need-returns invariant-loop decreases-loop
-returns c = ap At c.before.before.before.number.ensures ∙ sym (turn c.before ∙ rw (tested c.before ∙ c.if1.true)) ∙ c.before.before.before.before.before.loop.invariant.1
+returns : tie.Need-returns-then-is_sized_unstripped invariant-loop decreases-loop
+returns c = ap At c.number-i.ensures ∙ sym (turn c.before ∙ rw (tested c.before ∙ c.if-is_sized_unstripped.true)) ∙ c.loop-j.invariant.1
 
-loop-less : tie.Need-loop-smaller invariant-loop decreases-loop
+loop-less : tie.Need-loop-j-smaller invariant-loop decreases-loop
 loop-less c = omega arith
 
-loop-again : tie.Need-loop-preserved invariant-loop decreases-loop
-loop-again c = (omega arith, sym (turn c.before ∙ rw (tested c.before ∙ c.if1.false)) ∙ c.before.before.before.before.before.loop.invariant.1)
+loop-again : tie.Need-loop-j-preserved invariant-loop decreases-loop
+loop-again c = (omega arith, sym (turn c.before ∙ rw (tested c.before ∙ c.if-is_sized_unstripped.false)) ∙ c.loop-j.invariant.1)
 
-returns-2 : tie.Need-returns-2 invariant-loop decreases-loop
+returns-2 : tie.Need-returns invariant-loop decreases-loop
 unfolding last_or keep_if
-returns-2 c = let z : c.before.loop.j ≡ 0 = omega arith in sym (ap (λ (m : ℕ). last_or Nothing (keep_if (λ i. sized_unstripped c.before.before.before.before.before.args.objects (symbol_of c.before.before.before.before.before.args.b.now c.before.before.before.before.before.args.places.now i)) (take m c.before.before.before.before.before.args.part.now))) z) ∙ c.before.loop.invariant.1
+returns-2 c = let z : c.loop-j.j ≡ 0 = omega arith in sym (ap (λ (m : ℕ). last_or Nothing (keep_if (λ i. sized_unstripped c.args.objects (symbol_of c.args.b.now c.args.places.now i)) (take m c.args.part.now))) z) ∙ c.loop-j.invariant.1
 
-pub last-of-spec : {M : Type 1} → statement M
-last-of-spec =
+pub last_of_spec : {M : Type 1} → statement M
+last_of_spec =
     tie.close
     (tie.spec
     invariant-loop

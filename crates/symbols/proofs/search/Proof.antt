@@ -18,46 +18,46 @@ invariant-loop b places order from to key lo₀ hi₀ lo hi =
 abbrev decreases-loop : tie.decreases-loop
 decreases-loop b places order from to key lo₀ hi₀ lo hi = hi - lo
 
-loop-holds : tie.Need-loop-init invariant-loop decreases-loop
-loop-holds c = let p = c.before.before.before.requires in (p.1, p.2, p.3)
+loop-holds : tie.Need-loop-lo-init invariant-loop decreases-loop
+loop-holds c = let p = c.requires in (p.1, p.2, p.3)
 
-sub-mid : tie.Need-overflow-sub-mid invariant-loop decreases-loop
+sub-mid : tie.Need-overflow_sub-mid invariant-loop decreases-loop
 sub-mid c = omega arith
 
-add-mid : tie.Need-overflow-add-mid invariant-loop decreases-loop
+add-mid : tie.Need-overflow_add-mid invariant-loop decreases-loop
 add-mid c = omega arith
 
-key-in-requires : tie.Need-key-in-requires invariant-loop decreases-loop
-key-in-requires c κs = (omega arith, order_readable _ _ _ c.before.before.before.before.before.requires.0)
+key-in-requires : tie.Need-key_in-requires invariant-loop decreases-loop
+key-in-requires c κs = (omega arith, order_readable _ _ _ c.requires.0)
 
-add-lo : tie.Need-overflow-add-lo invariant-loop decreases-loop
+add-lo : tie.Need-overflow_add-lo invariant-loop decreases-loop
 add-lo c = omega arith
 
-loop-less : tie.Need-loop-smaller invariant-loop decreases-loop
+loop-less : tie.Need-loop-lo-smaller-then-key_in-key invariant-loop decreases-loop
 loop-less c = omega arith
 
-loop-again : tie.Need-loop-preserved invariant-loop decreases-loop
+loop-again : tie.Need-loop-lo-preserved-then-key_in-key invariant-loop decreases-loop
 loop-again c =
-    let s = c.before.before.before.before.before.before.before in
-    let l = c.before.before.before.loop in
-    let h = place_above (key_at s.args.b.now s.args.places.now) s.args.key s.args.order.now (l.lo + (l.hi - l.lo) / 2) 0 (order_sorted _ _ _ s.requires.0) (omega arith) (omega (arith, c.before.key_in.ensures)) in
+    let s = c in
+    let l = c.loop-lo in
+    let h = place_above (key_at s.args.b.now s.args.places.now) s.args.key s.args.order.now (l.lo + (l.hi - l.lo) / 2) 0 (order_sorted _ _ _ s.requires.0) (omega arith) (omega (arith, c.key_in.ensures)) in
     (omega (arith, h), l.invariant.1, l.invariant.2)
 
-loop-less-2 : tie.Need-loop-smaller-2 invariant-loop decreases-loop
+loop-less-2 : tie.Need-loop-lo-smaller invariant-loop decreases-loop
 loop-less-2 c = omega arith
 
-loop-again-2 : tie.Need-loop-preserved-2 invariant-loop decreases-loop
+loop-again-2 : tie.Need-loop-lo-preserved invariant-loop decreases-loop
 loop-again-2 c =
-    let s = c.before.before.before.before.before.before.before in
-    let l = c.before.before.before.loop in
-    let h = place-below (key_at s.args.b.now s.args.places.now) s.args.key s.args.order.now (l.lo + (l.hi - l.lo) / 2) 0 (omega arith) (omega (arith, c.before.key_in.ensures)) in
+    let s = c in
+    let l = c.loop-lo in
+    let h = place-below (key_at s.args.b.now s.args.places.now) s.args.key s.args.order.now (l.lo + (l.hi - l.lo) / 2) 0 (omega arith) (omega (arith, c.key_in.ensures)) in
     (l.invariant.0, h, omega arith)
 
 returns : tie.Need-returns invariant-loop decreases-loop
 returns c = record { is = omega arith; small = omega arith }
 
-pub search-spec : {M : Type 1} → statement M
-search-spec =
+pub search_spec : {M : Type 1} → statement M
+search_spec =
     tie.close
     (tie.spec
     invariant-loop

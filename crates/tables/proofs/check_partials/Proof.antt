@@ -15,32 +15,32 @@ invariant-loop lengths b places i₀ i = Going (partial_fault lengths (partials_
 abbrev decreases-loop : tie.decreases-loop
 decreases-loop lengths b places i₀ i = length places - i
 
-loop-holds : tie.Need-loop-init invariant-loop decreases-loop
+loop-holds : tie.Need-loop-i-init invariant-loop decreases-loop
 loop-holds c = going
 
-partial-fault-requires : tie.Need-partial-fault-requires invariant-loop decreases-loop
-partial-fault-requires c κs = held c.before.before.before.before.before.requires _ c.loop-test.true
+partial-fault-requires : tie.Need-partial_fault-number-requires invariant-loop decreases-loop
+partial-fault-requires c κs = held c.requires _ c.loop-i-test.true
 
-cast-t8 : tie.Need-overflow-cast-t8 invariant-loop decreases-loop
-cast-t8 c = omega (arith, c.before.before.before.before.before.before.before.requires.few)
+cast-t8 : tie.Need-overflow_cast-result invariant-loop decreases-loop
+cast-t8 c = omega (arith, c.requires.few)
 
-returns : tie.Need-returns invariant-loop decreases-loop
-returns c = stops c.before.before.before.loop.invariant c.before.before.loop-test.true c.before.partial_fault.ensures c.if1.true
+returns : tie.Need-returns-then-number-gt0 invariant-loop decreases-loop
+returns c = stops c.loop-i.invariant c.loop-i-test.true c.partial_fault-number.ensures c.if-number-gt0.true
 
-add-i : tie.Need-overflow-add-i invariant-loop decreases-loop
+add-i : tie.Need-overflow_add-i invariant-loop decreases-loop
 add-i c = omega arith
 
-loop-less : tie.Need-loop-smaller invariant-loop decreases-loop
+loop-less : tie.Need-loop-i-smaller invariant-loop decreases-loop
 loop-less c = omega arith
 
-loop-again : tie.Need-loop-preserved invariant-loop decreases-loop
-loop-again c = goes_on c.before.before.before.loop.invariant c.before.before.loop-test.true c.before.partial_fault.ensures c.if1.false
+loop-again : tie.Need-loop-i-preserved invariant-loop decreases-loop
+loop-again c = goes_on c.loop-i.invariant c.loop-i-test.true c.partial_fault-number.ensures c.if-number-gt0.false
 
-returns-2 : tie.Need-returns-2 invariant-loop decreases-loop
-returns-2 c = passes_all c.before.loop.invariant c.loop-test.false
+returns-2 : tie.Need-returns invariant-loop decreases-loop
+returns-2 c = passes_all c.loop-i.invariant c.loop-i-test.false
 
-pub check-partials-spec : {M : Type 1} → statement M
-check-partials-spec =
+pub check_partials_spec : {M : Type 1} → statement M
+check_partials_spec =
     tie.close
     (tie.spec
     invariant-loop

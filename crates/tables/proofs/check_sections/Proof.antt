@@ -15,32 +15,32 @@ invariant-loop lengths b places i₀ i = Going (section_fault lengths (sections_
 abbrev decreases-loop : tie.decreases-loop
 decreases-loop lengths b places i₀ i = length places - i
 
-loop-holds : tie.Need-loop-init invariant-loop decreases-loop
+loop-holds : tie.Need-loop-i-init invariant-loop decreases-loop
 loop-holds c = going
 
-section-fault-requires : tie.Need-section-fault-requires invariant-loop decreases-loop
-section-fault-requires c κs = held c.before.before.before.before.before.requires _ c.loop-test.true
+section-fault-requires : tie.Need-section_fault-number-requires invariant-loop decreases-loop
+section-fault-requires c κs = held c.requires _ c.loop-i-test.true
 
-cast-t8 : tie.Need-overflow-cast-t8 invariant-loop decreases-loop
-cast-t8 c = omega (arith, c.before.before.before.before.before.before.before.requires.few)
+cast-t8 : tie.Need-overflow_cast-result invariant-loop decreases-loop
+cast-t8 c = omega (arith, c.requires.few)
 
-returns : tie.Need-returns invariant-loop decreases-loop
-returns c = stops c.before.before.before.loop.invariant c.before.before.loop-test.true c.before.section_fault.ensures c.if1.true
+returns : tie.Need-returns-then-number-gt0 invariant-loop decreases-loop
+returns c = stops c.loop-i.invariant c.loop-i-test.true c.section_fault-number.ensures c.if-number-gt0.true
 
-add-i : tie.Need-overflow-add-i invariant-loop decreases-loop
+add-i : tie.Need-overflow_add-i invariant-loop decreases-loop
 add-i c = omega arith
 
-loop-less : tie.Need-loop-smaller invariant-loop decreases-loop
+loop-less : tie.Need-loop-i-smaller invariant-loop decreases-loop
 loop-less c = omega arith
 
-loop-again : tie.Need-loop-preserved invariant-loop decreases-loop
-loop-again c = goes_on c.before.before.before.loop.invariant c.before.before.loop-test.true c.before.section_fault.ensures c.if1.false
+loop-again : tie.Need-loop-i-preserved invariant-loop decreases-loop
+loop-again c = goes_on c.loop-i.invariant c.loop-i-test.true c.section_fault-number.ensures c.if-number-gt0.false
 
-returns-2 : tie.Need-returns-2 invariant-loop decreases-loop
-returns-2 c = passes_all c.before.loop.invariant c.loop-test.false
+returns-2 : tie.Need-returns invariant-loop decreases-loop
+returns-2 c = passes_all c.loop-i.invariant c.loop-i-test.false
 
-pub check-sections-spec : {M : Type 1} → statement M
-check-sections-spec =
+pub check_sections_spec : {M : Type 1} → statement M
+check_sections_spec =
     tie.close
     (tie.spec
     invariant-loop

@@ -14,32 +14,32 @@ invariant-loop lengths heads head_places b places i₀ i = Going (split_fault le
 abbrev decreases-loop : tie.decreases-loop
 decreases-loop lengths heads head_places b places i₀ i = length places - i
 
-loop-holds : tie.Need-loop-init invariant-loop decreases-loop
+loop-holds : tie.Need-loop-i-init invariant-loop decreases-loop
 loop-holds c = going
 
-split-fault-requires : tie.Need-split-fault-requires invariant-loop decreases-loop
-split-fault-requires c κs = (c.before.before.before.before.before.before.before.requires.0, c.before.before.before.before.before.before.before.requires.1, c.loop-test.true)
+split-fault-requires : tie.Need-split_fault-number-requires invariant-loop decreases-loop
+split-fault-requires c κs = (c.requires.0, c.requires.1, c.loop-i-test.true)
 
-cast-t10 : tie.Need-overflow-cast-t10 invariant-loop decreases-loop
-cast-t10 c = omega (arith, c.before.before.before.before.before.before.before.before.before.requires.1.few)
+cast-t10 : tie.Need-overflow_cast-result invariant-loop decreases-loop
+cast-t10 c = omega (arith, c.requires.1.few)
 
-returns : tie.Need-returns invariant-loop decreases-loop
-returns c = stops c.before.before.before.loop.invariant c.before.before.loop-test.true c.before.split_fault.ensures c.if1.true
+returns : tie.Need-returns-then-number-gt0 invariant-loop decreases-loop
+returns c = stops c.loop-i.invariant c.loop-i-test.true c.split_fault-number.ensures c.if-number-gt0.true
 
-add-i : tie.Need-overflow-add-i invariant-loop decreases-loop
+add-i : tie.Need-overflow_add-i invariant-loop decreases-loop
 add-i c = omega arith
 
-loop-less : tie.Need-loop-smaller invariant-loop decreases-loop
+loop-less : tie.Need-loop-i-smaller invariant-loop decreases-loop
 loop-less c = omega arith
 
-loop-again : tie.Need-loop-preserved invariant-loop decreases-loop
-loop-again c = goes_on c.before.before.before.loop.invariant c.before.before.loop-test.true c.before.split_fault.ensures c.if1.false
+loop-again : tie.Need-loop-i-preserved invariant-loop decreases-loop
+loop-again c = goes_on c.loop-i.invariant c.loop-i-test.true c.split_fault-number.ensures c.if-number-gt0.false
 
-returns-2 : tie.Need-returns-2 invariant-loop decreases-loop
-returns-2 c = passes_all c.before.loop.invariant c.loop-test.false
+returns-2 : tie.Need-returns invariant-loop decreases-loop
+returns-2 c = passes_all c.loop-i.invariant c.loop-i-test.false
 
-pub check-splits-spec : {M : Type 1} → statement M
-check-splits-spec =
+pub check_splits_spec : {M : Type 1} → statement M
+check_splits_spec =
     tie.close
     (tie.spec
     invariant-loop

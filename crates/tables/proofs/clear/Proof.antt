@@ -16,29 +16,29 @@ invariant-loop column₀ i₀ column i = (length column ≡ length column₀) ×
 abbrev decreases-loop : tie.decreases-loop
 decreases-loop column₀ i₀ column i = length column₀ - i
 
-loop-holds : tie.Need-loop-init invariant-loop decreases-loop
+loop-holds : tie.Need-loop-i-init invariant-loop decreases-loop
 loop-holds c = (refl, refl)
 
-mul-column : tie.Need-overflow-mul-column invariant-loop decreases-loop
+mul-column : tie.Need-offset_bounds-column-i invariant-loop decreases-loop
 mul-column c = omega arith
 
-slice-write-column : tie.Need-slice-write-column invariant-loop decreases-loop
+slice-write-column : tie.Need-bounds-column-i invariant-loop decreases-loop
 slice-write-column c = omega arith
 
-add-i : tie.Need-overflow-add-i invariant-loop decreases-loop
+add-i : tie.Need-overflow_add-i invariant-loop decreases-loop
 add-i c = omega arith
 
-loop-less : tie.Need-loop-smaller invariant-loop decreases-loop
+loop-less : tie.Need-loop-i-smaller invariant-loop decreases-loop
 loop-less c = omega arith
 
-loop-again : tie.Need-loop-preserved invariant-loop decreases-loop
-loop-again c = (simp length-set (omega arith), sym (clear_turn 0 _ _ c.loop-test.true) ∙ c.before.loop.invariant.1)
+loop-again : tie.Need-loop-i-preserved invariant-loop decreases-loop
+loop-again c = (simp length-set (omega arith), sym (clear_turn 0 _ _ c.loop-i-test.true) ∙ c.loop-i.invariant.1)
 
-same_length : tie.Need-same-length invariant-loop decreases-loop
+same_length : tie.Need-shape_of-column invariant-loop decreases-loop
 same_length c = omega arith
 
 returns : tie.Need-returns invariant-loop decreases-loop
-returns c = sym (clear_done 0 _ _ c.loop-test.false) ∙ c.before.loop.invariant.1 ∙ clear_is 0 0 _ ∙ rw sub-zero
+returns c = sym (clear_done 0 _ _ c.loop-i-test.false) ∙ c.loop-i.invariant.1 ∙ clear_is 0 0 _ ∙ rw sub-zero
 
 pub clear_spec : {M : Type 1} → statement M
 clear_spec =

@@ -8,18 +8,18 @@ use Rattle.tables.proofs.Lookups.{held, found}
 use Rattle.tables.proofs.section_or_none.Statement.{statement}
 use Rattle.tables.proofs.section_or_none.Tie as tie
 
-section-at-requires : tie.Need-section-at-requires
-section-at-requires c κs = held c.before.before.before.requires _ c.if1.true
+section-at-requires : tie.Need-section_at-requires
+section-at-requires c κs = held c.requires _ c.if-k-places.true
 
-returns : tie.Need-returns
+returns : tie.Need-returns-then-k-places
 returns c =
-    let s = c.before.before.before.before in
-    found (section_at s.args.b.now) s.args.places.now _ no_section c.before.if1.true c.section_at_lem.ensures
+    let s = c in
+    found (section_at s.args.b.now) s.args.places.now _ no_section c.if-k-places.true c.section_at.ensures
 
-returns-2 : tie.Need-returns-2
+returns-2 : tie.Need-returns
 returns-2 c =
-    let s = c.before.before.before in
-    sym (get_or-map_past (section_at s.args.b.now) s.args.places.now _ no_section c.if1.false)
+    let s = c in
+    sym (get_or-map_past (section_at s.args.b.now) s.args.places.now _ no_section c.if-k-places.false)
 
-pub section-or-none-spec : {M : Type 1} → statement M
-section-or-none-spec = tie.close (tie.spec section-at-requires returns returns-2)
+pub section_or_none_spec : {M : Type 1} → statement M
+section_or_none_spec = tie.close (tie.spec section-at-requires returns returns-2)

@@ -12,22 +12,22 @@ use borrow.Author.Rules.{rules}
 use Rattle.tables.proofs.split_before.Statement.{statement}
 use Rattle.tables.proofs.split_before.Tie as tie
 
-sub-split-at : tie.Need-overflow-sub-split-at
+sub-split-at : tie.Need-overflow_sub-k
 sub-split-at c = search rules
 
-split-at-requires : tie.Need-split-at-requires
-split-at-requires c κs = held c.before.before.before.requires.0 _ (omega arith)
+split-at-requires : tie.Need-split_at-requires
+split-at-requires c κs = held c.requires.0 _ (omega arith)
 
-returns : tie.Need-returns
+returns : tie.Need-returns-then-k-ne0
 unfolding split_before
 returns c =
-    let s = c.before.before.before.before in
-    by_false _ _ (ne_eqb _ _ c.before.if1.true)
+    let s = c in
+    by_false _ _ (ne_eqb _ _ c.if-k-ne0.true)
     (found (split_at s.args.b.now) s.args.places.now (s.args.k - 1) no_split (omega arith) c.split_at.ensures)
 
-returns-2 : tie.Need-returns-2
+returns-2 : tie.Need-returns
 unfolding split_before
-returns-2 c = by_true _ _ (eq-eqb _ _ c.if1.false) refl
+returns-2 c = by_true _ _ (eq-eqb _ _ c.if-k-ne0.false) refl
 
-pub split-before-spec : {M : Type 1} → statement M
-split-before-spec = tie.close (tie.spec sub-split-at split-at-requires returns returns-2)
+pub split_before_spec : {M : Type 1} → statement M
+split_before_spec = tie.close (tie.spec sub-split-at split-at-requires returns returns-2)

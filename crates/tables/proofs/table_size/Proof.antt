@@ -7,27 +7,27 @@ use borrow.Author.Rules.{rules}
 use Rattle.tables.proofs.table_size.Statement.{statement}
 use Rattle.tables.proofs.table_size.Tie as tie
 
-div-n : tie.Need-nonzero-div-n
+div-n : tie.Need-nonzero_div-n
 div-n c = search rules
 
-rem-if1 : tie.Need-nonzero-rem-if1
+rem-if1 : tie.Need-nonzero_rem-size
 rem-if1 c = search rules
 
-place-of-requires : tie.Need-place-of-requires
+place-of-requires : tie.Need-place_of-requires
 place-of-requires c κs = search rules
 
-returns : tie.Need-returns
-returns c = ap (refused 1 0) c.place_of.ensures ∙ size_cut _ _ _ c.before.if1.true
+returns : tie.Need-returns-then-size-width-ne0
+returns c = ap (refused 1 0) c.place_of.ensures ∙ size_cut _ _ _ c.if-size-width-ne0.true
 
-cast-t8 : tie.Need-overflow-cast-t8
+cast-t8 : tie.Need-overflow_cast-result
 cast-t8 c = search rules
 
-returns-2 : tie.Need-returns-2
-returns-2 c = size_over _ _ _ c.before.if1.false c.if2.true
+returns-2 : tie.Need-returns-then-ceiling-n
+returns-2 c = size_over _ _ _ c.if-size-width-ne0.false c.if-ceiling-n.true
 
-returns-3 : tie.Need-returns-3
-returns-3 c = size_good _ _ _ c.before.if1.false c.if2.false
+returns-3 : tie.Need-returns
+returns-3 c = size_good _ _ _ c.if-size-width-ne0.false c.if-ceiling-n.false
 
-pub table-size-spec : {M : Type 1} → statement M
-table-size-spec =
+pub table_size_spec : {M : Type 1} → statement M
+table_size_spec =
     tie.close (tie.spec div-n rem-if1 place-of-requires returns cast-t8 returns-2 returns-3)

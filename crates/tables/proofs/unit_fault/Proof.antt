@@ -5,32 +5,32 @@ use borrow.Author.Rules.{rules}
 use Rattle.tables.proofs.unit_fault.Statement.{statement}
 use Rattle.tables.proofs.unit_fault.Tie as tie
 
-unit-at-requires : tie.Need-unit-at-requires
+unit-at-requires : tie.Need-unit_at-u-requires
 unit-at-requires c κs = search rules
 
-cast-length-of : tie.Need-overflow-cast-length-of
+cast-length-of : tie.Need-overflow_cast-u
 cast-length-of c = search rules
 
-length-of-requires : tie.Need-length-of-requires
+length-of-requires : tie.Need-length_of-requires
 length-of-requires c κs = search rules
 
-unit-bad-requires : tie.Need-unit-bad-requires
+unit-bad-requires : tie.Need-unit_bad-requires
 unit-bad-requires c κs = search rules
 
-number-if-requires : tie.Need-number-if-requires
+number-if-requires : tie.Need-number_if-requires
 number-if-requires c κs = search rules
 
 returns : tie.Need-returns
 returns c =
-    let tested = c.before in
-    let looked = tested.before in
-    let read = looked.before.before in
-    let s = read.before.before.before.before in
-    unit_fault_is s.args.lengths.now s.args.b.now s.args.places.now _ s.requires.there read.unit_at_lem.ensures
+    let tested = c in
+    let looked = tested in
+    let read = looked in
+    let s = read in
+    unit_fault_is s.args.lengths.now s.args.b.now s.args.places.now _ s.requires.there read.unit_at-u.ensures
     looked.length_of.ensures tested.unit_bad.ensures c.number_if.ensures
 
-pub unit-fault-spec : {M : Type 1} → statement M
-unit-fault-spec =
+pub unit_fault_spec : {M : Type 1} → statement M
+unit_fault_spec =
     tie.close
     (tie.spec
     unit-at-requires

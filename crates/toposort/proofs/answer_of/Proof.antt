@@ -6,46 +6,46 @@ use borrow.Author.Rules.{rules}
 use Rattle.toposort.proofs.answer_of.Statement.{statement}
 use Rattle.toposort.proofs.answer_of.Tie as tie
 
-enum_told : tie.Need-enum-told
+enum_told : tie.Need-enum_told-1
 enum_told c = search rules
 
-enum-told-2 : tie.Need-enum-told-2
+enum-told-2 : tie.Need-enum_told-in-Cycle
 enum-told-2 c = search rules
 
 refusal-requires : tie.Need-refusal-requires
 refusal-requires c κs = search rules
 
-enum-known-r : tie.Need-enum-known-r
+enum-known-r : tie.Need-enum_known-r
 enum-known-r c = search rules
 
-cast-refusal : tie.Need-overflow-cast-refusal
+cast-refusal : tie.Need-overflow_cast-e
 cast-refusal c =
-    let low : carried c.before.before.before.args.r ≤ 2048 = c.before.before.before.requires in
-    omega (arith, rw c.before.r.given.1 at low)
+    let low : carried c.args.r ≤ 2048 = c.requires in
+    omega (arith, rw c.in-NoNode.is at low)
 
-refusal-requires-2 : tie.Need-refusal-requires-2
+refusal-requires-2 : tie.Need-refusal-requires-in-NoNode
 refusal-requires-2 c κs = search rules
 
-enum-told-3 : tie.Need-enum-told-3
+enum-told-3 : tie.Need-enum_told-in-Short
 enum-told-3 c = search rules
 
-refusal-requires-3 : tie.Need-refusal-requires-3
+refusal-requires-3 : tie.Need-refusal-requires-in-Short
 refusal-requires-3 c κs = search rules
 
-returns : tie.Need-returns
+returns : tie.Need-returns-in-Ordered
 returns c = search rules
 
-returns-2 : tie.Need-returns-2
-returns-2 c = rw c.before.enum-told2.given.1 c.refusal.ensures
+returns-2 : tie.Need-returns-in-Cycle
+returns-2 c = rw c.in-Cycle.is c.refusal.ensures
 
-returns-3 : tie.Need-returns-3
-returns-3 c = rw c.before.before.r.given.1 c.refusal2.ensures
+returns-3 : tie.Need-returns-in-NoNode
+returns-3 c = rw c.in-NoNode.is c.refusal-in-NoNode.ensures
 
-returns-4 : tie.Need-returns-4
-returns-4 c = rw c.before.enum-told3.given.1 c.refusal3.ensures
+returns-4 : tie.Need-returns-in-Short
+returns-4 c = rw c.in-Short.is c.refusal-in-Short.ensures
 
-pub answer-of-spec : {M : Type 1} → statement M
-answer-of-spec =
+pub answer_of_spec : {M : Type 1} → statement M
+answer_of_spec =
     tie.close
     (tie.spec
     enum_told

@@ -16,50 +16,50 @@ invariant-loop n from to i₀ i = (i ≤ length from) × (bad_edge n from to ≡
 abbrev decreases-loop : tie.decreases-loop
 decreases-loop n from to i₀ i = length from - i
 
-loop-holds : tie.Need-loop-init invariant-loop decreases-loop
+loop-holds : tie.Need-loop-i-init invariant-loop decreases-loop
 loop-holds c = (omega arith, omega arith)
 
-mul-if1 : tie.Need-overflow-mul-if1 invariant-loop decreases-loop
+mul-if1 : tie.Need-offset_bounds-from-i invariant-loop decreases-loop
 mul-if1 c = omega arith
 
-shared-slice-read-if1 : tie.Need-shared-slice-read-if1 invariant-loop decreases-loop
+shared-slice-read-if1 : tie.Need-bounds-from-i invariant-loop decreases-loop
 shared-slice-read-if1 c = omega arith
 
-cast-if1 : tie.Need-overflow-cast-if1 invariant-loop decreases-loop
-cast-if1 c = omega (arith, c.shared-slice-known.given c.before.before.loop.i)
+cast-if1 : tie.Need-overflow_cast-from invariant-loop decreases-loop
+cast-if1 c = omega (arith, c.shared_slice_known-1.given c.loop-i.i)
 
-returns : tie.Need-returns invariant-loop decreases-loop
-returns c = sym (c.before.before.before.loop.invariant.1 ∙ bad_from_lem _ _ _ _ (omega arith) (omega arith) c.if1.true)
+returns : tie.Need-returns-then-n-from invariant-loop decreases-loop
+returns c = sym (c.loop-i.invariant.1 ∙ bad_from_lem _ _ _ _ (omega arith) (omega arith) c.if-n-from.true)
 
-mul-if2 : tie.Need-overflow-mul-if2 invariant-loop decreases-loop
+mul-if2 : tie.Need-offset_bounds-to-i invariant-loop decreases-loop
 mul-if2 c = omega arith
 
-shared-slice-read-if2 : tie.Need-shared-slice-read-if2 invariant-loop decreases-loop
+shared-slice-read-if2 : tie.Need-bounds-to-i invariant-loop decreases-loop
 shared-slice-read-if2 c = omega arith
 
-cast-if2 : tie.Need-overflow-cast-if2 invariant-loop decreases-loop
-cast-if2 c = omega (arith, c.shared-slice-known2.given c.before.before.before.before.loop.i)
+cast-if2 : tie.Need-overflow_cast-to invariant-loop decreases-loop
+cast-if2 c = omega (arith, c.shared_slice_known-in-loop-i-1.given c.loop-i.i)
 
-returns-2 : tie.Need-returns-2 invariant-loop decreases-loop
-returns-2 c = sym (c.before.before.before.before.before.loop.invariant.1 ∙ bad_to _ _ _ _ (omega arith) (omega arith) (omega arith) c.if2.true)
+returns-2 : tie.Need-returns-then-n-to invariant-loop decreases-loop
+returns-2 c = sym (c.loop-i.invariant.1 ∙ bad_to _ _ _ _ (omega arith) (omega arith) (omega arith) c.if-n-to.true)
 
-add-i : tie.Need-overflow-add-i invariant-loop decreases-loop
+add-i : tie.Need-overflow_add-i invariant-loop decreases-loop
 add-i c = omega arith
 
-loop-less : tie.Need-loop-smaller invariant-loop decreases-loop
+loop-less : tie.Need-loop-i-smaller invariant-loop decreases-loop
 loop-less c = omega arith
 
-loop-again : tie.Need-loop-preserved invariant-loop decreases-loop
+loop-again : tie.Need-loop-i-preserved invariant-loop decreases-loop
 loop-again c = (
   search rules,
-  c.before.before.before.before.before.loop.invariant.1 ∙ bad_on _ _ _ _ (omega arith) (omega arith) (omega arith) (omega arith),
+  c.loop-i.invariant.1 ∙ bad_on _ _ _ _ (omega arith) (omega arith) (omega arith) (omega arith),
 )
 
-returns-3 : tie.Need-returns-3 invariant-loop decreases-loop
-returns-3 c = sym (c.before.loop.invariant.1 ∙ bad_end _ _ _ _ (omega arith))
+returns-3 : tie.Need-returns invariant-loop decreases-loop
+returns-3 c = sym (c.loop-i.invariant.1 ∙ bad_end _ _ _ _ (omega arith))
 
-pub bad-edge-spec : {M : Type 1} → statement M
-bad-edge-spec =
+pub bad_edge_spec : {M : Type 1} → statement M
+bad_edge_spec =
     tie.close
     (tie.spec
     invariant-loop

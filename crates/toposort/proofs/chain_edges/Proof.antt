@@ -16,77 +16,77 @@ abbrev decreases-loop : tie.decreases-loop
 decreases-loop from heads₀ chain₀ i₀ heads chain i = i
 
 -- the edge before `i` leaves a node
-starts : (c : tie.After-shared-slice-known2 invariant-loop decreases-loop)
-    → get_or c.before.before.before.before.before.before.before.before.before.before.args.from.now (c.before.before.loop.i - 1) 0 < 1024
+starts : (c : tie.After-shared_slice_known-in-loop-i-1 invariant-loop decreases-loop)
+    → get_or c.args.from.now (c.loop-i.i - 1) 0 < 1024
 starts c =
-    c.before.before.before.before.before.before.before.before.before.before.requires.starts (c.before.before.loop.i - 1)
-    (omega (arith, c.before.before.loop.invariant.0.within, c.before.loop-test.true))
+    c.requires.starts (c.loop-i.i - 1)
+    (omega (arith, c.loop-i.invariant.0.within, c.loop-i-test.true))
 
-cast-fill : tie.Need-overflow-cast-fill invariant-loop decreases-loop
+cast-fill : tie.Need-overflow_cast-from invariant-loop decreases-loop
 cast-fill c = omega arith
 
 fill-requires : tie.Need-fill-requires invariant-loop decreases-loop
 fill-requires c κs = search rules
 
-loop-holds : tie.Need-loop-init invariant-loop decreases-loop
+loop-holds : tie.Need-loop-i-init invariant-loop decreases-loop
 loop-holds c = (
-  chain_start _ _ _ _ c.before.before.before.before.before.before.before.requires.heads_long c.before.before.fill.ensures c.before.before.before.before.before.before.before.requires.chain_long,
+  chain_start _ _ _ _ c.requires.heads_long c.fill.ensures c.requires.chain_long,
   refl,
 )
 
-sub-i : tie.Need-overflow-sub-i invariant-loop decreases-loop
+sub-i : tie.Need-overflow_sub-i invariant-loop decreases-loop
 sub-i c = omega arith
 
-mul-v : tie.Need-overflow-mul-v invariant-loop decreases-loop
+mul-v : tie.Need-offset_bounds-from-i invariant-loop decreases-loop
 mul-v c = omega arith
 
-shared-slice-read-v : tie.Need-shared-slice-read-v invariant-loop decreases-loop
+shared-slice-read-v : tie.Need-bounds-from-i invariant-loop decreases-loop
 shared-slice-read-v c = omega arith
 
-cast-v : tie.Need-overflow-cast-v invariant-loop decreases-loop
+cast-v : tie.Need-overflow_cast-v invariant-loop decreases-loop
 cast-v c = omega (arith, starts c)
 
-mul-chain : tie.Need-overflow-mul-chain invariant-loop decreases-loop
+mul-chain : tie.Need-offset_bounds-heads-v invariant-loop decreases-loop
 mul-chain c = omega (arith, starts c)
 
-slice-read-chain : tie.Need-slice-read-chain invariant-loop decreases-loop
-slice-read-chain c = omega (arith, starts c.before, c.before.before.before.loop.invariant.0.heads_long)
+slice-read-chain : tie.Need-bounds-heads-v invariant-loop decreases-loop
+slice-read-chain c = omega (arith, starts c.before, c.loop-i.invariant.0.heads_long)
 
-mul-chain-2 : tie.Need-overflow-mul-chain-2 invariant-loop decreases-loop
+mul-chain-2 : tie.Need-offset_bounds-chain-i invariant-loop decreases-loop
 mul-chain-2 c = omega arith
 
-slice-write-chain : tie.Need-slice-write-chain invariant-loop decreases-loop
+slice-write-chain : tie.Need-bounds-chain-i invariant-loop decreases-loop
 slice-write-chain c = omega arith
 
-cast-heads : tie.Need-overflow-cast-heads invariant-loop decreases-loop
-cast-heads c = omega (arith, c.before.before.before.loop.invariant.0.within, c.before.before.before.before.before.before.before.before.before.before.before.requires.few)
+cast-heads : tie.Need-overflow_cast-heads invariant-loop decreases-loop
+cast-heads c = omega (arith, c.loop-i.invariant.0.within, c.requires.few)
 
-mul-heads : tie.Need-overflow-mul-heads invariant-loop decreases-loop
+mul-heads : tie.Need-offset_bounds-heads-v-in-loop-i invariant-loop decreases-loop
 mul-heads c = omega (arith, starts c.before)
 
-slice-write-heads : tie.Need-slice-write-heads invariant-loop decreases-loop
-slice-write-heads c = omega (arith, starts c.before, c.before.before.before.loop.invariant.0.heads_long)
+slice-write-heads : tie.Need-bounds-heads-v-in-loop-i invariant-loop decreases-loop
+slice-write-heads c = omega (arith, starts c.before, c.loop-i.invariant.0.heads_long)
 
-loop-less : tie.Need-loop-smaller invariant-loop decreases-loop
+loop-less : tie.Need-loop-i-smaller invariant-loop decreases-loop
 loop-less c = omega arith
 
-loop-again : tie.Need-loop-preserved invariant-loop decreases-loop
+loop-again : tie.Need-loop-i-preserved invariant-loop decreases-loop
 loop-again c = (
-  chain_more _ _ _ _ c.before.before.before.loop.invariant.0 (omega arith) (starts c.before),
-  simp length-set c.before.before.before.loop.invariant.1,
+  chain_more _ _ _ _ c.loop-i.invariant.0 (omega arith) (starts c.before),
+  simp length-set c.loop-i.invariant.1,
 )
 
-same_length : tie.Need-same-length invariant-loop decreases-loop
-same_length c = c.before.loop.invariant.0.heads_long ∙ sym c.before.before.before.before.before.before.before.before.before.requires.heads_long
+same_length : tie.Need-shape_of-heads invariant-loop decreases-loop
+same_length c = c.loop-i.invariant.0.heads_long ∙ sym c.requires.heads_long
 
-same-length-2 : tie.Need-same-length-2 invariant-loop decreases-loop
-same-length-2 c = c.before.loop.invariant.1
+same-length-2 : tie.Need-shape_of-chain invariant-loop decreases-loop
+same-length-2 c = c.loop-i.invariant.1
 
 returns : tie.Need-returns invariant-loop decreases-loop
-returns c = chain_done _ _ _ _ c.before.loop.invariant.0 c.loop-test.false
+returns c = chain_done _ _ _ _ c.loop-i.invariant.0 c.loop-i-test.false
 
-pub chain-edges-spec : {M : Type 1} → statement M
-chain-edges-spec =
+pub chain_edges_spec : {M : Type 1} → statement M
+chain_edges_spec =
     tie.close
     (tie.spec
     invariant-loop

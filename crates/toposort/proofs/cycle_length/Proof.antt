@@ -13,35 +13,35 @@ invariant-loop top from nodes cur₀ k₀ cur k = Climbing 1025 nodes top from c
 abbrev decreases-loop : tie.decreases-loop
 decreases-loop top from nodes cur₀ k₀ cur k = 1026 - k
 
-loop-holds : tie.Need-loop-init invariant-loop decreases-loop
+loop-holds : tie.Need-loop-cur-init invariant-loop decreases-loop
 loop-holds c = climb-start _ _ _ c.requires
 
-mul-node : tie.Need-overflow-mul-node invariant-loop decreases-loop
+mul-node : tie.Need-offset_bounds-nodes-cur invariant-loop decreases-loop
 mul-node c = omega arith
 
-array-copy-out-node : tie.Need-array-copy-out-node invariant-loop decreases-loop
+array-copy-out-node : tie.Need-bounds-nodes-cur invariant-loop decreases-loop
 array-copy-out-node c = omega arith
 
-parent-of-requires : tie.Need-parent-of-requires invariant-loop decreases-loop
+parent-of-requires : tie.Need-parent_of-cur-requires invariant-loop decreases-loop
 parent-of-requires c κs = search rules
 
-add-k : tie.Need-overflow-add-k invariant-loop decreases-loop
+add-k : tie.Need-overflow_add-k invariant-loop decreases-loop
 add-k c = omega arith
 
-loop-less : tie.Need-loop-smaller invariant-loop decreases-loop
+loop-less : tie.Need-loop-cur-smaller invariant-loop decreases-loop
 loop-less c = omega arith
 
-loop-again : tie.Need-loop-preserved invariant-loop decreases-loop
+loop-again : tie.Need-loop-cur-preserved invariant-loop decreases-loop
 loop-again c =
-    rw c.parent_of.ensures
-    (climb_more _ _ _ _ _ _ c.before.before.before.loop.invariant c.before.before.loop-test.true
-    c.before.before.before.before.requires.inside)
+    rw c.parent_of-cur.ensures
+    (climb_more _ _ _ _ _ _ c.loop-cur.invariant c.loop-cur-test.true
+    c.requires.inside)
 
 returns : tie.Need-returns invariant-loop decreases-loop
-returns c = climb_done _ _ _ _ _ _ c.before.loop.invariant c.loop-test.false
+returns c = climb_done _ _ _ _ _ _ c.loop-cur.invariant c.loop-cur-test.false
 
-pub cycle-length-spec : {M : Type 1} → statement M
-cycle-length-spec =
+pub cycle_length_spec : {M : Type 1} → statement M
+cycle_length_spec =
     tie.close
     (tie.spec
     invariant-loop

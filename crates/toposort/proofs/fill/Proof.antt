@@ -17,36 +17,36 @@ invariant-loop table₀ value i₀ table i = (i ≤ length table₀) × (length 
 abbrev decreases-loop : tie.decreases-loop
 decreases-loop table₀ value i₀ table i = length table₀ - i
 
-loop-holds : tie.Need-loop-init invariant-loop decreases-loop
+loop-holds : tie.Need-loop-i-init invariant-loop decreases-loop
 loop-holds c = (search rules, refl, refl)
 
-mul-table : tie.Need-overflow-mul-table invariant-loop decreases-loop
+mul-table : tie.Need-offset_bounds-table-i invariant-loop decreases-loop
 mul-table c = omega arith
 
-slice-write-table : tie.Need-slice-write-table invariant-loop decreases-loop
+slice-write-table : tie.Need-bounds-table-i invariant-loop decreases-loop
 slice-write-table c = omega arith
 
-add-i : tie.Need-overflow-add-i invariant-loop decreases-loop
+add-i : tie.Need-overflow_add-i invariant-loop decreases-loop
 add-i c = omega arith
 
-loop-less : tie.Need-loop-smaller invariant-loop decreases-loop
+loop-less : tie.Need-loop-i-smaller invariant-loop decreases-loop
 loop-less c = omega arith
 
-loop-again : tie.Need-loop-preserved invariant-loop decreases-loop
+loop-again : tie.Need-loop-i-preserved invariant-loop decreases-loop
 loop-again c = (
   search rules,
   simp length-set (omega arith),
-  ap (λ (t : List ℕ). set t c.before.loop.i c.before.before.args.value) c.before.loop.invariant.2
-      ∙ fill_more c.before.loop.i c.before.before.args.value c.before.before.args.table.now (omega arith),
+  ap (λ (t : List ℕ). set t c.loop-i.i c.args.value) c.loop-i.invariant.2
+      ∙ fill_more c.loop-i.i c.args.value c.args.table.now (omega arith),
 )
 
-same_length : tie.Need-same-length invariant-loop decreases-loop
+same_length : tie.Need-shape_of-table invariant-loop decreases-loop
 same_length c = search rules
 
 returns : tie.Need-returns invariant-loop decreases-loop
 returns c =
-    filled c.before.loop.i c.before.before.args.value c.before.before.args.table.now _ (omega arith) (omega arith)
-    c.before.loop.invariant.2
+    filled c.loop-i.i c.args.value c.args.table.now _ (omega arith) (omega arith)
+    c.loop-i.invariant.2
 
 pub fill_spec : {M : Type 1} → statement M
 fill_spec =

@@ -8,43 +8,43 @@ use Rattle.toposort.proofs.Chains.{next_first, next_later, next_inside, next_sma
 use Rattle.toposort.proofs.next_edge.Statement.{statement}
 use Rattle.toposort.proofs.next_edge.Tie as tie
 
-mul-result : tie.Need-overflow-mul-result
+mul-result : tie.Need-offset_bounds-heads-v
 mul-result c = omega arith
 
-shared-slice-read-result : tie.Need-shared-slice-read-result
+shared-slice-read-result : tie.Need-bounds-heads-v
 shared-slice-read-result c = omega arith
 
-cast-result : tie.Need-overflow-cast-result
-cast-result c = omega (arith, c.shared-slice-known.given c.before.before.args.v)
+cast-result : tie.Need-overflow_cast-result
+cast-result c = omega (arith, c.shared_slice_known-1.given c.args.v)
 
-returns : tie.Need-returns
-returns c = (found, subst (λ (x : ℕ). x ≤ length c.before.before.args.from.now) (sym found) (next_small _ _ _ _ _ c.before.before.requires))
+returns : tie.Need-returns-then-start-eq0
+returns c = (found, subst (λ (x : ℕ). x ≤ length c.args.from.now) (sym found) (next_small _ _ _ _ _ c.requires))
   where
     found : get_or c.before.before.args.heads.now c.before.before.args.v 0
         ≡ next_edge c.before.before.args.from.now c.before.before.args.v c.before.before.args.start
     found = next_first _ _ _ _ _ c.before.before.requires c.before.if1.true
 
-sub-result : tie.Need-overflow-sub-result
+sub-result : tie.Need-overflow_sub-result
 sub-result c = omega arith
 
-mul-result-2 : tie.Need-overflow-mul-result-2
-mul-result-2 c = omega (arith, next_inside _ _ _ _ _ c.before.requires c.if1.false, c.before.requires.few)
+mul-result-2 : tie.Need-offset_bounds-chain-start
+mul-result-2 c = omega (arith, next_inside _ _ _ _ _ c.requires c.if-start-eq0.false, c.requires.few)
 
-shared-slice-read-result-2 : tie.Need-shared-slice-read-result-2
-shared-slice-read-result-2 c = omega (arith, next_inside _ _ _ _ _ c.before.before.requires c.before.if1.false, c.before.before.requires.chained.chain_long)
+shared-slice-read-result-2 : tie.Need-bounds-chain-start
+shared-slice-read-result-2 c = omega (arith, next_inside _ _ _ _ _ c.requires c.if-start-eq0.false, c.requires.chained.chain_long)
 
-cast-result-2 : tie.Need-overflow-cast-result-2
-cast-result-2 c = omega (arith, c.shared-slice-known2.given (c.before.before.args.start - 1))
+cast-result-2 : tie.Need-overflow_cast-result-2
+cast-result-2 c = omega (arith, c.shared_slice_known-2-1.given (c.args.start - 1))
 
-returns-2 : tie.Need-returns-2
-returns-2 c = (found, subst (λ (x : ℕ). x ≤ length c.before.before.args.from.now) (sym found) (next_small _ _ _ _ _ c.before.before.requires))
+returns-2 : tie.Need-returns
+returns-2 c = (found, subst (λ (x : ℕ). x ≤ length c.args.from.now) (sym found) (next_small _ _ _ _ _ c.requires))
   where
     found : get_or c.before.before.args.chain.now (c.before.before.args.start - 1) 0
         ≡ next_edge c.before.before.args.from.now c.before.before.args.v c.before.before.args.start
     found = next_later _ _ _ _ _ c.before.before.requires c.before.if1.false
 
-pub next-edge-spec : {M : Type 1} → statement M
-next-edge-spec =
+pub next_edge_spec : {M : Type 1} → statement M
+next_edge_spec =
     tie.close
     (tie.spec
     mul-result

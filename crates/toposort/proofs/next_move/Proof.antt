@@ -6,52 +6,52 @@ use Rattle.toposort.specs.Search.{move_of}
 use Rattle.toposort.proofs.next_move.Statement.{statement}
 use Rattle.toposort.proofs.next_move.Tie as tie
 
-returns : tie.Need-returns
+returns : tie.Need-returns-then-next-n
 unfolding move_of
-returns c = simp (eq-eqb _ _ c.before.if1.true, eq-eqb _ _ c.if2.true)
+returns c = simp (eq-eqb _ _ c.if-cur-eq-ROOT.true, eq-eqb _ _ c.if-next-n.true)
 
-add-t11 : tie.Need-overflow-add-t11
+add-t11 : tie.Need-overflow_add-result
 add-t11 c = omega arith
 
-returns-2 : tie.Need-returns-2
+returns-2 : tie.Need-returns-then-cur-eq-ROOT
 unfolding move_of
-returns-2 c = simp (eq-eqb _ _ c.before.if1.true, ne_eqb _ _ c.if2.false)
+returns-2 c = simp (eq-eqb _ _ c.if-cur-eq-ROOT.true, ne_eqb _ _ c.if-next-n.false)
 
-next-edge-requires : tie.Need-next-edge-requires
+next-edge-requires : tie.Need-next_edge-e-requires
 next-edge-requires c κs =
     record {
-      chained = c.before.before.before.before.before.requires.chained;
-      few = c.before.before.before.before.before.requires.few;
-      node = (c.before.before.before.before.before.requires.inner c.if1.false).0;
-      after = (c.before.before.before.before.before.requires.inner c.if1.false).1;
+      chained = c.requires.chained;
+      few = c.requires.few;
+      node = (c.requires.inner c.if-cur-eq-ROOT.false).0;
+      after = (c.requires.inner c.if-cur-eq-ROOT.false).1;
     }
 
-returns-3 : tie.Need-returns-3
+returns-3 : tie.Need-returns-then-e-from
 unfolding move_of
 returns-3 c =
-    simp (ne_eqb _ _ c.before.before.if1.false, eq-eqb _ _ (sym c.before.next_edge.ensures.0 ∙ c.if3.true))
+    simp (ne_eqb _ _ c.if-cur-eq-ROOT.false, eq-eqb _ _ (sym c.next_edge-e.ensures.0 ∙ c.if-e-from.true))
 
-add-t12 : tie.Need-overflow-add-t12
+add-t12 : tie.Need-overflow_add-result-2
 add-t12 c = omega arith
 
-mul-t13 : tie.Need-overflow-mul-t13
+mul-t13 : tie.Need-offset_bounds-to-e
 mul-t13 c = omega arith
 
-shared-slice-read-t15 : tie.Need-shared-slice-read-t15
+shared-slice-read-t15 : tie.Need-bounds-to-e
 shared-slice-read-t15 c = omega arith
 
-cast-t16 : tie.Need-overflow-cast-t16
-cast-t16 c = omega (arith, c.shared-slice-known5.given c.before.before.next_edge.result)
+cast-t16 : tie.Need-overflow_cast-result
+cast-t16 c = omega (arith, c.shared_slice_known-5-1.given c.next_edge-e.result)
 
-returns-4 : tie.Need-returns-4
+returns-4 : tie.Need-returns
 unfolding move_of
 returns-4 c =
-    rw c.before.before.next_edge.ensures.0
+    rw c.next_edge-e.ensures.0
     (simp
-    (ne_eqb _ _ c.before.before.before.if1.false, ne_eqb _ _ (λ e. c.before.if3.false (c.before.before.next_edge.ensures.0 ∙ e))))
+    (ne_eqb _ _ c.if-cur-eq-ROOT.false, ne_eqb _ _ (λ e. c.if-e-from.false (c.next_edge-e.ensures.0 ∙ e))))
 
-pub next-move-spec : {M : Type 1} → statement M
-next-move-spec =
+pub next_move_spec : {M : Type 1} → statement M
+next_move_spec =
     tie.close
     (tie.spec
     returns

@@ -6,47 +6,47 @@ use Rattle.toposort.proofs.Sorting.{sorts_bad, sorts_short, sorts_searched, soun
 use Rattle.toposort.proofs.toposort.Statement.{statement}
 use Rattle.toposort.proofs.toposort.Tie as tie
 
-bad-edge-requires : tie.Need-bad-edge-requires
+bad-edge-requires : tie.Need-bad_edge-bad-requires
 bad-edge-requires c κs = search rules
 
-returns : tie.Need-returns
-returns c = sorts_bad _ _ c.before.before.before.before.before.requires c.before.bad_edge.ensures c.if1.true _
+returns : tie.Need-returns-then-bad-from
+returns c = sorts_bad _ _ c.requires c.bad_edge-bad.ensures c.if-bad-from.true _
 
-returns-2 : tie.Need-returns-2
-returns-2 c = sorts_short _ _ c.before.before.before.before.before.before.requires c.before.before.bad_edge.ensures c.before.if1.false _ c.if2.true
+returns-2 : tie.Need-returns-then-table-n
+returns-2 c = sorts_short _ _ c.requires c.bad_edge-bad.ensures c.if-bad-from.false _ c.if-table-n.true
 
-slice-aggregate-chain-edges : tie.Need-slice-aggregate-chain-edges
+slice-aggregate-chain-edges : tie.Need-slice_bounds-chain_edges-end
 slice-aggregate-chain-edges c = search rules
 
-slice-aggregate-chain-edges-2 : tie.Need-slice-aggregate-chain-edges-2
+slice-aggregate-chain-edges-2 : tie.Need-slice_bounds-chain_edges-end-2
 slice-aggregate-chain-edges-2 c = search rules
 
-chain-edges-requires : tie.Need-chain-edges-requires
-chain-edges-requires c κs = chainable _ _ c.before.before.before.before.before.before.before.before.requires c.before.before.before.before.bad_edge.ensures c.before.before.before.if1.false _ _ refl refl
+chain-edges-requires : tie.Need-chain_edges-requires
+chain-edges-requires c κs = chainable _ _ c.requires c.bad_edge-bad.ensures c.if-bad-from.false _ _ refl refl
 
-slice-aggregate-search : tie.Need-slice-aggregate-search
+slice-aggregate-search : tie.Need-slice_bounds-search-end
 slice-aggregate-search c = search rules
 
-slice-aggregate-search-2 : tie.Need-slice-aggregate-search-2
+slice-aggregate-search-2 : tie.Need-slice_bounds-search-end-2
 slice-aggregate-search-2 c = search rules
 
 search-requires : tie.Need-search-requires
 search-requires c κs =
     record {
-      sound = sound _ _ c.before.before.before.before.before.before.before.before.before.before.before.before.before.before.requires c.before.before.before.before.before.before.before.before.before.before.bad_edge.ensures c.before.before.before.before.before.before.before.before.before.if1.false;
-      chained = c.before.before.before.before.before.chain_edges.ensures;
-      room = c.before.before.before.before.before.before.before.before.if2.false;
+      sound = sound _ _ c.requires c.bad_edge-bad.ensures c.if-bad-from.false;
+      chained = c.chain_edges.ensures;
+      room = c.if-table-n.false;
     }
 
-same_length : tie.Need-same-length
+same_length : tie.Need-shape_of-table
 same_length c = search rules
 
-returns-3 : tie.Need-returns-3
+returns-3 : tie.Need-returns
 returns-3 c =
-    sorts_searched _ _ c.before.before.before.before.before.before.before.before.before.before.before.before.before.before.before.before.before.requires c.before.before.before.before.before.before.before.before.before.before.before.before.before.bad_edge.ensures c.before.before.before.before.before.before.before.before.before.before.before.before.if1.false _ c.before.before.before.before.before.before.before.before.before.before.before.if2.false _ _ c.before.before.search.ensures
+    sorts_searched _ _ c.requires c.bad_edge-bad.ensures c.if-bad-from.false _ c.if-table-n.false _ _ c.search.ensures
 
-pub toposort-spec : {M : Type 1} → statement M
-toposort-spec =
+pub toposort_spec : {M : Type 1} → statement M
+toposort_spec =
     tie.close
     (tie.spec
     bad-edge-requires

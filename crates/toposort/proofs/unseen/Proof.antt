@@ -12,11 +12,11 @@ use Rattle.toposort.proofs.unseen.Tie as tie
 open-requires : tie.Need-open-requires
 open-requires c κs = search rules
 
-array-set-from-nodes : tie.Need-array-set-from-nodes
+array-set-from-nodes : tie.Need-bounds-nodes-1024
 array-set-from-nodes c = omega arith
 
 returns : tie.Need-returns
 returns c = ap (λ (x : Node). set (replicate 1025 (node Unseen)) 1024 x) c.open.ensures
 
-pub unseen-spec : {M : Type 1} → statement M
-unseen-spec = tie.close (tie.spec open-requires array-set-from-nodes returns)
+pub unseen_spec : {M : Type 1} → statement M
+unseen_spec = tie.close (tie.spec open-requires array-set-from-nodes returns)

@@ -21,55 +21,55 @@ decreases-loop starts ends units rest n section j₀ j = j
 abbrev row_of_table : tie.Start invariant-loop decreases-loop → ℕ → Split
 row_of_table s = let a = s.args in row_at (columns a.starts.now a.ends.now a.units.now a.rest.now)
 
-loop-holds : tie.Need-loop-init invariant-loop decreases-loop
+loop-holds : tie.Need-loop-j-init invariant-loop decreases-loop
 loop-holds c = let s = c.before.before.before.before in (omega arith, none_end s.args.section 0 (row_of_table s) s.args.n)
 
-sub_row : tie.Need-overflow-sub-row invariant-loop decreases-loop
-sub_row c = omega (arith, c.loop-test.true)
+sub_row : tie.Need-overflow_sub-j invariant-loop decreases-loop
+sub_row c = omega (arith, c.loop-j-test.true)
 
-row-requires : tie.Need-row-requires invariant-loop decreases-loop
+row-requires : tie.Need-row-y-requires invariant-loop decreases-loop
 row-requires c κs =
-    let p = c.before.before.before.before.before.before.requires in
-    let j = c.before.loop.invariant.0 in
+    let p = c.requires in
+    let j = c.loop-j.invariant.0 in
     record {
-      starts = omega (arith, p.starts, j, c.loop-test.true);
-      ends = omega (arith, p.ends, j, c.loop-test.true);
-      units = omega (arith, p.units, j, c.loop-test.true);
-      rest = omega (arith, p.rest, j, c.loop-test.true);
+      starts = omega (arith, p.starts, j, c.loop-j-test.true);
+      ends = omega (arith, p.ends, j, c.loop-j-test.true);
+      units = omega (arith, p.units, j, c.loop-j-test.true);
+      rest = omega (arith, p.rest, j, c.loop-j-test.true);
     }
 
-returns : tie.Need-returns invariant-loop decreases-loop
+returns : tie.Need-returns-then-y-section invariant-loop decreases-loop
 returns c =
-    let l = c.before.before.before.before.loop in
-    record { small = l.invariant.0; none_after = l.invariant.1; is = λ h. sym (ap (λ (y : Split). y.section) c.before.before.row.ensures) ∙ c.if1.true }
+    let l = c.loop-j in
+    record { small = l.invariant.0; none_after = l.invariant.1; is = λ h. sym (ap (λ (y : Split). y.section) c.row-y.ensures) ∙ c.if-y-section.true }
 
-sub-j : tie.Need-overflow-sub-j invariant-loop decreases-loop
-sub-j c = omega (arith, c.before.before.before.loop-test.true)
+sub-j : tie.Need-overflow_sub-j-in-loop-j invariant-loop decreases-loop
+sub-j c = omega (arith, c.loop-j-test.true)
 
-loop-less : tie.Need-loop-smaller invariant-loop decreases-loop
-loop-less c = omega (arith, c.before.before.before.loop-test.true)
+loop-less : tie.Need-loop-j-smaller invariant-loop decreases-loop
+loop-less c = omega (arith, c.loop-j-test.true)
 
-loop-again : tie.Need-loop-preserved invariant-loop decreases-loop
+loop-again : tie.Need-loop-j-preserved invariant-loop decreases-loop
 loop-again c =
     let s = c.before.before.before.before.before.before.before.before.before in
-    let l = c.before.before.before.before.loop in (
+    let l = c.loop-j in (
       omega (arith, l.invariant.0),
-      none_down s.args.section 0 (row_of_table s) s.args.n l.j _ c.before.before.before.loop-test.true l.invariant.0 c.before.before.row.ensures c.if1.false l.invariant.1,
+      none_down s.args.section 0 (row_of_table s) s.args.n l.j _ c.loop-j-test.true l.invariant.0 c.row-y.ensures c.if-y-section.false l.invariant.1,
     )
 
-returns-2 : tie.Need-returns-2 invariant-loop decreases-loop
+returns-2 : tie.Need-returns invariant-loop decreases-loop
 returns-2 c =
     let s = c.before.before.before.before.before.before in
-    let l = c.before.loop in
-    let z : l.j ≡ 0 = omega (arith, c.loop-test.false) in
+    let l = c.loop-j in
+    let z : l.j ≡ 0 = omega (arith, c.loop-j-test.false) in
     record {
       small = omega arith;
       none_after = sym (ap (λ (m : ℕ). some (of_section s.args.section 0) (tabulate (row_of_table s) m (s.args.n - m))) z) ∙ l.invariant.1;
       is = λ h. absurd (omega (arith, h));
     }
 
-pub after-last-spec : {M : Type 1} → statement M
-after-last-spec =
+pub after_last_spec : {M : Type 1} → statement M
+after_last_spec =
     tie.close
     (tie.spec
     invariant-loop

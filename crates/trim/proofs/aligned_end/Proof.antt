@@ -25,20 +25,20 @@ image s = let a = s.args in image_of a.b.now a.places.now a.name_bytes.now a.nam
 abbrev head : tie.Start → ℕ → Section
 head s = head_of s.args.heads.now s.args.head_places.now
 
-last-in-requires : tie.Need-last-in-requires
-last-in-requires c κs = c.before.before.before.before.before.before.before.before.requires.0.tables.symbols
+last-in-requires : tie.Need-last_in-found-requires
+last-in-requires c κs = c.requires.0.tables.symbols
 
-enum-known-found : tie.Need-enum-known-found
+enum-known-found : tie.Need-enum_known-found
 enum-known-found c = search rules
 
 -- what the range gave
-found : (c : tie.After-known-told) → let s = c.before.before.before.before.before.before.before.before.before.before.before.before in
-    last_in (image s).symbol (image s).count s.args.s.section s.args.s.start s.args.s.end ≡ accepted c.before.found.given.0.0
-found c = let s = c.before.before.before.before.before.before.before.before.before.before.before.before.args.s in sym c.before.before.before.last_in.ensures ∙ ap (found_meaning s.section s.start) c.before.found.given.1
+found : (c : tie.In-Is) → let s = c.before.before.before.before.before.before.before.before.before.before in
+    last_in (image s).symbol (image s).count s.args.s.section s.args.s.start s.args.s.end ≡ accepted c.in-Is.at
+found c = let s = c.args.s in sym c.last_in-found.ensures ∙ ap (found_meaning s.section s.start) c.in-Is.is
 
-end-of-requires : tie.Need-end-of-requires
+end-of-requires : tie.Need-end_of-end-requires
 end-of-requires c κs =
-    let s = c.before.before.before.before.before.before.before.before.before.before.before.before in
+    let s = c.before.before.before.before.before.before.before.before.before.before in
     let y = s.args.s in
     let p = s.requires in (
       p.0.tables.symbols.whole,
@@ -47,34 +47,34 @@ end-of-requires c κs =
       λ i e. (in_found (image s).symbol (image s).count y.section y.start y.end i (found c ∙ ap accepted e)).there,
     )
 
-split-alignment-requires : tie.Need-split-alignment-requires
-split-alignment-requires c κs = let p = c.before.before.before.before.before.before.before.before.before.before.before.before.before.requires in (p.0.tables, p.0.headed, p.1.section)
+split-alignment-requires : tie.Need-split_alignment-a-requires
+split-alignment-requires c κs = let p = c.requires in (p.0.tables, p.0.headed, p.1.section)
 
 up-requires : tie.Need-up-requires
 up-requires c κs =
-    let s = c.before.before.before.before.before.before.before.before.before.before.before.before.before.before in (
-      c.before.end_of_lem.ensures.small,
-      λ chosen e. from_good (image s) (head s) s.args.s.start s.args.s s.requires.0.sound s.requires.2 chosen (sym c.split_alignment.ensures ∙ e),
+    let s = c.before.before.before.before.before.before.before.before.before.before.before.before in (
+      c.end_of-end.ensures.small,
+      λ chosen e. from_good (image s) (head s) s.args.s.start s.args.s s.requires.0.sound s.requires.2 chosen (sym c.split_alignment-a.ensures ∙ e),
     )
 
-enum_told : tie.Need-enum-told
+enum_told : tie.Need-enum_told-1
 enum_told c = search rules
 
-returns : tie.Need-returns
+returns : tie.Need-returns-in-Is
 returns c =
-    let s = c.before.before.before.before.before.before.before.before.before.before.before.before.before.before.before in
+    let s = c.before.before.before.before.before.before.before.before.before.before.before.before.before in
     c.up.ensures
-    ∙ ap₂ up_by c.before.before.end_of_lem.ensures.is c.before.split_alignment.ensures
+    ∙ ap₂ up_by c.end_of-end.ensures.is c.split_alignment-a.ensures
     ∙ sym (aligned_found (image s) (head s) s.args.s _ (found c.before.before.before))
 
-returns-2 : tie.Need-returns-2
+returns-2 : tie.Need-returns-in-Backwards
 returns-2 c =
-    let s = c.before.before.before.before.before.before.before.before.before.before.before in
+    let s = c.before.before.before.before.before.before.before.before.before.before in
     let y = s.args.s in
-    sym (aligned_backwards (image s) (head s) y 11 y.section y.start (sym c.before.before.last_in.ensures ∙ ap (found_meaning y.section y.start) c.enum_told.given.1))
+    sym (aligned_backwards (image s) (head s) y 11 y.section y.start (sym c.last_in-found.ensures ∙ ap (found_meaning y.section y.start) c.in-Backwards.is))
 
-pub aligned-end-spec : {M : Type 1} → statement M
-aligned-end-spec =
+pub aligned_end_spec : {M : Type 1} → statement M
+aligned_end_spec =
     tie.close
     (tie.spec
     last-in-requires

@@ -21,65 +21,65 @@ invariant-loop starts ends₀ units rest n falls k₀ ends k =
 abbrev decreases-loop : tie.decreases-loop
 decreases-loop starts ends₀ units rest n falls k₀ ends k = n - k
 
-loop-holds : tie.Need-loop-init invariant-loop decreases-loop
+loop-holds : tie.Need-loop-k-init invariant-loop decreases-loop
 loop-holds c = (omega arith, refl, refl)
 
-mul-carry-one : tie.Need-overflow-mul-carry-one invariant-loop decreases-loop
+mul-carry-one : tie.Need-offset_bounds-falls-k invariant-loop decreases-loop
 mul-carry-one c = search rules
 
-shared-slice-read-carry-one : tie.Need-shared-slice-read-carry-one invariant-loop decreases-loop
-shared-slice-read-carry-one c = omega (arith, c.before.before.before.before.before.before.before.before.before.requires.1, c.before.before.loop-test.true)
+shared-slice-read-carry-one : tie.Need-bounds-falls-k invariant-loop decreases-loop
+shared-slice-read-carry-one c = omega (arith, c.requires.1, c.loop-k-test.true)
 
-carry-one-requires : tie.Need-carry-one-requires invariant-loop decreases-loop
+carry-one-requires : tie.Need-carry_one-answer-requires invariant-loop decreases-loop
 carry-one-requires c κs =
-    let p = c.before.before.before.before.before.before.before.before.before.requires.0 in
-    (record { starts = p.starts; ends = omega (arith, p.ends, c.before.before.before.loop.invariant.1); units = p.units; rest = p.rest }, c.before.before.loop-test.true)
+    let p = c.requires.0 in
+    (record { starts = p.starts; ends = omega (arith, p.ends, c.loop-k.invariant.1); units = p.units; rest = p.rest }, c.loop-k-test.true)
 
-enum_told : tie.Need-enum-told invariant-loop decreases-loop
+enum_told : tie.Need-enum_told-1 invariant-loop decreases-loop
 enum_told c = search rules
 
-same_length : tie.Need-same-length invariant-loop decreases-loop
-same_length c = c.before.before.before.before.carry_one.auto.1.0 ∙ c.before.before.before.before.before.before.before.before.loop.invariant.1
+same_length : tie.Need-shape_of-ends-in-Refused invariant-loop decreases-loop
+same_length c = c.carry_one-answer.auto.ends ∙ c.loop-k.invariant.1
 
-returns : tie.Need-returns invariant-loop decreases-loop
+returns : tie.Need-returns-in-Refused invariant-loop decreases-loop
 returns c =
-    let a = c.before.before.before.before.before.before.before.before.before.before.before.before.before.before.args in
-    let l = c.before.before.before.before.before.before.before.before.loop in
-    seen-stops _ _ _ _ c.before.before.before.before.carry_one.ensures _ c.enum_told.given.1
-    ∙ sym (carry_turn a.falls.now a.n l.k (rows (columns a.starts.now l.ends a.units.now a.rest.now) a.n) c.before.before.before.before.before.before.before.loop-test.true c.before.before.before.before.before.before.before.before.before.before.before.before.before.before.requires.1)
+    let a = c.args in
+    let l = c.loop-k in
+    seen-stops _ _ _ _ c.carry_one-answer.ensures _ c.in-Refused.is
+    ∙ sym (carry_turn a.falls.now a.n l.k (rows (columns a.starts.now l.ends a.units.now a.rest.now) a.n) c.loop-k-test.true c.requires.1)
     ∙ l.invariant.2
 
-enum-told-2 : tie.Need-enum-told-2 invariant-loop decreases-loop
+enum-told-2 : tie.Need-enum_told-in_default invariant-loop decreases-loop
 enum-told-2 c = search rules
 
-add-k : tie.Need-overflow-add-k invariant-loop decreases-loop
-add-k c = omega (arith, c.before.before.before.before.before.before.before.before.before.before.before.before.before.before.ranges.n, c.before.before.before.before.before.before.before.loop-test.true)
+add-k : tie.Need-overflow_add-k invariant-loop decreases-loop
+add-k c = omega (arith, c.ranges.n, c.loop-k-test.true)
 
-loop-less : tie.Need-loop-smaller invariant-loop decreases-loop
-loop-less c = omega (arith, c.before.before.before.before.before.before.before.loop-test.true)
+loop-less : tie.Need-loop-k-smaller invariant-loop decreases-loop
+loop-less c = omega (arith, c.loop-k-test.true)
 
-loop-again : tie.Need-loop-preserved invariant-loop decreases-loop
+loop-again : tie.Need-loop-k-preserved invariant-loop decreases-loop
 loop-again c =
-    let a = c.before.before.before.before.before.before.before.before.before.before.before.before.before.before.args in
-    let l = c.before.before.before.before.before.before.before.before.loop in (
-      omega (arith, c.before.before.before.before.before.before.before.loop-test.true),
-      c.before.before.before.before.carry_one.auto.1.0 ∙ l.invariant.1,
-      sym (seen_goes _ _ _ (carry_from (l.k + 1) (drop (l.k + 1) (take a.n a.falls.now))) c.before.before.before.before.carry_one.ensures c.enum-told2.given.1)
-          ∙ sym (carry_turn a.falls.now a.n l.k (rows (columns a.starts.now l.ends a.units.now a.rest.now) a.n) c.before.before.before.before.before.before.before.loop-test.true c.before.before.before.before.before.before.before.before.before.before.before.before.before.before.requires.1)
+    let a = c.args in
+    let l = c.loop-k in (
+      omega (arith, c.loop-k-test.true),
+      c.carry_one-answer.auto.ends ∙ l.invariant.1,
+      sym (seen_goes _ _ _ (carry_from (l.k + 1) (drop (l.k + 1) (take a.n a.falls.now))) c.carry_one-answer.ensures c.in_default.is)
+          ∙ sym (carry_turn a.falls.now a.n l.k (rows (columns a.starts.now l.ends a.units.now a.rest.now) a.n) c.loop-k-test.true c.requires.1)
           ∙ l.invariant.2,
     )
 
-same-length-2 : tie.Need-same-length-2 invariant-loop decreases-loop
-same-length-2 c = c.before.loop.invariant.1
+same-length-2 : tie.Need-shape_of-ends invariant-loop decreases-loop
+same-length-2 c = c.loop-k.invariant.1
 
-returns-2 : tie.Need-returns-2 invariant-loop decreases-loop
+returns-2 : tie.Need-returns invariant-loop decreases-loop
 returns-2 c =
-    let a = c.before.before.before.before.before.before.before.args in
-    let l = c.before.loop in
-    sym (carry_ended a.falls.now a.n l.k (rows (columns a.starts.now l.ends a.units.now a.rest.now) a.n) c.loop-test.false c.before.before.before.before.before.before.before.requires.1) ∙ l.invariant.2
+    let a = c.args in
+    let l = c.loop-k in
+    sym (carry_ended a.falls.now a.n l.k (rows (columns a.starts.now l.ends a.units.now a.rest.now) a.n) c.loop-k-test.false c.requires.1) ∙ l.invariant.2
 
-pub carry-out-spec : {M : Type 1} → statement M
-carry-out-spec =
+pub carry_out_spec : {M : Type 1} → statement M
+carry_out_spec =
     tie.close
     (tie.spec
     invariant-loop

@@ -22,67 +22,67 @@ image s = let a = s.args in image_of a.b.now a.places.now a.name_bytes.now a.nam
 abbrev sections : tie.Start → Sections
 sections s = let a = s.args in sections_of a.heads.now a.head_places.now a.image.now a.image_places.now
 
-section-at-requires : tie.Need-section-at-requires
-section-at-requires c κs = let s = c.before.before.before.before.before.before.before.before.before.before.before.before.before.before in kept-held _ _ _ _ _ s.requires.1 s.args.k s.requires.3
+section-at-requires : tie.Need-section_at-head-requires
+section-at-requires c κs = let s = c in kept-held _ _ _ _ _ s.requires.1 s.args.k s.requires.3
 
-end-at-requires : tie.Need-end-at-requires
-end-at-requires c κs = let p = c.before.before.before.before.before.before.before.before.before.before.before.before.before.before.before.requires in (p.0, p.1, p.3, c.section_at_lem.ensures)
+end-at-requires : tie.Need-end_at-end-requires
+end-at-requires c κs = let p = c.requires in (p.0, p.1, p.3, c.section_at-head.ensures)
 
-enum-known-end : tie.Need-enum-known-end
+enum-known-end : tie.Need-enum_known-end
 enum-known-end c = search rules
 
 -- the section's end, as its head has it
-whole : (c : tie.After-struct-known) → let s = c.before.before.before.before.before.before.before.before.before.before.before.before.before.before.before.before.before.before.before.before in
-    c.before.before.before.before.before.section_at_lem.result.address + c.before.before.before.before.before.section_at_lem.result.size ≡ ((sections s).head s.args.k).address + ((sections s).head s.args.k).size
-whole c = ap (λ (h : Section). h.address + h.size) c.before.before.before.before.before.section_at_lem.ensures
+whole : (c : tie.After-struct_known-1) → let s = c.before.before.before.before.before.before.before.before.before.before.before.before.before.before.before.before.before.before in
+    c.section_at-head.result.address + c.section_at-head.result.size ≡ ((sections s).head s.args.k).address + ((sections s).head s.args.k).size
+whole c = ap (λ (h : Section). h.address + h.size) c.section_at-head.ensures
 
 -- the splitting end
-is : (c : tie.After-struct-known) → let s = c.before.before.before.before.before.before.before.before.before.before.before.before.before.before.before.before.before.before.before.before in
-    splitting_end (image s) s.args.k ((sections s).head s.args.k) ((sections s).bytes s.args.k) ≡ accepted c.before.before.end.given.0.0
-is c = let s = c.before.before.before.before.before.before.before.before.before.before.before.before.before.before.before.before.before.before.before.before in sym c.before.before.before.before.end_at.ensures ∙ ap (end_meaning s.args.k c.before.before.before.before.before.section_at_lem.result.address) c.before.before.end.given.1
+is : (c : tie.After-struct_known-1) → let s = c.before.before.before.before.before.before.before.before.before.before.before.before.before.before.before.before.before.before in
+    splitting_end (image s) s.args.k ((sections s).head s.args.k) ((sections s).bytes s.args.k) ≡ accepted c.in-Is.low
+is c = let s = c in sym c.end_at-end.ensures ∙ ap (end_meaning s.args.k c.section_at-head.result.address) c.in-Is.is
 
-add-if1 : tie.Need-overflow-add-if1
-add-if1 c = let s = c.before.before.before.before.before.before.before.before.before.before.before.before.before.before.before.before.before.before.before.before in omega (arith, whole c, s.requires.1.below s.args.k s.requires.3)
+add-if1 : tie.Need-overflow_add-head
+add-if1 c = let s = c in omega (arith, whole c, s.requires.1.below s.args.k s.requires.3)
 
-returns : tie.Need-returns
+returns : tie.Need-returns-then-head-low
 returns c =
-    let s = c.before.before.before.before.before.before.before.before.before.before.before.before.before.before.before.before.before.before.before.before.before in
-    sym (section_whole (image s) (sections s) s.args.k _ _ (is c.before) (sym (whole c.before) ∙ c.if1.true))
+    let s = c.before.before.before.before.before.before.before.before.before.before.before.before.before.before.before.before.before.before.before in
+    sym (section_whole (image s) (sections s) s.args.k _ _ (is c.before) (sym (whole c.before) ∙ c.if-head-low.true))
 
-cast-cut-last : tie.Need-overflow-cast-cut-last
-cast-cut-last c = let s = c.before.before.before.before.before.before.before.before.before.before.before.before.before.before.before.before.before.before.before.before.before.before in omega (arith, s.requires.1.few, s.requires.3)
+cast-cut-last : tie.Need-overflow_cast-k
+cast-cut-last c = let s = c in omega (arith, s.requires.1.few, s.requires.3)
 
-cut-last-requires : tie.Need-cut-last-requires
-cut-last-requires c κs = c.before.before.before.before.before.before.before.before.before.before.before.before.before.before.before.before.before.before.before.before.before.before.requires.2
+cut-last-requires : tie.Need-cut_last-requires
+cut-last-requires c κs = c.requires.2
 
-enum_told : tie.Need-enum-told
+enum_told : tie.Need-enum_told-1
 enum_told c = search rules
 
-cast-refusal : tie.Need-overflow-cast-refusal
-cast-refusal c = let s = c.before.before.before.before.before.before.before.before.before.before.before.before.before.before.before.before.before.before in omega (arith, s.requires.1.few, s.requires.3)
+cast-refusal : tie.Need-overflow_cast-k-in-Short
+cast-refusal c = let s = c in omega (arith, s.requires.1.few, s.requires.3)
 
 refusal-requires : tie.Need-refusal-requires
 refusal-requires c κs = tt
 
-same_length : tie.Need-same-length
-same_length c = c.before.before.cut_last.auto.1.0
+same_length : tie.Need-shape_of-ends
+same_length c = c.cut_last.auto.ends
 
-returns-2 : tie.Need-returns-2
+returns-2 : tie.Need-returns-else-head-low
 returns-2 c =
-    let s = c.before.before.before.before.before.before.before.before.before.before.before.before.before.before.before.before.before.before.before.before.before.before.before.before.before in
-    ap accepted c.before.before.cut_last.ensures
-    ∙ sym (section_cut (image s) (sections s) s.args.k _ _ (is c.before.before.before.before.before) (λ e. c.before.before.before.before.if1.false (whole c.before.before.before.before.before ∙ e)))
+    let s = c.before.before.before.before.before.before.before.before.before.before.before.before.before.before.before.before.before.before.before.before.before.before.before in
+    ap accepted c.cut_last.ensures
+    ∙ sym (section_cut (image s) (sections s) s.args.k _ _ (is c.before.before.before.before.before) (λ e. c.if-head-low.false (whole c.before.before.before.before.before ∙ e)))
 
-returns-3 : tie.Need-returns-3
+returns-3 : tie.Need-returns-in-Short
 returns-3 c =
-    let s = c.before.before.before.before.before.before.before.before.before.before.before.before.before.before.before.before.before.before.before in
+    let s = c.before.before.before.before.before.before.before.before.before.before.before.before.before.before.before.before.before.before in
     let a = s.args in
-    let head = c.before.before.before.before.section_at_lem.result in
+    let head = c.section_at-head.result in
     ap (λ (r : Answer). seen r (rows (columns a.starts.now a.ends.now a.units.now a.rest.now) a.n)) c.refusal.ensures
-    ∙ sym (section_short (image s) (sections s) a.k _ 10 a.k head.address (sym c.before.before.before.end_at.ensures ∙ ap (end_meaning a.k head.address) c.before.enum_told.given.1))
+    ∙ sym (section_short (image s) (sections s) a.k _ 10 a.k head.address (sym c.end_at-end.ensures ∙ ap (end_meaning a.k head.address) c.in-Short.is))
 
-pub cut-section-spec : {M : Type 1} → statement M
-cut-section-spec =
+pub cut_section_spec : {M : Type 1} → statement M
+cut_section_spec =
     tie.close
     (tie.spec
     section-at-requires

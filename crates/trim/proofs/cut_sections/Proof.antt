@@ -31,69 +31,69 @@ image_at s = let a = s.args in image_of a.b.now a.places.now a.name_bytes.now a.
 abbrev sections : tie.Start invariant-loop decreases-loop → Sections
 sections s = let a = s.args in sections_of a.heads.now a.head_places.now a.image.now a.image_places.now
 
-loop-holds : tie.Need-loop-init invariant-loop decreases-loop
+loop-holds : tie.Need-loop-k-init invariant-loop decreases-loop
 loop-holds c =
     let s = c.before.before.before.before.before.before.before.before.before.before.before.before.before.before in
     let a = s.args in
     (omega arith, refl, ap (λ (m : ℕ). cut_from (image_at s) (sections s) m 0 (rows (columns a.starts.now a.ends.now a.units.now a.rest.now) a.n)) (sub-zero (length a.head_places.now)))
 
-cut-section-requires : tie.Need-cut-section-requires invariant-loop decreases-loop
+cut-section-requires : tie.Need-cut_section-answer-requires invariant-loop decreases-loop
 cut-section-requires c κs =
-    let p = c.before.before.before.before.before.before.before.before.before.before.before.before.before.before.before.before.before.requires in (
+    let p = c.requires in (
       p.0,
       p.1,
-      record { starts = p.2.starts; ends = omega (arith, p.2.ends, c.before.before.loop.invariant.1); units = p.2.units; rest = p.2.rest },
-      c.before.loop-test.true,
+      record { starts = p.2.starts; ends = omega (arith, p.2.ends, c.loop-k.invariant.1); units = p.2.units; rest = p.2.rest },
+      c.loop-k-test.true,
     )
 
-enum_told : tie.Need-enum-told invariant-loop decreases-loop
+enum_told : tie.Need-enum_told-1 invariant-loop decreases-loop
 enum_told c = search rules
 
-same_length : tie.Need-same-length invariant-loop decreases-loop
-same_length c = c.before.before.before.before.cut_section.auto.1.1.1.1.1.1.1.1.1.1.1.0 ∙ c.before.before.before.before.before.before.before.loop.invariant.1
+same_length : tie.Need-shape_of-ends-in-Refused invariant-loop decreases-loop
+same_length c = c.cut_section-answer.auto.ends ∙ c.loop-k.invariant.1
 
-returns : tie.Need-returns invariant-loop decreases-loop
+returns : tie.Need-returns-in-Refused invariant-loop decreases-loop
 returns c =
-    let s = c.before.before.before.before.before.before.before.before.before.before.before.before.before.before.before.before.before.before.before.before.before.before in
+    let s = c.before.before.before.before.before.before.before.before.before.before.before.before.before.before.before.before.before.before.before.before.before in
     let a = s.args in
-    let l = c.before.before.before.before.before.before.before.loop in
-    seen-stops _ _ _ _ c.before.before.before.before.cut_section.ensures _ c.enum_told.given.1
-    ∙ sym (cut_turn (image_at s) (sections s) (length a.head_places.now) l.k (rows (columns a.starts.now l.ends a.units.now a.rest.now) a.n) c.before.before.before.before.before.before.loop-test.true)
+    let l = c.loop-k in
+    seen-stops _ _ _ _ c.cut_section-answer.ensures _ c.in-Refused.is
+    ∙ sym (cut_turn (image_at s) (sections s) (length a.head_places.now) l.k (rows (columns a.starts.now l.ends a.units.now a.rest.now) a.n) c.loop-k-test.true)
     ∙ l.invariant.2
 
-enum-told-2 : tie.Need-enum-told-2 invariant-loop decreases-loop
+enum-told-2 : tie.Need-enum_told-in_default invariant-loop decreases-loop
 enum-told-2 c = search rules
 
-add-k : tie.Need-overflow-add-k invariant-loop decreases-loop
-add-k c = omega (arith, c.before.before.before.before.before.before.before.before.before.before.before.before.before.before.before.before.before.before.before.before.before.before.requires.1.few, c.before.before.before.before.before.before.loop-test.true)
+add-k : tie.Need-overflow_add-k invariant-loop decreases-loop
+add-k c = omega (arith, c.requires.1.few, c.loop-k-test.true)
 
-loop-less : tie.Need-loop-smaller invariant-loop decreases-loop
-loop-less c = omega (arith, c.before.before.before.before.before.before.loop-test.true)
+loop-less : tie.Need-loop-k-smaller invariant-loop decreases-loop
+loop-less c = omega (arith, c.loop-k-test.true)
 
-loop-again : tie.Need-loop-preserved invariant-loop decreases-loop
+loop-again : tie.Need-loop-k-preserved invariant-loop decreases-loop
 loop-again c =
-    let s = c.before.before.before.before.before.before.before.before.before.before.before.before.before.before.before.before.before.before.before.before.before.before in
+    let s = c.before.before.before.before.before.before.before.before.before.before.before.before.before.before.before.before.before.before.before.before.before in
     let a = s.args in
-    let l = c.before.before.before.before.before.before.before.loop in (
-      omega (arith, c.before.before.before.before.before.before.loop-test.true),
-      c.before.before.before.before.cut_section.auto.1.1.1.1.1.1.1.1.1.1.1.0 ∙ l.invariant.1,
-      sym (seen_goes _ _ _ (cut_from (image_at s) (sections s) (length a.head_places.now - (l.k + 1)) (l.k + 1)) c.before.before.before.before.cut_section.ensures c.enum-told2.given.1)
-          ∙ sym (cut_turn (image_at s) (sections s) (length a.head_places.now) l.k (rows (columns a.starts.now l.ends a.units.now a.rest.now) a.n) c.before.before.before.before.before.before.loop-test.true)
+    let l = c.loop-k in (
+      omega (arith, c.loop-k-test.true),
+      c.cut_section-answer.auto.ends ∙ l.invariant.1,
+      sym (seen_goes _ _ _ (cut_from (image_at s) (sections s) (length a.head_places.now - (l.k + 1)) (l.k + 1)) c.cut_section-answer.ensures c.in_default.is)
+          ∙ sym (cut_turn (image_at s) (sections s) (length a.head_places.now) l.k (rows (columns a.starts.now l.ends a.units.now a.rest.now) a.n) c.loop-k-test.true)
           ∙ l.invariant.2,
     )
 
-same-length-2 : tie.Need-same-length-2 invariant-loop decreases-loop
-same-length-2 c = c.before.loop.invariant.1
+same-length-2 : tie.Need-shape_of-ends invariant-loop decreases-loop
+same-length-2 c = c.loop-k.invariant.1
 
-returns-2 : tie.Need-returns-2 invariant-loop decreases-loop
+returns-2 : tie.Need-returns invariant-loop decreases-loop
 returns-2 c =
     let s = c.before.before.before.before.before.before.before.before.before.before.before.before.before.before.before.before in
     let a = s.args in
-    let l = c.before.loop in
-    sym (cut_ended (image_at s) (sections s) (length a.head_places.now) l.k (rows (columns a.starts.now l.ends a.units.now a.rest.now) a.n) c.loop-test.false) ∙ l.invariant.2
+    let l = c.loop-k in
+    sym (cut_ended (image_at s) (sections s) (length a.head_places.now) l.k (rows (columns a.starts.now l.ends a.units.now a.rest.now) a.n) c.loop-k-test.false) ∙ l.invariant.2
 
-pub cut-sections-spec : {M : Type 1} → statement M
-cut-sections-spec =
+pub cut_sections_spec : {M : Type 1} → statement M
+cut_sections_spec =
     tie.close
     (tie.spec
     invariant-loop

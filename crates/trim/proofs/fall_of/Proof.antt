@@ -28,47 +28,47 @@ head s = head_of s.args.heads.now s.args.head_places.now
 abbrev later : tie.Start → List Split
 later s = let a = s.args in tabulate (row_at (columns a.starts.now a.ends.now a.units.now a.rest.now)) a.j (a.n - a.j)
 
-aligned-end-requires : tie.Need-aligned-end-requires
-aligned-end-requires c κs = let p = c.before.before.before.before.before.before.before.before.before.before.before.before.requires in (p.0, p.2, p.3)
+aligned-end-requires : tie.Need-aligned_end-aligned-requires
+aligned-end-requires c κs = let p = c.requires in (p.0, p.2, p.3)
 
-enum-known-aligned : tie.Need-enum-known-aligned
+enum-known-aligned : tie.Need-enum_known-aligned
 enum-known-aligned c = search rules
 
 -- the end as it was aligned up
-aligned : (c : tie.After-known-told) → let s = c.before.before.before.before.before.before.before.before.before.before.before.before.before.before.before.before in aligned_end (image s) (head s) s.args.s ≡ accepted c.before.aligned.given.0.0
-aligned c = let s = c.before.before.before.before.before.before.before.before.before.before.before.before.before.before.before.before.args.s in sym c.before.before.before.aligned_end.ensures ∙ ap (asked_meaning s.section s.start) c.before.aligned.given.1
+aligned : (c : tie.In-Is) → let s = c.before.before.before.before.before.before.before.before.before.before.before.before.before.before in aligned_end (image s) (head s) s.args.s ≡ accepted c.in-Is.low
+aligned c = let s = c.args.s in sym c.aligned_end-aligned.ensures ∙ ap (asked_meaning s.section s.start) c.in-Is.is
 
-next-backwards-requires : tie.Need-next-backwards-requires
-next-backwards-requires c κs = let p = c.before.before.before.before.before.before.before.before.before.before.before.before.before.before.before.before.before.before.requires in (p.0, p.1)
+next-backwards-requires : tie.Need-next_backwards-requires
+next-backwards-requires c κs = let p = c.requires in (p.0, p.1)
 
-returns : tie.Need-returns
+returns : tie.Need-returns-then-next_backwards
 returns c =
-    let s = c.before.before.before.before.before.before.before.before.before.before.before.before.before.before.before.before.before.before.before.before in
+    let s = c.before.before.before.before.before.before.before.before.before.before.before.before.before.before.before.before.before.before in
     let y = s.args.s in
-    sym (falls_to (image s) (head s) y (later s) _ (aligned c.before.before.before.before) c.before.before.if1.true
-    ∙ after-stops _ _ 11 y.section y.start (sym c.before.next_backwards.ensures ∙ refuses 11 y.section y.start _ c.if2.true))
+    sym (falls_to (image s) (head s) y (later s) _ (aligned c.before.before.before.before) c.if-low-s.true
+    ∙ after-stops _ _ 11 y.section y.start (sym c.next_backwards.ensures ∙ refuses 11 y.section y.start _ c.if-next_backwards.true))
 
-returns-2 : tie.Need-returns-2
+returns-2 : tie.Need-returns-then-low-s
 returns-2 c =
-    let s = c.before.before.before.before.before.before.before.before.before.before.before.before.before.before.before.before.before.before.before.before in
+    let s = c.before.before.before.before.before.before.before.before.before.before.before.before.before.before.before.before.before.before in
     let y = s.args.s in
-    sym (falls_to (image s) (head s) y (later s) _ (aligned c.before.before.before.before) c.before.before.if1.true
-    ∙ after_goes _ _ (sym c.before.next_backwards.ensures ∙ allows 11 y.section y.start _ c.if2.false))
+    sym (falls_to (image s) (head s) y (later s) _ (aligned c.before.before.before.before) c.if-low-s.true
+    ∙ after_goes _ _ (sym c.next_backwards.ensures ∙ allows 11 y.section y.start _ c.if-next_backwards.false))
 
-enum_told : tie.Need-enum-told
+enum_told : tie.Need-enum_told-1
 enum_told c = search rules
 
-returns-3 : tie.Need-returns-3
-returns-3 c = let s = c.before.before.before.before.before.before.before.before.before.before.before.before.before.before.before.before.before.before in sym (falls_not (image s) (head s) s.args.s (later s) _ (aligned c.before.before) c.if1.false)
+returns-3 : tie.Need-returns-else-low-s
+returns-3 c = let s = c.before.before.before.before.before.before.before.before.before.before.before.before.before.before.before.before in sym (falls_not (image s) (head s) s.args.s (later s) _ (aligned c.before.before) c.if-low-s.false)
 
-returns-4 : tie.Need-returns-4
+returns-4 : tie.Need-returns-in-Backwards
 returns-4 c =
-    let s = c.before.before.before.before.before.before.before.before.before.before.before.before.before.before.before in
+    let s = c.before.before.before.before.before.before.before.before.before.before.before.before.before.before in
     let y = s.args.s in
-    sym (falls_backwards (image s) (head s) y (later s) 11 y.section y.start (sym c.before.before.aligned_end.ensures ∙ ap (asked_meaning y.section y.start) c.enum_told.given.1))
+    sym (falls_backwards (image s) (head s) y (later s) 11 y.section y.start (sym c.aligned_end-aligned.ensures ∙ ap (asked_meaning y.section y.start) c.in-Backwards.is))
 
-pub fall-of-spec : {M : Type 1} → statement M
-fall-of-spec =
+pub fall_of_spec : {M : Type 1} → statement M
+fall_of_spec =
     tie.close
     (tie.spec
     aligned-end-requires

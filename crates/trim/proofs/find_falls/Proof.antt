@@ -45,94 +45,94 @@ row_of_table s = let a = s.args in row_at (columns a.starts.now a.ends.now a.uni
 room : (s : tie.Start invariant-loop decreases-loop) → length s.args.falls.now * 4 < 18446744073709551616
 room s = search rules
 
-loop-holds : tie.Need-loop-init invariant-loop decreases-loop
+loop-holds : tie.Need-loop-i-init invariant-loop decreases-loop
 loop-holds c = let s = c.before.before.before.before.before.before.before.before.before.before.before.before.before in (omega arith, refl, falls_start (image s) (head s) (row_of_table s) s.args.n)
 
-row-requires : tie.Need-row-requires invariant-loop decreases-loop
+row-requires : tie.Need-row-s-requires invariant-loop decreases-loop
 row-requires c κs =
-    let p = c.before.before.before.before.before.before.before.before.before.before.before.before.before.before.before.requires.1.long in
+    let p = c.requires.1.long in
     record {
-      starts = omega (arith, p.starts, c.loop-test.true);
-      ends = omega (arith, p.ends, c.loop-test.true);
-      units = omega (arith, p.units, c.loop-test.true);
-      rest = omega (arith, p.rest, c.loop-test.true);
+      starts = omega (arith, p.starts, c.loop-i-test.true);
+      ends = omega (arith, p.ends, c.loop-i-test.true);
+      units = omega (arith, p.units, c.loop-i-test.true);
+      rest = omega (arith, p.rest, c.loop-i-test.true);
     }
 
-add-fall-of : tie.Need-overflow-add-fall-of invariant-loop decreases-loop
-add-fall-of c = omega (arith, c.before.loop-test.true)
+add-fall-of : tie.Need-overflow_add-i invariant-loop decreases-loop
+add-fall-of c = omega (arith, c.loop-i-test.true)
 
-fall-of-requires : tie.Need-fall-of-requires invariant-loop decreases-loop
+fall-of-requires : tie.Need-fall_of-fall-requires invariant-loop decreases-loop
 fall-of-requires c κs =
-    let s = c.before.before.before.before.before.before.before.before.before.before.before.before.before.before.before.before in
-    let l = c.before.before.loop in
-    let e = c.row.ensures in
-    let p = s.requires.1.each l.i c.before.loop-test.true in (
+    let s = c in
+    let l = c.loop-i in
+    let e = c.row-s.ensures in
+    let p = s.requires.1.each l.i c.loop-i-test.true in (
       s.requires.0,
       s.requires.1,
       record { section = omega (arith, ap (λ (y : Split). y.section) e, p.section); end = omega (arith, ap (λ (y : Split). y.end) e, p.end) },
       ap (λ (y : Split). bad_align y.alignment) e ∙ alignment_good _ (good_row _ _ _ _),
     )
 
-enum-known-fall : tie.Need-enum-known-fall invariant-loop decreases-loop
+enum-known-fall : tie.Need-enum_known-fall invariant-loop decreases-loop
 enum-known-fall c = search rules
 
-mul-falls : tie.Need-overflow-mul-falls invariant-loop decreases-loop
-mul-falls c = omega (arith, room c.before.before.before.before.before.before.before.before.before.before.before.before.before.before.before.before.before.before.before.before, c.before.before.before.before.before.before.before.before.before.before.before.before.before.before.before.before.before.before.before.before.requires.2, c.before.before.before.before.before.before.loop.invariant.1, c.before.before.before.before.before.loop-test.true)
+mul-falls : tie.Need-offset_bounds-falls-i invariant-loop decreases-loop
+mul-falls c = omega (arith, room c.before.before.before.before.before.before.before.before.before.before.before.before.before.before.before.before.before.before, c.requires.2, c.loop-i.invariant.1, c.loop-i-test.true)
 
-slice-write-falls : tie.Need-slice-write-falls invariant-loop decreases-loop
-slice-write-falls c = omega (arith, room c.before.before.before.before.before.before.before.before.before.before.before.before.before.before.before.before.before.before.before.before, c.before.before.before.before.before.before.before.before.before.before.before.before.before.before.before.before.before.before.before.before.requires.2, c.before.before.before.before.before.before.loop.invariant.1, c.before.before.before.before.before.loop-test.true)
+slice-write-falls : tie.Need-bounds-falls-i invariant-loop decreases-loop
+slice-write-falls c = omega (arith, room c.before.before.before.before.before.before.before.before.before.before.before.before.before.before.before.before.before.before, c.requires.2, c.loop-i.invariant.1, c.loop-i-test.true)
 
-add-i : tie.Need-overflow-add-i invariant-loop decreases-loop
-add-i c = omega (arith, c.before.before.before.before.before.before.before.before.before.before.before.before.before.before.before.before.before.before.before.before.ranges.n, c.before.before.before.before.before.loop-test.true)
+add-i : tie.Need-overflow_add-i-in-Is invariant-loop decreases-loop
+add-i c = omega (arith, c.ranges.n, c.loop-i-test.true)
 
-loop-less : tie.Need-loop-smaller invariant-loop decreases-loop
-loop-less c = omega (arith, c.before.before.before.before.before.loop-test.true)
+loop-less : tie.Need-loop-i-smaller invariant-loop decreases-loop
+loop-less c = omega (arith, c.loop-i-test.true)
 
-loop-again : tie.Need-loop-preserved invariant-loop decreases-loop
+loop-again : tie.Need-loop-i-preserved invariant-loop decreases-loop
 loop-again c =
-    let s = c.before.before.before.before.before.before.before.before.before.before.before.before.before.before.before.before.before.before.before.before in
-    let l = c.before.before.before.before.before.before.loop in
-    let y = c.before.before.before.before.row.result in
-    let h = c.before.before.before.before.before.loop-test.true in
-    let fall = sym c.before.before.before.fall_of.ensures ∙ ap (asked_meaning y.section y.start) c.before.fall.given.1 in (
+    let s = c.before.before.before.before.before.before.before.before.before.before.before.before.before.before.before.before.before.before in
+    let l = c.loop-i in
+    let y = c.row-s.result in
+    let h = c.loop-i-test.true in
+    let fall = sym c.fall_of-fall.ensures ∙ ap (asked_meaning y.section y.start) c.in-Is.is in (
       omega (arith, h),
       length-set l.falls l.i _ ∙ l.invariant.1,
-      fall_turn (image s) (head s) (row_of_table s) s.args.n l.i h y c.before.before.before.before.row.ensures l.falls _ (omega (arith, s.requires.2, l.invariant.1, h)) fall ∙ l.invariant.2,
+      fall_turn (image s) (head s) (row_of_table s) s.args.n l.i h y c.row-s.ensures l.falls _ (omega (arith, s.requires.2, l.invariant.1, h)) fall ∙ l.invariant.2,
     )
 
-enum_told : tie.Need-enum-told invariant-loop decreases-loop
+enum_told : tie.Need-enum_told-1 invariant-loop decreases-loop
 enum_told c = search rules
 
 refusal-requires : tie.Need-refusal-requires invariant-loop decreases-loop
 refusal-requires c κs = tt
 
-same_length : tie.Need-same-length invariant-loop decreases-loop
-same_length c = c.before.before.before.before.before.before.loop.invariant.1
+same_length : tie.Need-shape_of-falls-in-Backwards invariant-loop decreases-loop
+same_length c = c.loop-i.invariant.1
 
-returns : tie.Need-returns invariant-loop decreases-loop
+returns : tie.Need-returns-in-Backwards invariant-loop decreases-loop
 returns c =
-    let s = c.before.before.before.before.before.before.before.before.before.before.before.before.before.before.before.before.before.before.before.before in
-    let l = c.before.before.before.before.before.before.loop in
-    let y = c.before.before.before.before.row.result in
-    let fall = sym c.before.before.before.fall_of.ensures ∙ ap (asked_meaning y.section y.start) c.before.enum_told.given.1 in
+    let s = c.before.before.before.before.before.before.before.before.before.before.before.before.before.before.before.before.before.before.before in
+    let l = c.loop-i in
+    let y = c.row-s.result in
+    let fall = sym c.fall_of-fall.ensures ∙ ap (asked_meaning y.section y.start) c.in-Backwards.is in
     ap (λ (a : Answer). seen a (take s.args.n l.falls)) c.refusal.ensures
-    ∙ sym (fall_stops (image s) (head s) (row_of_table s) s.args.n l.i c.before.before.before.before.before.loop-test.true y c.before.before.before.before.row.ensures (take l.i l.falls) 11 y.section y.start fall)
+    ∙ sym (fall_stops (image s) (head s) (row_of_table s) s.args.n l.i c.loop-i-test.true y c.row-s.ensures (take l.i l.falls) 11 y.section y.start fall)
     ∙ l.invariant.2
 
-same-length-2 : tie.Need-same-length-2 invariant-loop decreases-loop
-same-length-2 c = c.before.loop.invariant.1
+same-length-2 : tie.Need-shape_of-falls invariant-loop decreases-loop
+same-length-2 c = c.loop-i.invariant.1
 
-returns-2 : tie.Need-returns-2 invariant-loop decreases-loop
+returns-2 : tie.Need-returns invariant-loop decreases-loop
 returns-2 c =
     let s = c.before.before.before.before.before.before.before.before.before.before.before.before.before.before.before in
-    let l = c.before.loop in
-    let z : s.args.n ≡ l.i = omega (arith, l.invariant.0, c.loop-test.false) in
+    let l = c.loop-i in
+    let z : s.args.n ≡ l.i = omega (arith, l.invariant.0, c.loop-i-test.false) in
     ap (λ (m : ℕ). accepted (take m l.falls)) z
-    ∙ sym (falls_ended (image s) (head s) (row_of_table s) s.args.n l.i (take l.i l.falls) c.loop-test.false)
+    ∙ sym (falls_ended (image s) (head s) (row_of_table s) s.args.n l.i (take l.i l.falls) c.loop-i-test.false)
     ∙ l.invariant.2
 
-pub find-falls-spec : {M : Type 1} → statement M
-find-falls-spec =
+pub find_falls_spec : {M : Type 1} → statement M
+find_falls_spec =
     tie.close
     (tie.spec
     invariant-loop

@@ -26,46 +26,46 @@ head s = head_of s.args.heads.now s.args.head_places.now
 abbrev row_of_table : tie.Start → ℕ → Split
 row_of_table s = let a = s.args in row_at (columns a.starts.now a.ends.now a.units.now a.rest.now)
 
-returns : tie.Need-returns
+returns : tie.Need-returns-then-n-j
 unfolding refuse
-returns c = let s = c.before.before.before.before.before.before.before.before.before.before.before.before.before in next_none (image s) (head s) s.args.s (row_of_table s) s.args.n s.args.j c.if1.true
+returns c = let s = c.before.before.before.before.before.before.before.before.before.before.before.before.before in next_none (image s) (head s) s.args.s (row_of_table s) s.args.n s.args.j c.if-n-j.true
 
-row-requires : tie.Need-row-requires
+row-requires : tie.Need-row-next-requires
 row-requires c κs =
-    let p = c.before.before.before.before.before.before.before.before.before.before.before.before.before.requires.1.long in
+    let p = c.requires.1.long in
     record {
-      starts = omega (arith, p.starts, c.if1.false);
-      ends = omega (arith, p.ends, c.if1.false);
-      units = omega (arith, p.units, c.if1.false);
-      rest = omega (arith, p.rest, c.if1.false);
+      starts = omega (arith, p.starts, c.if-n-j.false);
+      ends = omega (arith, p.ends, c.if-n-j.false);
+      units = omega (arith, p.units, c.if-n-j.false);
+      rest = omega (arith, p.rest, c.if-n-j.false);
     }
 
-returns-2 : tie.Need-returns-2
+returns-2 : tie.Need-returns-then-next-s
 unfolding refuse
 returns-2 c =
     let s = c.before.before.before.before.before.before.before.before.before.before.before.before.before.before.before.before.before in
-    next_other (image s) (head s) s.args.s (row_of_table s) s.args.n s.args.j c.before.before.before.before.if1.false _ c.before.before.before.row.ensures c.if2.true
+    next_other (image s) (head s) s.args.s (row_of_table s) s.args.n s.args.j c.if-n-j.false _ c.row-next.ensures c.if-next-s.true
 
-split-alignment-requires : tie.Need-split-alignment-requires
+split-alignment-requires : tie.Need-split_alignment-a-requires
 split-alignment-requires c κs =
-    let s = c.before.before.before.before.before.before.before.before.before.before.before.before.before.before.before.before.before in
-    let e = ap (λ (y : Split). y.section) c.before.before.before.row.ensures in
-    (s.requires.0.tables, s.requires.0.headed, omega (arith, e, (s.requires.1.each s.args.j c.before.before.before.before.if1.false).section))
+    let s = c in
+    let e = ap (λ (y : Split). y.section) c.row-next.ensures in
+    (s.requires.0.tables, s.requires.0.headed, omega (arith, e, (s.requires.1.each s.args.j c.if-n-j.false).section))
 
-is-backwards-requires : tie.Need-is-backwards-requires
+is-backwards-requires : tie.Need-is_backwards-requires
 is-backwards-requires c κs = tt
 
-returns-3 : tie.Need-returns-3
+returns-3 : tie.Need-returns
 returns-3 c =
     let s = c.before.before.before.before.before.before.before.before.before.before.before.before.before.before.before.before.before.before.before in
-    let e = c.before.before.if2.false in
+    let e = c.if-next-s.false in
     ap (λ (m : ℕ). refuse 11 m s.args.s.start c.is_backwards.result) (sym e)
     ∙ c.is_backwards.ensures
-    ∙ ap unused c.before.split_alignment.ensures
-    ∙ next_asked (image s) (head s) s.args.s (row_of_table s) s.args.n s.args.j c.before.before.before.before.before.before.if1.false _ c.before.before.before.before.before.row.ensures e
+    ∙ ap unused c.split_alignment-a.ensures
+    ∙ next_asked (image s) (head s) s.args.s (row_of_table s) s.args.n s.args.j c.if-n-j.false _ c.row-next.ensures e
 
-pub next-backwards-spec : {M : Type 1} → statement M
-next-backwards-spec =
+pub next_backwards_spec : {M : Type 1} → statement M
+next_backwards_spec =
     tie.close
     (tie.spec
     returns

@@ -32,73 +32,73 @@ after_falls s falls = carry_from 0 falls (table s) >>= λ fallen. cut_from (imag
 abbrev after_carried : tie.Start → List Split → Outcome (List Split)
 after_carried s fallen = cut_from (image s) (sections s) (sections s).count 0 fallen
 
-find-falls-requires : tie.Need-find-falls-requires
+find-falls-requires : tie.Need-find_falls-found-requires
 find-falls-requires c κs =
-    let p = c.before.before.before.before.before.before.before.before.before.before.before.before.before.before.before.before.before.requires in
+    let p = c.requires in
     (record { tables = p.0; sound = p.1; headed = kept_heads _ _ _ _ _ p.2 }, p.3, p.4)
 
-enum_told : tie.Need-enum-told
+enum_told : tie.Need-enum_told-1
 enum_told c = search rules
 
-same_length : tie.Need-same-length
+same_length : tie.Need-shape_of-ends-in-Refused
 same_length c = search rules
 
-same-length-2 : tie.Need-same-length-2
-same-length-2 c = c.before.before.before.before.find_falls.auto.1.1.1.1.1.1.1.1.1.1.1.1.1.0
+same-length-2 : tie.Need-shape_of-falls-in-Refused
+same-length-2 c = c.find_falls-found.auto.falls
 
-returns : tie.Need-returns
+returns : tie.Need-returns-in-Refused
 unfolding trimmed
-returns c = let s = c.before.before.before.before.before.before.before.before.before.before.before.before.before.before.before.before.before.before.before.before.before.before in seen-stops _ _ (falls_of (image s) (sections s).head (table s)) (after_falls s) c.before.before.before.before.find_falls.ensures (table s) c.enum_told.given.1
+returns c = let s = c in seen-stops _ _ (falls_of (image s) (sections s).head (table s)) (after_falls s) c.find_falls-found.ensures (table s) c.in-Refused.is
 
-enum-told-2 : tie.Need-enum-told-2
+enum-told-2 : tie.Need-enum_told-in_default
 enum-told-2 c = search rules
 
-carry-out-requires : tie.Need-carry-out-requires
+carry-out-requires : tie.Need-carry_out-carried-requires
 carry-out-requires c κs =
-    let p = c.before.before.before.before.before.before.before.before.before.before.before.before.before.before.before.before.before.before.before.before.before.before.before.before.requires in
-    (p.3.long, omega (arith, p.4, c.before.before.before.before.before.before.find_falls.auto.1.1.1.1.1.1.1.1.1.1.1.1.1.0))
+    let p = c.requires in
+    (p.3.long, omega (arith, p.4, c.find_falls-found.auto.falls))
 
-enum-told-3 : tie.Need-enum-told-3
+enum-told-3 : tie.Need-enum_told-in-Refused-carried
 enum-told-3 c = search rules
 
-same-length-3 : tie.Need-same-length-3
-same-length-3 c = c.before.before.before.before.carry_out.auto.1.0
+same-length-3 : tie.Need-shape_of-ends-in-Refused-carried
+same-length-3 c = c.carry_out-carried.auto.ends
 
-same-length-4 : tie.Need-same-length-4
-same-length-4 c = c.before.before.before.before.before.before.before.before.before.before.before.find_falls.auto.1.1.1.1.1.1.1.1.1.1.1.1.1.0
+same-length-4 : tie.Need-shape_of-falls-in-Refused-carried
+same-length-4 c = c.find_falls-found.auto.falls
 
-returns-2 : tie.Need-returns-2
+returns-2 : tie.Need-returns-in-Refused-carried
 unfolding trimmed
 returns-2 c =
-    let s = c.before.before.before.before.before.before.before.before.before.before.before.before.before.before.before.before.before.before.before.before.before.before.before.before.before.before.before.before.before in
-    seen-stops _ _ _ (after_carried s) c.before.before.before.before.carry_out.ensures _ c.enum-told3.given.1
-    ∙ sym (seen_goes _ _ (falls_of (image s) (sections s).head (table s)) (after_falls s) c.before.before.before.before.before.before.before.before.before.before.before.find_falls.ensures c.before.before.before.before.before.before.before.enum-told2.given.1)
+    let s = c in
+    seen-stops _ _ _ (after_carried s) c.carry_out-carried.ensures _ c.in-Refused-carried.is
+    ∙ sym (seen_goes _ _ (falls_of (image s) (sections s).head (table s)) (after_falls s) c.find_falls-found.ensures c.in_default.is)
 
-enum-told-4 : tie.Need-enum-told-4
+enum-told-4 : tie.Need-enum_told-in_default-carried
 enum-told-4 c = search rules
 
-cut-sections-requires : tie.Need-cut-sections-requires
+cut-sections-requires : tie.Need-cut_sections-requires
 cut-sections-requires c κs =
-    let p = c.before.before.before.before.before.before.before.before.before.before.before.before.before.before.before.before.before.before.before.before.before.before.before.before.before.before.before.before.before.before.requires in
+    let p = c.requires in
     let l = p.3.long in
-    (p.0, p.2, record { starts = l.starts; ends = omega (arith, l.ends, c.before.before.before.before.before.carry_out.auto.1.0); units = l.units; rest = l.rest })
+    (p.0, p.2, record { starts = l.starts; ends = omega (arith, l.ends, c.carry_out-carried.auto.ends); units = l.units; rest = l.rest })
 
-same-length-5 : tie.Need-same-length-5
-same-length-5 c = c.before.before.cut_sections.auto.1.1.1.1.1.1.1.1.1.1.1.0 ∙ c.before.before.before.before.before.before.before.before.carry_out.auto.1.0
+same-length-5 : tie.Need-shape_of-ends
+same-length-5 c = c.cut_sections.auto.ends ∙ c.carry_out-carried.auto.ends
 
-same-length-6 : tie.Need-same-length-6
-same-length-6 c = c.before.before.before.before.before.before.before.before.before.before.before.before.before.before.before.find_falls.auto.1.1.1.1.1.1.1.1.1.1.1.1.1.0
+same-length-6 : tie.Need-shape_of-falls
+same-length-6 c = c.find_falls-found.auto.falls
 
-returns-3 : tie.Need-returns-3
+returns-3 : tie.Need-returns
 unfolding trimmed
 returns-3 c =
-    let s = c.before.before.before.before.before.before.before.before.before.before.before.before.before.before.before.before.before.before.before.before.before.before.before.before.before.before.before.before.before.before.before.before.before in
-    c.before.before.cut_sections.ensures
-    ∙ sym (seen_goes _ _ _ (after_carried s) c.before.before.before.before.before.before.before.before.carry_out.ensures c.before.before.before.before.enum-told4.given.1)
-    ∙ sym (seen_goes _ _ (falls_of (image s) (sections s).head (table s)) (after_falls s) c.before.before.before.before.before.before.before.before.before.before.before.before.before.before.before.find_falls.ensures c.before.before.before.before.before.before.before.before.before.before.before.enum-told2.given.1)
+    let s = c in
+    c.cut_sections.ensures
+    ∙ sym (seen_goes _ _ _ (after_carried s) c.carry_out-carried.ensures c.in_default-carried.is)
+    ∙ sym (seen_goes _ _ (falls_of (image s) (sections s).head (table s)) (after_falls s) c.find_falls-found.ensures c.in_default.is)
 
-pub trim-spec : {M : Type 1} → statement M
-trim-spec =
+pub trim_spec : {M : Type 1} → statement M
+trim_spec =
     tie.close
     (tie.spec
     find-falls-requires

@@ -5,14 +5,14 @@ use borrow.Author.Rules.{rules}
 use Rattle.units.proofs.name_of.Statement.{statement}
 use Rattle.units.proofs.name_of.Tie as tie
 
-unit-at-requires : tie.Need-unit-at-requires
+unit-at-requires : tie.Need-unit_at-u-requires
 unit-at-requires c κs = search rules
 
-cast-result : tie.Need-overflow-cast-result
+cast-result : tie.Need-overflow_cast-result
 cast-result c = search rules
 
 returns : tie.Need-returns
-returns c = ap (λ (u : units.Unit). u.name) c.before.unit_at_lem.ensures
+returns c = ap (λ (u : units.Unit). u.name) c.unit_at-u.ensures
 
-pub name-of-spec : {M : Type 1} → statement M
-name-of-spec = tie.close (tie.spec unit-at-requires cast-result returns)
+pub name_of_spec : {M : Type 1} → statement M
+name_of_spec = tie.close (tie.spec unit-at-requires cast-result returns)

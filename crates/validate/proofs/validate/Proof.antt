@@ -25,60 +25,60 @@ invariant-loop b places order starts ends units rest n before₀ last₀ i₀ be
 abbrev decreases-loop : tie.decreases-loop
 decreases-loop b places order starts ends units rest n before₀ last₀ i₀ before last i = n - i
 
-loop-holds : tie.Need-loop-init invariant-loop decreases-loop
+loop-holds : tie.Need-loop-i-init invariant-loop decreases-loop
 unfolding validate
 loop-holds c = (omega arith, ap (validate_from _ _ 0 0) (tabulate_all _ _))
 
-row-requires : tie.Need-row-requires invariant-loop decreases-loop
+row-requires : tie.Need-row-s-requires invariant-loop decreases-loop
 row-requires c κs =
-    let p = c.before.before.before.before.before.before.before.before.before.requires.2 in
+    let p = c.requires.2 in
     record {
-      starts = omega (arith, p.starts, c.loop-test.true);
-      ends = omega (arith, p.ends, c.loop-test.true);
-      units = omega (arith, p.units, c.loop-test.true);
-      rest = omega (arith, p.rest, c.loop-test.true);
+      starts = omega (arith, p.starts, c.loop-i-test.true);
+      ends = omega (arith, p.ends, c.loop-i-test.true);
+      units = omega (arith, p.units, c.loop-i-test.true);
+      rest = omega (arith, p.rest, c.loop-i-test.true);
     }
 
-validate-one-requires : tie.Need-validate-one-requires invariant-loop decreases-loop
-validate-one-requires c κs = let p = c.before.before.before.before.before.before.before.before.before.before.requires in (p.0, p.1)
+validate-one-requires : tie.Need-validate_one-answer-requires invariant-loop decreases-loop
+validate-one-requires c κs = let p = c.requires in (p.0, p.1)
 
-enum_told : tie.Need-enum-told invariant-loop decreases-loop
+enum_told : tie.Need-enum_told-1 invariant-loop decreases-loop
 enum_told c = search rules
 
-returns : tie.Need-returns invariant-loop decreases-loop
+returns : tie.Need-returns-in-Refused invariant-loop decreases-loop
 returns c =
-    let a = c.before.before.before.before.before.before.before.before.before.before.before.before.before.args in
-    let l = c.before.before.before.before.before.loop in
+    let a = c.args in
+    let l = c.loop-i in
     let row = row_at (columns a.starts.now a.ends.now a.units.now a.rest.now) in
-    let t = check_turn (symbol_of a.b.now a.places.now) (length a.places.now) row a.n l.before l.last l.i c.before.before.before.before.loop-test.true _ c.before.before.before.row.ensures in
-    then_stops c.before.before.validate_one.ensures _ (ap meaning c.enum_told.given.1) ∙ sym t ∙ l.invariant.1
+    let t = check_turn (symbol_of a.b.now a.places.now) (length a.places.now) row a.n l.before l.last l.i c.loop-i-test.true _ c.row-s.ensures in
+    then_stops c.validate_one-answer.ensures _ (ap meaning c.in-Refused.is) ∙ sym t ∙ l.invariant.1
 
-enum-told-2 : tie.Need-enum-told-2 invariant-loop decreases-loop
+enum-told-2 : tie.Need-enum_told-in_default invariant-loop decreases-loop
 enum-told-2 c = search rules
 
-add-i : tie.Need-overflow-add-i invariant-loop decreases-loop
-add-i c = omega (arith, c.before.before.before.before.loop-test.true)
+add-i : tie.Need-overflow_add-i invariant-loop decreases-loop
+add-i c = omega (arith, c.loop-i-test.true)
 
-loop-less : tie.Need-loop-smaller invariant-loop decreases-loop
-loop-less c = omega (arith, c.before.before.before.before.loop-test.true)
+loop-less : tie.Need-loop-i-smaller invariant-loop decreases-loop
+loop-less c = omega (arith, c.loop-i-test.true)
 
-loop-again : tie.Need-loop-preserved invariant-loop decreases-loop
+loop-again : tie.Need-loop-i-preserved invariant-loop decreases-loop
 loop-again c =
-    let a = c.before.before.before.before.before.before.before.before.before.before.before.before.before.args in
-    let l = c.before.before.before.before.before.loop in
+    let a = c.args in
+    let l = c.loop-i in
     let row = row_at (columns a.starts.now a.ends.now a.units.now a.rest.now) in
-    let t = check_turn (symbol_of a.b.now a.places.now) (length a.places.now) row a.n l.before l.last l.i c.before.before.before.before.loop-test.true _ c.before.before.before.row.ensures in
-    (omega (arith, c.before.before.before.before.loop-test.true), then_goes c.before.before.validate_one.ensures _ (ap meaning c.enum-told2.given.1) ∙ sym t ∙ l.invariant.1)
+    let t = check_turn (symbol_of a.b.now a.places.now) (length a.places.now) row a.n l.before l.last l.i c.loop-i-test.true _ c.row-s.ensures in
+    (omega (arith, c.loop-i-test.true), then_goes c.validate_one-answer.ensures _ (ap meaning c.in_default.is) ∙ sym t ∙ l.invariant.1)
 
-returns-2 : tie.Need-returns-2 invariant-loop decreases-loop
+returns-2 : tie.Need-returns invariant-loop decreases-loop
 returns-2 c =
-    let a = c.before.before.before.before.before.before.before.before.before.args in
-    let l = c.before.loop in
+    let a = c.args in
+    let l = c.loop-i in
     let row = row_at (columns a.starts.now a.ends.now a.units.now a.rest.now) in
-    sym (check_ended (symbol_of a.b.now a.places.now) (length a.places.now) row a.n l.before l.last l.i c.loop-test.false) ∙ l.invariant.1
+    sym (check_ended (symbol_of a.b.now a.places.now) (length a.places.now) row a.n l.before l.last l.i c.loop-i-test.false) ∙ l.invariant.1
 
-pub validate-spec : {M : Type 1} → statement M
-validate-spec =
+pub validate_spec : {M : Type 1} → statement M
+validate_spec =
     tie.close
     (tie.spec
     invariant-loop

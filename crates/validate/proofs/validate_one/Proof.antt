@@ -13,59 +13,59 @@ use Rattle.validate.proofs.validate_one.Tie as tie
 refusal-requires : tie.Need-refusal-requires
 refusal-requires c κs = search rules
 
-returns : tie.Need-returns
+returns : tie.Need-returns-then-s-before
 unfolding validate_one
-returns c = ap meaning c.refusal.ensures ∙ sym (fails 50 _ _ _ _ c.before.if1.true)
+returns c = ap meaning c.refusal.ensures ∙ sym (fails 50 _ _ _ _ c.if-s-before.true)
 
-refusal-requires-2 : tie.Need-refusal-requires-2
+refusal-requires-2 : tie.Need-refusal-requires-then-s
 refusal-requires-2 c κs = search rules
 
-returns-2 : tie.Need-returns-2
+returns-2 : tie.Need-returns-then-s
 unfolding validate_one
-returns-2 c = ap meaning c.refusal2.ensures ∙ sym (passes 50 _ _ _ _ c.before.before.before.before.if1.false ∙ fails 51 _ _ _ _ c.before.if2.true)
+returns-2 c = ap meaning c.refusal-then-s.ensures ∙ sym (passes 50 _ _ _ _ c.if-s-before.false ∙ fails 51 _ _ _ _ c.if-s.true)
 
-end-below-requires : tie.Need-end-below-requires
+end-below-requires : tie.Need-end_below-requires
 end-below-requires c κs = search rules
 
-refusal-requires-3 : tie.Need-refusal-requires-3
+refusal-requires-3 : tie.Need-refusal-requires-then-s-end_below
 refusal-requires-3 c κs = search rules
 
-returns-3 : tie.Need-returns-3
+returns-3 : tie.Need-returns-then-s-end_below
 unfolding validate_one
 returns-3 c =
-    let s = c.before.before.before.before.before.before.before.before.before.before.before.before.before.args.s in
-    ap meaning c.refusal3.ensures
-    ∙ sym (passes 50 _ _ _ _ c.before.before.before.before.before.before.before.if1.false
-    ∙ passes 51 _ _ _ _ c.before.before.before.before.if2.false
-    ∙ fails 52 _ _ _ _ (ap (ltb s.start) (sym c.before.before.before.end_Below.ensures) ∙ lt-ltb _ _ c.before.if3.true))
+    let s = c.args.s in
+    ap meaning c.refusal-then-s-end_below.ensures
+    ∙ sym (passes 50 _ _ _ _ c.if-s-before.false
+    ∙ passes 51 _ _ _ _ c.if-s.false
+    ∙ fails 52 _ _ _ _ (ap (ltb s.start) (sym c.end_below.ensures) ∙ lt-ltb _ _ c.if-s-end_below.true))
 
-end-below-requires-2 : tie.Need-end-below-requires-2
+end-below-requires-2 : tie.Need-end_below-requires-2
 end-below-requires-2 c κs = search rules
 
-refusal-requires-4 : tie.Need-refusal-requires-4
+refusal-requires-4 : tie.Need-refusal-requires-then-s-end_below-2
 refusal-requires-4 c κs = search rules
 
-returns-4 : tie.Need-returns-4
+returns-4 : tie.Need-returns-then-s-end_below-2
 unfolding validate_one
 returns-4 c =
-    let s = c.before.before.before.before.before.before.before.before.before.before.before.before.before.before.before.before.args.s in
-    ap meaning c.refusal4.ensures
-    ∙ sym (passes 50 _ _ _ _ c.before.before.before.before.before.before.before.before.before.before.if1.false
-    ∙ passes 51 _ _ _ _ c.before.before.before.before.before.before.before.if2.false
-    ∙ passes 52 _ _ _ _ (ap (ltb s.start) (sym c.before.before.before.before.before.before.end_Below.ensures) ∙ le-ltb _ _ c.before.before.before.before.if3.false)
-    ∙ fails 53 _ _ _ _ (ap (ltb s.end) (sym c.before.before.before.end-below2.ensures) ∙ lt-ltb _ _ c.before.if4.true))
+    let s = c.args.s in
+    ap meaning c.refusal-then-s-end_below-2.ensures
+    ∙ sym (passes 50 _ _ _ _ c.if-s-before.false
+    ∙ passes 51 _ _ _ _ c.if-s.false
+    ∙ passes 52 _ _ _ _ (ap (ltb s.start) (sym c.end_below.ensures) ∙ le-ltb _ _ c.if-s-end_below.false)
+    ∙ fails 53 _ _ _ _ (ap (ltb s.end) (sym c.end_below-2.ensures) ∙ lt-ltb _ _ c.if-s-end_below-2.true))
 
-returns-5 : tie.Need-returns-5
+returns-5 : tie.Need-returns
 unfolding validate_one
 returns-5 c =
-    let s = c.before.before.before.before.before.before.before.before.before.before.before.before.before.before.before.args.s in
-    sym (passes 50 _ _ _ _ c.before.before.before.before.before.before.before.before.before.if1.false
-    ∙ passes 51 _ _ _ _ c.before.before.before.before.before.before.if2.false
-    ∙ passes 52 _ _ _ _ (ap (ltb s.start) (sym c.before.before.before.before.before.end_Below.ensures) ∙ le-ltb _ _ c.before.before.before.if3.false)
-    ∙ passes 53 _ _ _ _ (ap (ltb s.end) (sym c.before.before.end-below2.ensures) ∙ le-ltb _ _ c.if4.false))
+    let s = c.args.s in
+    sym (passes 50 _ _ _ _ c.if-s-before.false
+    ∙ passes 51 _ _ _ _ c.if-s.false
+    ∙ passes 52 _ _ _ _ (ap (ltb s.start) (sym c.end_below.ensures) ∙ le-ltb _ _ c.if-s-end_below.false)
+    ∙ passes 53 _ _ _ _ (ap (ltb s.end) (sym c.end_below-2.ensures) ∙ le-ltb _ _ c.if-s-end_below-2.false))
 
-pub validate-one-spec : {M : Type 1} → statement M
-validate-one-spec =
+pub validate_one_spec : {M : Type 1} → statement M
+validate_one_spec =
     tie.close
     (tie.spec
     refusal-requires

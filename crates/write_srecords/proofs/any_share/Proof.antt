@@ -21,39 +21,39 @@ invariant-loop sections k₀ k = (some_share (drop k (stage_sections sections)) 
 abbrev decreases-loop : tie.decreases-loop
 decreases-loop sections k₀ k = length sections / 15 - k
 
-loop-holds : tie.Need-loop-init invariant-loop decreases-loop
+loop-holds : tie.Need-loop-k-init invariant-loop decreases-loop
 loop-holds c = refl
 
-shares-later-requires : tie.Need-shares-later-requires invariant-loop decreases-loop
-shares-later-requires c κs = c.loop-test.true
+shares-later-requires : tie.Need-shares_later-requires invariant-loop decreases-loop
+shares-later-requires c κs = c.loop-k-test.true
 
-returns : tie.Need-returns invariant-loop decreases-loop
+returns : tie.Need-returns-then-shares_later invariant-loop decreases-loop
 returns c =
-    let heads = stage_sections c.before.before.before.before.before.args.sections.now in
-    let l = c.before.before.before.loop in
-    let more : l.k < length heads = (let z = heads_length c.before.before.before.before.before.args.sections.now in let t = c.before.before.loop-test.true in omega arith) in
-    sym (sym l.invariant ∙ share_turn heads l.k more ∙ ap (λ (t : Bool). t || some_share (drop (l.k + 1) heads)) (sym c.before.shares_later.ensures ∙ c.if1.true))
+    let heads = stage_sections c.args.sections.now in
+    let l = c.loop-k in
+    let more : l.k < length heads = (let z = heads_length c.args.sections.now in let t = c.loop-k-test.true in omega arith) in
+    sym (sym l.invariant ∙ share_turn heads l.k more ∙ ap (λ (t : Bool). t || some_share (drop (l.k + 1) heads)) (sym c.shares_later.ensures ∙ c.if-shares_later.true))
 
-add-k : tie.Need-overflow-add-k invariant-loop decreases-loop
+add-k : tie.Need-overflow_add-k invariant-loop decreases-loop
 add-k c = omega arith
 
-loop-less : tie.Need-loop-smaller invariant-loop decreases-loop
+loop-less : tie.Need-loop-k-smaller invariant-loop decreases-loop
 loop-less c = omega arith
 
-loop-again : tie.Need-loop-preserved invariant-loop decreases-loop
+loop-again : tie.Need-loop-k-preserved invariant-loop decreases-loop
 loop-again c =
-    let heads = stage_sections c.before.before.before.before.before.args.sections.now in
-    let l = c.before.before.before.loop in
-    let more : l.k < length heads = (let z = heads_length c.before.before.before.before.before.args.sections.now in let t = c.before.before.loop-test.true in omega arith) in
-    sym (share_turn heads l.k more ∙ ap (λ (t : Bool). t || some_share (drop (l.k + 1) heads)) (sym c.before.shares_later.ensures ∙ c.if1.false)) ∙ l.invariant
+    let heads = stage_sections c.args.sections.now in
+    let l = c.loop-k in
+    let more : l.k < length heads = (let z = heads_length c.args.sections.now in let t = c.loop-k-test.true in omega arith) in
+    sym (share_turn heads l.k more ∙ ap (λ (t : Bool). t || some_share (drop (l.k + 1) heads)) (sym c.shares_later.ensures ∙ c.if-shares_later.false)) ∙ l.invariant
 
-returns-2 : tie.Need-returns-2 invariant-loop decreases-loop
+returns-2 : tie.Need-returns invariant-loop decreases-loop
 returns-2 c =
-    let l = c.before.loop in
-    sym (sym l.invariant ∙ share_none (stage_sections c.before.before.before.args.sections.now) l.k (let z = heads_length c.before.before.before.args.sections.now in let t = c.loop-test.false in omega arith))
+    let l = c.loop-k in
+    sym (sym l.invariant ∙ share_none (stage_sections c.args.sections.now) l.k (let z = heads_length c.args.sections.now in let t = c.loop-k-test.false in omega arith))
 
-pub any-share-spec : {M : Type 1} → statement M
-any-share-spec =
+pub any_share_spec : {M : Type 1} → statement M
+any_share_spec =
     tie.close
     (tie.spec
     invariant-loop

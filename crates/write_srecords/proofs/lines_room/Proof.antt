@@ -22,44 +22,44 @@ invariant-loop sections sum₀ k₀ sum k = (k ≤ length sections / 15) × (sum
 abbrev decreases-loop : tie.decreases-loop
 decreases-loop sections sum₀ k₀ sum k = length sections / 15 - k
 
-loop-holds : tie.Need-loop-init invariant-loop decreases-loop
+loop-holds : tie.Need-loop-k-init invariant-loop decreases-loop
 loop-holds c = (omega arith, omega arith, omega arith)
 
-held-by-requires : tie.Need-held-by-requires invariant-loop decreases-loop
-held-by-requires c κs = c.loop-test.true
+held-by-requires : tie.Need-held_by-requires invariant-loop decreases-loop
+held-by-requires c κs = c.loop-k-test.true
 
-lines-size-requires : tie.Need-lines-size-requires invariant-loop decreases-loop
+lines-size-requires : tie.Need-lines_size-sum-requires invariant-loop decreases-loop
 lines-size-requires c κs = tt
 
-add-sum : tie.Need-overflow-add-sum invariant-loop decreases-loop
-add-sum c = omega (arith, c.lines_size_lem.ensures, c.before.before.before.before.before.requires)
+add-sum : tie.Need-overflow_add-sum invariant-loop decreases-loop
+add-sum c = omega (arith, c.lines_size-sum.ensures, c.requires)
 
-add-k : tie.Need-overflow-add-k invariant-loop decreases-loop
+add-k : tie.Need-overflow_add-k invariant-loop decreases-loop
 add-k c = omega arith
 
-loop-less : tie.Need-loop-smaller invariant-loop decreases-loop
+loop-less : tie.Need-loop-k-smaller invariant-loop decreases-loop
 loop-less c = omega arith
 
-loop-again : tie.Need-loop-preserved invariant-loop decreases-loop
+loop-again : tie.Need-loop-k-preserved invariant-loop decreases-loop
 loop-again c =
-    let a = c.before.before.before.before.before.args in
-    let l = c.before.before.before.loop in
-    let e = c.lines_size_lem.ensures in
-    let size = ap lines_size c.before.held_by.ensures in
-    let turn = room_turn (stage_sections a.sections.now) l.k (let z = heads_length a.sections.now in let t = c.before.before.loop-test.true in omega arith) in
+    let a = c.args in
+    let l = c.loop-k in
+    let e = c.lines_size-sum.ensures in
+    let size = ap lines_size c.held_by.ensures in
+    let turn = room_turn (stage_sections a.sections.now) l.k (let z = heads_length a.sections.now in let t = c.loop-k-test.true in omega arith) in
     let i = l.invariant.1 in
     (omega arith, omega arith, omega arith)
 
 returns : tie.Need-returns invariant-loop decreases-loop
 returns c =
-    let a = c.before.before.before.args in
-    let l = c.before.loop in
-    let z = room_none (stage_sections a.sections.now) l.k (let z = heads_length a.sections.now in let t = c.loop-test.false in omega arith) in
+    let a = c.args in
+    let l = c.loop-k in
+    let z = room_none (stage_sections a.sections.now) l.k (let z = heads_length a.sections.now in let t = c.loop-k-test.false in omega arith) in
     let i = l.invariant.1 in
     omega arith
 
-pub lines-room-spec : {M : Type 1} → statement M
-lines-room-spec =
+pub lines_room_spec : {M : Type 1} → statement M
+lines_room_spec =
     tie.close
     (tie.spec
     invariant-loop

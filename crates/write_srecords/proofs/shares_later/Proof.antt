@@ -21,54 +21,54 @@ invariant-loop sections k s j₀ j = (some (share_address (get_or (stage_section
 abbrev decreases-loop : tie.decreases-loop
 decreases-loop sections k s j₀ j = length sections / 15 - j
 
-head-of-requires : tie.Need-head-of-requires invariant-loop decreases-loop
-head-of-requires c κs = c.before.requires
+head-of-requires : tie.Need-head_of-s-requires invariant-loop decreases-loop
+head-of-requires c κs = c.requires
 
-add-j : tie.Need-overflow-add-j invariant-loop decreases-loop
+add-j : tie.Need-overflow_add-j invariant-loop decreases-loop
 add-j c = omega arith
 
-loop-holds : tie.Need-loop-init invariant-loop decreases-loop
+loop-holds : tie.Need-loop-j-init invariant-loop decreases-loop
 loop-holds c = refl
 
-head-of-requires-2 : tie.Need-head-of-requires-2 invariant-loop decreases-loop
-head-of-requires-2 c κs = c.loop-test.true
+head-of-requires-2 : tie.Need-head_of-requires invariant-loop decreases-loop
+head-of-requires-2 c κs = c.loop-j-test.true
 
-share-address-requires : tie.Need-share-address-requires invariant-loop decreases-loop
+share-address-requires : tie.Need-share_address-requires invariant-loop decreases-loop
 share-address-requires c κs = tt
 
-returns : tie.Need-returns invariant-loop decreases-loop
+returns : tie.Need-returns-then-share_address invariant-loop decreases-loop
 returns c =
-    let a = c.before.before.before.before.before.before.before.args in
+    let a = c.args in
     let heads = stage_sections a.sections.now in
-    let l = c.before.before.before.before.loop in
-    let more : l.j < length heads = (let z = heads_length a.sections.now in let t = c.before.before.before.loop-test.true in omega arith) in
-    let hit = ap₂ (λ (s t : Section). share_address s t) (sym c.before.before.before.before.before.head_of.ensures) (sym c.before.before.head-of2.ensures) ∙ sym c.before.share_address.ensures ∙ c.if1.true in
+    let l = c.loop-j in
+    let more : l.j < length heads = (let z = heads_length a.sections.now in let t = c.loop-j-test.true in omega arith) in
+    let hit = ap₂ (λ (s t : Section). share_address s t) (sym c.head_of-s.ensures) (sym c.head_of.ensures) ∙ sym c.share_address.ensures ∙ c.if-share_address.true in
     sym (sym l.invariant ∙ some_turn (share_address (get_or heads a.k nowhere)) heads l.j nowhere more ∙ ap (λ (t : Bool). t || some (share_address (get_or heads a.k nowhere)) (drop (l.j + 1) heads)) hit)
 
-add-j-2 : tie.Need-overflow-add-j-2 invariant-loop decreases-loop
+add-j-2 : tie.Need-overflow_add-j-in-loop-j invariant-loop decreases-loop
 add-j-2 c = omega arith
 
-loop-less : tie.Need-loop-smaller invariant-loop decreases-loop
+loop-less : tie.Need-loop-j-smaller invariant-loop decreases-loop
 loop-less c = omega arith
 
-loop-again : tie.Need-loop-preserved invariant-loop decreases-loop
+loop-again : tie.Need-loop-j-preserved invariant-loop decreases-loop
 loop-again c =
-    let a = c.before.before.before.before.before.before.before.args in
+    let a = c.args in
     let heads = stage_sections a.sections.now in
-    let l = c.before.before.before.before.loop in
-    let more : l.j < length heads = (let z = heads_length a.sections.now in let t = c.before.before.before.loop-test.true in omega arith) in
-    let miss = ap₂ (λ (s t : Section). share_address s t) (sym c.before.before.before.before.before.head_of.ensures) (sym c.before.before.head-of2.ensures) ∙ sym c.before.share_address.ensures ∙ c.if1.false in
+    let l = c.loop-j in
+    let more : l.j < length heads = (let z = heads_length a.sections.now in let t = c.loop-j-test.true in omega arith) in
+    let miss = ap₂ (λ (s t : Section). share_address s t) (sym c.head_of-s.ensures) (sym c.head_of.ensures) ∙ sym c.share_address.ensures ∙ c.if-share_address.false in
     sym (some_turn (share_address (get_or heads a.k nowhere)) heads l.j nowhere more ∙ ap (λ (t : Bool). t || some (share_address (get_or heads a.k nowhere)) (drop (l.j + 1) heads)) miss) ∙ l.invariant
 
-returns-2 : tie.Need-returns-2 invariant-loop decreases-loop
+returns-2 : tie.Need-returns invariant-loop decreases-loop
 returns-2 c =
-    let a = c.before.before.before.before.args in
+    let a = c.args in
     let heads = stage_sections a.sections.now in
-    let l = c.before.loop in
-    sym (sym l.invariant ∙ some-none (share_address (get_or heads a.k nowhere)) heads l.j (let z = heads_length a.sections.now in let t = c.loop-test.false in omega arith))
+    let l = c.loop-j in
+    sym (sym l.invariant ∙ some-none (share_address (get_or heads a.k nowhere)) heads l.j (let z = heads_length a.sections.now in let t = c.loop-j-test.false in omega arith))
 
-pub shares-later-spec : {M : Type 1} → statement M
-shares-later-spec =
+pub shares_later_spec : {M : Type 1} → statement M
+shares_later_spec =
     tie.close
     (tie.spec
     invariant-loop

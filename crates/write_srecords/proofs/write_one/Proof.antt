@@ -16,37 +16,37 @@ use Rattle.join_pieces.proofs.Laws.{head_there}
 use Rattle.write_srecords.proofs.write_one.Statement.{statement}
 use Rattle.write_srecords.proofs.write_one.Tie as tie
 
-mul-read-section : tie.Need-overflow-mul-read-section
+mul-read-section : tie.Need-overflow_mul-k
 mul-read-section c = search rules
 
-read-section-requires : tie.Need-read-section-requires
+read-section-requires : tie.Need-read_section-s-requires
 read-section-requires c κs = search rules
 
-held-by-requires : tie.Need-held-by-requires
+held-by-requires : tie.Need-held_by-size-requires
 held-by-requires c κs = search rules
 
-write-section-requires : tie.Need-write-section-requires
+write-section-requires : tie.Need-write_section-requires
 write-section-requires c κs =
     let s = c.before.before.before.before.before in
     let a = s.args in
     let head = get_or (stage_sections a.sections.now) a.k nowhere in
-    let start = ap (λ (s : Section). s.address) (head_there a.sections.now a.k s.requires.0 ∙ sym c.before.before.read_section.ensures) in
-    subst (λ (n : ℕ). Fits a.out.now a.to a.from n c.before.before.read_section.result.address) (sym c.before.held_by.ensures)
+    let start = ap (λ (s : Section). s.address) (head_there a.sections.now a.k s.requires.0 ∙ sym c.read_section-s.ensures) in
+    subst (λ (n : ℕ). Fits a.out.now a.to a.from n c.read_section-s.result.address) (sym c.held_by-size.ensures)
     (subst (λ (x : ℕ). Fits a.out.now a.to a.from (held_by head) x) start s.requires.1)
 
-same_length : tie.Need-same-length
+same_length : tie.Need-shape_of-out
 same_length c = search rules
 
 returns : tie.Need-returns
 returns c =
     let s = c.before.before.before.before.before.before.before.before in
     let a = s.args in
-    let start = ap (λ (s : Section). s.address) (c.before.before.before.before.before.read_section.ensures ∙ sym (head_there a.sections.now a.k s.requires.0)) in
-    c.before.before.write_section.ensures
-    ∙ ap₂ (λ (x n : ℕ). sets a.out.now a.to (section_lines x (take n (drop a.from a.out.now)))) start c.before.before.before.before.held_by.ensures
+    let start = ap (λ (s : Section). s.address) (c.read_section-s.ensures ∙ sym (head_there a.sections.now a.k s.requires.0)) in
+    c.write_section.ensures
+    ∙ ap₂ (λ (x n : ℕ). sets a.out.now a.to (section_lines x (take n (drop a.from a.out.now)))) start c.held_by-size.ensures
 
-pub write-one-spec : {M : Type 1} → statement M
-write-one-spec =
+pub write_one_spec : {M : Type 1} → statement M
+write_one_spec =
     tie.close
     (tie.spec
     mul-read-section

@@ -13,42 +13,42 @@ invariant-loop column₀ n at₀ left₀ column at left = Found column n at left
 abbrev decreases-loop : tie.decreases-loop
 decreases-loop column₀ n at₀ left₀ column at left = at
 
-loop-holds : tie.Need-loop-init invariant-loop decreases-loop
-loop-holds c = found_first _ _ c.before.requires (omega arith)
+loop-holds : tie.Need-loop-left-init invariant-loop decreases-loop
+loop-holds c = found_first _ _ c.requires (omega arith)
 
-digit-of-requires : tie.Need-digit-of-requires invariant-loop decreases-loop
+digit-of-requires : tie.Need-digit_of-requires invariant-loop decreases-loop
 digit-of-requires c κs = omega arith
 
-slice-write-column : tie.Need-slice-write-column invariant-loop decreases-loop
-slice-write-column c = let f = c.before.before.loop.invariant in let u = f.inside in let v = f.long in omega arith
+slice-write-column : tie.Need-bounds-column-at invariant-loop decreases-loop
+slice-write-column c = let f = c.loop-left.invariant in let u = f.inside in let v = f.long in omega arith
 
-sub_at : tie.Need-overflow-sub-at invariant-loop decreases-loop
-sub_at c = found-place c.before.before.loop.invariant c.before.loop-test.true
+sub_at : tie.Need-overflow_sub-at invariant-loop decreases-loop
+sub_at c = found-place c.loop-left.invariant c.loop-left-test.true
 
-loop-less : tie.Need-loop-smaller invariant-loop decreases-loop
-loop-less c = let k = found-place c.before.before.loop.invariant c.before.loop-test.true in omega arith
+loop-less : tie.Need-loop-left-smaller invariant-loop decreases-loop
+loop-less c = let k = found-place c.loop-left.invariant c.loop-left-test.true in omega arith
 
-loop-again : tie.Need-loop-preserved invariant-loop decreases-loop
-loop-again c = let f = c.before.before.loop.invariant in let k = found-place f c.before.loop-test.true in found_turn (omega arith) f c.before.loop-test.true c.digit_of.ensures
+loop-again : tie.Need-loop-left-preserved invariant-loop decreases-loop
+loop-again c = let f = c.loop-left.invariant in let k = found-place f c.loop-left-test.true in found_turn (omega arith) f c.loop-left-test.true c.digit_of.ensures
 
-digit-of-requires-2 : tie.Need-digit-of-requires-2 invariant-loop decreases-loop
+digit-of-requires-2 : tie.Need-digit_of-requires-2 invariant-loop decreases-loop
 digit-of-requires-2 c κs = omega arith
 
-slice-write-column-2 : tie.Need-slice-write-column-2 invariant-loop decreases-loop
-slice-write-column-2 c = let f = c.before.before.loop.invariant in let u = f.inside in let v = f.long in omega arith
+slice-write-column-2 : tie.Need-bounds-column-at-2 invariant-loop decreases-loop
+slice-write-column-2 c = let f = c.loop-left.invariant in let u = f.inside in let v = f.long in omega arith
 
-same_length : tie.Need-same-length invariant-loop decreases-loop
-same_length c = length-set c.before.before.loop.column c.before.before.loop.at c.digit-of2.result ∙ c.before.before.loop.invariant.long ∙ sym c.before.before.before.before.requires
+same_length : tie.Need-shape_of-column invariant-loop decreases-loop
+same_length c = length-set c.loop-left.column c.loop-left.at c.digit_of-2.result ∙ c.loop-left.invariant.long ∙ sym c.requires
 
 returns : tie.Need-returns invariant-loop decreases-loop
 returns c =
-    let f = c.before.before.loop.invariant in
+    let f = c.loop-left.invariant in
     let u = f.inside in
     let v = f.long in
-    record { is = found_last f c.before.loop-test.false c.digit-of2.ensures; inside = simp length-set (omega arith); long = simp length-set v }
+    record { is = found_last f c.loop-left-test.false c.digit_of-2.ensures; inside = simp length-set (omega arith); long = simp length-set v }
 
-pub digits-of-spec : {M : Type 1} → statement M
-digits-of-spec =
+pub digits_of_spec : {M : Type 1} → statement M
+digits_of_spec =
     tie.close
     (tie.spec
     invariant-loop

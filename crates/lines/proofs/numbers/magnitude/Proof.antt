@@ -12,28 +12,28 @@ use Rattle.lines.proofs.Signs.{magnitude_below, magnitude_number}
 use Rattle.lines.proofs.numbers.magnitude.Statement.{statement}
 use Rattle.lines.proofs.numbers.magnitude.Tie as tie
 
-sub-result : tie.Need-overflow-sub-result
-sub-result c = rw (distance w64 c.before.args.v c.before.ranges.v c.if1.true) (record { sfits = c.before.ranges.v.sfits })
+sub-result : tie.Need-overflow_sub-result
+sub-result c = rw (distance w64 c.args.v c.ranges.v c.if-v-lt0.true) (record { sfits = c.ranges.v.sfits })
 
 -- what is read of -1 less the number
-read : (c : tie.Then1) → to_z w64 (of_z w64 (negsuc 0 -ℤ to_z w64 (of_z w64 c.before.args.v))) ≡ pos (mag c.before.args.v)
-read c = to_z-of_z (sub-result c) ∙ distance w64 c.before.args.v c.before.ranges.v c.if1.true
+read : (c : tie.Then-v-lt0) → to_z w64 (of_z w64 (negsuc 0 -ℤ to_z w64 (of_z w64 c.args.v))) ≡ pos (mag c.args.v)
+read c = to_z-of_z (sub-result c) ∙ distance w64 c.args.v c.ranges.v c.if-v-lt0.true
 
-cast-result : tie.Need-overflow-cast-result
-cast-result c = let h = c.before.ranges.v.sfits in rw (read c) (tt, omega arith)
+cast-result : tie.Need-overflow_cast-result
+cast-result c = let h = c.ranges.v.sfits in rw (read c) (tt, omega arith)
 
-add-result : tie.Need-overflow-add-result
-add-result c = let h = c.before.ranges.v.sfits in rw (read c) (omega arith)
+add-result : tie.Need-overflow_add-result
+add-result c = let h = c.ranges.v.sfits in rw (read c) (omega arith)
 
-returns : tie.Need-returns
-returns c = rw (read c, magnitude_below w64 c.before.args.v c.before.ranges.v c.if1.true) (omega arith)
+returns : tie.Need-returns-then-v-lt0
+returns c = rw (read c, magnitude_below w64 c.args.v c.ranges.v c.if-v-lt0.true) (omega arith)
 
-cast-result-2 : tie.Need-overflow-cast-result-2
-cast-result-2 c = let h = c.before.ranges.v.sfits in rw (number w64 c.before.args.v c.before.ranges.v c.if1.false) (tt, omega arith)
+cast-result-2 : tie.Need-overflow_cast-result-2
+cast-result-2 c = let h = c.ranges.v.sfits in rw (number w64 c.args.v c.ranges.v c.if-v-lt0.false) (tt, omega arith)
 
-returns-2 : tie.Need-returns-2
-returns-2 c = rw (number w64 c.before.args.v c.before.ranges.v c.if1.false, magnitude_number w64 c.before.args.v c.before.ranges.v c.if1.false) (omega arith)
+returns-2 : tie.Need-returns
+returns-2 c = rw (number w64 c.args.v c.ranges.v c.if-v-lt0.false, magnitude_number w64 c.args.v c.ranges.v c.if-v-lt0.false) (omega arith)
 
-pub magnitude-spec : {M : Type 1} → statement M
-magnitude-spec =
+pub magnitude_spec : {M : Type 1} → statement M
+magnitude_spec =
     tie.close (tie.spec sub-result cast-result add-result returns cast-result-2 returns-2)

@@ -4,14 +4,14 @@ use borrow.Author.Tests.{eq-eqb, ne_eqb}
 use Rattle.listing.proofs.reading.owner_of.Statement.{statement}
 use Rattle.listing.proofs.reading.owner_of.Tie as tie
 
-returns : tie.Need-returns
-returns c = rw (eq-eqb _ _ c.if1.true)
+returns : tie.Need-returns-then-place-eq65535
+returns c = rw (eq-eqb _ _ c.if-place-eq65535.true)
 
-piece-of-requires : tie.Need-piece-of-requires
-piece-of-requires c κs = c.before.before.requires
+piece-of-requires : tie.Need-piece_of-p-requires
+piece-of-requires c κs = c.requires
 
-returns-2 : tie.Need-returns-2
-returns-2 c = rw (ne_eqb _ _ c.before.if1.false, c.piece_of.ensures)
+returns-2 : tie.Need-returns
+returns-2 c = rw (ne_eqb _ _ c.if-place-eq65535.false, c.piece_of-p.ensures)
 
-pub owner-of-spec : {M : Type 1} → statement M
-owner-of-spec = tie.close (tie.spec returns piece-of-requires returns-2)
+pub owner_of_spec : {M : Type 1} → statement M
+owner_of_spec = tie.close (tie.spec returns piece-of-requires returns-2)

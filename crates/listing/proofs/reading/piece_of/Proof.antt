@@ -12,16 +12,16 @@ use Rattle.listing.specs.Cursor.{no_piece}
 use Rattle.listing.proofs.reading.piece_of.Statement.{statement}
 use Rattle.listing.proofs.reading.piece_of.Tie as tie
 
-piece-at-requires : tie.Need-piece-at-requires
-piece-at-requires c κs = let h = c.before.before.requires in let q = c.if1.true in omega arith
+piece-at-requires : tie.Need-piece_at-requires
+piece-at-requires c κs = let h = c.requires in let q = c.if-k-count.true in omega arith
 
-returns : tie.Need-returns
+returns : tie.Need-returns-then-k-count
 unfolding pieces_in
-returns c = let a = c.before.before.before.args in c.piece_at_lem.ensures ∙ sym (get_d_tabulate (λ (i : ℕ). piece_at a.pieces.now (piece_width * i)) 0 a.count a.k no_piece c.before.if1.true ∙ ap (λ (i : ℕ). piece_at a.pieces.now (piece_width * i)) (zero-add a.k))
+returns c = let a = c.args in c.piece_at.ensures ∙ sym (get_d_tabulate (λ (i : ℕ). piece_at a.pieces.now (piece_width * i)) 0 a.count a.k no_piece c.if-k-count.true ∙ ap (λ (i : ℕ). piece_at a.pieces.now (piece_width * i)) (zero-add a.k))
 
-returns-2 : tie.Need-returns-2
+returns-2 : tie.Need-returns
 unfolding pieces_in
-returns-2 c = let a = c.before.before.args in sym (get_or-eq_default (tabulate (λ (i : ℕ). piece_at a.pieces.now (piece_width * i)) 0 a.count) no_piece (rw (length-tabulate (λ (i : ℕ). piece_at a.pieces.now (piece_width * i)) 0 a.count) c.if1.false))
+returns-2 c = let a = c.args in sym (get_or-eq_default (tabulate (λ (i : ℕ). piece_at a.pieces.now (piece_width * i)) 0 a.count) no_piece (rw (length-tabulate (λ (i : ℕ). piece_at a.pieces.now (piece_width * i)) 0 a.count) c.if-k-count.false))
 
-pub piece-of-spec : {M : Type 1} → statement M
-piece-of-spec = tie.close (tie.spec piece-at-requires returns returns-2)
+pub piece_of_spec : {M : Type 1} → statement M
+piece_of_spec = tie.close (tie.spec piece-at-requires returns returns-2)

@@ -9,19 +9,19 @@ use borrow.Author.Rules.{rules}
 use Rattle.listing.proofs.reading.size_in.Statement.{statement}
 use Rattle.listing.proofs.reading.size_in.Tie as tie
 
-piece-at-requires : tie.Need-piece-at-requires
-piece-at-requires c κs = c.before.requires
+piece-at-requires : tie.Need-piece_at-p-requires
+piece-at-requires c κs = c.requires
 
-cast-result : tie.Need-overflow-cast-result
+cast-result : tie.Need-overflow_cast-result
 cast-result c = search rules
 
-returns : tie.Need-returns
+returns : tie.Need-returns-then-p-unit
 returns c =
-    let k : Fits w32 c.before.before.before.piece_at_lem.result.size = search rules in
-    record { is = rw (sym c.before.before.before.piece_at_lem.ensures, eq-eqb _ _ c.before.if1.true); small = omega arith }
+    let k : Fits w32 c.piece_at-p.result.size = search rules in
+    record { is = rw (sym c.piece_at-p.ensures, eq-eqb _ _ c.if-p-unit.true); small = omega arith }
 
-returns-2 : tie.Need-returns-2
-returns-2 c = record { is = rw (sym c.before.before.piece_at_lem.ensures, ne_eqb _ _ c.if1.false); small = omega arith }
+returns-2 : tie.Need-returns
+returns-2 c = record { is = rw (sym c.piece_at-p.ensures, ne_eqb _ _ c.if-p-unit.false); small = omega arith }
 
-pub size-in-spec : {M : Type 1} → statement M
-size-in-spec = tie.close (tie.spec piece-at-requires cast-result returns returns-2)
+pub size_in_spec : {M : Type 1} → statement M
+size_in_spec = tie.close (tie.spec piece-at-requires cast-result returns returns-2)

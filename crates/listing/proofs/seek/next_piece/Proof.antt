@@ -15,29 +15,29 @@ invariant-loop pieces count unit at k₀ k = None (piece_is unit) (λ (i : ℕ).
 abbrev decreases-loop : tie.decreases-loop
 decreases-loop pieces count unit at k₀ k = count - k
 
-loop-holds : tie.Need-loop-init invariant-loop decreases-loop
+loop-holds : tie.Need-loop-k-init invariant-loop decreases-loop
 loop-holds c = refl
 
-piece-is-requires : tie.Need-piece-is-requires invariant-loop decreases-loop
-piece-is-requires c κs = let h = c.before.before.before.requires in let q = c.loop-test.true in omega arith
+piece-is-requires : tie.Need-piece_is-requires invariant-loop decreases-loop
+piece-is-requires c κs = let h = c.requires in let q = c.loop-k-test.true in omega arith
 
-returns : tie.Need-returns invariant-loop decreases-loop
-returns c = let a = c.before.before.before.before.before.args in first_at (piece_is a.unit) (λ (i : ℕ). piece_at a.pieces.now (piece_width * i)) a.count a.at c.before.before.before.loop.k c.before.piece_is.ensures c.if1.true c.before.before.before.loop.invariant
+returns : tie.Need-returns-then-piece_is invariant-loop decreases-loop
+returns c = let a = c.args in first_at (piece_is a.unit) (λ (i : ℕ). piece_at a.pieces.now (piece_width * i)) a.count a.at c.loop-k.k c.piece_is.ensures c.if-piece_is.true c.loop-k.invariant
 
-add-k : tie.Need-overflow-add-k invariant-loop decreases-loop
-add-k c = let q = c.before.before.loop-test.true in omega arith
+add-k : tie.Need-overflow_add-k invariant-loop decreases-loop
+add-k c = let q = c.loop-k-test.true in omega arith
 
-loop-less : tie.Need-loop-smaller invariant-loop decreases-loop
-loop-less c = let q = c.before.before.loop-test.true in omega arith
+loop-less : tie.Need-loop-k-smaller invariant-loop decreases-loop
+loop-less c = let q = c.loop-k-test.true in omega arith
 
-loop-again : tie.Need-loop-preserved invariant-loop decreases-loop
-loop-again c = let a = c.before.before.before.before.before.args in none_turn (piece_is a.unit) (λ (i : ℕ). piece_at a.pieces.now (piece_width * i)) a.count a.at c.before.before.before.loop.k c.before.before.loop-test.true c.before.piece_is.ensures c.if1.false c.before.before.before.loop.invariant
+loop-again : tie.Need-loop-k-preserved invariant-loop decreases-loop
+loop-again c = let a = c.args in none_turn (piece_is a.unit) (λ (i : ℕ). piece_at a.pieces.now (piece_width * i)) a.count a.at c.loop-k.k c.loop-k-test.true c.piece_is.ensures c.if-piece_is.false c.loop-k.invariant
 
-returns-2 : tie.Need-returns-2 invariant-loop decreases-loop
-returns-2 c = let a = c.before.before.before.args in first-none (piece_is a.unit) (λ (i : ℕ). piece_at a.pieces.now (piece_width * i)) a.count a.at c.before.loop.k c.loop-test.false c.before.loop.invariant
+returns-2 : tie.Need-returns invariant-loop decreases-loop
+returns-2 c = let a = c.args in first-none (piece_is a.unit) (λ (i : ℕ). piece_at a.pieces.now (piece_width * i)) a.count a.at c.loop-k.k c.loop-k-test.false c.loop-k.invariant
 
-pub next-piece-spec : {M : Type 1} → statement M
-next-piece-spec =
+pub next_piece_spec : {M : Type 1} → statement M
+next_piece_spec =
     tie.close
     (tie.spec
     invariant-loop

@@ -15,29 +15,29 @@ invariant-loop pieces piece_count piece_relocs count unit at k₀ k = None (relo
 abbrev decreases-loop : tie.decreases-loop
 decreases-loop pieces piece_count piece_relocs count unit at k₀ k = count - k
 
-loop-holds : tie.Need-loop-init invariant-loop decreases-loop
+loop-holds : tie.Need-loop-k-init invariant-loop decreases-loop
 loop-holds c = refl
 
-reloc-is-requires : tie.Need-reloc-is-requires invariant-loop decreases-loop
-reloc-is-requires c κs = let s = c.before.before.before.before in let h = s.requires.1 in let q = c.loop-test.true in (s.requires.0, omega arith)
+reloc-is-requires : tie.Need-reloc_is-requires invariant-loop decreases-loop
+reloc-is-requires c κs = let s = c in let h = s.requires.1 in let q = c.loop-k-test.true in (s.requires.0, omega arith)
 
-returns : tie.Need-returns invariant-loop decreases-loop
-returns c = let a = c.before.before.before.before.before.before.args in first_at (reloc_is (pieces_in a.pieces.now a.piece_count) a.unit) (λ (i : ℕ). reloc_at a.piece_relocs.now (8 * i)) a.count a.at c.before.before.before.loop.k c.before.reloc_is.ensures c.if1.true c.before.before.before.loop.invariant
+returns : tie.Need-returns-then-reloc_is invariant-loop decreases-loop
+returns c = let a = c.args in first_at (reloc_is (pieces_in a.pieces.now a.piece_count) a.unit) (λ (i : ℕ). reloc_at a.piece_relocs.now (8 * i)) a.count a.at c.loop-k.k c.reloc_is.ensures c.if-reloc_is.true c.loop-k.invariant
 
-add-k : tie.Need-overflow-add-k invariant-loop decreases-loop
-add-k c = let q = c.before.before.loop-test.true in omega arith
+add-k : tie.Need-overflow_add-k invariant-loop decreases-loop
+add-k c = let q = c.loop-k-test.true in omega arith
 
-loop-less : tie.Need-loop-smaller invariant-loop decreases-loop
-loop-less c = let q = c.before.before.loop-test.true in omega arith
+loop-less : tie.Need-loop-k-smaller invariant-loop decreases-loop
+loop-less c = let q = c.loop-k-test.true in omega arith
 
-loop-again : tie.Need-loop-preserved invariant-loop decreases-loop
-loop-again c = let a = c.before.before.before.before.before.before.args in none_turn (reloc_is (pieces_in a.pieces.now a.piece_count) a.unit) (λ (i : ℕ). reloc_at a.piece_relocs.now (8 * i)) a.count a.at c.before.before.before.loop.k c.before.before.loop-test.true c.before.reloc_is.ensures c.if1.false c.before.before.before.loop.invariant
+loop-again : tie.Need-loop-k-preserved invariant-loop decreases-loop
+loop-again c = let a = c.args in none_turn (reloc_is (pieces_in a.pieces.now a.piece_count) a.unit) (λ (i : ℕ). reloc_at a.piece_relocs.now (8 * i)) a.count a.at c.loop-k.k c.loop-k-test.true c.reloc_is.ensures c.if-reloc_is.false c.loop-k.invariant
 
-returns-2 : tie.Need-returns-2 invariant-loop decreases-loop
-returns-2 c = let a = c.before.before.before.before.args in first-none (reloc_is (pieces_in a.pieces.now a.piece_count) a.unit) (λ (i : ℕ). reloc_at a.piece_relocs.now (8 * i)) a.count a.at c.before.loop.k c.loop-test.false c.before.loop.invariant
+returns-2 : tie.Need-returns invariant-loop decreases-loop
+returns-2 c = let a = c.args in first-none (reloc_is (pieces_in a.pieces.now a.piece_count) a.unit) (λ (i : ℕ). reloc_at a.piece_relocs.now (8 * i)) a.count a.at c.loop-k.k c.loop-k-test.false c.loop-k.invariant
 
-pub next-reloc-spec : {M : Type 1} → statement M
-next-reloc-spec =
+pub next_reloc_spec : {M : Type 1} → statement M
+next_reloc_spec =
     tie.close
     (tie.spec
     invariant-loop

@@ -15,29 +15,29 @@ invariant-loop piece_symbols count unit at k₀ k = None (symbol_is unit) (λ (i
 abbrev decreases-loop : tie.decreases-loop
 decreases-loop piece_symbols count unit at k₀ k = count - k
 
-loop-holds : tie.Need-loop-init invariant-loop decreases-loop
+loop-holds : tie.Need-loop-k-init invariant-loop decreases-loop
 loop-holds c = refl
 
-symbol-is-requires : tie.Need-symbol-is-requires invariant-loop decreases-loop
-symbol-is-requires c κs = let h = c.before.before.before.requires in let q = c.loop-test.true in omega arith
+symbol-is-requires : tie.Need-symbol_is-requires invariant-loop decreases-loop
+symbol-is-requires c κs = let h = c.requires in let q = c.loop-k-test.true in omega arith
 
-returns : tie.Need-returns invariant-loop decreases-loop
-returns c = let a = c.before.before.before.before.before.args in first_at (symbol_is a.unit) (λ (i : ℕ). symbol_at a.piece_symbols.now (12 * i)) a.count a.at c.before.before.before.loop.k c.before.symbol_is.ensures c.if1.true c.before.before.before.loop.invariant
+returns : tie.Need-returns-then-symbol_is invariant-loop decreases-loop
+returns c = let a = c.args in first_at (symbol_is a.unit) (λ (i : ℕ). symbol_at a.piece_symbols.now (12 * i)) a.count a.at c.loop-k.k c.symbol_is.ensures c.if-symbol_is.true c.loop-k.invariant
 
-add-k : tie.Need-overflow-add-k invariant-loop decreases-loop
-add-k c = let q = c.before.before.loop-test.true in omega arith
+add-k : tie.Need-overflow_add-k invariant-loop decreases-loop
+add-k c = let q = c.loop-k-test.true in omega arith
 
-loop-less : tie.Need-loop-smaller invariant-loop decreases-loop
-loop-less c = let q = c.before.before.loop-test.true in omega arith
+loop-less : tie.Need-loop-k-smaller invariant-loop decreases-loop
+loop-less c = let q = c.loop-k-test.true in omega arith
 
-loop-again : tie.Need-loop-preserved invariant-loop decreases-loop
-loop-again c = let a = c.before.before.before.before.before.args in none_turn (symbol_is a.unit) (λ (i : ℕ). symbol_at a.piece_symbols.now (12 * i)) a.count a.at c.before.before.before.loop.k c.before.before.loop-test.true c.before.symbol_is.ensures c.if1.false c.before.before.before.loop.invariant
+loop-again : tie.Need-loop-k-preserved invariant-loop decreases-loop
+loop-again c = let a = c.args in none_turn (symbol_is a.unit) (λ (i : ℕ). symbol_at a.piece_symbols.now (12 * i)) a.count a.at c.loop-k.k c.loop-k-test.true c.symbol_is.ensures c.if-symbol_is.false c.loop-k.invariant
 
-returns-2 : tie.Need-returns-2 invariant-loop decreases-loop
-returns-2 c = let a = c.before.before.before.args in first-none (symbol_is a.unit) (λ (i : ℕ). symbol_at a.piece_symbols.now (12 * i)) a.count a.at c.before.loop.k c.loop-test.false c.before.loop.invariant
+returns-2 : tie.Need-returns invariant-loop decreases-loop
+returns-2 c = let a = c.args in first-none (symbol_is a.unit) (λ (i : ℕ). symbol_at a.piece_symbols.now (12 * i)) a.count a.at c.loop-k.k c.loop-k-test.false c.loop-k.invariant
 
-pub next-symbol-spec : {M : Type 1} → statement M
-next-symbol-spec =
+pub next_symbol_spec : {M : Type 1} → statement M
+next_symbol_spec =
     tie.close
     (tie.spec
     invariant-loop

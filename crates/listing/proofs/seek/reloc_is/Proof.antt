@@ -9,20 +9,20 @@ use borrow.Author.Rules.{rules}
 use Rattle.listing.proofs.seek.reloc_is.Statement.{statement}
 use Rattle.listing.proofs.seek.reloc_is.Tie as tie
 
-piece-reloc-at-requires : tie.Need-piece-reloc-at-requires
-piece-reloc-at-requires c κs = c.before.before.requires.1
+piece-reloc-at-requires : tie.Need-piece_reloc_at-r-requires
+piece-reloc-at-requires c κs = c.requires.1
 
-cast-piece-of : tie.Need-overflow-cast-piece-of
+cast-piece-of : tie.Need-overflow_cast-r
 cast-piece-of c = search rules
 
-piece-of-requires : tie.Need-piece-of-requires
-piece-of-requires c κs = c.before.before.before.before.requires.0
+piece-of-requires : tie.Need-piece_of-p-requires
+piece-of-requires c κs = c.requires.0
 
 returns : tie.Need-returns
 returns c =
-    let a = c.before.before.before.before.before.before.args in
-    ap (λ (p : Piece). eqb p.unit a.unit) c.before.piece_of.ensures ∙ ap (reloc_is (pieces_in a.pieces.now a.count) a.unit) c.before.before.before.piece_reloc_at.ensures
+    let a = c.args in
+    ap (λ (p : Piece). eqb p.unit a.unit) c.piece_of-p.ensures ∙ ap (reloc_is (pieces_in a.pieces.now a.count) a.unit) c.piece_reloc_at-r.ensures
 
-pub reloc-is-spec : {M : Type 1} → statement M
-reloc-is-spec =
+pub reloc_is_spec : {M : Type 1} → statement M
+reloc_is_spec =
     tie.close (tie.spec piece-reloc-at-requires cast-piece-of piece-of-requires returns)

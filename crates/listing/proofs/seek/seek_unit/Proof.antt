@@ -4,11 +4,11 @@ use Rattle.listing.proofs.Seeks.{sought_unit, sought_total}
 use Rattle.listing.proofs.seek.seek_unit.Statement.{statement}
 use Rattle.listing.proofs.seek.seek_unit.Tie as tie
 
-returns : tie.Need-returns
-returns c = sought_unit _ _ _ c.before.requires c.if1.true
+returns : tie.Need-returns-then-unit-units
+returns c = sought_unit _ _ _ c.requires c.if-unit-units.true
 
-returns-2 : tie.Need-returns-2
-returns-2 c = sought_total _ _ _ c.if1.false
+returns-2 : tie.Need-returns
+returns-2 c = sought_total _ _ _ c.if-unit-units.false
 
-pub seek-unit-spec : {M : Type 1} → statement M
-seek-unit-spec = tie.close (tie.spec returns returns-2)
+pub seek_unit_spec : {M : Type 1} → statement M
+seek_unit_spec = tie.close (tie.spec returns returns-2)

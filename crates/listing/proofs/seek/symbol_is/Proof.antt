@@ -3,11 +3,11 @@
 use Rattle.listing.proofs.seek.symbol_is.Statement.{statement}
 use Rattle.listing.proofs.seek.symbol_is.Tie as tie
 
-piece-symbol-at-requires : tie.Need-piece-symbol-at-requires
-piece-symbol-at-requires c κs = c.before.requires
+piece-symbol-at-requires : tie.Need-piece_symbol_at-y-requires
+piece-symbol-at-requires c κs = c.requires
 
 returns : tie.Need-returns
-returns c = rw c.before.piece_symbol_at.ensures
+returns c = rw c.piece_symbol_at-y.ensures
 
-pub symbol-is-spec : {M : Type 1} → statement M
-symbol-is-spec = tie.close (tie.spec piece-symbol-at-requires returns)
+pub symbol_is_spec : {M : Type 1} → statement M
+symbol_is_spec = tie.close (tie.spec piece-symbol-at-requires returns)

@@ -11,31 +11,31 @@ use borrow.Author.Rules.{rules}
 use Rattle.listing.proofs.text.piece_line.Statement.{statement}
 use Rattle.listing.proofs.text.piece_line.Tie as tie
 
-piece-at-requires : tie.Need-piece-at-requires
-piece-at-requires c κs = c.before.before.before.before.before.before.before.before.requires.1
+piece-at-requires : tie.Need-piece_at-p-requires
+piece-at-requires c κs = c.requires.1
 
-cast-number : tie.Need-overflow-cast-number
+cast-number : tie.Need-overflow_cast-number
 cast-number c = search rules
 
-name-of-requires : tie.Need-name-of-requires
-name-of-requires c κs = let s = c.before.before.before.before.before.before.before.before.before.before in let a = s.args in subst (λ (p : Piece). Known (record { bytes = a.base_bytes.now; places = a.base_places.now; lengths = a.base_lengths.now }) (record { bytes = a.added_bytes.now; places = a.added_places.now; lengths = a.added_lengths.now }) p.name) (sym c.before.piece_at_lem.ensures) s.requires.3
+name-of-requires : tie.Need-name_of-name-requires
+name-of-requires c κs = let s = c in let a = s.args in subst (λ (p : Piece). Known (record { bytes = a.base_bytes.now; places = a.base_places.now; lengths = a.base_lengths.now }) (record { bytes = a.added_bytes.now; places = a.added_places.now; lengths = a.added_lengths.now }) p.name) (sym c.piece_at-p.ensures) s.requires.3
 
-write-piece-requires : tie.Need-write-piece-requires
-write-piece-requires c κs = (c.before.before.before.before.before.before.before.before.before.before.before.before.requires.0, c.before.name_of.ensures.short)
+write-piece-requires : tie.Need-write_piece-length-requires
+write-piece-requires c κs = (c.requires.0, c.name_of-name.ensures.short)
 
-add-t18 : tie.Need-overflow-add-t18
-add-t18 c = let h = c.before.before.before.before.before.before.before.before.before.before.before.before.before.before.before.requires.2 in omega arith
+add-t18 : tie.Need-overflow_add-result
+add-t18 c = let h = c.requires.2 in omega arith
 
-same_length : tie.Need-same-length
-same_length c = c.before.before.write_piece.ensures.long
+same_length : tie.Need-shape_of-out
+same_length c = c.write_piece-length.ensures.long
 
 returns : tie.Need-returns
 returns c =
-    let a = c.before.before.before.before.before.before.before.before.before.before.before.before.before.before.before.args in
-    wrote_piece (name_in (record { bytes = a.base_bytes.now; places = a.base_places.now; lengths = a.base_lengths.now }) (record { bytes = a.added_bytes.now; places = a.added_places.now; lengths = a.added_lengths.now })) _ (Pieces a.unit (a.at + 1) a.bytes) c.before.before.before.before.before.before.piece_at_lem.ensures c.before.before.before.before.name_of.ensures.is c.before.before.write_piece.ensures
+    let a = c.args in
+    wrote_piece (name_in (record { bytes = a.base_bytes.now; places = a.base_places.now; lengths = a.base_lengths.now }) (record { bytes = a.added_bytes.now; places = a.added_places.now; lengths = a.added_lengths.now })) _ (Pieces a.unit (a.at + 1) a.bytes) c.piece_at-p.ensures c.name_of-name.ensures.is c.write_piece-length.ensures
 
-pub piece-line-spec : {M : Type 1} → statement M
-piece-line-spec =
+pub piece_line_spec : {M : Type 1} → statement M
+piece_line_spec =
     tie.close
     (tie.spec
     piece-at-requires

@@ -16,38 +16,38 @@ use borrow.Author.Rules.{rules}
 use Rattle.listing.proofs.text.reloc_line.Statement.{statement}
 use Rattle.listing.proofs.text.reloc_line.Tie as tie
 
-piece-reloc-at-requires : tie.Need-piece-reloc-at-requires
-piece-reloc-at-requires c κs = c.before.before.before.before.before.requires.2
+piece-reloc-at-requires : tie.Need-piece_reloc_at-r-requires
+piece-reloc-at-requires c κs = c.requires.2
 
-cast-piece-of : tie.Need-overflow-cast-piece-of
+cast-piece-of : tie.Need-overflow_cast-r
 cast-piece-of c = search rules
 
-piece-of-requires : tie.Need-piece-of-requires
-piece-of-requires c κs = c.before.before.before.before.before.before.before.requires.1
+piece-of-requires : tie.Need-piece_of-p-requires
+piece-of-requires c κs = c.requires.1
 
-cast-reloc-at : tie.Need-overflow-cast-reloc-at
+cast-reloc-at : tie.Need-overflow_cast-r-2
 cast-reloc-at c = search rules
 
-reloc-at-requires : tie.Need-reloc-at-requires
-reloc-at-requires c κs = let s = c.before.before.before.before.before.before.before.before.before in let a = s.args in subst (λ (y : PieceReloc). Held 23 a.relocs.now a.reloc_places.now y.relocation) (sym c.before.before.before.piece_reloc_at.ensures) s.requires.4
+reloc-at-requires : tie.Need-reloc_at-i-requires
+reloc-at-requires c κs = let s = c in let a = s.args in subst (λ (y : PieceReloc). Held 23 a.relocs.now a.reloc_places.now y.relocation) (sym c.piece_reloc_at-r.ensures) s.requires.4
 
-write-reloc-requires : tie.Need-write-reloc-requires
-write-reloc-requires c κs = c.before.before.before.before.before.before.before.before.before.before.before.before.requires.0
+write-reloc-requires : tie.Need-write_reloc-length-requires
+write-reloc-requires c κs = c.requires.0
 
-add-t14 : tie.Need-overflow-add-t14
-add-t14 c = let h = c.before.before.before.before.before.before.before.before.before.before.before.before.before.before.before.requires.3 in omega arith
+add-t14 : tie.Need-overflow_add-result
+add-t14 c = let h = c.requires.3 in omega arith
 
-same_length : tie.Need-same-length
-same_length c = c.before.before.write_reloc.ensures.long
+same_length : tie.Need-shape_of-out
+same_length c = c.write_reloc-length.ensures.long
 
 returns : tie.Need-returns
 returns c =
-    let a = c.before.before.before.before.before.before.before.before.before.before.before.before.before.before.before.args in
-    let k : SFits w64 c.before.before.before.before.before.reloc_at_lem.result.addend = search rules in
-    wrote_reloc (reloc_of a.relocs.now a.reloc_places.now) (pieces_in a.pieces.now a.piece_count) _ (Relocs a.unit (a.at + 1) a.bytes) c.before.before.before.before.before.before.before.before.before.piece_reloc_at.ensures c.before.before.before.before.before.before.before.piece_of.ensures c.before.before.before.before.before.reloc_at_lem.ensures (to_z-of_z k) c.before.before.write_reloc.ensures
+    let a = c.args in
+    let k : SFits w64 c.reloc_at-i.result.addend = search rules in
+    wrote_reloc (reloc_of a.relocs.now a.reloc_places.now) (pieces_in a.pieces.now a.piece_count) _ (Relocs a.unit (a.at + 1) a.bytes) c.piece_reloc_at-r.ensures c.piece_of-p.ensures c.reloc_at-i.ensures (to_z-of_z k) c.write_reloc-length.ensures
 
-pub reloc-line-spec : {M : Type 1} → statement M
-reloc-line-spec =
+pub reloc_line_spec : {M : Type 1} → statement M
+reloc_line_spec =
     tie.close
     (tie.spec
     piece-reloc-at-requires

@@ -6,15 +6,14 @@ use Rattle.names.proofs.Spelled.{spelled}
 use Rattle.names.proofs.fixed.is_bss.Statement.{statement}
 use Rattle.names.proofs.fixed.is_bss.Tie as tie
 
-slice-aggregate-same : tie.Need-slice-aggregate-same
-slice-aggregate-same c = refl
-
 same-requires : tie.Need-same-requires
 same-requires c κs = tt
 
 returns : tie.Need-returns
 unfolding codes is_bss
-returns c = c.same.ensures ∙ spelled ".bss" c.before.before.before.args.name.now
+returns c = c.same.ensures ∙ spelled ".bss" c.args.name.now
 
-pub is-bss-spec : {M : Type 1} → statement M
-is-bss-spec = tie.close (tie.spec slice-aggregate-same same-requires returns)
+pub is_bss_spec : {M : Type 1} → statement M
+is_bss_spec = tie.close (tie.spec
+    same-requires
+    returns)

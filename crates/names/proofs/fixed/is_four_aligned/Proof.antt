@@ -8,26 +8,14 @@ use Rattle.names.proofs.Spelled.{spelled_one}
 use Rattle.names.proofs.fixed.is_four_aligned.Statement.{statement}
 use Rattle.names.proofs.fixed.is_four_aligned.Tie as tie
 
-slice-aggregate-same : tie.Need-slice-aggregate-same
-slice-aggregate-same c = refl
-
 same-requires : tie.Need-same-requires
 same-requires c κs = tt
-
-slice-aggregate-same-2 : tie.Need-slice-aggregate-same-2
-slice-aggregate-same-2 c = refl
 
 same-requires-2 : tie.Need-same-requires-2
 same-requires-2 c κs = tt
 
-slice-aggregate-same-3 : tie.Need-slice-aggregate-same-3
-slice-aggregate-same-3 c = refl
-
 same-requires-3 : tie.Need-same-requires-3
 same-requires-3 c κs = tt
-
-slice-aggregate-same-4 : tie.Need-slice-aggregate-same-4
-slice-aggregate-same-4 c = refl
 
 same-requires-4 : tie.Need-same-requires-4
 same-requires-4 c κs = tt
@@ -35,19 +23,15 @@ same-requires-4 c κs = tt
 returns : tie.Need-returns
 unfolding codes is_four_aligned any_of any_from
 returns c =
-    rw (c.before.before.before.before.before.before.same.ensures, c.before.before.before.before.same2.ensures, c.before.before.same3.ensures, c.same4.ensures)
-    (spelled_one (".ctors" ∷ ".dtors" ∷ "extab" ∷ "extabindex" ∷ []) c.before.before.before.before.before.before.before.before.before.args.name.now)
+    rw (c.same.ensures, c.same-2.ensures, c.same-3.ensures, c.same-4.ensures)
+    (spelled_one (".ctors" ∷ ".dtors" ∷ "extab" ∷ "extabindex" ∷ []) c.args.name.now)
 
-pub is-four-aligned-spec : {M : Type 1} → statement M
-is-four-aligned-spec =
+pub is_four_aligned_spec : {M : Type 1} → statement M
+is_four_aligned_spec =
     tie.close
     (tie.spec
-    slice-aggregate-same
     same-requires
-    slice-aggregate-same-2
     same-requires-2
-    slice-aggregate-same-3
     same-requires-3
-    slice-aggregate-same-4
     same-requires-4
     returns)

@@ -7,26 +7,14 @@ use Rattle.names.proofs.Spelled.{spelled_one}
 use Rattle.names.proofs.fixed.labels_of_10.Statement.{statement}
 use Rattle.names.proofs.fixed.labels_of_10.Tie as tie
 
-slice-aggregate-same : tie.Need-slice-aggregate-same
-slice-aggregate-same c = refl
-
 same-requires : tie.Need-same-requires
 same-requires c κs = tt
-
-slice-aggregate-same-2 : tie.Need-slice-aggregate-same-2
-slice-aggregate-same-2 c = refl
 
 same-requires-2 : tie.Need-same-requires-2
 same-requires-2 c κs = tt
 
-slice-aggregate-same-3 : tie.Need-slice-aggregate-same-3
-slice-aggregate-same-3 c = refl
-
 same-requires-3 : tie.Need-same-requires-3
 same-requires-3 c κs = tt
-
-slice-aggregate-same-4 : tie.Need-slice-aggregate-same-4
-slice-aggregate-same-4 c = refl
 
 same-requires-4 : tie.Need-same-requires-4
 same-requires-4 c κs = tt
@@ -34,19 +22,15 @@ same-requires-4 c κs = tt
 returns : tie.Need-returns
 unfolding codes of_length keep_if any_of any_from
 returns c =
-    rw (c.before.before.before.before.before.before.same.ensures, c.before.before.before.before.same2.ensures, c.before.before.same3.ensures, c.same4.ensures)
-    (spelled_one (of_length 10 linker_labels) c.before.before.before.before.before.before.before.before.before.args.name.now)
+    rw (c.same.ensures, c.same-2.ensures, c.same-3.ensures, c.same-4.ensures)
+    (spelled_one (of_length 10 linker_labels) c.args.name.now)
 
-pub labels-of-10-spec : {M : Type 1} → statement M
-labels-of-10-spec =
+pub labels_of_10_spec : {M : Type 1} → statement M
+labels_of_10_spec =
     tie.close
     (tie.spec
-    slice-aggregate-same
     same-requires
-    slice-aggregate-same-2
     same-requires-2
-    slice-aggregate-same-3
     same-requires-3
-    slice-aggregate-same-4
     same-requires-4
     returns)

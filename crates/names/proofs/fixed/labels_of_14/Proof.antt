@@ -7,20 +7,11 @@ use Rattle.names.proofs.Spelled.{spelled_one}
 use Rattle.names.proofs.fixed.labels_of_14.Statement.{statement}
 use Rattle.names.proofs.fixed.labels_of_14.Tie as tie
 
-slice-aggregate-same : tie.Need-slice-aggregate-same
-slice-aggregate-same c = refl
-
 same-requires : tie.Need-same-requires
 same-requires c κs = tt
 
-slice-aggregate-same-2 : tie.Need-slice-aggregate-same-2
-slice-aggregate-same-2 c = refl
-
 same-requires-2 : tie.Need-same-requires-2
 same-requires-2 c κs = tt
-
-slice-aggregate-same-3 : tie.Need-slice-aggregate-same-3
-slice-aggregate-same-3 c = refl
 
 same-requires-3 : tie.Need-same-requires-3
 same-requires-3 c κs = tt
@@ -28,17 +19,14 @@ same-requires-3 c κs = tt
 returns : tie.Need-returns
 unfolding codes of_length keep_if any_of any_from
 returns c =
-    rw (c.before.before.before.before.same.ensures, c.before.before.same2.ensures, c.same3.ensures)
-    (spelled_one (of_length 14 linker_labels) c.before.before.before.before.before.before.before.args.name.now)
+    rw (c.same.ensures, c.same-2.ensures, c.same-3.ensures)
+    (spelled_one (of_length 14 linker_labels) c.args.name.now)
 
-pub labels-of-14-spec : {M : Type 1} → statement M
-labels-of-14-spec =
+pub labels_of_14_spec : {M : Type 1} → statement M
+labels_of_14_spec =
     tie.close
     (tie.spec
-    slice-aggregate-same
     same-requires
-    slice-aggregate-same-2
     same-requires-2
-    slice-aggregate-same-3
     same-requires-3
     returns)

@@ -7,16 +7,15 @@ use Rattle.names.proofs.Spelled.{spelled_one}
 use Rattle.names.proofs.fixed.labels_of_16.Statement.{statement}
 use Rattle.names.proofs.fixed.labels_of_16.Tie as tie
 
-slice-aggregate-same : tie.Need-slice-aggregate-same
-slice-aggregate-same c = refl
-
 same-requires : tie.Need-same-requires
 same-requires c κs = tt
 
 returns : tie.Need-returns
 unfolding codes of_length keep_if any_of any_from
 returns c =
-    rw c.same.ensures (spelled_one (of_length 16 linker_labels) c.before.before.before.args.name.now)
+    rw c.same.ensures (spelled_one (of_length 16 linker_labels) c.args.name.now)
 
-pub labels-of-16-spec : {M : Type 1} → statement M
-labels-of-16-spec = tie.close (tie.spec slice-aggregate-same same-requires returns)
+pub labels_of_16_spec : {M : Type 1} → statement M
+labels_of_16_spec = tie.close (tie.spec
+    same-requires
+    returns)

@@ -15,35 +15,35 @@ invariant-loop name i₀ i = (i ≤ length name) × (without_dots (drop i name) 
 abbrev decreases-loop : tie.decreases-loop
 decreases-loop name i₀ i = length name - i
 
-loop-holds : tie.Need-loop-init invariant-loop decreases-loop
+loop-holds : tie.Need-loop-i-init invariant-loop decreases-loop
 loop-holds c = (omega arith, refl)
 
-shared-slice-read-if1 : tie.Need-shared-slice-read-if1 invariant-loop decreases-loop
+shared-slice-read-if1 : tie.Need-bounds-name-i invariant-loop decreases-loop
 shared-slice-read-if1 c = omega arith
 
-returns : tie.Need-returns invariant-loop decreases-loop
+returns : tie.Need-returns-then-name-i-ne46 invariant-loop decreases-loop
 returns c =
-    let t = c.before.before in
-    let l = t.before.loop in
-    record { few = omega arith; rest = sym (dots_stop _ _ t.loop-test.true c.if1.true) ∙ l.invariant.1 }
+    let t = c in
+    let l = t.loop-i in
+    record { few = omega arith; rest = sym (dots_stop _ _ t.loop-i-test.true c.if-name-i-ne46.true) ∙ l.invariant.1 }
 
-add-i : tie.Need-overflow-add-i invariant-loop decreases-loop
+add-i : tie.Need-overflow_add-i invariant-loop decreases-loop
 add-i c = omega arith
 
-loop-less : tie.Need-loop-smaller invariant-loop decreases-loop
+loop-less : tie.Need-loop-i-smaller invariant-loop decreases-loop
 loop-less c = omega arith
 
-loop-again : tie.Need-loop-preserved invariant-loop decreases-loop
+loop-again : tie.Need-loop-i-preserved invariant-loop decreases-loop
 loop-again c =
-    let t = c.before.before in
-    let l = t.before.loop in
-    (omega arith, sym (dots_turn _ _ t.loop-test.true c.if1.false) ∙ l.invariant.1)
+    let t = c in
+    let l = t.loop-i in
+    (omega arith, sym (dots_turn _ _ t.loop-i-test.true c.if-name-i-ne46.false) ∙ l.invariant.1)
 
-returns-2 : tie.Need-returns-2 invariant-loop decreases-loop
-returns-2 c = record { few = omega arith; rest = sym (dots_ended _ _ c.loop-test.false) ∙ c.before.loop.invariant.1 }
+returns-2 : tie.Need-returns invariant-loop decreases-loop
+returns-2 c = record { few = omega arith; rest = sym (dots_ended _ _ c.loop-i-test.false) ∙ c.loop-i.invariant.1 }
 
-pub leading-dots-spec : {M : Type 1} → statement M
-leading-dots-spec =
+pub leading_dots_spec : {M : Type 1} → statement M
+leading_dots_spec =
     tie.close
     (tie.spec
     invariant-loop

@@ -16,61 +16,61 @@ invariant-loop bytes places lengths n heads chain x cur₀ cur = Search (names_o
 abbrev decreases-loop : tie.decreases-loop
 decreases-loop bytes places lengths n heads chain x cur₀ cur = cur
 
-bucket-of-requires : tie.Need-bucket-of-requires invariant-loop decreases-loop
+bucket-of-requires : tie.Need-bucket_of-requires invariant-loop decreases-loop
 bucket-of-requires c κs = tt
 
-number-at-requires : tie.Need-number-at-requires invariant-loop decreases-loop
-number-at-requires c κs = omega (arith, c.before.before.before.before.before.before.before.requires.1.buckets, c.bucket_of.ensures.small)
+number-at-requires : tie.Need-number_at-cur-requires invariant-loop decreases-loop
+number-at-requires c κs = omega (arith, c.requires.1.buckets, c.bucket_of.ensures.small)
 
-loop-holds : tie.Need-loop-init invariant-loop decreases-loop
+loop-holds : tie.Need-loop-cur-init invariant-loop decreases-loop
 loop-holds c =
-    let s = c.before.before.before.before.before.before.before.before in
+    let s = c in
     let names = names_of s.args.bytes.now s.args.places.now s.args.lengths.now s.args.n in
-    let at = c.before.bucket_of.ensures in
-    search_starts names s.args.x.now _ (c.number_at.ensures ∙ s.requires.1.head _ at.small ∙ ap (λ (h : ℕ). last_in h names) at.is)
+    let at = c.bucket_of.ensures in
+    search_starts names s.args.x.now _ (c.number_at-cur.ensures ∙ s.requires.1.head _ at.small ∙ ap (λ (h : ℕ). last_in h names) at.is)
 
-sub-k : tie.Need-overflow-sub-k invariant-loop decreases-loop
+sub-k : tie.Need-overflow_sub-k invariant-loop decreases-loop
 sub-k c = omega arith
 
-is-name-requires : tie.Need-is-name-requires invariant-loop decreases-loop
+is-name-requires : tie.Need-is_name-requires invariant-loop decreases-loop
 is-name-requires c κs =
-    let s = c.before.before.before.before.before.before.before.before.before.before in
-    left_name s.requires.0 s.requires.1 c.before.loop.invariant c.loop-test.true
+    let s = c in
+    left_name s.requires.0 s.requires.1 c.loop-cur.invariant c.loop-cur-test.true
 
-returns : tie.Need-returns invariant-loop decreases-loop
+returns : tie.Need-returns-then-is_name invariant-loop decreases-loop
 returns c =
-    let s = c.before.before.before.before.before.before.before.before.before.before.before.before in
-    let t = c.before.before in
-    let l = t.before.loop in
-    left_found s.requires.0 s.requires.1 l.invariant t.loop-test.true c.before.is_name.ensures c.if1.true
+    let s = c in
+    let t = c in
+    let l = t.loop-cur in
+    left_found s.requires.0 s.requires.1 l.invariant t.loop-cur-test.true c.is_name.ensures c.if-is_name.true
 
-number-at-requires-2 : tie.Need-number-at-requires-2 invariant-loop decreases-loop
+number-at-requires-2 : tie.Need-number_at-cur-requires-in-loop-cur invariant-loop decreases-loop
 number-at-requires-2 c κs =
-    let s = c.before.before.before.before.before.before.before.before.before.before.before.before in
-    let t = c.before.before in
-    let l = t.before.loop in
-    left_chain s.requires.0 s.requires.1 l.invariant t.loop-test.true
+    let s = c in
+    let t = c in
+    let l = t.loop-cur in
+    left_chain s.requires.0 s.requires.1 l.invariant t.loop-cur-test.true
 
-loop-less : tie.Need-loop-smaller invariant-loop decreases-loop
+loop-less : tie.Need-loop-cur-smaller invariant-loop decreases-loop
 loop-less c =
-    let s = c.before.before.before.before.before.before.before.before.before.before.before.before.before in
-    let t = c.before.before.before in
-    let l = t.before.loop in
-    left_less s.requires.0 s.requires.1 l.invariant t.loop-test.true c.number-at2.ensures
+    let s = c in
+    let t = c in
+    let l = t.loop-cur in
+    left_less s.requires.0 s.requires.1 l.invariant t.loop-cur-test.true c.number_at-cur-in-loop-cur.ensures
 
-loop-again : tie.Need-loop-preserved invariant-loop decreases-loop
+loop-again : tie.Need-loop-cur-preserved invariant-loop decreases-loop
 loop-again c =
-    let s = c.before.before.before.before.before.before.before.before.before.before.before.before.before in
-    let t = c.before.before.before in
-    let l = t.before.loop in
-    left_other s.requires.0 s.requires.1 l.invariant t.loop-test.true c.number-at2.ensures c.before.before.is_name.ensures c.before.if1.false
+    let s = c in
+    let t = c in
+    let l = t.loop-cur in
+    left_other s.requires.0 s.requires.1 l.invariant t.loop-cur-test.true c.number_at-cur-in-loop-cur.ensures c.is_name.ensures c.if-is_name.false
 
-returns-2 : tie.Need-returns-2 invariant-loop decreases-loop
+returns-2 : tie.Need-returns invariant-loop decreases-loop
 returns-2 c =
-    let s = c.before.before.before.before.before.before.before.before.before.before in
+    let s = c in
     let names = names_of s.args.bytes.now s.args.places.now s.args.lengths.now s.args.n in
     let size = length-names s.args.bytes.now s.args.places.now s.args.lengths.now s.args.n in
-    let none = search_ends names s.args.x.now (subst (Search names s.args.x.now) c.loop-test.false c.before.loop.invariant) in
+    let none = search_ends names s.args.x.now (subst (Search names s.args.x.now) c.loop-cur-test.false c.loop-cur.invariant) in
     record { is = sym (none ∙ size); few = omega arith }
 
 pub find_spec : {M : Type 1} → statement M

@@ -6,14 +6,14 @@ use borrow.Author.Rules.{rules}
 use Rattle.names.proofs.index.is_name.Statement.{statement}
 use Rattle.names.proofs.index.is_name.Tie as tie
 
-name-at-requires : tie.Need-name-at-requires
+name-at-requires : tie.Need-name_at-requires
 name-at-requires c κs = search rules
 
 same-requires : tie.Need-same-requires
 same-requires c κs = tt
 
 returns : tie.Need-returns
-returns c = c.same.ensures ∙ ap (same_name c.before.before.before.before.before.before.args.x.now) c.before.name_at_lem.ensures
+returns c = c.same.ensures ∙ ap (same_name c.args.x.now) c.name_at.ensures
 
-pub is-name-spec : {M : Type 1} → statement M
-is-name-spec = tie.close (tie.spec name-at-requires same-requires returns)
+pub is_name_spec : {M : Type 1} → statement M
+is_name_spec = tie.close (tie.spec name-at-requires same-requires returns)

@@ -5,17 +5,17 @@ use borrow.Author.Rules.{rules}
 use Rattle.names.proofs.index.number_at.Statement.{statement}
 use Rattle.names.proofs.index.number_at.Tie as tie
 
-mul-result : tie.Need-overflow-mul-result
+mul-result : tie.Need-offset_bounds-column-k
 mul-result c = omega arith
 
-shared-slice-read-result : tie.Need-shared-slice-read-result
+shared-slice-read-result : tie.Need-bounds-column-k
 shared-slice-read-result c = omega arith
 
-cast-result : tie.Need-overflow-cast-result
-cast-result c = omega (arith, c.shared-slice-known.given c.before.args.k)
+cast-result : tie.Need-overflow_cast-result
+cast-result c = omega (arith, c.shared_slice_known-1.given c.args.k)
 
 returns : tie.Need-returns
 returns c = search rules
 
-pub number-at-spec : {M : Type 1} → statement M
-number-at-spec = tie.close (tie.spec mul-result shared-slice-read-result cast-result returns)
+pub number_at_spec : {M : Type 1} → statement M
+number_at_spec = tie.close (tie.spec mul-result shared-slice-read-result cast-result returns)

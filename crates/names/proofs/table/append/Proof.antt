@@ -10,62 +10,62 @@ use borrow.Author.Rules.{rules}
 use Rattle.names.proofs.table.append.Statement.{statement}
 use Rattle.names.proofs.table.append.Tie as tie
 
-add-end : tie.Need-overflow-add-end
+add-end : tie.Need-overflow_add-end
 add-end c = omega arith
 
-returns : tie.Need-returns
+returns : tie.Need-returns-then-max_names-n
 unfolding table_full any_of any_from
 returns c =
-    let s = c.before.before.before.before.before in
-    appended_none (record { bytes = s.args.bytes.now; places = s.args.places.now; lengths = s.args.lengths.now }) _ _ _ _ _ c.if1.true
+    let s = c in
+    appended_none (record { bytes = s.args.bytes.now; places = s.args.places.now; lengths = s.args.lengths.now }) _ _ _ _ _ c.if-max_names-n.true
 
-put-bytes-requires : tie.Need-put-bytes-requires
+put-bytes-requires : tie.Need-put_bytes-requires
 unfolding table_full any_of any_from
 put-bytes-requires c κs =
-    let s = c.before.before.before.before.before.before in
-    let r = room s.args.bytes.now s.args.places.now s.args.lengths.now s.args.n (s.args.used + length s.args.name.now) s.args.max_names s.args.max_bytes c.before.if1.false in
+    let s = c in
+    let r = room s.args.bytes.now s.args.places.now s.args.lengths.now s.args.n (s.args.used + length s.args.name.now) s.args.max_names s.args.max_bytes c.if-max_names-n.false in
     r.space
 
-cast-places : tie.Need-overflow-cast-places
+cast-places : tie.Need-overflow_cast-places
 cast-places c = omega arith
 
-mul-places : tie.Need-overflow-mul-places
+mul-places : tie.Need-offset_bounds-places-n
 mul-places c = omega arith
 
-slice-write-places : tie.Need-slice-write-places
+slice-write-places : tie.Need-bounds-places-n
 unfolding table_full any_of any_from
 slice-write-places c =
-    let s = c.before.before.before.before.before.before.before.before.before in
-    let r = room s.args.bytes.now s.args.places.now s.args.lengths.now s.args.n (s.args.used + length s.args.name.now) s.args.max_names s.args.max_bytes c.before.before.before.before.if1.false in
+    let s = c in
+    let r = room s.args.bytes.now s.args.places.now s.args.lengths.now s.args.n (s.args.used + length s.args.name.now) s.args.max_names s.args.max_bytes c.if-max_names-n.false in
     r.place
 
-cast-lengths : tie.Need-overflow-cast-lengths
+cast-lengths : tie.Need-overflow_cast-lengths
 cast-lengths c = omega arith
 
-slice-write-lengths : tie.Need-slice-write-lengths
+slice-write-lengths : tie.Need-bounds-lengths-n
 unfolding table_full any_of any_from
 slice-write-lengths c =
-    let s = c.before.before.before.before.before.before.before.before.before in
-    let r = room s.args.bytes.now s.args.places.now s.args.lengths.now s.args.n (s.args.used + length s.args.name.now) s.args.max_names s.args.max_bytes c.before.before.before.before.if1.false in
+    let s = c in
+    let r = room s.args.bytes.now s.args.places.now s.args.lengths.now s.args.n (s.args.used + length s.args.name.now) s.args.max_names s.args.max_bytes c.if-max_names-n.false in
     r.size
 
-same_length : tie.Need-same-length
+same_length : tie.Need-shape_of-bytes
 same_length c = search rules
 
-same-length-2 : tie.Need-same-length-2
+same-length-2 : tie.Need-shape_of-places
 same-length-2 c = search rules
 
-same-length-3 : tie.Need-same-length-3
+same-length-3 : tie.Need-shape_of-lengths
 same-length-3 c = search rules
 
-returns-2 : tie.Need-returns-2
+returns-2 : tie.Need-returns
 unfolding table_full any_of any_from
 returns-2 c =
-    let s = c.before.before.before.before.before.before.before.before.before in
-    appended_one (record { bytes = s.args.bytes.now; places = s.args.places.now; lengths = s.args.lengths.now }) _ _ _ _ _ c.before.before.before.before.if1.false s.requires.3 c.before.before.put_bytes.ensures
+    let s = c in
+    appended_one (record { bytes = s.args.bytes.now; places = s.args.places.now; lengths = s.args.lengths.now }) _ _ _ _ _ c.if-max_names-n.false s.requires.3 c.put_bytes.ensures
 
-pub append-spec : {M : Type 1} → statement M
-append-spec =
+pub append_spec : {M : Type 1} → statement M
+append_spec =
     tie.close
     (tie.spec
     add-end

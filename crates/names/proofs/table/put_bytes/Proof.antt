@@ -16,41 +16,41 @@ invariant-loop out₀ at from i₀ out i = (i ≤ length from) × (length out �
 abbrev decreases-loop : tie.decreases-loop
 decreases-loop out₀ at from i₀ out i = length from - i
 
-loop-holds : tie.Need-loop-init invariant-loop decreases-loop
+loop-holds : tie.Need-loop-i-init invariant-loop decreases-loop
 loop-holds c = (omega arith, refl, rw add-zero)
 
-shared-slice-read-out : tie.Need-shared-slice-read-out invariant-loop decreases-loop
+shared-slice-read-out : tie.Need-bounds-from-i invariant-loop decreases-loop
 shared-slice-read-out c = omega arith
 
-add-out : tie.Need-overflow-add-out invariant-loop decreases-loop
+add-out : tie.Need-overflow_add-out invariant-loop decreases-loop
 add-out c = omega arith
 
-slice-write-out : tie.Need-slice-write-out invariant-loop decreases-loop
+slice-write-out : tie.Need-bounds-out-at invariant-loop decreases-loop
 slice-write-out c = omega arith
 
-add-i : tie.Need-overflow-add-i invariant-loop decreases-loop
+add-i : tie.Need-overflow_add-i invariant-loop decreases-loop
 add-i c = omega arith
 
-loop-less : tie.Need-loop-smaller invariant-loop decreases-loop
+loop-less : tie.Need-loop-i-smaller invariant-loop decreases-loop
 loop-less c = omega arith
 
-loop-again : tie.Need-loop-preserved invariant-loop decreases-loop
+loop-again : tie.Need-loop-i-preserved invariant-loop decreases-loop
 loop-again c =
-    let t = c.before in
-    let l = t.before.loop in (
+    let t = c in
+    let l = t.loop-i in (
       omega arith,
       simp length-set l.invariant.1,
-      sets_turn _ _ _ _ 0 t.loop-test.true ∙ l.invariant.2,
+      sets_turn _ _ _ _ 0 t.loop-i-test.true ∙ l.invariant.2,
     )
 
-same_length : tie.Need-same-length invariant-loop decreases-loop
+same_length : tie.Need-shape_of-out invariant-loop decreases-loop
 same_length c = omega arith
 
 returns : tie.Need-returns invariant-loop decreases-loop
-returns c = sym (sets_ended _ _ _ _ c.loop-test.false) ∙ c.before.loop.invariant.2
+returns c = sym (sets_ended _ _ _ _ c.loop-i-test.false) ∙ c.loop-i.invariant.2
 
-pub put-bytes-spec : {M : Type 1} → statement M
-put-bytes-spec =
+pub put_bytes_spec : {M : Type 1} → statement M
+put_bytes_spec =
     tie.close
     (tie.spec
     invariant-loop

@@ -20,72 +20,72 @@ invariant-loop unit_bytes unit_places column₀ k₀ column k =
 abbrev decreases-loop : tie.decreases-loop
 decreases-loop unit_bytes unit_places column₀ k₀ column k = k
 
-loop-holds : tie.Need-loop-init invariant-loop decreases-loop
+loop-holds : tie.Need-loop-k-init invariant-loop decreases-loop
 loop-holds c =
-    let a = c.before.before.before.args in
+    let a = c.args in
     (omega arith, refl, marked-none (units_in a.unit_bytes.now a.unit_places.now) _ _ (sym (length-map a.unit_places.now (unit_at a.unit_bytes.now))))
 
-sub-k : tie.Need-overflow-sub-k invariant-loop decreases-loop
+sub-k : tie.Need-overflow_sub-k invariant-loop decreases-loop
 sub-k c = omega arith
 
-unit-at-requires : tie.Need-unit-at-requires invariant-loop decreases-loop
-unit-at-requires c κs = held _ _ c.before.before.before.before.before.requires.whole _ (omega (arith, c.loop-test.true, c.before.loop.invariant.0))
+unit-at-requires : tie.Need-unit_at-u-requires invariant-loop decreases-loop
+unit-at-requires c κs = held _ _ c.requires.whole _ (omega (arith, c.loop-k-test.true, c.loop-k.invariant.0))
 
-cast-column : tie.Need-overflow-cast-column invariant-loop decreases-loop
-cast-column c = omega (arith, c.before.before.loop.invariant.0, c.before.before.before.before.before.before.requires.few)
+cast-column : tie.Need-overflow_cast-column invariant-loop decreases-loop
+cast-column c = omega (arith, c.loop-k.invariant.0, c.requires.few)
 
-cast-column-2 : tie.Need-overflow-cast-column-2 invariant-loop decreases-loop
+cast-column-2 : tie.Need-overflow_cast-column-in-loop-k invariant-loop decreases-loop
 cast-column-2 c = search rules
 
-mul-column : tie.Need-overflow-mul-column invariant-loop decreases-loop
+mul-column : tie.Need-offset_bounds-column-u invariant-loop decreases-loop
 mul-column c = search rules
 
-slice-write-column : tie.Need-slice-write-column invariant-loop decreases-loop
+slice-write-column : tie.Need-bounds-column-u invariant-loop decreases-loop
 slice-write-column c =
-    let s = c.before.before.before.before.before.before.before in
-    let l = c.before.before.before.loop in
+    let s = c in
+    let l = c.loop-k in
     omega (
       arith,
-      ap (λ (u : units.Unit). u.name) c.before.unit_at_lem.ensures,
-      s.requires.named (l.k - 1) (omega (arith, c.before.before.loop-test.true, l.invariant.0)),
+      ap (λ (u : units.Unit). u.name) c.unit_at-u.ensures,
+      s.requires.named (l.k - 1) (omega (arith, c.loop-k-test.true, l.invariant.0)),
       l.invariant.1,
     )
 
-loop-less : tie.Need-loop-smaller invariant-loop decreases-loop
+loop-less : tie.Need-loop-k-smaller invariant-loop decreases-loop
 loop-less c = omega arith
 
-loop-again : tie.Need-loop-preserved invariant-loop decreases-loop
+loop-again : tie.Need-loop-k-preserved invariant-loop decreases-loop
 loop-again c =
-    let s = c.before.before.before.before.before.before.before in
+    let s = c in
     let a = s.args in
-    let l = c.before.before.before.loop in
+    let l = c.loop-k in
     let us = units_in a.unit_bytes.now a.unit_places.now in
-    let low : l.k - 1 < length a.unit_places.now = omega (arith, c.before.before.loop-test.true, l.invariant.0) in
+    let low : l.k - 1 < length a.unit_places.now = omega (arith, c.loop-k-test.true, l.invariant.0) in
     let long = length-map a.unit_places.now (unit_at a.unit_bytes.now) in
-    let same : l.k ≡ l.k - 1 + 1 = omega (arith, c.before.before.loop-test.true) in
-    let is = ap (λ (u : units.Unit). u.name) c.before.unit_at_lem.ensures in
+    let same : l.k ≡ l.k - 1 + 1 = omega (arith, c.loop-k-test.true) in
+    let is = ap (λ (u : units.Unit). u.name) c.unit_at-u.ensures in
     let at = get_d_map (unit_at a.unit_bytes.now) a.unit_places.now (l.k - 1) 0 no_unit low in (
       omega arith,
       simp length-set l.invariant.1,
       marked_more us (l.k - 1) a.column.now l.column (omega arith)
-          (subst (λ (i : ℕ). MarkedFrom us i a.column.now l.column) same l.invariant.2) c.before.unit_at_lem.result.name
+          (subst (λ (i : ℕ). MarkedFrom us i a.column.now l.column) same l.invariant.2) c.unit_at-u.result.name
           (is ∙ sym (ap (λ (u : units.Unit). u.name) at))
           (omega (arith, is, s.requires.named (l.k - 1) low, l.invariant.1)),
     )
 
-same_length : tie.Need-same-length invariant-loop decreases-loop
-same_length c = c.before.loop.invariant.1
+same_length : tie.Need-shape_of-column invariant-loop decreases-loop
+same_length c = c.loop-k.invariant.1
 
 returns : tie.Need-returns invariant-loop decreases-loop
 returns c =
-    let a = c.before.before.before.before.before.args in
-    let l = c.before.loop in
+    let a = c.args in
+    let l = c.loop-k in
     let us = units_in a.unit_bytes.now a.unit_places.now in
-    let none_left : l.k ≡ 0 = omega (arith, c.loop-test.false) in
+    let none_left : l.k ≡ 0 = omega (arith, c.loop-k-test.false) in
     marked_all us a.column.now l.column (subst (λ (i : ℕ). MarkedFrom us i a.column.now l.column) none_left l.invariant.2)
 
-pub mark-records-spec : {M : Type 1} → statement M
-mark-records-spec =
+pub mark_records_spec : {M : Type 1} → statement M
+mark_records_spec =
     tie.close
     (tie.spec
     invariant-loop

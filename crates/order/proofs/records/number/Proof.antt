@@ -4,17 +4,17 @@ use borrow.Author.Rules.{rules}
 use Rattle.order.proofs.records.number.Statement.{statement}
 use Rattle.order.proofs.records.number.Tie as tie
 
-mul-result : tie.Need-overflow-mul-result
+mul-result : tie.Need-offset_bounds-s-i
 mul-result c = search rules
 
-shared-slice-read-result : tie.Need-shared-slice-read-result
+shared-slice-read-result : tie.Need-bounds-s-i
 shared-slice-read-result c = search rules
 
-cast-result : tie.Need-overflow-cast-result
-cast-result c = omega (arith, c.shared-slice-known.given c.before.args.i)
+cast-result : tie.Need-overflow_cast-result
+cast-result c = omega (arith, c.shared_slice_known-1.given c.args.i)
 
 returns : tie.Need-returns
 returns c = search rules
 
-pub number-spec : {M : Type 1} → statement M
-number-spec = tie.close (tie.spec mul-result shared-slice-read-result cast-result returns)
+pub number_spec : {M : Type 1} → statement M
+number_spec = tie.close (tie.spec mul-result shared-slice-read-result cast-result returns)

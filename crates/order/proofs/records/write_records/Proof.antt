@@ -19,26 +19,26 @@ use Rattle.order.proofs.records.write_records.Tie as tie
 blank-requires : tie.Need-blank-requires
 blank-requires c κs = search rules
 
-mark-hand-requires : tie.Need-mark-hand-requires
+mark-hand-requires : tie.Need-mark_hand-requires
 mark-hand-requires c κs =
-    let s = c.before.before.before.before.before.before.before.before.before.before.before.before.before.before.before in
-    record { long = s.requires.0.long; named = λ i h. omega (arith, s.requires.0.named i h, c.before.before.before.blank.auto.0) }
+    let s = c in
+    record { long = s.requires.0.long; named = λ i h. omega (arith, s.requires.0.named i h, c.blank.auto.column) }
 
-mark-records-requires : tie.Need-mark-records-requires
+mark-records-requires : tie.Need-mark_records-requires
 mark-records-requires c κs =
-    let s = c.before.before.before.before.before.before.before.before.before.before.before.before.before.before.before.before.before.before.before in
+    let s = c in
     let q = s.requires.1 in
-    record { whole = q.whole; few = q.few; named = λ k h. omega (arith, q.named k h, c.before.before.before.mark_hand.auto.1.1.1.1.1.0, c.before.before.before.before.before.before.before.blank.auto.0) }
+    record { whole = q.whole; few = q.few; named = λ k h. omega (arith, q.named k h, c.mark_hand.auto.column, c.blank.auto.column) }
 
-write-units-requires : tie.Need-write-units-requires
+write-units-requires : tie.Need-write_units-requires
 write-units-requires c κs =
-    let s = c.before.before.before.before.before.before.before.before.before.before.before.before.before.before.before.before.before.before.before.before.before.before.before.before in
+    let s = c in
     let a = s.args in
     let splits = rows (columns a.starts.now a.ends.now a.units.now a.rest.now) a.n in
     let us = units_in a.unit_bytes.now a.unit_places.now in
-    let b = c.before.before.before.before.before.before.before.before.before.before.before.before.blank in
-    let h = c.before.before.before.before.before.before.before.before.mark_hand in
-    let r = c.before.before.before.before.mark_records in
+    let b = c.blank in
+    let h = c.mark_hand in
+    let r = c.mark_records in
     let f = filled splits us a.column.now b.new.0 h.new.1.1.1.1.1.0 r.new.1.1.0 b.ensures b.auto.0 h.auto.1.1.1.1.1.0 r.auto.1.1.0 h.ensures r.ensures in
     let w = s.requires.3 in (
       record {
@@ -50,30 +50,30 @@ write-units-requires c κs =
       record { inside = w.inside; named = subst (λ (k : ℕ). All (λ x. x < k) a.nodes.now) (sym f.1) w.named; room = w.room },
     )
 
-same_length : tie.Need-same-length
+same_length : tie.Need-shape_of-column
 same_length c = search rules
 
-same-length-2 : tie.Need-same-length-2
+same-length-2 : tie.Need-shape_of-out
 same-length-2 c = search rules
 
 returns : tie.Need-returns
 returns c =
-    let s = c.before.before.before.before.before.before.before.before.before.before.before.before.before.before.before.before.before.before.before.before.before.before.before.before.before.before.before in
+    let s = c in
     let a = s.args in
     let splits = rows (columns a.starts.now a.ends.now a.units.now a.rest.now) a.n in
     let us = units_in a.unit_bytes.now a.unit_places.now in
-    let b = c.before.before.before.before.before.before.before.before.before.before.before.before.before.before.before.blank in
-    let h = c.before.before.before.before.before.before.before.before.before.before.before.mark_hand in
-    let r = c.before.before.before.before.before.before.before.mark_records in
+    let b = c.blank in
+    let h = c.mark_hand in
+    let r = c.mark_records in
     let f = filled splits us a.column.now b.new.0 h.new.1.1.1.1.1.0 r.new.1.1.0 b.ensures b.auto.0 h.auto.1.1.1.1.1.0 r.auto.1.1.0 h.ensures r.ensures in
     let w = s.requires.3 in
-    c.before.before.write_units.ensures
+    c.write_units.ensures
     ∙ ap (λ (l : List units.Unit). sets a.out.now 0 (units_bytes l))
     (records_are splits us r.new.1.1.0 a.nodes.now a.list.now (omega (arith, s.requires.1.few, length-map a.unit_places.now (unit_at a.unit_bytes.now))) s.requires.2 f.0
     w.inside (subst (λ (k : ℕ). All (λ x. x < k) a.nodes.now) (sym f.1) w.named))
 
-pub write-records-spec : {M : Type 1} → statement M
-write-records-spec =
+pub write_records_spec : {M : Type 1} → statement M
+write_records_spec =
     tie.close
     (tie.spec
     blank-requires

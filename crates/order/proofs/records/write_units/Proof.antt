@@ -24,58 +24,58 @@ invariant-loop unit_bytes unit_places column nodes list out₀ i₀ out i =
 abbrev decreases-loop : tie.decreases-loop
 decreases-loop unit_bytes unit_places column nodes list out₀ i₀ out i = length list - i
 
-loop-holds : tie.Need-loop-init invariant-loop decreases-loop
+loop-holds : tie.Need-loop-i-init invariant-loop decreases-loop
 loop-holds c = (omega arith, refl, refl)
 
 number-requires : tie.Need-number-requires invariant-loop decreases-loop
-number-requires c κs = c.loop-test.true
+number-requires c κs = c.loop-i-test.true
 
-node-record-requires : tie.Need-node-record-requires invariant-loop decreases-loop
+node-record-requires : tie.Need-node_record-u-requires invariant-loop decreases-loop
 node-record-requires c κs =
-    let s = c.before.before.before.before.before.before.before.before.before in
+    let s = c in
     let node : c.number.result < length s.args.nodes.now =
-    omega (arith, c.number.ensures, all_at c.before.before.loop.i 0 s.requires.1.inside c.before.loop-test.true) in
+    omega (arith, c.number.ensures, all_at c.loop-i.i 0 s.requires.1.inside c.loop-i-test.true) in
     (s.requires.0, node, all_at c.number.result 0 s.requires.1.named node)
 
-mul-put-unit : tie.Need-overflow-mul-put-unit invariant-loop decreases-loop
-mul-put-unit c = omega (arith, c.before.before.before.before.before.before.before.before.before.before.before.requires.1.room, c.before.before.before.loop-test.true, c.before.before.before.before.loop.invariant.1)
+mul-put-unit : tie.Need-overflow_mul-i invariant-loop decreases-loop
+mul-put-unit c = omega (arith, c.requires.1.room, c.loop-i-test.true, c.loop-i.invariant.1)
 
-put-unit-requires : tie.Need-put-unit-requires invariant-loop decreases-loop
-put-unit-requires c κs = omega (arith, c.before.before.before.before.before.before.before.before.before.before.before.requires.1.room, c.before.before.before.loop-test.true, c.before.before.before.before.loop.invariant.1)
+put-unit-requires : tie.Need-put_unit-requires invariant-loop decreases-loop
+put-unit-requires c κs = omega (arith, c.requires.1.room, c.loop-i-test.true, c.loop-i.invariant.1)
 
-add-i : tie.Need-overflow-add-i invariant-loop decreases-loop
+add-i : tie.Need-overflow_add-i invariant-loop decreases-loop
 add-i c = omega arith
 
-loop-less : tie.Need-loop-smaller invariant-loop decreases-loop
+loop-less : tie.Need-loop-i-smaller invariant-loop decreases-loop
 loop-less c = omega arith
 
-loop-again : tie.Need-loop-preserved invariant-loop decreases-loop
+loop-again : tie.Need-loop-i-preserved invariant-loop decreases-loop
 loop-again c =
-    let a = c.before.before.before.before.before.before.before.before.before.before.before.before.before.before.args in
-    let l = c.before.before.before.before.before.before.before.loop in
+    let a = c.args in
+    let l = c.loop-i in
     let f = node_record (units_in a.unit_bytes.now a.unit_places.now) a.column.now a.nodes.now in
     let w =
-    c.before.before.put_unit.ensures
-    ∙ ap (λ (u : units.Unit). sets l.out (8 * l.i) (bytes_of_unit u)) (c.before.before.before.before.node_record.ensures ∙ ap f c.before.before.before.before.before.number.ensures) in (
+    c.put_unit.ensures
+    ∙ ap (λ (u : units.Unit). sets l.out (8 * l.i) (bytes_of_unit u)) (c.node_record-u.ensures ∙ ap f c.number.ensures) in (
       omega arith,
-      c.before.before.put_unit.auto.0 ∙ l.invariant.1,
+      c.put_unit.auto.out ∙ l.invariant.1,
       ap (λ (b : List ℕ). sets b (8 * (l.i + 1)) (units_bytes (map f (drop (l.i + 1) a.list.now)))) w
-          ∙ written_turn l.out f a.list.now l.i c.before.before.before.before.before.before.loop-test.true
+          ∙ written_turn l.out f a.list.now l.i c.loop-i-test.true
           ∙ l.invariant.2,
     )
 
-same_length : tie.Need-same-length invariant-loop decreases-loop
-same_length c = c.before.loop.invariant.1
+same_length : tie.Need-shape_of-out invariant-loop decreases-loop
+same_length c = c.loop-i.invariant.1
 
 returns : tie.Need-returns invariant-loop decreases-loop
 returns c =
-    let a = c.before.before.before.before.before.before.before.before.args in
-    let l = c.before.loop in
+    let a = c.args in
+    let l = c.loop-i in
     let f = node_record (units_in a.unit_bytes.now a.unit_places.now) a.column.now a.nodes.now in
-    sym (written_all l.out f a.list.now l.i c.loop-test.false) ∙ l.invariant.2
+    sym (written_all l.out f a.list.now l.i c.loop-i-test.false) ∙ l.invariant.2
 
-pub write-units-spec : {M : Type 1} → statement M
-write-units-spec =
+pub write_units_spec : {M : Type 1} → statement M
+write_units_spec =
     tie.close
     (tie.spec
     invariant-loop

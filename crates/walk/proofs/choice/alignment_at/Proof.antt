@@ -25,45 +25,45 @@ image s = image_of s.args.symbols.now s.args.symbol_places.now s.args.name_bytes
 abbrev head : tie.Start → Section
 head s = head_of s.args.heads.now s.args.head_places.now s.args.n
 
-section-at-requires : tie.Need-section-at-requires
+section-at-requires : tie.Need-section_at-head-requires
 section-at-requires c κs = search rules
 
-index-requires : tie.Need-index-requires
+index-requires : tie.Need-index-k-requires
 index-requires c κs = search rules
 
-name-at-requires : tie.Need-name-at-requires
+name-at-requires : tie.Need-name_at-requires
 name-at-requires c κs =
-    let s = c.before.before.before.before.before.before.before.before.before.before in
-    name_held _ _ _ s.requires.0.tables.names.names _ (omega (arith, c.index.ensures, ap (λ (h : Section). h.name) c.before.section_at_lem.ensures, s.requires.1.named))
+    let s = c in
+    name_held _ _ _ s.requires.0.tables.names.names _ (omega (arith, c.index-k.ensures, ap (λ (h : Section). h.name) c.section_at-head.ensures, s.requires.1.named))
 
-default-alignment-requires : tie.Need-default-alignment-requires
+default-alignment-requires : tie.Need-default_alignment-least-requires
 default-alignment-requires c κs = search rules
 
-cast-alignment-of : tie.Need-overflow-cast-alignment-of
+cast-alignment-of : tie.Need-overflow_cast-n
 cast-alignment-of c = search rules
 
-alignment-of-requires : tie.Need-alignment-of-requires
+alignment-of-requires : tie.Need-alignment_of-requires
 alignment-of-requires c κs = search rules
 
-value-of-requires : tie.Need-value-of-requires
+value-of-requires : tie.Need-value_of-requires
 value-of-requires c κs = search rules
 
 returns : tie.Need-returns
 returns c =
     let s = c.before.before.before.before.before.before.before.before.before.before.before.before.before.before in
-    let h = c.before.before.before.before.before.section_at_lem.result in
-    let same = c.before.before.before.before.before.section_at_lem.ensures in
-    let name = c.before.before.before.name_at_lem.ensures ∙ ap (image s).name (c.before.before.before.before.index.ensures ∙ ap (λ (x : Section). x.name) same) in
-    let least = c.before.before.default_alignment.ensures ∙ ap₂ (λ (x : Section) (l : List ℕ). default_alignment x l) same name in
+    let h = c.section_at-head.result in
+    let same = c.section_at-head.ensures in
+    let name = c.name_at.ensures ∙ ap (image s).name (c.index-k.ensures ∙ ap (λ (x : Section). x.name) same) in
+    let least = c.default_alignment-least.ensures ∙ ap₂ (λ (x : Section) (l : List ℕ). default_alignment x l) same name in
     let wanted = alignment_in (image s) (head s) s.args.n s.args.start s.args.s in
-    subst (λ (r : ℕ). AlignedAt wanted s.args.n s.args.start r) (sym c.value_of_lem.ensures)
+    subst (λ (r : ℕ). AlignedAt wanted s.args.n s.args.start r) (sym c.value_of.ensures)
     (aligned_at wanted s.args.n s.args.start
     (λ (x : Chosen) e. chosen_good (symbol_of s.args.symbols.now s.args.symbol_places.now) (length s.args.symbol_places.now) s.args.n (default_alignment (head s) ((image s).name (head s).name)) s.args.s.alignment s.args.start s.args.s.end s.requires.0.sound (default_good (head s) ((image s).name (head s).name)) s.requires.2 x e)
-    c.before.alignment_of.result
-    (c.before.alignment_of.ensures ∙ ap (λ (l : ℕ). alignment_of (symbol_of s.args.symbols.now s.args.symbol_places.now) (length s.args.symbol_places.now) s.args.n l s.args.s.alignment s.args.start s.args.s.end) least))
+    c.alignment_of.result
+    (c.alignment_of.ensures ∙ ap (λ (l : ℕ). alignment_of (symbol_of s.args.symbols.now s.args.symbol_places.now) (length s.args.symbol_places.now) s.args.n l s.args.s.alignment s.args.start s.args.s.end) least))
 
-pub alignment-at-spec : {M : Type 1} → statement M
-alignment-at-spec =
+pub alignment_at_spec : {M : Type 1} → statement M
+alignment_at_spec =
     tie.close
     (tie.spec
     section-at-requires

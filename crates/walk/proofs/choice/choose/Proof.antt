@@ -35,62 +35,62 @@ count : (s : S) → length (units s) ≡ length s.args.unit_places.now
 count s = length-map s.args.unit_places.now (λ (at : ℕ). (unit_at s.args.units.now at).name)
 
 abbrev N : Type 0
-N = tie.After-number
+N = tie.After-number-unit
 
 -- what was read is the number of the split's unit
-number_is : (c : N) → let s = c.before.before.before.before.before.before.before.before.before.before.before.before.before.before.before.before.before.before.before.before.before in c.number.result ≡ unit_of (units s) s.args.s.unit
+number_is : (c : N) → let s = c.before.before.before.before.before.before.before.before.before.before.before.before.before.before.before.before.before.before.before.before.before in c.number-unit.result ≡ unit_of (units s) s.args.s.unit
 number_is c =
-    let s = c.before.before.before.before.before.before.before.before.before.before.before.before.before.before.before.before.before.before.before.before.before in
-    c.number.ensures ∙ ap (λ (k : ℕ). get_or s.args.unit_numbers.now k 0) c.before.index.ensures ∙ s.requires.3.each s.args.s.unit s.requires.4
+    let s = c in
+    c.number-unit.ensures ∙ ap (λ (k : ℕ). get_or s.args.unit_numbers.now k 0) c.index.ensures ∙ s.requires.3.each s.args.s.unit s.requires.4
 
-returns : tie.Need-returns
+returns : tie.Need-returns-then-s-current
 returns c =
     let s = c.before.before.before.before.before.before.before.before.before.before.before.before.before.before.before in
-    (decide-start (image s) (sections s) (units s) s.args.n s.args.current s.args.next s.args.s c.if1.true, tt)
+    (decide-start (image s) (sections s) (units s) s.args.n s.args.current s.args.next s.args.s c.if-s-current.true, tt)
 
-between-requires : tie.Need-between-requires
+between-requires : tie.Need-between-fault-requires
 between-requires c κs = search rules
 
-returns-2 : tie.Need-returns-2
+returns-2 : tie.Need-returns-then-fault-ne0
 returns-2 c =
     let s = c.before.before.before.before.before.before.before.before.before.before.before.before.before.before.before.before.before in
-    (decide-between (image s) (sections s) (units s) s.args.n s.args.current s.args.next s.args.s c.before.before.if1.false c.before.between.result c.before.between.ensures c.if2.true, tt)
+    (decide-between (image s) (sections s) (units s) s.args.n s.args.current s.args.next s.args.s c.if-s-current.false c.between-fault.result c.between-fault.ensures c.if-fault-ne0.true, tt)
 
-returns-3 : tie.Need-returns-3
+returns-3 : tie.Need-returns-then-s-eq1
 returns-3 c =
     let s = c.before.before.before.before.before.before.before.before.before.before.before.before.before.before.before.before.before.before.before in
-    (decide_skip (image s) (sections s) (units s) s.args.n s.args.current s.args.next s.args.s c.before.before.before.before.if1.false c.before.before.before.between.result c.before.before.before.between.ensures c.before.before.if2.false (eq-eqb (s.args.s.flags / 4 % 2) 1 c.if3.true), tt)
+    (decide_skip (image s) (sections s) (units s) s.args.n s.args.current s.args.next s.args.s c.if-s-current.false c.between-fault.result c.between-fault.ensures c.if-fault-ne0.false (eq-eqb (s.args.s.flags / 4 % 2) 1 c.if-s-eq1.true), tt)
 
 index-requires : tie.Need-index-requires
 index-requires c κs = search rules
 
-number-requires : tie.Need-number-requires
+number-requires : tie.Need-number-unit-requires
 number-requires c κs = search rules
 
-returns-4 : tie.Need-returns-4
+returns-4 : tie.Need-returns-then-unit-unit_places
 returns-4 c =
     let s = c.before.before.before.before.before.before.before.before.before.before.before.before.before.before.before.before.before.before.before.before.before.before in
-    (decide_unlisted (image s) (sections s) (units s) s.args.n s.args.current s.args.next s.args.s c.before.before.before.before.before.before.before.if1.false c.before.before.before.before.before.before.between.result c.before.before.before.before.before.before.between.ensures c.before.before.before.before.before.if2.false (ne_eqb (s.args.s.flags / 4 % 2) 1 c.before.before.before.if3.false) (sym (number_is c.before) ∙ c.if4.true ∙ sym (count s)), tt)
+    (decide_unlisted (image s) (sections s) (units s) s.args.n s.args.current s.args.next s.args.s c.if-s-current.false c.between-fault.result c.between-fault.ensures c.if-fault-ne0.false (ne_eqb (s.args.s.flags / 4 % 2) 1 c.if-s-eq1.false) (sym (number_is c.before) ∙ c.if-unit-unit_places.true ∙ sym (count s)), tt)
 
-alignment-at-requires : tie.Need-alignment-at-requires
+alignment-at-requires : tie.Need-alignment_at-alignment-requires
 alignment-at-requires c κs = search rules
 
-returns-5 : tie.Need-returns-5
+returns-5 : tie.Need-returns-then-alignment-eq0
 returns-5 c =
     let s = c.before.before.before.before.before.before.before.before.before.before.before.before.before.before.before.before.before.before.before.before.before.before.before.before in
-    (decide_backwards (image s) (sections s) (units s) s.args.n s.args.current s.args.next s.args.s c.before.before.before.before.before.before.before.before.before.if1.false c.before.before.before.before.before.before.before.before.between.result c.before.before.before.before.before.before.before.before.between.ensures c.before.before.before.before.before.before.before.if2.false (ne_eqb (s.args.s.flags / 4 % 2) 1 c.before.before.before.before.before.if3.false) (λ e. c.before.before.if4.false (number_is c.before.before.before ∙ e ∙ count s)) c.before.alignment_at.result c.before.alignment_at.ensures c.if5.true, tt)
+    (decide_backwards (image s) (sections s) (units s) s.args.n s.args.current s.args.next s.args.s c.if-s-current.false c.between-fault.result c.between-fault.ensures c.if-fault-ne0.false (ne_eqb (s.args.s.flags / 4 % 2) 1 c.if-s-eq1.false) (λ e. c.if-unit-unit_places.false (number_is c.before.before.before ∙ e ∙ count s)) c.alignment_at-alignment.result c.alignment_at-alignment.ensures c.if-alignment-eq0.true, tt)
 
-returns-6 : tie.Need-returns-6
+returns-6 : tie.Need-returns
 returns-6 c =
     let s = c.before.before.before.before.before.before.before.before.before.before.before.before.before.before.before.before.before.before.before.before.before.before.before.before in
     let number = number_is c.before.before.before in (
-      ap (λ (u : ℕ). accepted (give u c.before.alignment_at.result)) number
-          ∙ decide_gives (image s) (sections s) (units s) s.args.n s.args.current s.args.next s.args.s c.before.before.before.before.before.before.before.before.before.if1.false c.before.before.before.before.before.before.before.before.between.result c.before.before.before.before.before.before.before.before.between.ensures c.before.before.before.before.before.before.before.if2.false (ne_eqb (s.args.s.flags / 4 % 2) 1 c.before.before.before.before.before.if3.false) (λ e. c.before.before.if4.false (number ∙ e ∙ count s)) c.before.alignment_at.result c.before.alignment_at.ensures c.if5.false,
+      ap (λ (u : ℕ). accepted (give u c.alignment_at-alignment.result)) number
+          ∙ decide_gives (image s) (sections s) (units s) s.args.n s.args.current s.args.next s.args.s c.if-s-current.false c.between-fault.result c.between-fault.ensures c.if-fault-ne0.false (ne_eqb (s.args.s.flags / 4 % 2) 1 c.if-s-eq1.false) (λ e. c.if-unit-unit_places.false (number ∙ e ∙ count s)) c.alignment_at-alignment.result c.alignment_at-alignment.ensures c.if-alignment-eq0.false,
       record {
-        starts = c.before.before.before.before.before.before.before.before.before.if1.false;
-        listed = let h = c.before.before.if4.false in omega (arith, unit_le (units s) s.args.s.unit, number, count s);
-        least = let h = c.if5.false in omega arith;
-        most = c.before.alignment_at.ensures.most;
+        starts = c.if-s-current.false;
+        listed = let h = c.if-unit-unit_places.false in omega (arith, unit_le (units s) s.args.s.unit, number, count s);
+        least = let h = c.if-alignment-eq0.false in omega arith;
+        most = c.alignment_at-alignment.ensures.most;
       },
     )
 

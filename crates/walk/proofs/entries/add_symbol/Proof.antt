@@ -32,94 +32,94 @@ lasts-long : (s : S) → length (lasts_in s.args.chains.now) ≡ 4096
 lasts-long s = length_lasts s.args.chains.now (omega (arith, s.requires.3.long))
 
 abbrev H : Type 0
-H = tie.After-has-symbol
+H = tie.After-has_symbol
 
 abbrev start : H → S
-start c = c.before.before.before.before.before.before.before.before.before.before.before.before.before.before
+start c = c
 
 abbrev out : H → List PieceSymbol
 out c = let a = (start c).args in symbols_in a.out.now a.k
 
 -- what was read: the symbol, and its name
-symbol_is : (c : H) → c.before.before.before.before.before.before.symbol_at_lem.result ≡ (image (start c)).symbol (start c).args.i
-symbol_is c = c.before.before.before.before.before.before.symbol_at_lem.ensures
+symbol_is : (c : H) → c.symbol_at-y.result ≡ (image (start c)).symbol (start c).args.i
+symbol_is c = c.symbol_at-y.ensures
 
-name_is : (c : H) → c.before.before.before.before.name_at_lem.result.now ≡ (image (start c)).name c.before.before.before.before.before.before.symbol_at_lem.result.name
-name_is c = c.before.before.before.before.name_at_lem.ensures ∙ ap (image (start c)).name c.before.before.before.before.before.index.ensures
+name_is : (c : H) → c.name_at-name.result.now ≡ (image (start c)).name c.symbol_at-y.result.name
+name_is c = c.name_at-name.ensures ∙ ap (image (start c)).name c.index.ensures
 
 -- the test that the code makes
-test_is : (c : H) (t : Bool) → (c.before.before.before.is_passed_over.result || c.has_symbol.result) ≡ t
-    → (passed_over c.before.before.before.before.name_at_lem.result.now (start c).args.s c.before.before.before.before.before.before.symbol_at_lem.result || has (start c).args.unit (start c).args.i (out c)) ≡ t
-test_is c t e = ap₂ (λ (p q : Bool). p || q) (sym c.before.before.before.is_passed_over.ensures) (sym c.has_symbol.ensures) ∙ e
+test_is : (c : H) (t : Bool) → (c.is_passed_over.result || c.has_symbol.result) ≡ t
+    → (passed_over c.name_at-name.result.now (start c).args.s c.symbol_at-y.result || has (start c).args.unit (start c).args.i (out c)) ≡ t
+test_is c t e = ap₂ (λ (p q : Bool). p || q) (sym c.is_passed_over.ensures) (sym c.has_symbol.ensures) ∙ e
 
 -- the symbol is entered, if there is room
-entered : (c : H) → (c.before.before.before.is_passed_over.result || c.has_symbol.result) ≡ false
-    → let s = start c in out c ++ (entry_of s.args.unit s.args.place s.args.s s.args.i c.before.before.before.before.before.before.symbol_at_lem.result ∷ []) ≡ add_symbol (image s) s.args.unit s.args.place s.args.s (out c) s.args.i
+entered : (c : H) → (c.is_passed_over.result || c.has_symbol.result) ≡ false
+    → let s = start c in out c ++ (entry_of s.args.unit s.args.place s.args.s s.args.i c.symbol_at-y.result ∷ []) ≡ add_symbol (image s) s.args.unit s.args.place s.args.s (out c) s.args.i
 entered c e =
     let s = start c in
-    symbol_entered (image s) s.args.unit s.args.place s.args.s (out c) s.args.i c.before.before.before.before.before.before.symbol_at_lem.result c.before.before.before.before.name_at_lem.result.now (symbol_is c) (name_is c) (test_is c false e)
+    symbol_entered (image s) s.args.unit s.args.place s.args.s (out c) s.args.i c.symbol_at-y.result c.name_at-name.result.now (symbol_is c) (name_is c) (test_is c false e)
 
-symbol-at-requires : tie.Need-symbol-at-requires
+symbol-at-requires : tie.Need-symbol_at-y-requires
 symbol-at-requires c κs = search rules
 
 index-requires : tie.Need-index-requires
 index-requires c κs = search rules
 
-name-at-requires : tie.Need-name-at-requires
+name-at-requires : tie.Need-name_at-name-requires
 name-at-requires c κs =
-    let s = c.before.before.before.before.before.before.before.before.before in
-    name_held _ _ _ s.requires.1.names _ (omega (arith, c.index.ensures, ap (λ (y : Symbol). y.name) c.before.symbol_at_lem.ensures, s.requires.1.named s.args.i s.requires.0.there))
+    let s = c in
+    name_held _ _ _ s.requires.1.names _ (omega (arith, c.index.ensures, ap (λ (y : Symbol). y.name) c.symbol_at-y.ensures, s.requires.1.named s.args.i s.requires.0.there))
 
-is-passed-over-requires : tie.Need-is-passed-over-requires
+is-passed-over-requires : tie.Need-is_passed_over-requires
 is-passed-over-requires c κs = search rules
 
-has-symbol-requires : tie.Need-has-symbol-requires
+has-symbol-requires : tie.Need-has_symbol-requires
 has-symbol-requires c κs =
-    let s = c.before.before.before.before.before.before.before.before.before.before.before.before.before in
+    let s = c in
     (omega (arith, s.requires.0.there, s.requires.3.most_symbols, lasts-long s), s.requires.3.chained)
 
-same_length : tie.Need-same-length
+same_length : tie.Need-shape_of-chains-then-is_passed_over-has_symbol
 same_length c = search rules
 
-same-length-2 : tie.Need-same-length-2
+same-length-2 : tie.Need-shape_of-out-then-is_passed_over-has_symbol
 same-length-2 c = search rules
 
-returns : tie.Need-returns
+returns : tie.Need-returns-then-is_passed_over-has_symbol
 returns c =
-    let s = c.before.before.before.before.before.before.before.before.before.before.before.before.before.before.before in
+    let s = c in
     record {
-      is = symbol_passed (image s) s.args.unit s.args.place s.args.s (out c.before) s.args.i c.before.before.before.before.before.before.before.symbol_at_lem.result c.before.before.before.before.before.name_at_lem.result.now (symbol_is c.before) (name_is c.before) (test_is c.before true c.if1.true);
+      is = symbol_passed (image s) s.args.unit s.args.place s.args.s (out c.before) s.args.i c.symbol_at-y.result c.name_at-name.result.now (symbol_is c.before) (name_is c.before) (test_is c.before true c.if-is_passed_over-has_symbol.true);
       few = s.requires.3.few;
       chained = s.requires.3.chained;
     }
 
-same-length-3 : tie.Need-same-length-3
+same-length-3 : tie.Need-shape_of-chains-then-k-room
 same-length-3 c = search rules
 
-same-length-4 : tie.Need-same-length-4
+same-length-4 : tie.Need-shape_of-out-then-k-room
 same-length-4 c = search rules
 
-returns-2 : tie.Need-returns-2
+returns-2 : tie.Need-returns-then-k-room
 returns-2 c =
-    let s = c.before.before.before.before.before.before.before.before.before.before.before.before.before.before.before.before in
+    let s = c in
     let l = out c.before.before in
-    omega (arith, c.if2.true, length-symbols_in s.args.out.now s.args.k, length-append l (entry_of s.args.unit s.args.place s.args.s s.args.i c.before.before.before.before.before.before.before.before.symbol_at_lem.result ∷ []), ap length (entered c.before.before c.before.if1.false))
+    omega (arith, c.if-k-room.true, length-symbols_in s.args.out.now s.args.k, length-append l (entry_of s.args.unit s.args.place s.args.s s.args.i c.symbol_at-y.result ∷ []), ap length (entered c.before.before c.if-is_passed_over-has_symbol.false))
 
-cast-entry-of : tie.Need-overflow-cast-entry-of
+cast-entry-of : tie.Need-overflow_cast-i
 cast-entry-of c =
-    let s = c.before.before.before.before.before.before.before.before.before.before.before.before.before.before.before.before.before.before in
+    let s = c in
     omega (arith, s.requires.0.there, s.requires.3.most_symbols)
 
-entry-of-requires : tie.Need-entry-of-requires
+entry-of-requires : tie.Need-entry_of-requires
 entry-of-requires c κs =
-    let s = c.before.before.before.before.before.before.before.before.before.before.before.before.before.before.before.before.before.before in
+    let s = c in
     omega (arith, s.requires.2, ap (λ (y : Symbol). y.address) (symbol_is c.before.before.before.before))
 
-push-symbol-requires : tie.Need-push-symbol-requires
+push-symbol-requires : tie.Need-push_symbol-requires
 push-symbol-requires c κs =
-    let s = c.before.before.before.before.before.before.before.before.before.before.before.before.before.before.before.before.before.before.before in
-    let h = c.before.before.before.if2.false in
-    let e = ap (λ (y : PieceSymbol). y.symbol) c.entry_of.ensures ∙ entry_symbol s.args.unit s.args.place s.args.s s.args.i c.before.before.before.before.before.before.before.before.before.before.before.symbol_at_lem.result in (
+    let s = c in
+    let h = c.if-k-room.false in
+    let e = ap (λ (y : PieceSymbol). y.symbol) c.entry_of.ensures ∙ entry_symbol s.args.unit s.args.place s.args.s s.args.i c.symbol_at-y.result in (
       omega (arith, e, s.requires.0.there, s.requires.3.most_symbols, lasts-long s),
       s.requires.3.chained,
       omega (arith, s.requires.3.few, s.requires.3.long, length_prevs s.args.chains.now),
@@ -127,28 +127,28 @@ push-symbol-requires c κs =
       omega (arith, s.requires.3.few, s.requires.3.most),
     )
 
-add-t16 : tie.Need-overflow-add-t16
+add-t16 : tie.Need-overflow_add-result
 add-t16 c =
-    let s = c.before.before.before.before.before.before.before.before.before.before.before.before.before.before.before.before.before.before.before.before.before.before.before.before in
+    let s = c in
     omega (arith, s.requires.3.few, s.requires.3.most)
 
-same-length-5 : tie.Need-same-length-5
+same-length-5 : tie.Need-shape_of-chains
 same-length-5 c = search rules
 
-same-length-6 : tie.Need-same-length-6
+same-length-6 : tie.Need-shape_of-out
 same-length-6 c = search rules
 
-returns-3 : tie.Need-returns-3
+returns-3 : tie.Need-returns
 returns-3 c =
-    let s = c.before.before.before.before.before.before.before.before.before.before.before.before.before.before.before.before.before.before.before.before.before.before.before.before in
+    let s = c in
     record {
-      is = c.before.before.before.before.push_symbol.ensures.more ∙ ap (λ (y : PieceSymbol). out c.before.before.before.before.before.before.before.before.before.before ++ (y ∷ [])) c.before.before.before.before.before.entry_of.ensures ∙ entered c.before.before.before.before.before.before.before.before.before.before c.before.before.before.before.before.before.before.before.before.if1.false;
-      few = let h = c.before.before.before.before.before.before.before.before.if2.false in omega (arith, s.requires.3.few);
-      chained = c.before.before.before.before.push_symbol.ensures.chained;
+      is = c.push_symbol.ensures.more ∙ ap (λ (y : PieceSymbol). out c.before.before.before.before.before.before.before.before.before.before ++ (y ∷ [])) c.entry_of.ensures ∙ entered c.before.before.before.before.before.before.before.before.before.before c.if-is_passed_over-has_symbol.false;
+      few = let h = c.if-k-room.false in omega (arith, s.requires.3.few);
+      chained = c.push_symbol.ensures.chained;
     }
 
-pub add-symbol-spec : {M : Type 1} → statement M
-add-symbol-spec =
+pub add_symbol_spec : {M : Type 1} → statement M
+add_symbol_spec =
     tie.close
     (tie.spec
     symbol-at-requires

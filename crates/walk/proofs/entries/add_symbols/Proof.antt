@@ -36,111 +36,111 @@ abbrev image : S → Image
 image s = image_of s.args.symbols.now s.args.symbol_places.now s.args.name_bytes.now s.args.name_places.now s.args.name_lengths.now
 
 abbrev C : Type 0
-C = tie.After-add-symbol invariant-loop decreases-loop
+C = tie.After-add_symbol-added invariant-loop decreases-loop
 
 abbrev start : C → S
 start c = c.before.before.before.before.before.before.before.before.before.before.before.before.before.before
 
-abbrev at : C → tie.At-loop invariant-loop decreases-loop
+abbrev at : C → tie.At-loop-i invariant-loop decreases-loop
 at c = c.before.before.before.before.before
 
 -- the entries so far with the symbol of this turn
 abbrev wanted : C → List PieceSymbol
 wanted c =
     let s = start c in
-    add_symbol (image s) s.args.unit s.args.place s.args.s (symbols_in (at c).loop.out (at c).loop.k) c.before.before.before.number.result
+    add_symbol (image s) s.args.unit s.args.place s.args.s (symbols_in (at c).loop-i.out (at c).loop-i.k) c.number.result
 
 -- a turn of the loop
 turn : (c : C) → let s = start c in
-    add_symbols (image s) s.args.unit s.args.place s.args.s (wanted c) (drop ((at c).loop.i + 1) s.args.part.now)
+    add_symbols (image s) s.args.unit s.args.place s.args.s (wanted c) (drop ((at c).loop-i.i + 1) s.args.part.now)
     ≡ add_symbols (image s) s.args.unit s.args.place s.args.s (symbols_in s.args.out.now s.args.made) s.args.part.now
 turn c =
     let s = start c in
-    ap (λ (i : ℕ). add_symbols (image s) s.args.unit s.args.place s.args.s (add_symbol (image s) s.args.unit s.args.place s.args.s (symbols_in (at c).loop.out (at c).loop.k) i) (drop ((at c).loop.i + 1) s.args.part.now)) c.before.before.before.number.ensures
-    ∙ sym (symbols_turn (image s) s.args.unit s.args.place s.args.s (symbols_in (at c).loop.out (at c).loop.k) s.args.part.now (at c).loop.i c.before.before.before.before.loop-test.true)
-    ∙ (at c).loop.invariant.4
+    ap (λ (i : ℕ). add_symbols (image s) s.args.unit s.args.place s.args.s (add_symbol (image s) s.args.unit s.args.place s.args.s (symbols_in (at c).loop-i.out (at c).loop-i.k) i) (drop ((at c).loop-i.i + 1) s.args.part.now)) c.number.ensures
+    ∙ sym (symbols_turn (image s) s.args.unit s.args.place s.args.s (symbols_in (at c).loop-i.out (at c).loop-i.k) s.args.part.now (at c).loop-i.i c.loop-i-test.true)
+    ∙ (at c).loop-i.invariant.4
 
-loop-holds : tie.Need-loop-init invariant-loop decreases-loop
-loop-holds c = (omega arith, refl, refl, c.before.before.before.before.before.before.before.before.requires.2, refl)
+loop-holds : tie.Need-loop-i-init invariant-loop decreases-loop
+loop-holds c = (omega arith, refl, refl, c.requires.2, refl)
 
 number-requires : tie.Need-number-requires invariant-loop decreases-loop
 number-requires c κs = omega arith
 
-add-symbol-requires : tie.Need-add-symbol-requires invariant-loop decreases-loop
+add-symbol-requires : tie.Need-add_symbol-added-requires invariant-loop decreases-loop
 add-symbol-requires c κs =
-    let s = c.before.before.before.before.before.before.before.before.before.before.before.before.before in
-    let l = c.before.before.before.before.loop in
-    let h = c.before.before.before.loop-test.true in
-    let e = c.before.before.number.ensures in (
+    let s = c in
+    let l = c.loop-i in
+    let h = c.loop-i-test.true in
+    let e = c.number.ensures in (
       held_at _ _ _ s.requires.0.readable l.i _ h e,
       s.requires.1,
       omega (arith, all_at l.i 0 s.requires.0.above h, ap (λ (i : ℕ). (symbol_of s.args.symbols.now s.args.symbol_places.now i).address) e),
       l.invariant.3,
     )
 
-enum-known-added : tie.Need-enum-known-added invariant-loop decreases-loop
+enum-known-added : tie.Need-enum_known-added invariant-loop decreases-loop
 enum-known-added c = search rules
 
-enum_told : tie.Need-enum-told invariant-loop decreases-loop
+enum_told : tie.Need-enum_told-1 invariant-loop decreases-loop
 enum_told c = search rules
 
-same_length : tie.Need-same-length invariant-loop decreases-loop
-same_length c = c.before.before.before.before.before.before.add_symbol.auto.1.1.1.1.1.1.1.1.1.1.1.0 ∙ c.before.before.before.before.before.before.before.before.before.before.before.loop.invariant.1
+same_length : tie.Need-shape_of-chains-in_default invariant-loop decreases-loop
+same_length c = c.add_symbol-added.auto.chains ∙ c.loop-i.invariant.1
 
-same-length-2 : tie.Need-same-length-2 invariant-loop decreases-loop
-same-length-2 c = c.before.before.before.before.before.before.add_symbol.auto.1.1.1.1.1.1.1.1.1.1.1.1.0 ∙ c.before.before.before.before.before.before.before.before.before.before.before.loop.invariant.2
+same-length-2 : tie.Need-shape_of-out-in_default invariant-loop decreases-loop
+same-length-2 c = c.add_symbol-added.auto.out ∙ c.loop-i.invariant.2
 
-returns : tie.Need-returns invariant-loop decreases-loop
+returns : tie.Need-returns-in_default invariant-loop decreases-loop
 returns c =
-    let k = c.before.before.before.before.before.before in
+    let k = c.before.before.before.before.before in
     let s = start k in
-    let full : s.args.room < length (wanted k) = subst (Adds (wanted k) s.args.room k.add_symbol.new.1.1.1.1.1.1.1.1.1.1.1.0 k.add_symbol.new.1.1.1.1.1.1.1.1.1.1.1.1.0) c.enum_told.given.1 k.add_symbol.ensures in
-    omega (arith, full, symbols_longer (image s) s.args.unit s.args.place s.args.s (wanted k) (drop ((at k).loop.i + 1) s.args.part.now), ap length (turn k))
+    let full : s.args.room < length (wanted k) = subst (Adds (wanted k) s.args.room k.add_symbol-added.new.chains k.add_symbol-added.new.out) c.in_default.is k.add_symbol-added.ensures in
+    omega (arith, full, symbols_longer (image s) s.args.unit s.args.place s.args.s (wanted k) (drop ((at k).loop-i.i + 1) s.args.part.now), ap length (turn k))
 
-add-i : tie.Need-overflow-add-i invariant-loop decreases-loop
-add-i c = omega (arith, c.before.before.before.before.before.before.before.before.before.before.before.before.before.before.before.before.before.before.before.before.before.well-formed.1.1.1.1.1.0, c.before.before.before.before.before.before.before.before.before.before.before.loop-test.true)
+add-i : tie.Need-overflow_add-i invariant-loop decreases-loop
+add-i c = omega (arith, c.well-formed.1.1.1.1.1.0, c.loop-i-test.true)
 
-loop-less : tie.Need-loop-smaller invariant-loop decreases-loop
+loop-less : tie.Need-loop-i-smaller invariant-loop decreases-loop
 loop-less c = omega arith
 
-loop-again : tie.Need-loop-preserved invariant-loop decreases-loop
+loop-again : tie.Need-loop-i-preserved invariant-loop decreases-loop
 loop-again c =
-    let k = c.before.before.before.before.before.before.before in
+    let k = c.before.before.before.before.before in
     let s = start k in
-    let l = (at k).loop in
-    let now : AddsNow (wanted k) s.args.room k.add_symbol.new.1.1.1.1.1.1.1.1.1.1.1.0 k.add_symbol.new.1.1.1.1.1.1.1.1.1.1.1.1.0 c.before.added.given.0.0 = subst (Adds (wanted k) s.args.room k.add_symbol.new.1.1.1.1.1.1.1.1.1.1.1.0 k.add_symbol.new.1.1.1.1.1.1.1.1.1.1.1.1.0) c.before.added.given.1 k.add_symbol.ensures in (
+    let l = (at k).loop-i in
+    let now : AddsNow (wanted k) s.args.room k.add_symbol-added.new.chains k.add_symbol-added.new.out c.in-Now.m = subst (Adds (wanted k) s.args.room k.add_symbol-added.new.chains k.add_symbol-added.new.out) c.in-Now.is k.add_symbol-added.ensures in (
       omega arith,
-      k.add_symbol.auto.1.1.1.1.1.1.1.1.1.1.1.0 ∙ l.inv.1,
-      k.add_symbol.auto.1.1.1.1.1.1.1.1.1.1.1.1.0 ∙ l.inv.2,
+      k.add_symbol-added.auto.chains ∙ l.inv.1,
+      k.add_symbol-added.auto.out ∙ l.inv.2,
       record {
         chained = now.chained;
         few = now.few;
-        long = omega (arith, l.inv.3.long, k.add_symbol.auto.1.1.1.1.1.1.1.1.1.1.1.0);
-        out_long = omega (arith, l.inv.3.out_long, k.add_symbol.auto.1.1.1.1.1.1.1.1.1.1.1.1.0);
+        long = omega (arith, l.inv.3.long, k.add_symbol-added.auto.chains);
+        out_long = omega (arith, l.inv.3.out_long, k.add_symbol-added.auto.out);
         most = l.inv.3.most;
         most_symbols = l.inv.3.most_symbols;
       },
       ap (λ (e : List PieceSymbol). add_symbols (image s) s.args.unit s.args.place s.args.s e (drop (l.i + 1) s.args.part.now)) now.is ∙ turn k,
     )
 
-same-length-3 : tie.Need-same-length-3 invariant-loop decreases-loop
-same-length-3 c = c.before.loop.invariant.1
+same-length-3 : tie.Need-shape_of-chains invariant-loop decreases-loop
+same-length-3 c = c.loop-i.invariant.1
 
-same-length-4 : tie.Need-same-length-4 invariant-loop decreases-loop
-same-length-4 c = c.before.loop.invariant.2
+same-length-4 : tie.Need-shape_of-out invariant-loop decreases-loop
+same-length-4 c = c.loop-i.invariant.2
 
-returns-2 : tie.Need-returns-2 invariant-loop decreases-loop
+returns-2 : tie.Need-returns invariant-loop decreases-loop
 returns-2 c =
     let s = c.before.before.before.before.before.before.before.before.before.before in
-    let l = c.before.loop in
+    let l = c.loop-i in
     record {
-      is = sym (symbols_done (image s) s.args.unit s.args.place s.args.s (symbols_in l.out l.k) s.args.part.now l.i c.loop-test.false) ∙ l.invariant.4;
+      is = sym (symbols_done (image s) s.args.unit s.args.place s.args.s (symbols_in l.out l.k) s.args.part.now l.i c.loop-i-test.false) ∙ l.invariant.4;
       few = l.invariant.3.few;
       chained = l.invariant.3.chained;
     }
 
-pub add-symbols-spec : {M : Type 1} → statement M
-add-symbols-spec =
+pub add_symbols_spec : {M : Type 1} → statement M
+add_symbols_spec =
     tie.close
     (tie.spec
     invariant-loop

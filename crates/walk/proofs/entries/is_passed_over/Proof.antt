@@ -8,16 +8,16 @@ use borrow.Author.Rules.{rules}
 use Rattle.walk.proofs.entries.is_passed_over.Statement.{statement}
 use Rattle.walk.proofs.entries.is_passed_over.Tie as tie
 
-is-linker-generated-label-requires : tie.Need-is-linker-generated-label-requires
+is-linker-generated-label-requires : tie.Need-is_linker_generated_label-requires
 is-linker-generated-label-requires c κs = search rules
 
-passed-at-requires : tie.Need-passed-at-requires
+passed-at-requires : tie.Need-passed_at-requires
 passed-at-requires c κs = search rules
 
 returns : tie.Need-returns
 unfolding passed_over
-returns c = ap₂ (λ (t : Bool) (a : ℕ). t || eqb c.before.before.before.before.args.y.address a) c.before.before.is_linker_generated_label.ensures c.before.passed_at.ensures
+returns c = ap₂ (λ (t : Bool) (a : ℕ). t || eqb c.args.y.address a) c.is_linker_generated_label.ensures c.passed_at.ensures
 
-pub is-passed-over-spec : {M : Type 1} → statement M
-is-passed-over-spec =
+pub is_passed_over_spec : {M : Type 1} → statement M
+is_passed_over_spec =
     tie.close (tie.spec is-linker-generated-label-requires passed-at-requires returns)

@@ -5,18 +5,18 @@ use borrow.Author.Rules.{rules}
 use Rattle.walk.proofs.entries.passed_at.Statement.{statement}
 use Rattle.walk.proofs.entries.passed_at.Tie as tie
 
-is-vector-table-end-requires : tie.Need-is-vector-table-end-requires
+is-vector-table-end-requires : tie.Need-is_vector_table_end-requires
 is-vector-table-end-requires c κs = search rules
 
-returns : tie.Need-returns
+returns : tie.Need-returns-then-is_vector_table_end
 returns c =
-    let s = c.before.before.before.args.s in
-    sym (ap (λ (t : Bool). cond t s.start s.end) (sym c.before.is_vector_table_end.ensures ∙ c.if1.true))
+    let s = c.args.s in
+    sym (ap (λ (t : Bool). cond t s.start s.end) (sym c.is_vector_table_end.ensures ∙ c.if-is_vector_table_end.true))
 
-returns-2 : tie.Need-returns-2
+returns-2 : tie.Need-returns
 returns-2 c =
-    let s = c.before.before.before.args.s in
-    sym (ap (λ (t : Bool). cond t s.start s.end) (sym c.before.is_vector_table_end.ensures ∙ c.if1.false))
+    let s = c.args.s in
+    sym (ap (λ (t : Bool). cond t s.start s.end) (sym c.is_vector_table_end.ensures ∙ c.if-is_vector_table_end.false))
 
-pub passed-at-spec : {M : Type 1} → statement M
-passed-at-spec = tie.close (tie.spec is-vector-table-end-requires returns returns-2)
+pub passed_at_spec : {M : Type 1} → statement M
+passed_at_spec = tie.close (tie.spec is-vector-table-end-requires returns returns-2)

@@ -29,7 +29,7 @@ abbrev S : Type 0
 S = tie.Start
 
 abbrev R : Type 0
-R = tie.After-range
+R = tie.After-range-inside
 
 abbrev start : R → S
 start c = c.before.before.before.before.before.before.before.before.before
@@ -40,11 +40,11 @@ ordered s = let p = s.requires.1 in section_ordered _ _ _ s.args.n p.whole p.ris
 
 -- those of the split
 inside_is : (c : R) → let s = start c in
-    c.range.result.now ≡ relocs_between (reloc_of s.args.relocs.now s.args.reloc_places.now) (length s.args.reloc_places.now) s.args.n s.args.s.start s.args.s.end
+    c.range-inside.result.now ≡ relocs_between (reloc_of s.args.relocs.now s.args.reloc_places.now) (length s.args.reloc_places.now) s.args.n s.args.s.start s.args.s.end
 inside_is c =
     let s = start c in
-    c.range.ensures
-    ∙ ap (keep_if (λ (i : ℕ). leb s.args.s.start (address_of s.args.relocs.now s.args.reloc_places.now i) && ltb (address_of s.args.relocs.now s.args.reloc_places.now i) s.args.s.end)) s.pre.1.is
+    c.range-inside.ensures
+    ∙ ap (keep_if (λ (i : ℕ). leb s.args.s.start (address_of s.args.relocs.now s.args.reloc_places.now i) && ltb (address_of s.args.relocs.now s.args.reloc_places.now i) s.args.s.end)) s.requires.1.is
 
 abbrev wanted : S → List Piece
 wanted s = pieces_with (head_of s.args.heads.now s.args.head_places.now s.args.n) s.args.n s.args.unit s.args.alignment s.args.s s.args.pieces.now s.args.made
@@ -56,105 +56,105 @@ length-wanted : (s : S) → length (wanted s) ≡ s.args.made.pieces + 1
 length-wanted s =
     length-append (pieces_in s.args.pieces.now s.args.made.pieces) _ ∙ ap (λ (m : ℕ). m + 1) (length-pieces_in s.args.pieces.now s.args.made.pieces)
 
-length-wanted-relocs : (c : R) → length (wanted-relocs (start c)) ≡ (start c).args.made.relocs + length c.range.result.now
+length-wanted-relocs : (c : R) → length (wanted-relocs (start c)) ≡ (start c).args.made.relocs + length c.range-inside.result.now
 length-wanted-relocs c =
     let s = start c in
     length_relocs (reloc_of s.args.relocs.now s.args.reloc_places.now) s.args.made.pieces s.args.s.start (relocs_in s.args.offsets.now s.args.made.relocs) _
     ∙ (λ d. length-relocs_in s.args.offsets.now s.args.made.relocs d + length (sym (inside_is c) d))
 
 abbrev E : Type 0
-E = tie.Else1
+E = tie.Else-room-most
 
 abbrev range-of : E → R
 range-of c = c.before.before.before.before.before
 
 -- there is room for the piece and its relocations
-left : (c : E) → let s = start (range-of c) in (s.args.made.relocs + length (range-of c).range.result.now ≤ s.args.room.relocs) × (s.args.made.pieces < s.args.room.pieces)
-left c = let s = start (range-of c) in room_left s.args.room s.args.made _ c.if1.false
+left : (c : E) → let s = start (range-of c) in (s.args.made.relocs + length (range-of c).range-inside.result.now ≤ s.args.room.relocs) × (s.args.made.pieces < s.args.room.pieces)
+left c = let s = start (range-of c) in room_left s.args.room s.args.made _ c.if-room-most.false
 
-range-requires : tie.Need-range-requires
+range-requires : tie.Need-range-inside-requires
 range-requires c κs = ordered c.before.before.before.before.before.before.before.before
 
-add_most : tie.Need-overflow-add-most
+add_most : tie.Need-overflow_add-most
 add_most c = search rules
 
-returns : tie.Need-returns
+returns : tie.Need-returns-then-room-most
 returns c =
     let r = c.before.before.before.before.before in
     let s = start r in
-    (refl, full_test s.args.room s.args.made (wanted s) (wanted-relocs s) _ true (length-wanted s) (length-wanted-relocs r) c.if1.true)
+    (refl, full_test s.args.room s.args.made (wanted s) (wanted-relocs s) _ true (length-wanted s) (length-wanted-relocs r) c.if-room-most.true)
 
-cast-place : tie.Need-overflow-cast-place
+cast-place : tie.Need-overflow_cast-place
 cast-place c = search rules
 
-add-relocs-requires : tie.Need-add-relocs-requires
+add-relocs-requires : tie.Need-add_relocs-requires
 add-relocs-requires c κs =
     let e = c.before.before in
     let r = range-of e in
     let s = start r in (
       record {
-        readable = readable_part _ _ _ _ (ordered s).readable r.range.ensures;
-        above = kept_above (address_of s.args.relocs.now s.args.reloc_places.now) s.args.s.start (λ (i : ℕ). ltb (address_of s.args.relocs.now s.args.reloc_places.now i) s.args.s.end) s.args.part.now r.range.ensures;
-        few = omega (arith, s.pre.1.few);
+        readable = readable_part _ _ _ _ (ordered s).readable r.range-inside.ensures;
+        above = kept_above (address_of s.args.relocs.now s.args.reloc_places.now) s.args.s.start (λ (i : ℕ). ltb (address_of s.args.relocs.now s.args.reloc_places.now i) s.args.s.end) s.args.part.now r.range-inside.ensures;
+        few = omega (arith, s.requires.1.few);
       },
-      omega (arith, (left e).0, s.pre.0.offsets_long),
+      omega (arith, (left e).0, s.requires.0.offsets_long),
     )
 
-section-at-requires : tie.Need-section-at-requires
-section-at-requires c κs = c.before.before.before.before.before.before.before.before.before.before.before.before.before.before.before.before.before.before.before.requires.2.held
+section-at-requires : tie.Need-section_at-head-requires
+section-at-requires c κs = c.requires.2.held
 
-count-of-requires : tie.Need-count-of-requires
+count-of-requires : tie.Need-count_of-number-requires
 count-of-requires c κs =
-    let s = c.before.before.before.before.before.before.before.before.before.before.before.before.before.before.before.before.before.before.before.before.before.before in
+    let s = c in
     (s.requires.3, s.requires.0.counted)
 
-cast-piece-of : tie.Need-overflow-cast-piece-of
-cast-piece-of c = omega (arith, c.before.before.before.before.before.before.before.before.before.before.before.before.before.before.before.before.before.before.before.before.before.before.before.requires.2.few)
+cast-piece-of : tie.Need-overflow_cast-n
+cast-piece-of c = omega (arith, c.requires.2.few)
 
-cast-piece-of-2 : tie.Need-overflow-cast-piece-of-2
-cast-piece-of-2 c = omega (arith, c.before.before.before.before.before.before.before.before.before.before.before.before.before.before.before.before.before.before.before.before.before.before.before.requires.4)
+cast-piece-of-2 : tie.Need-overflow_cast-unit
+cast-piece-of-2 c = omega (arith, c.requires.4)
 
-piece-of-requires : tie.Need-piece-of-requires
+piece-of-requires : tie.Need-piece_of-p-requires
 piece-of-requires c κs =
-    let s = c.before.before.before.before.before.before.before.before.before.before.before.before.before.before.before.before.before.before.before.before.before.before.before in
-    (s.requires.5, omega (arith, s.requires.2.low, ap (λ (h : Section). h.address) c.before.before.before.section_at_lem.ensures))
+    let s = c in
+    (s.requires.5, omega (arith, s.requires.2.low, ap (λ (h : Section). h.address) c.section_at-head.ensures))
 
-push-piece-requires : tie.Need-push-piece-requires
+push-piece-requires : tie.Need-push_piece-requires
 push-piece-requires c κs =
-    let s = c.before.before.before.before.before.before.before.before.before.before.before.before.before.before.before.before.before.before.before.before.before.before.before.before.before.before in
+    let s = c in
     let e = c.before.before.before.before.before.before.before.before.before.before.before.before in
-    let unit = ap (λ (p : Piece). p.unit) c.before.before.piece_of.ensures ∙ piece_unit c.before.before.before.before.before.before.section_at_lem.result s.args.n s.args.unit c.before.before.before.count_of.result s.args.alignment s.args.s in (
+    let unit = ap (λ (p : Piece). p.unit) c.piece_of-p.ensures ∙ piece_unit c.section_at-head.result s.args.n s.args.unit c.count_of-number.result s.args.alignment s.args.s in (
       omega (arith, unit, s.requires.3),
       s.requires.0.counted,
       omega (arith, (left e).1, s.requires.0.pieces_long),
       omega (arith, (left e).1, s.requires.0.most_pieces),
     )
 
-add-t21 : tie.Need-overflow-add-t21
-add-t21 c = omega (arith, c.before.before.before.before.before.before.before.before.before.before.before.before.before.before.before.before.before.before.before.before.before.before.before.before.before.before.before.before.before.before.before.before.requires.0.few_pieces, c.before.before.before.before.before.before.before.before.before.before.before.before.before.before.before.before.before.before.before.before.before.before.before.before.before.before.before.before.before.before.before.before.requires.0.most_pieces)
+add-t21 : tie.Need-overflow_add-result
+add-t21 c = omega (arith, c.requires.0.few_pieces, c.requires.0.most_pieces)
 
-same_length : tie.Need-same-length
+same_length : tie.Need-shape_of-counts
 same_length c = search rules
 
-same-length-2 : tie.Need-same-length-2
+same-length-2 : tie.Need-shape_of-pieces
 same-length-2 c = search rules
 
-same-length-3 : tie.Need-same-length-3
+same-length-3 : tie.Need-shape_of-offsets
 same-length-3 c = search rules
 
-returns-2 : tie.Need-returns-2
+returns-2 : tie.Need-returns
 returns-2 c =
     let e = c.before.before.before.before.before.before.before.before.before.before.before.before.before.before.before.before.before.before in
     let r = range-of e in
     let s = start r in
-    let g = s.pre.0 in
-    let push = c.before.before.before.before.before.push_piece in
+    let g = s.requires.0 in
+    let push = c.push_piece in
     record {
       is = push.ensures.more
           ∙ ap (λ (p : Piece). pieces_in s.args.pieces.now s.args.made.pieces ++ (p ∷ []))
-          (c.before.before.before.before.before.before.before.before.piece_of.ensures
-          ∙ (λ d. piece_of (c.before.before.before.before.before.before.before.before.before.before.before.before.section_at_lem.ensures d) s.args.n s.args.unit (c.before.before.before.before.before.before.before.before.before.count_of.ensures d) s.args.alignment s.args.s));
-      relocs_are = c.before.before.before.before.before.before.before.before.before.before.before.before.before.before.before.add_relocs.ensures
+          (c.piece_of-p.ensures
+          ∙ (λ d. piece_of (c.section_at-head.ensures d) s.args.n s.args.unit (c.count_of-number.ensures d) s.args.alignment s.args.s));
+      relocs_are = c.add_relocs.ensures
           ∙ ap (add_relocs (reloc_of s.args.relocs.now s.args.reloc_places.now) s.args.made.pieces s.args.s.start (relocs_in s.args.offsets.now s.args.made.relocs)) (inside_is r);
       symbols_are = refl;
       side = record {
@@ -162,14 +162,14 @@ returns-2 c =
         few_pieces = omega (arith, (left e).1);
         few_relocs = (left e).0;
         pieces_long = omega (arith, g.pieces_long, push.auto.1.0);
-        offsets_long = omega (arith, g.offsets_long, c.before.before.before.before.before.before.before.before.before.before.before.before.before.before.before.add_relocs.auto.1.1.1.1.1.1.0);
+        offsets_long = omega (arith, g.offsets_long, c.add_relocs.auto.out);
         most_pieces = g.most_pieces;
         most_relocs = g.most_relocs;
       };
     }
 
-pub give-piece-spec : {M : Type 1} → statement M
-give-piece-spec =
+pub give_piece_spec : {M : Type 1} → statement M
+give_piece_spec =
     tie.close
     (tie.spec
     range-requires

@@ -4,28 +4,28 @@ use borrow.Author.Rules.{rules}
 use Rattle.walk.proofs.output.piece_of.Statement.{statement}
 use Rattle.walk.proofs.output.piece_of.Tie as tie
 
-name-for-requires : tie.Need-name-for-requires
+name-for-requires : tie.Need-name_for-requires
 name-for-requires c κs = search rules
 
-sub-t8 : tie.Need-overflow-sub-t8
+sub-t8 : tie.Need-overflow_sub-result
 sub-t8 c = search rules
 
-cast-t9 : tie.Need-overflow-cast-t9
+cast-t9 : tie.Need-overflow_cast-result
 cast-t9 c = search rules
 
-sub-t10 : tie.Need-overflow-sub-t10
+sub-t10 : tie.Need-overflow_sub-result-2
 sub-t10 c = search rules
 
-cast-t11 : tie.Need-overflow-cast-t11
+cast-t11 : tie.Need-overflow_cast-result-2
 cast-t11 c = search rules
 
-add-t12 : tie.Need-overflow-add-t12
+add-t12 : tie.Need-overflow_add-result
 add-t12 c = search rules
 
 returns : tie.Need-returns
 unfolding piece_of
-returns c = rw c.before.before.before.before.name_for.ensures
+returns c = rw c.name_for.ensures
 
-pub piece-of-spec : {M : Type 1} → statement M
-piece-of-spec =
+pub piece_of_spec : {M : Type 1} → statement M
+piece_of_spec =
     tie.close (tie.spec name-for-requires sub-t8 cast-t9 sub-t10 cast-t11 add-t12 returns)
