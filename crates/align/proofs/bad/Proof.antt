@@ -13,7 +13,7 @@ good-requires c κs = search rules
 
 returns : tie.Need-returns
 unfolding bad_align
-returns c = ap (λ (g : Bool). not (eqb c.args.a 0) && not g) c.good2.ensures
+returns c = ap (λ (g : Bool). not (eqb c.args.a 0) && not g) c.good.ensures
 
 pub bad_spec : {M : Type 1} → statement M
 bad_spec = tie.close (tie.spec good-requires returns)

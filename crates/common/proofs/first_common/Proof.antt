@@ -11,13 +11,13 @@ use Rattle.common.specs.Common.{common_in}
 use Rattle.common.proofs.first_common.Statement.{statement}
 use Rattle.common.proofs.first_common.Tie as tie
 
-abbrev invariant-loop : tie.invariant-loop
+abbrev invariant-loop : tie.invariant-loop-i
 invariant-loop starts ends units rest n section i₀ i =
     (i ≤ n)
     × (keep_if (common_in section) (tabulate (row_at (columns starts ends units rest)) 0 (n - 0))
     ≡ keep_if (common_in section) (tabulate (row_at (columns starts ends units rest)) i (n - i)))
 
-abbrev decreases-loop : tie.decreases-loop
+abbrev decreases-loop : tie.decreases-loop-i
 decreases-loop starts ends units rest n section i₀ i = n - i
 
 loop-holds : tie.Need-loop-i-init invariant-loop decreases-loop

@@ -7,10 +7,10 @@ use Rattle.common.proofs.Marking.{Marking, marking_start, marking_more, marking_
 use Rattle.common.proofs.mark_columns.Statement.{statement}
 use Rattle.common.proofs.mark_columns.Tie as tie
 
-abbrev invariant-loop : tie.invariant-loop
+abbrev invariant-loop : tie.invariant-loop-i
 invariant-loop starts ends units rest₀ n section address i₀ rest i = (i ≤ n) × Marking section address starts rest₀ rest i
 
-abbrev decreases-loop : tie.decreases-loop
+abbrev decreases-loop : tie.decreases-loop-i
 decreases-loop starts ends units rest₀ n section address i₀ rest i = n - i
 
 loop-holds : tie.Need-loop-i-init invariant-loop decreases-loop

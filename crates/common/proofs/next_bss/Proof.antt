@@ -11,13 +11,13 @@ use Rattle.common.specs.Sections.{bss_at}
 use Rattle.common.proofs.next_bss.Statement.{statement}
 use Rattle.common.proofs.next_bss.Tie as tie
 
-abbrev invariant-loop : tie.invariant-loop
+abbrev invariant-loop : tie.invariant-loop-k
 invariant-loop name_bytes name_places name_lengths heads places from k₀ k =
     (k ≤ length places)
     × (keep_if (bss_at name_bytes name_places name_lengths heads places) (tabulate (λ j. j) from (length places - from))
     ≡ keep_if (bss_at name_bytes name_places name_lengths heads places) (tabulate (λ j. j) k (length places - k)))
 
-abbrev decreases-loop : tie.decreases-loop
+abbrev decreases-loop : tie.decreases-loop-k
 decreases-loop name_bytes name_places name_lengths heads places from k₀ k = length places - k
 
 loop-holds : tie.Need-loop-k-init invariant-loop decreases-loop

@@ -10,10 +10,10 @@ use Rattle.common.proofs.Written.{Writing, writing_start, writing_more, writing_
 use Rattle.common.proofs.put_records.Statement.{statement}
 use Rattle.common.proofs.put_records.Tie as tie
 
-abbrev invariant-loop : tie.invariant-loop
+abbrev invariant-loop : tie.invariant-loop-i
 invariant-loop starts ends units rest₀ n table i₀ rest i = (i ≤ n) × Writing starts ends units rest₀ rest table i
 
-abbrev decreases-loop : tie.decreases-loop
+abbrev decreases-loop : tie.decreases-loop-i
 decreases-loop starts ends units rest₀ n table i₀ rest i = n - i
 
 loop-holds : tie.Need-loop-i-init invariant-loop decreases-loop

@@ -11,10 +11,10 @@ use Rattle.common.specs.Records.{no_split}
 use Rattle.common.proofs.records.Statement.{statement}
 use Rattle.common.proofs.records.Tie as tie
 
-abbrev invariant-loop : tie.invariant-loop
+abbrev invariant-loop : tie.invariant-loop-i
 invariant-loop starts ends units rest n table₀ i₀ table i = (i ≤ n) × (length table ≡ 1024) × (take i table ≡ take i (rows (columns starts ends units rest) n))
 
-abbrev decreases-loop : tie.decreases-loop
+abbrev decreases-loop : tie.decreases-loop-i
 decreases-loop starts ends units rest n table₀ i₀ table i = n - i
 
 loop-holds : tie.Need-loop-i-init invariant-loop decreases-loop

@@ -16,10 +16,10 @@ use Rattle.elf_file.proofs.Laws.{not_ended}
 use Rattle.elf_file.proofs.names_cut.Statement.{statement}
 use Rattle.elf_file.proofs.names_cut.Tie as tie
 
-abbrev invariant-loop : tie.invariant-loop
+abbrev invariant-loop : tie.invariant-loop-i
 invariant-loop table strings limit n i₀ i = (n ≡ length table / 16) × (some (λ s. not (ended_at strings s.name)) (tabulate (λ k. symbol_entry_at table (16 * k)) i (n - i)) ≡ names_cut table strings)
 
-abbrev decreases-loop : tie.decreases-loop
+abbrev decreases-loop : tie.decreases-loop-i
 decreases-loop table strings limit n i₀ i = n - i
 
 ended-below-requires : tie.Need-ended_below-limit-requires invariant-loop decreases-loop

@@ -11,10 +11,10 @@ use Rattle.elf_file.specs.File.{header_of, section_cut, sections_cut}
 use Rattle.elf_file.proofs.sections_cut.Statement.{statement}
 use Rattle.elf_file.proofs.sections_cut.Tie as tie
 
-abbrev invariant-loop : tie.invariant-loop
+abbrev invariant-loop : tie.invariant-loop-i
 invariant-loop file headers strings limit n i₀ i = (n ≡ length headers / 40) × (some (section_cut file strings) (tabulate (header_of headers) i (n - i)) ≡ sections_cut file headers strings)
 
-abbrev decreases-loop : tie.decreases-loop
+abbrev decreases-loop : tie.decreases-loop-i
 decreases-loop file headers strings limit n i₀ i = n - i
 
 ended-below-requires : tie.Need-ended_below-limit-requires invariant-loop decreases-loop

@@ -16,7 +16,7 @@ use Rattle.elf_names.proofs.Seen.{seen_none, seen_on}
 use Rattle.elf_names.proofs.enter_sections.Statement.{statement}
 use Rattle.elf_names.proofs.enter_sections.Tie as tie
 
-abbrev invariant-loop : tie.invariant-loop
+abbrev invariant-loop : tie.invariant-loop-i
 invariant-loop headers strings name-ends₀ name-bytes₀ heads₀ chain₀ most most_bytes n seen₀ count₀ i₀ name_ends name_bytes heads chain seen count i =
     (n ≡ length headers / 40)
     × (count.full ≡ false)
@@ -28,7 +28,7 @@ invariant-loop headers strings name-ends₀ name-bytes₀ heads₀ chain₀ most
     × ((names : List (List ℕ)) (ends₀ bytes₀ : List ℕ) → Held names ends₀ bytes₀ name-ends₀ name-bytes₀ heads₀ chain₀ count₀.names count₀.used
     → GoingSeen (record { names = most; bytes = most_bytes }) (sections_left headers strings) (enter_names (record { names = most; bytes = most_bytes }) names (section_names headers strings)) strings ends₀ bytes₀ name_ends name_bytes heads chain seen i count)
 
-abbrev decreases-loop : tie.decreases-loop
+abbrev decreases-loop : tie.decreases-loop-i
 decreases-loop headers strings name-ends₀ name-bytes₀ heads₀ chain₀ most most_bytes n seen₀ count₀ i₀ name_ends name_bytes heads chain seen count i = n - i
 
 none-seen-requires : tie.Need-none_seen-seen-requires invariant-loop decreases-loop

@@ -18,7 +18,7 @@ use Rattle.elf_names.proofs.Seen.{seen_none, entered_so, seen_on}
 use Rattle.elf_names.proofs.enter_symbols.Statement.{statement}
 use Rattle.elf_names.proofs.enter_symbols.Tie as tie
 
-abbrev invariant-loop : tie.invariant-loop
+abbrev invariant-loop : tie.invariant-loop-i
 invariant-loop table strings name-ends₀ name-bytes₀ heads₀ chain₀ most most_bytes n seen₀ count₀ i₀ name_ends name_bytes heads chain seen count i =
     (n ≡ length table / 16)
     × (count.full ≡ false)
@@ -31,7 +31,7 @@ invariant-loop table strings name-ends₀ name-bytes₀ heads₀ chain₀ most m
     → GoingSeen (record { names = most; bytes = most_bytes }) (symbols_left table strings) (enter_names (record { names = most; bytes = most_bytes }) names (symbol_names table strings)) strings ends₀ bytes₀ name_ends name_bytes heads chain seen i count)
     × (n < 18446744073709551616)
 
-abbrev decreases-loop : tie.decreases-loop
+abbrev decreases-loop : tie.decreases-loop-i
 decreases-loop table strings name-ends₀ name-bytes₀ heads₀ chain₀ most most_bytes n seen₀ count₀ i₀ name_ends name_bytes heads chain seen count i = n - i
 
 none-seen-requires : tie.Need-none_seen-seen-requires invariant-loop decreases-loop

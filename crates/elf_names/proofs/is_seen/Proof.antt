@@ -9,10 +9,10 @@ use Rattle.elf_names.proofs.Seen.{look_here, look_on, look_over}
 use Rattle.elf_names.proofs.is_seen.Statement.{statement}
 use Rattle.elf_names.proofs.is_seen.Tie as tie
 
-abbrev invariant-loop : tie.invariant-loop
+abbrev invariant-loop : tie.invariant-loop-i
 invariant-loop seen mark i₀ i = (i ≤ length seen) × (some (λ k. eqb k mark) (drop i seen) ≡ some (λ k. eqb k mark) seen)
 
-abbrev decreases-loop : tie.decreases-loop
+abbrev decreases-loop : tie.decreases-loop-i
 decreases-loop seen mark i₀ i = length seen - i
 
 loop-holds : tie.Need-loop-i-init invariant-loop decreases-loop

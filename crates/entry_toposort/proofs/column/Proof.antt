@@ -9,11 +9,11 @@ use Rattle.fields.specs.Fields.{le16}
 use Rattle.entry_toposort.proofs.column.Statement.{statement}
 use Rattle.entry_toposort.proofs.column.Tie as tie
 
-abbrev invariant-loop : tie.invariant-loop
+abbrev invariant-loop : tie.invariant-loop-i
 invariant-loop edges at k out₀ i₀ out i =
     (i ≤ k) × (length out ≡ length out₀) × (take i out ≡ take i (tabulate (λ j. le16 edges (4 * j + at)) 0 k))
 
-abbrev decreases-loop : tie.decreases-loop
+abbrev decreases-loop : tie.decreases-loop-i
 decreases-loop edges at k out₀ i₀ out i = k - i
 
 loop-holds : tie.Need-loop-i-init invariant-loop decreases-loop

@@ -17,13 +17,13 @@ use Rattle.gap_splits.proofs.Turns.{Going, starts, goes_on, refused_here, all_en
 use Rattle.gap_splits.proofs.enter_gaps.Statement.{statement}
 use Rattle.gap_splits.proofs.enter_gaps.Tie as tie
 
-abbrev invariant-loop : tie.invariant-loop
+abbrev invariant-loop : tie.invariant-loop-i
 invariant-loop starts₀ ends₀ units₀ rest₀ n cap heads head_places name_bytes name_places name_lengths buckets chain added-bytes₀ added-places₀ added-lengths₀ most most_bytes keys gap_ends count k₀ names₀ used₀ i₀ starts ends units rest added_bytes added_places added_lengths k names used i =
     Going (section_names heads head_places name_bytes name_places name_lengths) (given (sections_in heads head_places) cap) (names_of name_bytes name_places name_lengths (length name_places)) most most_bytes cap keys gap_ends count
     (beside added-bytes₀ added-places₀ added-lengths₀) (columns starts₀ ends₀ units₀ rest₀) n
     (beside added_bytes added_places added_lengths) (columns starts ends units rest) k names used i
 
-abbrev decreases-loop : tie.decreases-loop
+abbrev decreases-loop : tie.decreases-loop-i
 decreases-loop starts₀ ends₀ units₀ rest₀ n cap heads head_places name_bytes name_places name_lengths buckets chain added-bytes₀ added-places₀ added-lengths₀ most most_bytes keys gap_ends count k₀ names₀ used₀ i₀ starts ends units rest added_bytes added_places added_lengths k names used i = count - i
 
 loop-holds : tie.Need-loop-i-init invariant-loop decreases-loop

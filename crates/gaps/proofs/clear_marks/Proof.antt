@@ -11,10 +11,10 @@ use Rattle.gaps.proofs.Marks.{unmarked_start, unmarked_more, all_of, name_marked
 use Rattle.gaps.proofs.clear_marks.Statement.{statement}
 use Rattle.gaps.proofs.clear_marks.Tie as tie
 
-abbrev invariant-loop : tie.invariant-loop
+abbrev invariant-loop : tie.invariant-loop-j
 invariant-loop b places part marks₀ j₀ marks j = (j ≤ length part) × (length marks ≡ length marks₀) × Unmarked (symbol_of b places) (take j part) marks₀ marks
 
-abbrev decreases-loop : tie.decreases-loop
+abbrev decreases-loop : tie.decreases-loop-j
 decreases-loop b places part marks₀ j₀ marks j = length part - j
 
 loop-holds : tie.Need-loop-j-init invariant-loop decreases-loop

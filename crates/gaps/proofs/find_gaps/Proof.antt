@@ -12,12 +12,12 @@ use borrow.Author.Rules.{rules}
 use Rattle.gaps.proofs.find_gaps.Statement.{statement}
 use Rattle.gaps.proofs.find_gaps.Tie as tie
 
-abbrev invariant-loop : tie.invariant-loop
+abbrev invariant-loop : tie.invariant-loop-k
 invariant-loop b places order name_bytes name_places name_lengths heads head_places image image_places starts ends units rest n marks₀ keys₀ gap-ends₀ found₀ k₀ marks keys gap_ends found k =
     Searching (image_of b places name_bytes name_places name_lengths) (sections_of heads head_places image image_places) (columns starts ends units rest) n keys₀ gap-ends₀ keys gap_ends found k
     × (length marks ≡ length marks₀) × Clean marks
 
-abbrev decreases-loop : tie.decreases-loop
+abbrev decreases-loop : tie.decreases-loop-k
 decreases-loop b places order name_bytes name_places name_lengths heads head_places image image_places starts ends units rest n marks₀ keys₀ gap-ends₀ found₀ k₀ marks keys gap_ends found k = length head_places - k
 
 abbrev image_at : tie.Start invariant-loop decreases-loop → Image

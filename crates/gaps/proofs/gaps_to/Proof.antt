@@ -16,12 +16,12 @@ use borrow.Author.Rules.{rules}
 use Rattle.gaps.proofs.gaps_to.Statement.{statement}
 use Rattle.gaps.proofs.gaps_to.Tie as tie
 
-abbrev invariant-loop : tie.invariant-loop
+abbrev invariant-loop : tie.invariant-loop-count
 invariant-loop b places order marks₀ keys₀ gap-ends₀ count section current next alignment at₀ found₀ marks keys gap_ends at found =
     Turning (symbol_of b places) (length places) section current next alignment keys₀ gap-ends₀ count keys gap_ends found at
     × (length marks ≡ length marks₀) × Clean marks
 
-abbrev decreases-loop : tie.decreases-loop
+abbrev decreases-loop : tie.decreases-loop-count
 decreases-loop b places order marks₀ keys₀ gap-ends₀ count section current next alignment at₀ found₀ marks keys gap_ends at found = next - at
 
 loop-holds : tie.Need-loop-count-init invariant-loop decreases-loop

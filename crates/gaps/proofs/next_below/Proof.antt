@@ -10,14 +10,14 @@ use Rattle.gaps.specs.Gaps.{below}
 use Rattle.gaps.proofs.next_below.Statement.{statement}
 use Rattle.gaps.proofs.next_below.Tie as tie
 
-abbrev invariant-loop : tie.invariant-loop
+abbrev invariant-loop : tie.invariant-loop-i
 invariant-loop starts ends units rest n section end at i₀ i =
     (at ≤ i)
     × (i ≤ n)
     × (keep_if (below section end) (tabulate (row_at (columns starts ends units rest)) at (n - at))
     ≡ keep_if (below section end) (tabulate (row_at (columns starts ends units rest)) i (n - i)))
 
-abbrev decreases-loop : tie.decreases-loop
+abbrev decreases-loop : tie.decreases-loop-i
 decreases-loop starts ends units rest n section end at i₀ i = n - i
 
 loop-holds : tie.Need-loop-i-init invariant-loop decreases-loop

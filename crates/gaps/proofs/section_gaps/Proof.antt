@@ -19,12 +19,12 @@ use borrow.Author.Rules.{rules}
 use Rattle.gaps.proofs.section_gaps.Statement.{statement}
 use Rattle.gaps.proofs.section_gaps.Tie as tie
 
-abbrev invariant-loop : tie.invariant-loop
+abbrev invariant-loop : tie.invariant-loop-i
 invariant-loop b places order marks₀ keys₀ gap-ends₀ count starts ends units rest n section least start end current₀ found₀ i₀ marks keys gap_ends current found i =
     Walking (symbol_of b places) (length places) section least end start (columns starts ends units rest) n keys₀ gap-ends₀ count keys gap_ends found current i
     × (length marks ≡ length marks₀) × Clean marks
 
-abbrev decreases-loop : tie.decreases-loop
+abbrev decreases-loop : tie.decreases-loop-i
 decreases-loop b places order marks₀ keys₀ gap-ends₀ count starts ends units rest n section least start end current₀ found₀ i₀ marks keys gap_ends current found i = n - i
 
 abbrev columns_at : tie.Start invariant-loop decreases-loop → Columns

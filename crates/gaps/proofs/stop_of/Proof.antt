@@ -12,10 +12,10 @@ use Rattle.gaps.proofs.Marks.{Passing, passing_start, passing_stripped, passing_
 use Rattle.gaps.proofs.stop_of.Statement.{statement}
 use Rattle.gaps.proofs.stop_of.Tie as tie
 
-abbrev invariant-loop : tie.invariant-loop
+abbrev invariant-loop : tie.invariant-loop-j
 invariant-loop b places part current marks₀ j₀ marks j = Passing (symbol_of b places) current part marks j × (length marks ≡ length marks₀)
 
-abbrev decreases-loop : tie.decreases-loop
+abbrev decreases-loop : tie.decreases-loop-j
 decreases-loop b places part current marks₀ j₀ marks j = length part - j
 
 loop-holds : tie.Need-loop-j-init invariant-loop decreases-loop

@@ -12,10 +12,10 @@ use Rattle.import_rows.proofs.Laws.{home_reserved, home_there, home_none}
 use Rattle.import_rows.proofs.home_of.Statement.{statement}
 use Rattle.import_rows.proofs.home_of.Tie as tie
 
-abbrev invariant-loop : tie.invariant-loop
+abbrev invariant-loop : tie.invariant-loop-i
 invariant-loop taken shndx number i₀ i = (i ≤ length taken) × (first_in (λ k. eqb k shndx) taken ≡ first_in (λ k. eqb k shndx) (drop i taken) + i)
 
-abbrev decreases-loop : tie.decreases-loop
+abbrev decreases-loop : tie.decreases-loop-i
 decreases-loop taken shndx number i₀ i = length taken - i
 
 returns : tie.Need-returns-then-shndx invariant-loop decreases-loop

@@ -11,10 +11,10 @@ use Rattle.piece_records.proofs.Laws.{parts-start, whole_start, whole_turn, some
 use Rattle.join_pieces.proofs.any_outside.Statement.{statement}
 use Rattle.join_pieces.proofs.any_outside.Tie as tie
 
-abbrev invariant-loop : tie.invariant-loop
+abbrev invariant-loop : tie.invariant-loop-i
 invariant-loop sections b n at₀ i₀ at i = (i ≤ n) × Whole (n - i) b at × (some (outside (stage_sections sections)) (parts_at (n - i) b at) ≡ some (outside (stage_sections sections)) (parts_at n b 0))
 
-abbrev decreases-loop : tie.decreases-loop
+abbrev decreases-loop : tie.decreases-loop-i
 decreases-loop sections b n at₀ i₀ at i = n - i
 
 loop-holds : tie.Need-loop-i-init invariant-loop decreases-loop

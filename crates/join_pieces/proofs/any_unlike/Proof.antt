@@ -13,10 +13,10 @@ use Rattle.join.specs.Laying.{unlike}
 use Rattle.join_pieces.proofs.any_unlike.Statement.{statement}
 use Rattle.join_pieces.proofs.any_unlike.Tie as tie
 
-abbrev invariant-loop : tie.invariant-loop
+abbrev invariant-loop : tie.invariant-loop-i
 invariant-loop sections b n out at₀ i₀ at i = (i ≤ n) × Whole (n - i) b at × (some (outside (stage_sections sections)) (parts_at (n - i) b at) ≡ false) × (some (unlike (stage_sections sections) out) (parts_at (n - i) b at) ≡ some (unlike (stage_sections sections) out) (parts_at n b 0))
 
-abbrev decreases-loop : tie.decreases-loop
+abbrev decreases-loop : tie.decreases-loop-i
 decreases-loop sections b n out at₀ i₀ at i = n - i
 
 loop-holds : tie.Need-loop-i-init invariant-loop decreases-loop

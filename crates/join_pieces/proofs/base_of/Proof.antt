@@ -10,10 +10,10 @@ use Rattle.join_pieces.proofs.Laws.{held_turn, held_none}
 use Rattle.join_pieces.proofs.base_of.Statement.{statement}
 use Rattle.join_pieces.proofs.base_of.Tie as tie
 
-abbrev invariant-loop : tie.invariant-loop
+abbrev invariant-loop : tie.invariant-loop-i
 invariant-loop sections k sum₀ i₀ sum i = (i ≤ k) × (sum ≡ held (take i (stage_sections sections))) × (sum ≤ 4294967295 * i)
 
-abbrev decreases-loop : tie.decreases-loop
+abbrev decreases-loop : tie.decreases-loop-i
 decreases-loop sections k sum₀ i₀ sum i = k - i
 
 loop-holds : tie.Need-loop-i-init invariant-loop decreases-loop

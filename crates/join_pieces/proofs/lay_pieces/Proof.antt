@@ -17,10 +17,10 @@ use Rattle.join_pieces.proofs.Laws.{laid_turn, laid_end}
 use Rattle.join_pieces.proofs.lay_pieces.Statement.{statement}
 use Rattle.join_pieces.proofs.lay_pieces.Tie as tie
 
-abbrev invariant-loop : tie.invariant-loop
+abbrev invariant-loop : tie.invariant-loop-i
 invariant-loop sections b n out₀ at₀ i₀ out at i = (i ≤ n) × Whole (n - i) b at × (some (outside (stage_sections sections)) (parts_at (n - i) b at) ≡ false) × (length out ≡ length out₀) × (laid_over (stage_sections sections) (parts_at (n - i) b at) out ≡ laid_over (stage_sections sections) (parts_at n b 0) out₀)
 
-abbrev decreases-loop : tie.decreases-loop
+abbrev decreases-loop : tie.decreases-loop-i
 decreases-loop sections b n out₀ at₀ i₀ out at i = n - i
 
 loop-holds : tie.Need-loop-i-init invariant-loop decreases-loop

@@ -11,10 +11,10 @@ use Rattle.join_pieces.proofs.Laws.{unequal_turn, unequal_ended}
 use Rattle.join_pieces.proofs.unequal.Statement.{statement}
 use Rattle.join_pieces.proofs.unequal.Tie as tie
 
-abbrev invariant-loop : tie.invariant-loop
+abbrev invariant-loop : tie.invariant-loop-i
 invariant-loop x y any₀ i₀ any i = (i ≤ length x) × (length x ≡ length y) × ((any || not (same_name (drop i x) (drop i y))) ≡ not (same_name x y))
 
-abbrev decreases-loop : tie.decreases-loop
+abbrev decreases-loop : tie.decreases-loop-i
 decreases-loop x y any₀ i₀ any i = length x - i
 
 returns : tie.Need-returns-then-x-y invariant-loop decreases-loop

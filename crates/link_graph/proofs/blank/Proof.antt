@@ -9,10 +9,10 @@ use Rattle.lists.proofs.Fill.{filled}
 use Rattle.link_graph.proofs.blank.Statement.{statement}
 use Rattle.link_graph.proofs.blank.Tie as tie
 
-abbrev invariant-loop : tie.invariant-loop
+abbrev invariant-loop : tie.invariant-loop-i
 invariant-loop column₀ i₀ column i = (i ≤ length column₀) × (length column ≡ length column₀) × (column ≡ replicate i 65535 ++ drop i column₀)
 
-abbrev decreases-loop : tie.decreases-loop
+abbrev decreases-loop : tie.decreases-loop-i
 decreases-loop column₀ i₀ column i = length column₀ - i
 
 loop-holds : tie.Need-loop-i-init invariant-loop decreases-loop

@@ -11,13 +11,13 @@ use Rattle.link_graph.proofs.Nodes.{marked_blank, new_counted, new_marked, old_c
 use Rattle.link_graph.proofs.count_units.Statement.{statement}
 use Rattle.link_graph.proofs.count_units.Tie as tie
 
-abbrev invariant-loop : tie.invariant-loop
+abbrev invariant-loop : tie.invariant-loop-i
 invariant-loop us column₀ nodes₀ i₀ m₀ column nodes i m =
     (length column ≡ length column₀) × (length nodes ≡ length nodes₀) × (i ≤ length us) × (m ≤ i)
     × (counted (take m nodes) (drop i us) ≡ counted [] us)
     × Marked column (take m nodes)
 
-abbrev decreases-loop : tie.decreases-loop
+abbrev decreases-loop : tie.decreases-loop-i
 decreases-loop us column₀ nodes₀ i₀ m₀ column nodes i m = length us - i
 
 loop-holds : tie.Need-loop-i-init invariant-loop decreases-loop

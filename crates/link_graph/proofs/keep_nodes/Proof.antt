@@ -14,13 +14,13 @@ use Rattle.link_graph.proofs.Chain.{first_and_rest, number_kept, number_passed, 
 use Rattle.link_graph.proofs.keep_nodes.Statement.{statement}
 use Rattle.link_graph.proofs.keep_nodes.Tie as tie
 
-abbrev invariant-loop : tie.invariant-loop
+abbrev invariant-loop : tie.invariant-loop-i
 invariant-loop unit_bytes unit_places column s₀ i₀ k₀ s i k =
     (length s ≡ length s₀) × (i ≤ length s) × (k ≤ i)
     × (take k s ++ keep_if (λ v. not (eqb v 65535)) (map (λ x. get_or column (unit_of unit_bytes unit_places x).name 0) (drop i s)) ≡ keep_if (λ v. not (eqb v 65535)) (map (λ x. get_or column (unit_of unit_bytes unit_places x).name 0) s₀))
     × All (λ x. x < length unit_places) (drop i s)
 
-abbrev decreases-loop : tie.decreases-loop
+abbrev decreases-loop : tie.decreases-loop-i
 decreases-loop unit_bytes unit_places column s₀ i₀ k₀ s i k = length s - i
 
 loop-holds : tie.Need-loop-i-init invariant-loop decreases-loop

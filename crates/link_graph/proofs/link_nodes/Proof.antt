@@ -9,13 +9,13 @@ use Rattle.link_graph.proofs.Chain.{link_written, links_end}
 use Rattle.link_graph.proofs.link_nodes.Statement.{statement}
 use Rattle.link_graph.proofs.link_nodes.Tie as tie
 
-abbrev invariant-loop : tie.invariant-loop
+abbrev invariant-loop : tie.invariant-loop-i
 invariant-loop s from₀ to₀ e i₀ k₀ from to i k =
     (length from ≡ length from₀) × (length to ≡ length to₀) × (i ≤ length s) × (k ≡ e + i)
     × (take k from ++ map (λ (x : UnitEdge). x.from) (links (drop i s)) ≡ take e from₀ ++ map (λ (x : UnitEdge). x.from) (links s))
     × (take k to ++ map (λ (x : UnitEdge). x.to) (links (drop i s)) ≡ take e to₀ ++ map (λ (x : UnitEdge). x.to) (links s))
 
-abbrev decreases-loop : tie.decreases-loop
+abbrev decreases-loop : tie.decreases-loop-i
 decreases-loop s from₀ to₀ e i₀ k₀ from to i k = length s - i
 
 loop-holds : tie.Need-loop-i-init invariant-loop decreases-loop

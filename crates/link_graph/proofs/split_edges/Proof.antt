@@ -12,13 +12,13 @@ use Rattle.link_graph.proofs.Edges.{later, start_in, goal_in, later_apart, later
 use Rattle.link_graph.proofs.split_edges.Statement.{statement}
 use Rattle.link_graph.proofs.split_edges.Tie as tie
 
-abbrev invariant-loop : tie.invariant-loop
+abbrev invariant-loop : tie.invariant-loop-i
 invariant-loop starts ends units rest n heads head_places name_bytes name_places name_lengths column from₀ to₀ i₀ e₀ from to i e =
     (length from ≡ length from₀) × (length to ≡ length to₀) × (i ≤ n) × (e ≤ i)
     × (take e from ++ map (start_in column) (later (pointers_in heads head_places name_bytes name_places name_lengths) (rows (columns starts ends units rest) n) (n - 1) i) ≡ map (start_in column) (later (pointers_in heads head_places name_bytes name_places name_lengths) (rows (columns starts ends units rest) n) (n - 1) 0))
     × (take e to ++ map (goal_in column) (later (pointers_in heads head_places name_bytes name_places name_lengths) (rows (columns starts ends units rest) n) (n - 1) i) ≡ map (goal_in column) (later (pointers_in heads head_places name_bytes name_places name_lengths) (rows (columns starts ends units rest) n) (n - 1) 0))
 
-abbrev decreases-loop : tie.decreases-loop
+abbrev decreases-loop : tie.decreases-loop-i
 decreases-loop starts ends units rest n heads head_places name_bytes name_places name_lengths column from₀ to₀ i₀ e₀ from to i e =
     n - i
 

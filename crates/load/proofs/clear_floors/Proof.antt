@@ -9,10 +9,10 @@ use Rattle.lists.proofs.Clear.{clear_turn, clear_done}
 use Rattle.load.proofs.clear_floors.Statement.{statement}
 use Rattle.load.proofs.clear_floors.Tie as tie
 
-abbrev invariant-loop : tie.invariant-loop
+abbrev invariant-loop : tie.invariant-loop-i
 invariant-loop places₀ i₀ places i = (length places ≡ length places₀) × (clear_from 0 i places ≡ clear_from 0 14400 places₀)
 
-abbrev decreases-loop : tie.decreases-loop
+abbrev decreases-loop : tie.decreases-loop-i
 decreases-loop places₀ i₀ places i = length places - i
 
 loop-holds : tie.Need-loop-i-init invariant-loop decreases-loop

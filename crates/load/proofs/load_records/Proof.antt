@@ -10,13 +10,13 @@ use Rattle.load.proofs.Turns.{Going, Same, starts, same_on, is_zero, going_stops
 use Rattle.load.proofs.load_records.Statement.{statement}
 use Rattle.load.proofs.load_records.Tie as tie
 
-abbrev invariant-loop : tie.invariant-loop
+abbrev invariant-loop : tie.invariant-loop-at
 invariant-loop file c places₀ lengths₀ heads₀ chain₀ n₀ at₀ r₀ places lengths heads chain n at r =
     Ready c file n places lengths heads chain
     × Going c file at r (tables_in n places lengths)
     × Same places₀ lengths₀ heads₀ chain₀ places lengths heads chain
 
-abbrev decreases-loop : tie.decreases-loop
+abbrev decreases-loop : tie.decreases-loop-at
 decreases-loop file c places₀ lengths₀ heads₀ chain₀ n₀ at₀ r₀ places lengths heads chain n at r = length file - at
 
 no-counts-requires : tie.Need-no_counts-n-requires invariant-loop decreases-loop

@@ -11,10 +11,10 @@ use Rattle.loaded.specs.Tables.{byte_places}
 use Rattle.loaded.proofs.image_places.Statement.{statement}
 use Rattle.loaded.proofs.image_places.Tie as tie
 
-abbrev invariant-loop : tie.invariant-loop
+abbrev invariant-loop : tie.invariant-loop-i
 invariant-loop sections column₀ i₀ column i = (i ≤ length sections) × (length column ≡ length column₀) × (take i column ≡ take i (byte_places sections))
 
-abbrev decreases-loop : tie.decreases-loop
+abbrev decreases-loop : tie.decreases-loop-i
 decreases-loop sections column₀ i₀ column i = length sections - i
 
 loop-holds : tie.Need-loop-i-init invariant-loop decreases-loop

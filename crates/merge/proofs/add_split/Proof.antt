@@ -18,7 +18,7 @@ use borrow.Author.Rules.{rules}
 use Rattle.merge.proofs.add_split.Statement.{statement}
 use Rattle.merge.proofs.add_split.Tie as tie
 
-abbrev invariant-loop : tie.invariant-loop
+abbrev invariant-loop : tie.invariant-loop-number
 invariant-loop starts₀ ends₀ units₀ rest₀ n cap heads head_places k₀ s₀ starts ends units rest k s =
     (k ≤ cap)
     × Same (columns starts ends units rest) (columns starts₀ ends₀ units₀ rest₀)
@@ -26,7 +26,7 @@ invariant-loop starts₀ ends₀ units₀ rest₀ n cap heads head_places k₀ s
     × (merge_one (given (sections_in heads head_places) cap) (rows (columns starts ends units rest) k) s
     ≡ merge_one (given (sections_in heads head_places) cap) (rows (columns starts₀ ends₀ units₀ rest₀) k₀) s₀)
 
-abbrev decreases-loop : tie.decreases-loop
+abbrev decreases-loop : tie.decreases-loop-number
 decreases-loop starts₀ ends₀ units₀ rest₀ n cap heads head_places k₀ s₀ starts ends units rest k s = k
 
 -- what the round has decided, at its arm

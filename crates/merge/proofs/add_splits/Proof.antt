@@ -19,7 +19,7 @@ use borrow.Author.Rules.{rules}
 use Rattle.merge.proofs.add_splits.Statement.{statement}
 use Rattle.merge.proofs.add_splits.Tie as tie
 
-abbrev invariant-loop : tie.invariant-loop
+abbrev invariant-loop : tie.invariant-loop-i
 invariant-loop starts₀ ends₀ units₀ rest₀ n cap heads head_places partials partial_places k₀ i₀ starts ends units rest k i =
     (i ≤ length partial_places)
     × (k ≤ cap)
@@ -27,7 +27,7 @@ invariant-loop starts₀ ends₀ units₀ rest₀ n cap heads head_places partia
     × (merge_all (given (sections_in heads head_places) cap) (rows (columns starts ends units rest) k) (partials_from partials partial_places i)
     ≡ merge_all (given (sections_in heads head_places) cap) (rows (columns starts₀ ends₀ units₀ rest₀) k₀) (partials_in partials partial_places))
 
-abbrev decreases-loop : tie.decreases-loop
+abbrev decreases-loop : tie.decreases-loop-i
 decreases-loop starts₀ ends₀ units₀ rest₀ n cap heads head_places partials partial_places k₀ i₀ starts ends units rest k i = length partial_places - i
 
 loop-holds : tie.Need-loop-i-init invariant-loop decreases-loop

@@ -10,13 +10,13 @@ use Rattle.name_table.proofs.Laws.{Same, same_room, stores_all, stores_nothing}
 use Rattle.name_table.proofs.take_names.Statement.{statement}
 use Rattle.name_table.proofs.take_names.Tie as tie
 
-abbrev invariant-loop : tie.invariant-loop
+abbrev invariant-loop : tie.invariant-loop-i
 invariant-loop ends bytes n places₀ lengths₀ heads₀ chain₀ i₀ places lengths heads chain i =
     Going (name_fault ends bytes) n i
     × Stored ends bytes places lengths heads chain i
     × Same places₀ lengths₀ heads₀ chain₀ places lengths heads chain
 
-abbrev decreases-loop : tie.decreases-loop
+abbrev decreases-loop : tie.decreases-loop-i
 decreases-loop ends bytes n places₀ lengths₀ heads₀ chain₀ i₀ places lengths heads chain i = n - i
 
 -- where the function starts, from the loop's test

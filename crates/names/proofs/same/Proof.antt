@@ -10,10 +10,10 @@ use Rattle.names.proofs.Laws.{other_lengths, same_turn, same_ended}
 use Rattle.names.proofs.same.Statement.{statement}
 use Rattle.names.proofs.same.Tie as tie
 
-abbrev invariant-loop : tie.invariant-loop
+abbrev invariant-loop : tie.invariant-loop-i
 invariant-loop x y i₀ i = (i ≤ length x) × (length x ≡ length y) × (same_name (drop i x) (drop i y) ≡ same_name x y)
 
-abbrev decreases-loop : tie.decreases-loop
+abbrev decreases-loop : tie.decreases-loop-i
 decreases-loop x y i₀ i = length x - i
 
 returns : tie.Need-returns-then-x-y invariant-loop decreases-loop

@@ -10,10 +10,10 @@ use Rattle.names.specs.Names.{outside}
 use Rattle.names.proofs.some_outside.Statement.{statement}
 use Rattle.names.proofs.some_outside.Tie as tie
 
-abbrev invariant-loop : tie.invariant-loop
+abbrev invariant-loop : tie.invariant-loop-i
 invariant-loop name i₀ i = (i ≤ length name) × (some outside (drop i name) ≡ some outside name)
 
-abbrev decreases-loop : tie.decreases-loop
+abbrev decreases-loop : tie.decreases-loop-i
 decreases-loop name i₀ i = length name - i
 
 loop-holds : tie.Need-loop-i-init invariant-loop decreases-loop

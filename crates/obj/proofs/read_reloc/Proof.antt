@@ -42,7 +42,7 @@ get32-requires-3 c κs = search rules
 
 returns : tie.Need-returns
 returns c =
-    reloc_made _ _ c.get16.ensures c.get32.ensures c.get32-2.ensures (to_z-of_z w64 c.get_i64.result (record { sfits = c.get_i64.type-inv }) ∙ c.get_i64.ensures) c.get32-3.ensures
+    reloc_made _ _ c.get16.ensures c.get32.ensures c.get32-2.ensures (to_z-of_z w64 c.get_i64.result (record { sfits = c.get_i64.type_inv }) ∙ c.get_i64.ensures) c.get32-3.ensures
 
 pub read_reloc_spec : {M : Type 1} → statement M
 read_reloc_spec =

@@ -16,12 +16,12 @@ use Rattle.symbol_order.proofs.Parts.{held}
 use Rattle.order_numbers.proofs.numbered.Statement.{statement}
 use Rattle.order_numbers.proofs.numbered.Tie as tie
 
-abbrev invariant-loop : tie.invariant-loop
+abbrev invariant-loop : tie.invariant-loop-i
 invariant-loop b places numbers₀ i₀ k₀ numbers i k =
     (length numbers ≡ length numbers₀) × (i ≤ length places) × (k ≤ i)
     × (take k numbers ++ keep_if (λ y. has_order (unit_of b places y)) (tabulate (λ x. x) i (length places - i)) ≡ unsorted b places)
 
-abbrev decreases-loop : tie.decreases-loop
+abbrev decreases-loop : tie.decreases-loop-i
 decreases-loop b places numbers₀ i₀ k₀ numbers i k = length places - i
 
 loop-holds : tie.Need-loop-i-init invariant-loop decreases-loop

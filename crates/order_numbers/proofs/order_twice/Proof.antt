@@ -18,10 +18,10 @@ use Rattle.order_numbers.proofs.Records.{twice_next}
 use Rattle.order_numbers.proofs.order_twice.Statement.{statement}
 use Rattle.order_numbers.proofs.order_twice.Tie as tie
 
-abbrev invariant-loop : tie.invariant-loop
+abbrev invariant-loop : tie.invariant-loop-i
 invariant-loop b places s i₀ i = (i ≤ length s) × (next_same (drop i (map (rank_at b places) s)) ≡ next_same (map (rank_at b places) s))
 
-abbrev decreases-loop : tie.decreases-loop
+abbrev decreases-loop : tie.decreases-loop-i
 decreases-loop b places s i₀ i = length s - i
 
 -- a turn, over the numbers themselves

@@ -8,10 +8,10 @@ use Rattle.lists.proofs.Clear.{clear_turn, clear_done}
 use Rattle.outputs.proofs.clear_from.Statement.{statement}
 use Rattle.outputs.proofs.clear_from.Tie as tie
 
-abbrev invariant-loop : tie.invariant-loop
+abbrev invariant-loop : tie.invariant-loop-i
 invariant-loop out₀ from i₀ out i = (length out ≡ length out₀) × (clear_from 0 i out ≡ clear_from 0 from out₀)
 
-abbrev decreases-loop : tie.decreases-loop
+abbrev decreases-loop : tie.decreases-loop-i
 decreases-loop out₀ from i₀ out i = length out₀ - i
 
 loop-holds : tie.Need-loop-i-init invariant-loop decreases-loop

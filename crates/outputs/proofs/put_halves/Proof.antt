@@ -13,11 +13,11 @@ use Rattle.outputs.proofs.put_halves.Reads as reads
 use Rattle.outputs.proofs.put_halves.Lts as lts
 use Rattle.fields.proofs.put16.Reads as put16-reads
 
-abbrev invariant-loop : tie.invariant-loop
+abbrev invariant-loop : tie.invariant-loop-i
 invariant-loop out₀ numbers i₀ out i =
     (i ≤ length numbers) × (length out ≡ length out₀) × (sets out (2 * i) (halves (drop i numbers)) ≡ sets out₀ 0 (halves numbers))
 
-abbrev decreases-loop : tie.decreases-loop
+abbrev decreases-loop : tie.decreases-loop-i
 decreases-loop out₀ numbers i₀ out i = length numbers - i
 
 -- src/lib.rt:27:5

@@ -11,10 +11,10 @@ use Rattle.piece_columns.proofs.Regions.{in_lasts, last_at, length_prevs, prev_a
 use Rattle.piece_columns.proofs.has_symbol.Statement.{statement}
 use Rattle.piece_columns.proofs.has_symbol.Tie as tie
 
-abbrev invariant-loop : tie.invariant-loop
+abbrev invariant-loop : tie.invariant-loop-j
 invariant-loop chains out k unit symbol j₀ j = On (entry_at out) unit symbol k j
 
-abbrev decreases-loop : tie.decreases-loop
+abbrev decreases-loop : tie.decreases-loop-j
 decreases-loop chains out k unit symbol j₀ j = j
 
 abbrev L : Type 0

@@ -10,10 +10,10 @@ use Rattle.piece_order.proofs.Laws.{part_small, keyed_more}
 use Rattle.piece_order.proofs.fill_keys.Statement.{statement}
 use Rattle.piece_order.proofs.fill_keys.Tie as tie
 
-abbrev invariant-loop : tie.invariant-loop
+abbrev invariant-loop : tie.invariant-loop-i
 invariant-loop b starts table₀ i₀ table i = (i ≤ length starts) × (length table ≡ length table₀) × Keyed b starts i table
 
-abbrev decreases-loop : tie.decreases-loop
+abbrev decreases-loop : tie.decreases-loop-i
 decreases-loop b starts table₀ i₀ table i = length starts - i
 
 loop-holds : tie.Need-loop-i-init invariant-loop decreases-loop

@@ -11,10 +11,10 @@ use Rattle.symbol_order.specs.Order.{numbers}
 use Rattle.piece_order.proofs.fill_numbers.Statement.{statement}
 use Rattle.piece_order.proofs.fill_numbers.Tie as tie
 
-abbrev invariant-loop : tie.invariant-loop
+abbrev invariant-loop : tie.invariant-loop-i
 invariant-loop order₀ i₀ order i = (i ≤ length order₀) × (length order ≡ length order₀) × (take i order ≡ take i (numbers (length order₀)))
 
-abbrev decreases-loop : tie.decreases-loop
+abbrev decreases-loop : tie.decreases-loop-i
 decreases-loop order₀ i₀ order i = length order₀ - i
 
 loop-holds : tie.Need-loop-i-init invariant-loop decreases-loop

@@ -13,10 +13,10 @@ use Rattle.piece_order.proofs.Laws.{starts_turn, starts_end}
 use Rattle.piece_order.proofs.fill_starts.Statement.{statement}
 use Rattle.piece_order.proofs.fill_starts.Tie as tie
 
-abbrev invariant-loop : tie.invariant-loop
+abbrev invariant-loop : tie.invariant-loop-i
 invariant-loop b n starts₀ at₀ i₀ starts at i = (i ≤ n) × (length starts ≡ length starts₀) × Whole (n - i) b at × (take i starts ++ starts_at (n - i) b at ≡ starts_at n b 0)
 
-abbrev decreases-loop : tie.decreases-loop
+abbrev decreases-loop : tie.decreases-loop-i
 decreases-loop b n starts₀ at₀ i₀ starts at i = n - i
 
 loop-holds : tie.Need-loop-i-init invariant-loop decreases-loop

@@ -9,10 +9,10 @@ use lib.ListN.{length}
 use Rattle.piece_records.proofs.count_pieces.Statement.{statement}
 use Rattle.piece_records.proofs.count_pieces.Tie as tie
 
-abbrev invariant-loop : tie.invariant-loop
+abbrev invariant-loop : tie.invariant-loop-at
 invariant-loop b at₀ n₀ at n = (at ≤ length b) × (n ≤ 1024) × (count_from (1024 - n) b at n ≡ count_from 1024 b 0 0)
 
-abbrev decreases-loop : tie.decreases-loop
+abbrev decreases-loop : tie.decreases-loop-at
 decreases-loop b at₀ n₀ at n = length b - at
 
 loop-holds : tie.Need-loop-at-init invariant-loop decreases-loop

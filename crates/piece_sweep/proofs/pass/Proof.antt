@@ -15,11 +15,11 @@ use Rattle.piece_sweep.proofs.Laws.{some_there, sweep-none, sweep_first, sweep_h
 use Rattle.piece_sweep.proofs.pass.Statement.{statement}
 use Rattle.piece_sweep.proofs.pass.Tie as tie
 
-abbrev invariant-loop : tie.invariant-loop
+abbrev invariant-loop : tie.invariant-loop-i
 invariant-loop b starts order far₀ i₀ far i =
     (i ≤ length order) × Lying b far × (sweep_from (part_at b far) (map (part_in b starts) (drop i order)) ≡ sweep (map (part_in b starts) order))
 
-abbrev decreases-loop : tie.decreases-loop
+abbrev decreases-loop : tie.decreases-loop-i
 decreases-loop b starts order far₀ i₀ far i = length order - i
 
 returns : tie.Need-returns-then-order-eq0 invariant-loop decreases-loop

@@ -17,7 +17,7 @@ slice-aggregate-result c = search rules
 returns : tie.Need-returns-then-end-from
 returns c =
     let a = c.args in
-    sym (part_none a.section_bytes_lem.now a.from a.to (let e = c.lower_of-end.ensures in let h = c.if-end-from.true in omega arith))
+    sym (part_none a.section_bytes.now a.from a.to (let e = c.lower_of-end.ensures in let h = c.if-end-from.true in omega arith))
 
 sub-result : tie.Need-slice_bounds-result-count
 sub-result c = search rules
@@ -31,7 +31,7 @@ part-result-end c = search rules
 returns-2 : tie.Need-returns
 returns-2 c =
     let a = c.args in
-    ap (λ (m : ℕ). take (m - a.from) (drop a.from a.section_bytes_lem.now)) c.lower_of-end.ensures ∙ part_cut a.section_bytes_lem.now a.from a.to
+    ap (λ (m : ℕ). take (m - a.from) (drop a.from a.section_bytes.now)) c.lower_of-end.ensures ∙ part_cut a.section_bytes.now a.from a.to
 
 pub piece_bytes_spec : {M : Type 1} → statement M
 piece_bytes_spec =

@@ -11,11 +11,11 @@ use Rattle.relocs.specs.Relocs.{address_of}
 use Rattle.relocs.proofs.first_from.Statement.{statement}
 use Rattle.relocs.proofs.first_from.Tie as tie
 
-abbrev invariant-loop : tie.invariant-loop
+abbrev invariant-loop : tie.invariant-loop-lo
 invariant-loop b places part from address lo₀ lo =
     let p = first_in (at_least (address_of b places) address) part in (from ≤ lo) × (lo ≤ p) × (p ≤ length part)
 
-abbrev decreases-loop : tie.decreases-loop
+abbrev decreases-loop : tie.decreases-loop-lo
 decreases-loop b places part from address lo₀ lo = length part - lo
 
 loop-holds : tie.Need-loop-lo-init invariant-loop decreases-loop

@@ -16,12 +16,12 @@ use Rattle.relocs.proofs.Laws.{held}
 use Rattle.relocs.proofs.for_section.Statement.{statement}
 use Rattle.relocs.proofs.for_section.Tie as tie
 
-abbrev invariant-loop : tie.invariant-loop
+abbrev invariant-loop : tie.invariant-loop-i
 invariant-loop b places section part₀ i₀ k₀ part i k =
     (length part ≡ length part₀) × (i ≤ length places) × (k ≤ i)
     × (take k part ++ keep_if (λ y. eqb (reloc_of b places y).section section) (tabulate (λ x. x) i (length places - i)) ≡ relocs_of (reloc_of b places) (length places) section)
 
-abbrev decreases-loop : tie.decreases-loop
+abbrev decreases-loop : tie.decreases-loop-i
 decreases-loop b places section part₀ i₀ k₀ part i k = length places - i
 
 loop-holds : tie.Need-loop-i-init invariant-loop decreases-loop

@@ -10,10 +10,10 @@ use Rattle.relocs.specs.Relocs.{address_of}
 use Rattle.relocs.proofs.search.Statement.{statement}
 use Rattle.relocs.proofs.search.Tie as tie
 
-abbrev invariant-loop : tie.invariant-loop
+abbrev invariant-loop : tie.invariant-loop-lo
 invariant-loop b places part from to address lo₀ hi₀ lo hi = let p = first_in (at_least (address_of b places) address) part in (lo ≤ p) × (p ≤ hi) × (hi ≤ length part)
 
-abbrev decreases-loop : tie.decreases-loop
+abbrev decreases-loop : tie.decreases-loop-lo
 decreases-loop b places part from to address lo₀ hi₀ lo hi = hi - lo
 
 loop-holds : tie.Need-loop-lo-init invariant-loop decreases-loop

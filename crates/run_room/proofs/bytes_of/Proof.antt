@@ -13,10 +13,10 @@ use Rattle.run_room.proofs.bytes_of.Tie as tie
 use Rattle.run_room.proofs.bytes_of.Reads as reads
 use Rattle.run_room.proofs.bytes_of.Lts as lts
 
-abbrev invariant-loop : tie.invariant-loop
+abbrev invariant-loop : tie.invariant-loop-i
 invariant-loop lengths bytes₀ i₀ bytes i = (bytes + sum (drop i lengths) ≡ sum lengths) × (bytes ≤ 255 * i) × (i ≤ length lengths)
 
-abbrev decreases-loop : tie.decreases-loop
+abbrev decreases-loop : tie.decreases-loop-i
 decreases-loop lengths bytes₀ i₀ bytes i = length lengths - i
 
 loop-holds : tie.Need-loop-i-init invariant-loop decreases-loop

@@ -9,10 +9,10 @@ use Rattle.sections.proofs.Zero.{zero_turn, zero_done}
 use Rattle.sections.proofs.is_zero.Statement.{statement}
 use Rattle.sections.proofs.is_zero.Tie as tie
 
-abbrev invariant-loop : tie.invariant-loop
+abbrev invariant-loop : tie.invariant-loop-i
 invariant-loop bytes i₀ i = all_zero (drop i bytes) ≡ all_zero bytes
 
-abbrev decreases-loop : tie.decreases-loop
+abbrev decreases-loop : tie.decreases-loop-i
 decreases-loop bytes i₀ i = length bytes - i
 
 loop-holds : tie.Need-loop-i-init invariant-loop decreases-loop

@@ -17,12 +17,12 @@ use Rattle.sections.proofs.Laws.{lower_turn, lower-start, lower_end, object_belo
 use Rattle.sections.proofs.lower.Statement.{statement}
 use Rattle.sections.proofs.lower.Tie as tie
 
-abbrev invariant-loop : tie.invariant-loop
+abbrev invariant-loop : tie.invariant-loop-j
 invariant-loop b places part name_bytes name_places name_lengths end low₀ j₀ low j =
     (j ≤ length part) × (low ≤ end)
     × (lowered (image_of b places name_bytes name_places name_lengths) low (reverse (take j part)) ≡ lowered (image_of b places name_bytes name_places name_lengths) end (reverse part))
 
-abbrev decreases-loop : tie.decreases-loop
+abbrev decreases-loop : tie.decreases-loop-j
 decreases-loop b places part name_bytes name_places name_lengths end low₀ j₀ low j = j
 
 abbrev image : tie.Start invariant-loop decreases-loop → Image

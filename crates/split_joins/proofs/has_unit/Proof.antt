@@ -11,13 +11,13 @@ use Rattle.lists.proofs.SomeRows.{some_row, some_ended}
 use Rattle.split_joins.proofs.has_unit.Statement.{statement}
 use Rattle.split_joins.proofs.has_unit.Tie as tie
 
-abbrev invariant-loop : tie.invariant-loop
+abbrev invariant-loop : tie.invariant-loop-k
 invariant-loop units from to unit any₀ k₀ any k =
     (k ≤ to)
     × ((any || some (λ (u : ℕ). eqb u unit) (tabulate (λ (j : ℕ). get_or units j 0) k (to - k)))
     ≡ some (λ (u : ℕ). eqb u unit) (tabulate (λ (j : ℕ). get_or units j 0) from (to - from)))
 
-abbrev decreases-loop : tie.decreases-loop
+abbrev decreases-loop : tie.decreases-loop-k
 decreases-loop units from to unit any₀ k₀ any k = to - k
 
 loop-holds : tie.Need-loop-k-init invariant-loop decreases-loop

@@ -13,11 +13,11 @@ use Rattle.split_joins.proofs.Apart.{alone_same, alone_none}
 use Rattle.split_joins.proofs.keeps_units.Statement.{statement}
 use Rattle.split_joins.proofs.keeps_units.Tie as tie
 
-abbrev invariant-loop : tie.invariant-loop
+abbrev invariant-loop : tie.invariant-loop-i
 invariant-loop units n first stop unit i₀ i =
     (first ≤ i) × (i ≤ stop) × ((k : ℕ) → first ≤ k → k < i → Alone (λ (j : ℕ). get_or units j 0) n first stop unit (get_or units k 0))
 
-abbrev decreases-loop : tie.decreases-loop
+abbrev decreases-loop : tie.decreases-loop-i
 decreases-loop units n first stop unit i₀ i = stop - i
 
 loop-holds : tie.Need-loop-i-init invariant-loop decreases-loop

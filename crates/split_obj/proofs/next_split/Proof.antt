@@ -11,14 +11,14 @@ use Rattle.splits.specs.Questions.{within}
 use Rattle.split_obj.proofs.next_split.Statement.{statement}
 use Rattle.split_obj.proofs.next_split.Tie as tie
 
-abbrev invariant-loop : tie.invariant-loop
+abbrev invariant-loop : tie.invariant-loop-i
 invariant-loop starts ends units rest rows n low end from i₀ i =
     (from ≤ i)
     × (i ≤ rows)
     × (keep_if (within n low end) (tabulate (row_at (columns starts ends units rest)) from (rows - from))
     ≡ keep_if (within n low end) (tabulate (row_at (columns starts ends units rest)) i (rows - i)))
 
-abbrev decreases-loop : tie.decreases-loop
+abbrev decreases-loop : tie.decreases-loop-i
 decreases-loop starts ends units rest rows n low end from i₀ i = rows - i
 
 loop-holds : tie.Need-loop-i-init invariant-loop decreases-loop

@@ -37,20 +37,20 @@ use Rattle.split_obj.proofs.walk_sections.Statement.{statement}
 use Rattle.split_obj.proofs.walk_sections.Tie as tie
 
 -- ---- the invariants
-abbrev invariant-loop2 : tie.invariant-loop2
+abbrev invariant-loop2 : tie.invariant-loop-a
 invariant-loop2 scratch part pieces entries offsets symbols symbol_places order name_bytes name_places name_lengths heads head_places image image_places relocs reloc_places starts ends units rest rows unit_table unit_places unit_numbers first last room done n low end m current i s j next unit alignment a₀ a = Halving (halved 16 alignment current) current a
 
-abbrev decreases-loop2 : tie.decreases-loop2
+abbrev decreases-loop2 : tie.decreases-loop-a
 decreases-loop2 scratch part pieces entries offsets symbols symbol_places order name_bytes name_places name_lengths heads head_places image image_places relocs reloc_places starts ends units rest rows unit_table unit_places unit_numbers first last room done n low end m current i s j next unit alignment a₀ a = a
 
-abbrev invariant-loop : tie.invariant-loop
+abbrev invariant-loop : tie.invariant-loop-current
 invariant-loop scratch₀ part pieces₀ entries₀ offsets₀ symbols symbol_places order name_bytes name_places name_lengths heads head_places image image_places relocs reloc_places starts ends units rest rows unit_table unit_places unit_numbers first last room done₀ n low end m current₀ i₀ scratch pieces entries offsets done current i =
     AtSplit (tables_input symbols symbol_places name_bytes name_places name_lengths heads head_places image image_places relocs reloc_places (columns starts ends units rest) rows unit_table unit_places room)
     (splits_left (tables_input symbols symbol_places name_bytes name_places name_lengths heads head_places image image_places relocs reloc_places (columns starts ends units rest) rows unit_table unit_places room) last n low end (columns starts ends units rest) rows current₀ i₀ (output_in pieces₀ entries₀ offsets₀ done₀))
     (length symbol_places) (length reloc_places) (length unit_places) last n low end (columns starts ends units rest) rows current i done scratch part pieces entries offsets
     × Lengths scratch₀ part pieces₀ entries₀ offsets₀ scratch part pieces entries offsets
 
-abbrev decreases-loop : tie.decreases-loop
+abbrev decreases-loop : tie.decreases-loop-current
 decreases-loop scratch₀ part pieces₀ entries₀ offsets₀ symbols symbol_places order name_bytes name_places name_lengths heads head_places image image_places relocs reloc_places starts ends units rest rows unit_table unit_places unit_numbers first last room done₀ n low end m current₀ i₀ scratch pieces entries offsets done current i = rows - i
 
 abbrev invariant-sections : tie.invariant-sections

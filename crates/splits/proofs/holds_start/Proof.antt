@@ -9,10 +9,10 @@ use Rattle.splits.proofs.Blocks.{Left, left_start, left_turn, left_end}
 use Rattle.splits.proofs.holds_start.Statement.{statement}
 use Rattle.splits.proofs.holds_start.Tie as tie
 
-abbrev invariant-loop : tie.invariant-loop
+abbrev invariant-loop : tie.invariant-loop-k
 invariant-loop starts at from to any₀ k₀ any k = (k ≤ 32) × Left (λ (s : ℕ). leb from s && ltb s to) (λ (j : ℕ). get_or starts j 0) at 32 any k
 
-abbrev decreases-loop : tie.decreases-loop
+abbrev decreases-loop : tie.decreases-loop-k
 decreases-loop starts at from to any₀ k₀ any k = 32 - k
 
 loop-holds : tie.Need-loop-k-init invariant-loop decreases-loop

@@ -8,10 +8,10 @@ use Rattle.splits.proofs.Blocks.{Left, left_start, left_turn, left_end}
 use Rattle.splits.proofs.holds_unit.Statement.{statement}
 use Rattle.splits.proofs.holds_unit.Tie as tie
 
-abbrev invariant-loop : tie.invariant-loop
+abbrev invariant-loop : tie.invariant-loop-k
 invariant-loop units at unit any₀ k₀ any k = (k ≤ 32) × Left (λ (u : ℕ). eqb u unit) (λ (j : ℕ). get_or units j 0) at 32 any k
 
-abbrev decreases-loop : tie.decreases-loop
+abbrev decreases-loop : tie.decreases-loop-k
 decreases-loop units at unit any₀ k₀ any k = 32 - k
 
 loop-holds : tie.Need-loop-k-init invariant-loop decreases-loop

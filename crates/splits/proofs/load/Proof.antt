@@ -16,13 +16,13 @@ use Rattle.splits.proofs.Rows.{row_stored, row_other, Same, same, same_stored}
 use Rattle.splits.proofs.load.Statement.{statement}
 use Rattle.splits.proofs.load.Tie as tie
 
-abbrev invariant-loop : tie.invariant-loop
+abbrev invariant-loop : tie.invariant-loop-i
 invariant-loop b places starts₀ ends₀ units₀ rest₀ i₀ starts ends units rest i =
     (i ≤ length places)
     × Same (columns starts ends units rest) (columns starts₀ ends₀ units₀ rest₀)
     × ((k : ℕ) → k < i → row_at (columns starts ends units rest) k ≡ split_at b (get_or places k 0))
 
-abbrev decreases-loop : tie.decreases-loop
+abbrev decreases-loop : tie.decreases-loop-i
 decreases-loop b places starts₀ ends₀ units₀ rest₀ i₀ starts ends units rest i = length places - i
 
 loop-holds : tie.Need-loop-i-init invariant-loop decreases-loop

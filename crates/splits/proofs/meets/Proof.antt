@@ -27,7 +27,7 @@ or_yes : (a : Bool) → (a || true) ≡ true
 or_yes true = refl
 or_yes false = refl
 
-abbrev invariant-loop : tie.invariant-loop
+abbrev invariant-loop : tie.invariant-loop-i
 invariant-loop starts ends units rest n section from to unit any₀ hand₀ other₀ i₀ any hand other i =
     (i ≤ n)
     × (i < n → within section from to (row_at (columns starts ends units rest) i) ≡ true)
@@ -35,7 +35,7 @@ invariant-loop starts ends units rest n section from to unit any₀ hand₀ othe
     × Left hand (is_by_hand (within section from to)) (columns starts ends units rest) n i
     × Left other (is_of_other (within section from to) unit) (columns starts ends units rest) n i
 
-abbrev decreases-loop : tie.decreases-loop
+abbrev decreases-loop : tie.decreases-loop-i
 decreases-loop starts ends units rest n section from to unit any₀ hand₀ other₀ i₀ any hand other i = n - i
 
 next-within-requires : tie.Need-next_within-i-requires invariant-loop decreases-loop

@@ -11,14 +11,14 @@ use Rattle.splits.specs.Questions.{of_unit}
 use Rattle.splits.proofs.next_in_rows.Statement.{statement}
 use Rattle.splits.proofs.next_in_rows.Tie as tie
 
-abbrev invariant-loop : tie.invariant-loop
+abbrev invariant-loop : tie.invariant-loop-i
 invariant-loop starts ends units rest n section unit at i₀ i =
     (at ≤ i)
     × (i ≤ n)
     × (keep_if (of_unit section unit) (tabulate (row_at (columns starts ends units rest)) at (n - at))
     ≡ keep_if (of_unit section unit) (tabulate (row_at (columns starts ends units rest)) i (n - i)))
 
-abbrev decreases-loop : tie.decreases-loop
+abbrev decreases-loop : tie.decreases-loop-i
 decreases-loop starts ends units rest n section unit at i₀ i = n - i
 
 loop-holds : tie.Need-loop-i-init invariant-loop decreases-loop

@@ -10,14 +10,14 @@ use Rattle.splits.proofs.Blocks.{block_hit, block_miss}
 use Rattle.splits.proofs.next_of_unit.Statement.{statement}
 use Rattle.splits.proofs.next_of_unit.Tie as tie
 
-abbrev invariant-loop : tie.invariant-loop
+abbrev invariant-loop : tie.invariant-loop-i
 invariant-loop starts ends units rest n section unit at i₀ i =
     (at ≤ i)
     × (i ≤ n)
     × (keep_if (of_unit section unit) (tabulate (row_at (columns starts ends units rest)) at (n - at))
     ≡ keep_if (of_unit section unit) (tabulate (row_at (columns starts ends units rest)) i (n - i)))
 
-abbrev decreases-loop : tie.decreases-loop
+abbrev decreases-loop : tie.decreases-loop-i
 decreases-loop starts ends units rest n section unit at i₀ i = n - i
 
 loop-holds : tie.Need-loop-i-init invariant-loop decreases-loop

@@ -10,13 +10,13 @@ use Rattle.splits.proofs.Blocks.{none_on}
 use Rattle.splits.proofs.next_within.Statement.{statement}
 use Rattle.splits.proofs.next_within.Tie as tie
 
-abbrev invariant-loop : tie.invariant-loop
+abbrev invariant-loop : tie.invariant-loop-i
 invariant-loop starts ends units rest n section from to at i₀ i =
     (at ≤ i)
     × (i ≤ n)
     × ((k : ℕ) → at ≤ k → k < i → within section from to (row_at (columns starts ends units rest) k) ≡ false)
 
-abbrev decreases-loop : tie.decreases-loop
+abbrev decreases-loop : tie.decreases-loop-i
 decreases-loop starts ends units rest n section from to at i₀ i = n - i
 
 loop-holds : tie.Need-loop-i-init invariant-loop decreases-loop

@@ -16,13 +16,13 @@ use Rattle.splits.proofs.Bytes.{written_turn, written_all}
 use Rattle.splits.proofs.store.Statement.{statement}
 use Rattle.splits.proofs.store.Tie as tie
 
-abbrev invariant-loop : tie.invariant-loop
+abbrev invariant-loop : tie.invariant-loop-i
 invariant-loop starts ends units rest n out₀ i₀ out i =
     (i ≤ n)
     × (length out ≡ length out₀)
     × (sets out (split_width * i) (table_bytes (tabulate (row_at (columns starts ends units rest)) i (n - i))) ≡ sets out₀ 0 (table_bytes (rows (columns starts ends units rest) n)))
 
-abbrev decreases-loop : tie.decreases-loop
+abbrev decreases-loop : tie.decreases-loop-i
 decreases-loop starts ends units rest n out₀ i₀ out i = n - i
 
 loop-holds : tie.Need-loop-i-init invariant-loop decreases-loop

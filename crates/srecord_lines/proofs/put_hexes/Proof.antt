@@ -11,10 +11,10 @@ use Rattle.srecord_lines.proofs.Laws.{hexes_turn, hexes-none}
 use Rattle.srecord_lines.proofs.put_hexes.Statement.{statement}
 use Rattle.srecord_lines.proofs.put_hexes.Tie as tie
 
-abbrev invariant-loop : tie.invariant-loop
+abbrev invariant-loop : tie.invariant-loop-i
 invariant-loop out₀ at bytes i₀ out i = (i ≤ length bytes) × (length out ≡ length out₀) × (sets out (at + 2 * i) (hexes (drop i bytes)) ≡ sets out₀ at (hexes bytes))
 
-abbrev decreases-loop : tie.decreases-loop
+abbrev decreases-loop : tie.decreases-loop-i
 decreases-loop out₀ at bytes i₀ out i = length bytes - i
 
 loop-holds : tie.Need-loop-i-init invariant-loop decreases-loop

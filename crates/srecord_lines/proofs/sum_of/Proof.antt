@@ -9,10 +9,10 @@ use Rattle.srecord_lines.proofs.Laws.{sum_turn, sum-none}
 use Rattle.srecord_lines.proofs.sum_of.Statement.{statement}
 use Rattle.srecord_lines.proofs.sum_of.Tie as tie
 
-abbrev invariant-loop : tie.invariant-loop
+abbrev invariant-loop : tie.invariant-loop-i
 invariant-loop bytes total₀ i₀ total i = (i ≤ length bytes) × (total + sum (drop i bytes) ≡ sum bytes) × (total ≤ 255 * i)
 
-abbrev decreases-loop : tie.decreases-loop
+abbrev decreases-loop : tie.decreases-loop-i
 decreases-loop bytes total₀ i₀ total i = length bytes - i
 
 loop-holds : tie.Need-loop-i-init invariant-loop decreases-loop

@@ -9,10 +9,10 @@ use Rattle.lists.proofs.Keep.{take_more}
 use Rattle.srecord_text.proofs.copied.Statement.{statement}
 use Rattle.srecord_text.proofs.copied.Tie as tie
 
-abbrev invariant-loop : tie.invariant-loop
+abbrev invariant-loop : tie.invariant-loop-i
 invariant-loop out at m line₀ i₀ line i = (i ≤ m) × (length line ≡ 16) × (take i line ≡ take i (drop at out))
 
-abbrev decreases-loop : tie.decreases-loop
+abbrev decreases-loop : tie.decreases-loop-i
 decreases-loop out at m line₀ i₀ line i = m - i
 
 loop-holds : tie.Need-loop-i-init invariant-loop decreases-loop

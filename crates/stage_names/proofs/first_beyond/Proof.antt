@@ -13,10 +13,10 @@ use Rattle.stage_names.proofs.Fits.{not_beyond}
 use Rattle.stage_names.proofs.first_beyond.Statement.{statement}
 use Rattle.stage_names.proofs.first_beyond.Tie as tie
 
-abbrev invariant-loop : tie.invariant-loop
+abbrev invariant-loop : tie.invariant-loop-i
 invariant-loop ends most most_bytes n i₀ i = (i ≤ n) × (i ≤ most) × (first_from (beyond most most_bytes ends) i (n - i) ≡ first_from (beyond most most_bytes ends) 0 n)
 
-abbrev decreases-loop : tie.decreases-loop
+abbrev decreases-loop : tie.decreases-loop-i
 decreases-loop ends most most_bytes n i₀ i = n - i
 
 loop-holds : tie.Need-loop-i-init invariant-loop decreases-loop

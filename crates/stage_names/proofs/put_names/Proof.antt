@@ -6,10 +6,10 @@ use Rattle.stage_names.proofs.Fits.{Putting, putting_start, name_fits, putting_t
 use Rattle.stage_names.proofs.put_names.Statement.{statement}
 use Rattle.stage_names.proofs.put_names.Tie as tie
 
-abbrev invariant-loop : tie.invariant-loop
+abbrev invariant-loop : tie.invariant-loop-i
 invariant-loop bytes places lengths n first at out-ends₀ out-bytes₀ end₀ i₀ out_ends out_bytes end i = Putting bytes places lengths n first at out-ends₀ out-bytes₀ out_ends out_bytes end i
 
-abbrev decreases-loop : tie.decreases-loop
+abbrev decreases-loop : tie.decreases-loop-i
 decreases-loop bytes places lengths n first at out-ends₀ out-bytes₀ end₀ i₀ out_ends out_bytes end i = n - i
 
 loop-holds : tie.Need-loop-i-init invariant-loop decreases-loop

@@ -9,11 +9,11 @@ use Rattle.stage_symbols.proofs.Places.{place_more, places_end, column_end}
 use Rattle.stage_symbols.proofs.take_image_places.Statement.{statement}
 use Rattle.stage_symbols.proofs.take_image_places.Tie as tie
 
-abbrev invariant-loop : tie.invariant-loop
+abbrev invariant-loop : tie.invariant-loop-i
 invariant-loop b column₀ i₀ column i =
     (i ≤ length column) × (length column ≡ length column₀) × (i ≤ length b / 4) × (take i column ≡ take i (image_places_of b))
 
-abbrev decreases-loop : tie.decreases-loop
+abbrev decreases-loop : tie.decreases-loop-i
 decreases-loop b column₀ i₀ column i = length column - i
 
 loop-holds : tie.Need-loop-i-init invariant-loop decreases-loop

@@ -12,11 +12,11 @@ use Rattle.symbol_order.proofs.Parts.{order_sorted, order_readable}
 use Rattle.symbols.proofs.first_from.Statement.{statement}
 use Rattle.symbols.proofs.first_from.Tie as tie
 
-abbrev invariant-loop : tie.invariant-loop
+abbrev invariant-loop : tie.invariant-loop-lo
 invariant-loop b places order from key lo₀ lo =
     let p = first_in (at_least (key_at b places) key) order in (from ≤ lo) × (lo ≤ p) × (p ≤ length order)
 
-abbrev decreases-loop : tie.decreases-loop
+abbrev decreases-loop : tie.decreases-loop-lo
 decreases-loop b places order from key lo₀ lo = length order - lo
 
 loop-holds : tie.Need-loop-lo-init invariant-loop decreases-loop

@@ -10,11 +10,11 @@ use Rattle.symbols.proofs.Laws.{highest_from, highest_turn, highest_end, highest
 use Rattle.symbols.proofs.highest_of.Statement.{statement}
 use Rattle.symbols.proofs.highest_of.Tie as tie
 
-abbrev invariant-loop : tie.invariant-loop
+abbrev invariant-loop : tie.invariant-loop-j
 invariant-loop b places part most₀ j₀ most j =
     (j ≤ length part) × (max most (highest_from (symbol_of b places) part j) ≡ highest_from (symbol_of b places) part 0)
 
-abbrev decreases-loop : tie.decreases-loop
+abbrev decreases-loop : tie.decreases-loop-j
 decreases-loop b places part most₀ j₀ most j = length part - j
 
 loop-holds : tie.Need-loop-j-init invariant-loop decreases-loop

@@ -23,11 +23,11 @@ abbrev kept : (b places order : List ℕ) → Bool → (section j : ℕ) → Fou
 kept b places order objects section j =
     last_from (λ i. sized_unstripped objects (symbol_of b places i)) order (first_in (at_least (key_at b places) (key section 0)) order) j
 
-abbrev invariant-loop : tie.invariant-loop
+abbrev invariant-loop : tie.invariant-loop-j
 invariant-loop b places order objects section address j₀ j =
     (j ≤ length order) × (kept b places order objects section j ≡ last_below (symbol_of b places) (length places) section objects address)
 
-abbrev decreases-loop : tie.decreases-loop
+abbrev decreases-loop : tie.decreases-loop-j
 decreases-loop b places order objects section address j₀ j = j
 
 abbrev start : tie.After-symbol_at-y invariant-loop decreases-loop → tie.Start invariant-loop decreases-loop

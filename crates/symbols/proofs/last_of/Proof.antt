@@ -15,11 +15,11 @@ use Rattle.symbols.proofs.Laws.{last_turn}
 use Rattle.symbols.proofs.last_of.Statement.{statement}
 use Rattle.symbols.proofs.last_of.Tie as tie
 
-abbrev invariant-loop : tie.invariant-loop
+abbrev invariant-loop : tie.invariant-loop-j
 invariant-loop b places part objects j₀ j =
     (j ≤ length part) × (last_or Nothing (keep_if (λ i. sized_unstripped objects (symbol_of b places i)) (take j part)) ≡ last_or Nothing (keep_if (λ i. sized_unstripped objects (symbol_of b places i)) part))
 
-abbrev decreases-loop : tie.decreases-loop
+abbrev decreases-loop : tie.decreases-loop-j
 decreases-loop b places part objects j₀ j = j
 
 -- what is kept of the part to before j

@@ -11,11 +11,11 @@ use Rattle.symbol_order.proofs.Parts.{order_sorted, order_readable}
 use Rattle.symbols.proofs.search.Statement.{statement}
 use Rattle.symbols.proofs.search.Tie as tie
 
-abbrev invariant-loop : tie.invariant-loop
+abbrev invariant-loop : tie.invariant-loop-lo
 invariant-loop b places order from to key lo₀ hi₀ lo hi =
     let p = first_in (at_least (key_at b places) key) order in (lo ≤ p) × (p ≤ hi) × (hi ≤ length order)
 
-abbrev decreases-loop : tie.decreases-loop
+abbrev decreases-loop : tie.decreases-loop-lo
 decreases-loop b places order from to key lo₀ hi₀ lo hi = hi - lo
 
 loop-holds : tie.Need-loop-lo-init invariant-loop decreases-loop

@@ -9,10 +9,10 @@ use Rattle.tables.proofs.Lookups.{held}
 use Rattle.tables.proofs.check_image.Statement.{statement}
 use Rattle.tables.proofs.check_image.Tie as tie
 
-abbrev invariant-loop : tie.invariant-loop
+abbrev invariant-loop : tie.invariant-loop-i
 invariant-loop lengths image_places image b places i₀ i = Going (image_fault lengths (image_places_of image_places) image (sections_in b places)) (length places) i
 
-abbrev decreases-loop : tie.decreases-loop
+abbrev decreases-loop : tie.decreases-loop-i
 decreases-loop lengths image_places image b places i₀ i = length places - i
 
 loop-holds : tie.Need-loop-i-init invariant-loop decreases-loop

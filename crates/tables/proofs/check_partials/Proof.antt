@@ -9,10 +9,10 @@ use Rattle.tables.proofs.Lookups.{held}
 use Rattle.tables.proofs.check_partials.Statement.{statement}
 use Rattle.tables.proofs.check_partials.Tie as tie
 
-abbrev invariant-loop : tie.invariant-loop
+abbrev invariant-loop : tie.invariant-loop-i
 invariant-loop lengths b places i₀ i = Going (partial_fault lengths (partials_in b places)) (length places) i
 
-abbrev decreases-loop : tie.decreases-loop
+abbrev decreases-loop : tie.decreases-loop-i
 decreases-loop lengths b places i₀ i = length places - i
 
 loop-holds : tie.Need-loop-i-init invariant-loop decreases-loop

@@ -12,13 +12,13 @@ use Rattle.tables.proofs.Floors.{Floors, no_floors, floors_more, reloc_fault_her
 use Rattle.tables.proofs.check_relocs.Statement.{statement}
 use Rattle.tables.proofs.check_relocs.Tie as tie
 
-abbrev invariant-loop : tie.invariant-loop
+abbrev invariant-loop : tie.invariant-loop-i
 invariant-loop heads head_places symbols b places floors₀ i₀ floors i =
     Going (reloc_fault (sections_in heads head_places) symbols (relocs_in b places)) (length places) i
     × Floors (relocs_in b places) i floors
     × (length floors ≡ length floors₀)
 
-abbrev decreases-loop : tie.decreases-loop
+abbrev decreases-loop : tie.decreases-loop-i
 decreases-loop heads head_places symbols b places floors₀ i₀ floors i = length places - i
 
 -- where the function starts, from the loop's test

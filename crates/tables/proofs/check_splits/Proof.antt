@@ -8,10 +8,10 @@ use Rattle.tables.proofs.Loops.{Going, going, stops, goes_on, passes_all}
 use Rattle.tables.proofs.check_splits.Statement.{statement}
 use Rattle.tables.proofs.check_splits.Tie as tie
 
-abbrev invariant-loop : tie.invariant-loop
+abbrev invariant-loop : tie.invariant-loop-i
 invariant-loop lengths heads head_places b places i₀ i = Going (split_fault lengths (sections_in heads head_places) (splits_in b places)) (length places) i
 
-abbrev decreases-loop : tie.decreases-loop
+abbrev decreases-loop : tie.decreases-loop-i
 decreases-loop lengths heads head_places b places i₀ i = length places - i
 
 loop-holds : tie.Need-loop-i-init invariant-loop decreases-loop

@@ -9,10 +9,10 @@ use Rattle.tables.proofs.Lookups.{held}
 use Rattle.tables.proofs.check_symbols.Statement.{statement}
 use Rattle.tables.proofs.check_symbols.Tie as tie
 
-abbrev invariant-loop : tie.invariant-loop
+abbrev invariant-loop : tie.invariant-loop-i
 invariant-loop names heads head_places b places i₀ i = Going (symbol_fault names (sections_in heads head_places) (symbols_in b places)) (length places) i
 
-abbrev decreases-loop : tie.decreases-loop
+abbrev decreases-loop : tie.decreases-loop-i
 decreases-loop names heads head_places b places i₀ i = length places - i
 
 loop-holds : tie.Need-loop-i-init invariant-loop decreases-loop

@@ -11,10 +11,10 @@ use Rattle.tables.proofs.Lookups.{place_more}
 use Rattle.tables.proofs.fill_places.Statement.{statement}
 use Rattle.tables.proofs.fill_places.Tie as tie
 
-abbrev invariant-loop : tie.invariant-loop
+abbrev invariant-loop : tie.invariant-loop-i
 invariant-loop places₀ width n i₀ places i = (i ≤ n) × (length places ≡ length places₀) × (take i places ≡ stage_places width i)
 
-abbrev decreases-loop : tie.decreases-loop
+abbrev decreases-loop : tie.decreases-loop-i
 decreases-loop places₀ width n i₀ places i = n - i
 
 loop-holds : tie.Need-loop-i-init invariant-loop decreases-loop

@@ -10,10 +10,10 @@ use Rattle.toposort.proofs.Edges.{bad_from, bad_from_lem, bad_to, bad_on, bad_en
 use Rattle.toposort.proofs.bad_edge.Statement.{statement}
 use Rattle.toposort.proofs.bad_edge.Tie as tie
 
-abbrev invariant-loop : tie.invariant-loop
+abbrev invariant-loop : tie.invariant-loop-i
 invariant-loop n from to i₀ i = (i ≤ length from) × (bad_edge n from to ≡ bad_from n from to i)
 
-abbrev decreases-loop : tie.decreases-loop
+abbrev decreases-loop : tie.decreases-loop-i
 decreases-loop n from to i₀ i = length from - i
 
 loop-holds : tie.Need-loop-i-init invariant-loop decreases-loop

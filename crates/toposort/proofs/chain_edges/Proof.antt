@@ -9,10 +9,10 @@ use Rattle.toposort.proofs.Chains.{Chaining, chain_start, chain_more, chain_done
 use Rattle.toposort.proofs.chain_edges.Statement.{statement}
 use Rattle.toposort.proofs.chain_edges.Tie as tie
 
-abbrev invariant-loop : tie.invariant-loop
+abbrev invariant-loop : tie.invariant-loop-i
 invariant-loop from heads₀ chain₀ i₀ heads chain i = Chaining from i heads chain × (length chain ≡ length chain₀)
 
-abbrev decreases-loop : tie.decreases-loop
+abbrev decreases-loop : tie.decreases-loop-i
 decreases-loop from heads₀ chain₀ i₀ heads chain i = i
 
 -- the edge before `i` leaves a node

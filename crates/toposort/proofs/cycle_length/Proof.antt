@@ -7,10 +7,10 @@ use Rattle.toposort.proofs.Climb.{Climbing, climb-start, climb_more, climb_done}
 use Rattle.toposort.proofs.cycle_length.Statement.{statement}
 use Rattle.toposort.proofs.cycle_length.Tie as tie
 
-abbrev invariant-loop : tie.invariant-loop
+abbrev invariant-loop : tie.invariant-loop-cur
 invariant-loop top from nodes cur₀ k₀ cur k = Climbing 1025 nodes top from cur k
 
-abbrev decreases-loop : tie.decreases-loop
+abbrev decreases-loop : tie.decreases-loop-cur
 decreases-loop top from nodes cur₀ k₀ cur k = 1026 - k
 
 loop-holds : tie.Need-loop-cur-init invariant-loop decreases-loop

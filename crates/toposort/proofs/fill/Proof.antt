@@ -11,10 +11,10 @@ use Rattle.lists.proofs.Fill.{filled}
 use Rattle.toposort.proofs.fill.Statement.{statement}
 use Rattle.toposort.proofs.fill.Tie as tie
 
-abbrev invariant-loop : tie.invariant-loop
+abbrev invariant-loop : tie.invariant-loop-i
 invariant-loop table₀ value i₀ table i = (i ≤ length table₀) × (length table ≡ length table₀) × (table ≡ replicate i value ++ drop i table₀)
 
-abbrev decreases-loop : tie.decreases-loop
+abbrev decreases-loop : tie.decreases-loop-i
 decreases-loop table₀ value i₀ table i = length table₀ - i
 
 loop-holds : tie.Need-loop-i-init invariant-loop decreases-loop

@@ -23,11 +23,11 @@ use Rattle.toposort.proofs.Walk.{Searching, Turn, walk_start, walk_here, walk_in
 use Rattle.toposort.proofs.search.Statement.{statement}
 use Rattle.toposort.proofs.search.Tie as tie
 
-abbrev invariant-loop : tie.invariant-loop
+abbrev invariant-loop : tie.invariant-loop-next
 invariant-loop n from to heads chain table₀ nodes₀ left₀ cur₀ table nodes left cur =
     Searching (record { count = n; from = from; to = to }) table₀ table nodes left cur
 
-abbrev decreases-loop : tie.decreases-loop
+abbrev decreases-loop : tie.decreases-loop-next
 decreases-loop n from to heads chain table₀ nodes₀ left₀ cur₀ table nodes left cur = total pot nodes
 
 -- ---- The places of a turn, and the ways back from a place to those before it.

@@ -6,10 +6,10 @@ use Rattle.toposort.proofs.Climb.{Writing, write_start, write_more, write_done}
 use Rattle.toposort.proofs.write_cycle.Statement.{statement}
 use Rattle.toposort.proofs.write_cycle.Tie as tie
 
-abbrev invariant-loop : tie.invariant-loop
+abbrev invariant-loop : tie.invariant-loop-left
 invariant-loop from k table₀ nodes cur₀ left₀ table cur left = Writing nodes from k table₀ cur left table
 
-abbrev decreases-loop : tie.decreases-loop
+abbrev decreases-loop : tie.decreases-loop-left
 decreases-loop from k table₀ nodes cur₀ left₀ table cur left = left
 
 loop-holds : tie.Need-loop-left-init invariant-loop decreases-loop

@@ -11,11 +11,11 @@ use Rattle.trim.proofs.Cut.{of_section, none_down, none_end}
 use Rattle.trim.proofs.after_last.Statement.{statement}
 use Rattle.trim.proofs.after_last.Tie as tie
 
-abbrev invariant-loop : tie.invariant-loop
+abbrev invariant-loop : tie.invariant-loop-j
 invariant-loop starts ends units rest n section j₀ j =
     (j ≤ n) × (some (λ y. eqb y.section section) (tabulate (row_at (columns starts ends units rest)) j (n - j)) ≡ false)
 
-abbrev decreases-loop : tie.decreases-loop
+abbrev decreases-loop : tie.decreases-loop-j
 decreases-loop starts ends units rest n section j₀ j = j
 
 abbrev row_of_table : tie.Start invariant-loop decreases-loop → ℕ → Split

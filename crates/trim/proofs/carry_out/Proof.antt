@@ -12,13 +12,13 @@ use borrow.Author.Rules.{rules}
 use Rattle.trim.proofs.carry_out.Statement.{statement}
 use Rattle.trim.proofs.carry_out.Tie as tie
 
-abbrev invariant-loop : tie.invariant-loop
+abbrev invariant-loop : tie.invariant-loop-k
 invariant-loop starts ends₀ units rest n falls k₀ ends k =
     (k ≤ n)
     × (length ends ≡ length ends₀)
     × (carry_from k (drop k (take n falls)) (rows (columns starts ends units rest) n) ≡ carry_from 0 (take n falls) (rows (columns starts ends₀ units rest) n))
 
-abbrev decreases-loop : tie.decreases-loop
+abbrev decreases-loop : tie.decreases-loop-k
 decreases-loop starts ends₀ units rest n falls k₀ ends k = n - k
 
 loop-holds : tie.Need-loop-k-init invariant-loop decreases-loop

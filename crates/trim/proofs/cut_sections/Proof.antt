@@ -15,14 +15,14 @@ use borrow.Author.Rules.{rules}
 use Rattle.trim.proofs.cut_sections.Statement.{statement}
 use Rattle.trim.proofs.cut_sections.Tie as tie
 
-abbrev invariant-loop : tie.invariant-loop
+abbrev invariant-loop : tie.invariant-loop-k
 invariant-loop b places order name_bytes name_places name_lengths heads head_places image image_places starts ends₀ units rest n k₀ ends k =
     (k ≤ length head_places)
     × (length ends ≡ length ends₀)
     × (cut_from (image_of b places name_bytes name_places name_lengths) (sections_of heads head_places image image_places) (length head_places - k) k (rows (columns starts ends units rest) n)
     ≡ cut_from (image_of b places name_bytes name_places name_lengths) (sections_of heads head_places image image_places) (length head_places) 0 (rows (columns starts ends₀ units rest) n))
 
-abbrev decreases-loop : tie.decreases-loop
+abbrev decreases-loop : tie.decreases-loop-k
 decreases-loop b places order name_bytes name_places name_lengths heads head_places image image_places starts ends₀ units rest n k₀ ends k = length head_places - k
 
 abbrev image_at : tie.Start invariant-loop decreases-loop → Image

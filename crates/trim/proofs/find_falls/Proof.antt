@@ -22,14 +22,14 @@ use borrow.Author.Rules.{rules}
 use Rattle.trim.proofs.find_falls.Statement.{statement}
 use Rattle.trim.proofs.find_falls.Tie as tie
 
-abbrev invariant-loop : tie.invariant-loop
+abbrev invariant-loop : tie.invariant-loop-i
 invariant-loop b places order name_bytes name_places name_lengths heads head_places starts ends units rest n falls₀ i₀ falls i =
     (i ≤ n)
     × (length falls ≡ length falls₀)
     × (falls_from (image_of b places name_bytes name_places name_lengths) (head_of heads head_places) (row_at (columns starts ends units rest)) n i (take i falls)
     ≡ falls_of (image_of b places name_bytes name_places name_lengths) (head_of heads head_places) (rows (columns starts ends units rest) n))
 
-abbrev decreases-loop : tie.decreases-loop
+abbrev decreases-loop : tie.decreases-loop-i
 decreases-loop b places order name_bytes name_places name_lengths heads head_places starts ends units rest n falls₀ i₀ falls i = n - i
 
 abbrev image : tie.Start invariant-loop decreases-loop → Image

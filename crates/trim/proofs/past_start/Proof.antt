@@ -11,13 +11,13 @@ use Rattle.trim.proofs.Carry.{along_on, along_ends, along_none}
 use Rattle.trim.proofs.past_start.Statement.{statement}
 use Rattle.trim.proofs.past_start.Tie as tie
 
-abbrev invariant-loop : tie.invariant-loop
+abbrev invariant-loop : tie.invariant-loop-j
 invariant-loop starts ends units rest n s from j₀ j =
     (from ≤ j)
     × (j ≤ n)
     × (j + alongside s (tabulate (row_at (columns starts ends units rest)) j (n - j)) ≡ from + alongside s (tabulate (row_at (columns starts ends units rest)) from (n - from)))
 
-abbrev decreases-loop : tie.decreases-loop
+abbrev decreases-loop : tie.decreases-loop-j
 decreases-loop starts ends units rest n s from j₀ j = n - j
 
 abbrev row_of_table : tie.Start invariant-loop decreases-loop → ℕ → Split

@@ -9,10 +9,10 @@ use Rattle.lists.proofs.Clear.{clear_turn, clear_done, clear_is}
 use Rattle.units.proofs.fill.Statement.{statement}
 use Rattle.units.proofs.fill.Tie as tie
 
-abbrev invariant-loop : tie.invariant-loop
+abbrev invariant-loop : tie.invariant-loop-i
 invariant-loop column₀ value i₀ column i = (length column ≡ length column₀) × (clear_from value i column ≡ clear_from value 0 column₀)
 
-abbrev decreases-loop : tie.decreases-loop
+abbrev decreases-loop : tie.decreases-loop-i
 decreases-loop column₀ value i₀ column i = length column₀ - i
 
 loop-holds : tie.Need-loop-i-init invariant-loop decreases-loop

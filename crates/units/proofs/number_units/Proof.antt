@@ -10,10 +10,10 @@ use Rattle.units.proofs.Laws.{After, after_none, after_more, after_all}
 use Rattle.units.proofs.number_units.Statement.{statement}
 use Rattle.units.proofs.number_units.Tie as tie
 
-abbrev invariant-loop : tie.invariant-loop
+abbrev invariant-loop : tie.invariant-loop-k
 invariant-loop b places column₀ k₀ column k = (k ≤ length places) × (length column ≡ length column₀) × After (unit_names b places) column k
 
-abbrev decreases-loop : tie.decreases-loop
+abbrev decreases-loop : tie.decreases-loop-k
 decreases-loop b places column₀ k₀ column k = length places - k
 
 abbrev T : Type 0

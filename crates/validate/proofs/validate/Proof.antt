@@ -16,13 +16,13 @@ use borrow.Author.Rules.{rules}
 use Rattle.validate.proofs.validate.Statement.{statement}
 use Rattle.validate.proofs.validate.Tie as tie
 
-abbrev invariant-loop : tie.invariant-loop
+abbrev invariant-loop : tie.invariant-loop-i
 invariant-loop b places order starts ends units rest n before₀ last₀ i₀ before last i =
     (i ≤ n)
     × (validate_from (symbol_of b places) (length places) before last (tabulate (row_at (columns starts ends units rest)) i (n - i))
     ≡ validate (symbol_of b places) (length places) (rows (columns starts ends units rest) n))
 
-abbrev decreases-loop : tie.decreases-loop
+abbrev decreases-loop : tie.decreases-loop-i
 decreases-loop b places order starts ends units rest n before₀ last₀ i₀ before last i = n - i
 
 loop-holds : tie.Need-loop-i-init invariant-loop decreases-loop

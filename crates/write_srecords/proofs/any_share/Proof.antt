@@ -15,10 +15,10 @@ use Rattle.write_srecords.proofs.Laws.{share_turn, share_none}
 use Rattle.write_srecords.proofs.any_share.Statement.{statement}
 use Rattle.write_srecords.proofs.any_share.Tie as tie
 
-abbrev invariant-loop : tie.invariant-loop
+abbrev invariant-loop : tie.invariant-loop-k
 invariant-loop sections k₀ k = (some_share (drop k (stage_sections sections)) ≡ some_share (stage_sections sections))
 
-abbrev decreases-loop : tie.decreases-loop
+abbrev decreases-loop : tie.decreases-loop-k
 decreases-loop sections k₀ k = length sections / 15 - k
 
 loop-holds : tie.Need-loop-k-init invariant-loop decreases-loop

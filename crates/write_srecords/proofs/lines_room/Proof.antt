@@ -16,10 +16,10 @@ use Rattle.srecord_text.specs.Room.{lines_size}
 use Rattle.write_srecords.proofs.lines_room.Statement.{statement}
 use Rattle.write_srecords.proofs.lines_room.Tie as tie
 
-abbrev invariant-loop : tie.invariant-loop
+abbrev invariant-loop : tie.invariant-loop-k
 invariant-loop sections sum₀ k₀ sum k = (k ≤ length sections / 15) × (sum + room_along (drop k (stage_sections sections)) ≡ room_along (stage_sections sections) + 15) × (sum ≤ 15 + 17179869184 * k)
 
-abbrev decreases-loop : tie.decreases-loop
+abbrev decreases-loop : tie.decreases-loop-k
 decreases-loop sections sum₀ k₀ sum k = length sections / 15 - k
 
 loop-holds : tie.Need-loop-k-init invariant-loop decreases-loop

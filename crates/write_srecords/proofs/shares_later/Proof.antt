@@ -15,10 +15,10 @@ use Rattle.lists.proofs.Some.{some_turn, some-none}
 use Rattle.write_srecords.proofs.shares_later.Statement.{statement}
 use Rattle.write_srecords.proofs.shares_later.Tie as tie
 
-abbrev invariant-loop : tie.invariant-loop
+abbrev invariant-loop : tie.invariant-loop-j
 invariant-loop sections k s j₀ j = (some (share_address (get_or (stage_sections sections) k nowhere)) (drop j (stage_sections sections)) ≡ some (share_address (get_or (stage_sections sections) k nowhere)) (drop (k + 1) (stage_sections sections)))
 
-abbrev decreases-loop : tie.decreases-loop
+abbrev decreases-loop : tie.decreases-loop-j
 decreases-loop sections k s j₀ j = length sections / 15 - j
 
 head-of-requires : tie.Need-head_of-s-requires invariant-loop decreases-loop

@@ -14,10 +14,10 @@ use Rattle.write_srecords.proofs.Laws.{Left, left_start, left_turn, left_end, se
 use Rattle.write_srecords.proofs.write_lines.Statement.{statement}
 use Rattle.write_srecords.proofs.write_lines.Tie as tie
 
-abbrev invariant-loop : tie.invariant-loop
+abbrev invariant-loop : tie.invariant-loop-k
 invariant-loop sections out₀ from n k₀ at₀ read₀ t9 out k at read = Left (stage_sections sections) out₀ from out k at read
 
-abbrev decreases-loop : tie.decreases-loop
+abbrev decreases-loop : tie.decreases-loop-k
 decreases-loop sections out₀ from n k₀ at₀ read₀ t9 out k at read = n - k
 
 loop-holds : tie.Need-loop-k-init invariant-loop decreases-loop

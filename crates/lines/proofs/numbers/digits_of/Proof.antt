@@ -7,10 +7,10 @@ use Rattle.lines.proofs.Digits.{Found, found_first, found-place, found_turn, fou
 use Rattle.lines.proofs.numbers.digits_of.Statement.{statement}
 use Rattle.lines.proofs.numbers.digits_of.Tie as tie
 
-abbrev invariant-loop : tie.invariant-loop
+abbrev invariant-loop : tie.invariant-loop-left
 invariant-loop column₀ n at₀ left₀ column at left = Found column n at left
 
-abbrev decreases-loop : tie.decreases-loop
+abbrev decreases-loop : tie.decreases-loop-left
 decreases-loop column₀ n at₀ left₀ column at left = at
 
 loop-holds : tie.Need-loop-left-init invariant-loop decreases-loop

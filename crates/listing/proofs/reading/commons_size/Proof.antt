@@ -10,10 +10,10 @@ use Rattle.listing.proofs.Sums.{Sum, sum_first, sum_turn, sum_end}
 use Rattle.listing.proofs.reading.commons_size.Statement.{statement}
 use Rattle.listing.proofs.reading.commons_size.Tie as tie
 
-abbrev invariant-loop : tie.invariant-loop
+abbrev invariant-loop : tie.invariant-loop-k
 invariant-loop symbols symbol_places piece_symbols count unit sum₀ k₀ sum k = Sum (λ (y : PieceSymbol). y.unit) (common_size (symbol_of symbols symbol_places)) (symbols_in piece_symbols count) unit k sum × (k ≤ count)
 
-abbrev decreases-loop : tie.decreases-loop
+abbrev decreases-loop : tie.decreases-loop-k
 decreases-loop symbols symbol_places piece_symbols count unit sum₀ k₀ sum k = count - k
 
 loop-holds : tie.Need-loop-k-init invariant-loop decreases-loop

@@ -8,10 +8,10 @@ use Rattle.listing.proofs.Sums.{Sum, sum_first, sum_turn, sum_end}
 use Rattle.listing.proofs.reading.pieces_size.Statement.{statement}
 use Rattle.listing.proofs.reading.pieces_size.Tie as tie
 
-abbrev invariant-loop : tie.invariant-loop
+abbrev invariant-loop : tie.invariant-loop-k
 invariant-loop pieces count unit sum₀ k₀ sum k = Sum (λ (p : Piece). p.unit) (λ (p : Piece). p.size) (pieces_in pieces count) unit k sum × (k ≤ count)
 
-abbrev decreases-loop : tie.decreases-loop
+abbrev decreases-loop : tie.decreases-loop-k
 decreases-loop pieces count unit sum₀ k₀ sum k = count - k
 
 loop-holds : tie.Need-loop-k-init invariant-loop decreases-loop

@@ -9,10 +9,10 @@ use Rattle.listing.proofs.First.{None, none_turn, first_at, first-none}
 use Rattle.listing.proofs.seek.next_piece.Statement.{statement}
 use Rattle.listing.proofs.seek.next_piece.Tie as tie
 
-abbrev invariant-loop : tie.invariant-loop
+abbrev invariant-loop : tie.invariant-loop-k
 invariant-loop pieces count unit at k₀ k = None (piece_is unit) (λ (i : ℕ). piece_at pieces (piece_width * i)) count at k
 
-abbrev decreases-loop : tie.decreases-loop
+abbrev decreases-loop : tie.decreases-loop-k
 decreases-loop pieces count unit at k₀ k = count - k
 
 loop-holds : tie.Need-loop-k-init invariant-loop decreases-loop

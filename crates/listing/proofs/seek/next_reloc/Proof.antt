@@ -9,10 +9,10 @@ use Rattle.listing.proofs.First.{None, none_turn, first_at, first-none}
 use Rattle.listing.proofs.seek.next_reloc.Statement.{statement}
 use Rattle.listing.proofs.seek.next_reloc.Tie as tie
 
-abbrev invariant-loop : tie.invariant-loop
+abbrev invariant-loop : tie.invariant-loop-k
 invariant-loop pieces piece_count piece_relocs count unit at k₀ k = None (reloc_is (pieces_in pieces piece_count) unit) (λ (i : ℕ). reloc_at piece_relocs (8 * i)) count at k
 
-abbrev decreases-loop : tie.decreases-loop
+abbrev decreases-loop : tie.decreases-loop-k
 decreases-loop pieces piece_count piece_relocs count unit at k₀ k = count - k
 
 loop-holds : tie.Need-loop-k-init invariant-loop decreases-loop

@@ -9,10 +9,10 @@ use Rattle.listing.proofs.First.{None, none_turn, first_at, first-none}
 use Rattle.listing.proofs.seek.next_symbol.Statement.{statement}
 use Rattle.listing.proofs.seek.next_symbol.Tie as tie
 
-abbrev invariant-loop : tie.invariant-loop
+abbrev invariant-loop : tie.invariant-loop-k
 invariant-loop piece_symbols count unit at k₀ k = None (symbol_is unit) (λ (i : ℕ). symbol_at piece_symbols (12 * i)) count at k
 
-abbrev decreases-loop : tie.decreases-loop
+abbrev decreases-loop : tie.decreases-loop-k
 decreases-loop piece_symbols count unit at k₀ k = count - k
 
 loop-holds : tie.Need-loop-k-init invariant-loop decreases-loop

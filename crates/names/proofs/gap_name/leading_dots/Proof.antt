@@ -9,10 +9,10 @@ use Rattle.names.proofs.Gaps.{dots_turn, dots_stop, dots_ended}
 use Rattle.names.proofs.gap_name.leading_dots.Statement.{statement}
 use Rattle.names.proofs.gap_name.leading_dots.Tie as tie
 
-abbrev invariant-loop : tie.invariant-loop
+abbrev invariant-loop : tie.invariant-loop-i
 invariant-loop name i₀ i = (i ≤ length name) × (without_dots (drop i name) ≡ without_dots name)
 
-abbrev decreases-loop : tie.decreases-loop
+abbrev decreases-loop : tie.decreases-loop-i
 decreases-loop name i₀ i = length name - i
 
 loop-holds : tie.Need-loop-i-init invariant-loop decreases-loop

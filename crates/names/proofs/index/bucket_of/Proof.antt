@@ -9,10 +9,10 @@ use Rattle.names.proofs.Indexes.{hash_turn, hash_ended}
 use Rattle.names.proofs.index.bucket_of.Statement.{statement}
 use Rattle.names.proofs.index.bucket_of.Tie as tie
 
-abbrev invariant-loop : tie.invariant-loop
+abbrev invariant-loop : tie.invariant-loop-i
 invariant-loop name hash₀ i₀ hash i = (i ≤ length name) × (hash < 4294967296) × (hash_from hash (drop i name) ≡ hash_from 2166136261 name)
 
-abbrev decreases-loop : tie.decreases-loop
+abbrev decreases-loop : tie.decreases-loop-i
 decreases-loop name hash₀ i₀ hash i = length name - i
 
 loop-holds : tie.Need-loop-i-init invariant-loop decreases-loop

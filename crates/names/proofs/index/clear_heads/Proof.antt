@@ -9,10 +9,10 @@ use Rattle.lists.proofs.Clear.{clear_turn, clear_done, clear_all}
 use Rattle.names.proofs.index.clear_heads.Statement.{statement}
 use Rattle.names.proofs.index.clear_heads.Tie as tie
 
-abbrev invariant-loop : tie.invariant-loop
+abbrev invariant-loop : tie.invariant-loop-i
 invariant-loop heads₀ i₀ heads i = (length heads ≡ length heads₀) × (clear_from 0 i heads ≡ clear_from 0 0 heads₀)
 
-abbrev decreases-loop : tie.decreases-loop
+abbrev decreases-loop : tie.decreases-loop-i
 decreases-loop heads₀ i₀ heads i = length heads - i
 
 loop-holds : tie.Need-loop-i-init invariant-loop decreases-loop

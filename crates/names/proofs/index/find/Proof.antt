@@ -10,10 +10,10 @@ use Rattle.names.proofs.Indexes.{Search, search_starts, search_ends, left_name, 
 use Rattle.names.proofs.index.find.Statement.{statement}
 use Rattle.names.proofs.index.find.Tie as tie
 
-abbrev invariant-loop : tie.invariant-loop
+abbrev invariant-loop : tie.invariant-loop-cur
 invariant-loop bytes places lengths n heads chain x cur₀ cur = Search (names_of bytes places lengths n) x cur
 
-abbrev decreases-loop : tie.decreases-loop
+abbrev decreases-loop : tie.decreases-loop-cur
 decreases-loop bytes places lengths n heads chain x cur₀ cur = cur
 
 bucket-of-requires : tie.Need-bucket_of-requires invariant-loop decreases-loop

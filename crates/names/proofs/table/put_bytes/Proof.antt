@@ -10,10 +10,10 @@ use Rattle.lists.proofs.Stores.{sets_turn, sets_ended}
 use Rattle.names.proofs.table.put_bytes.Statement.{statement}
 use Rattle.names.proofs.table.put_bytes.Tie as tie
 
-abbrev invariant-loop : tie.invariant-loop
+abbrev invariant-loop : tie.invariant-loop-i
 invariant-loop out₀ at from i₀ out i = (i ≤ length from) × (length out ≡ length out₀) × (sets out (at + i) (drop i from) ≡ sets out₀ at from)
 
-abbrev decreases-loop : tie.decreases-loop
+abbrev decreases-loop : tie.decreases-loop-i
 decreases-loop out₀ at from i₀ out i = length from - i
 
 loop-holds : tie.Need-loop-i-init invariant-loop decreases-loop

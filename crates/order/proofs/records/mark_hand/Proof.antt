@@ -14,11 +14,11 @@ use borrow.Author.Rules.{rules}
 use Rattle.order.proofs.records.mark_hand.Statement.{statement}
 use Rattle.order.proofs.records.mark_hand.Tie as tie
 
-abbrev invariant-loop : tie.invariant-loop
+abbrev invariant-loop : tie.invariant-loop-i
 invariant-loop starts ends units rest n column₀ i₀ column i =
     (i ≤ n) × (length column ≡ length column₀) × HandMarked (tabulate (row_at (columns starts ends units rest)) 0 i) column₀ column
 
-abbrev decreases-loop : tie.decreases-loop
+abbrev decreases-loop : tie.decreases-loop-i
 decreases-loop starts ends units rest n column₀ i₀ column i = n - i
 
 loop-holds : tie.Need-loop-i-init invariant-loop decreases-loop

@@ -13,11 +13,11 @@ use borrow.Author.Rules.{rules}
 use Rattle.order.proofs.records.mark_records.Statement.{statement}
 use Rattle.order.proofs.records.mark_records.Tie as tie
 
-abbrev invariant-loop : tie.invariant-loop
+abbrev invariant-loop : tie.invariant-loop-k
 invariant-loop unit_bytes unit_places column₀ k₀ column k =
     (k ≤ length unit_places) × (length column ≡ length column₀) × MarkedFrom (units_in unit_bytes unit_places) k column₀ column
 
-abbrev decreases-loop : tie.decreases-loop
+abbrev decreases-loop : tie.decreases-loop-k
 decreases-loop unit_bytes unit_places column₀ k₀ column k = k
 
 loop-holds : tie.Need-loop-k-init invariant-loop decreases-loop

@@ -14,14 +14,14 @@ use Rattle.order.proofs.Bytes.{written_turn, written_all}
 use Rattle.order.proofs.records.write_units.Statement.{statement}
 use Rattle.order.proofs.records.write_units.Tie as tie
 
-abbrev invariant-loop : tie.invariant-loop
+abbrev invariant-loop : tie.invariant-loop-i
 invariant-loop unit_bytes unit_places column nodes list out₀ i₀ out i =
     (i ≤ length list)
     × (length out ≡ length out₀)
     × (sets out (8 * i) (units_bytes (map (node_record (units_in unit_bytes unit_places) column nodes) (drop i list)))
     ≡ sets out₀ 0 (units_bytes (map (node_record (units_in unit_bytes unit_places) column nodes) list)))
 
-abbrev decreases-loop : tie.decreases-loop
+abbrev decreases-loop : tie.decreases-loop-i
 decreases-loop unit_bytes unit_places column nodes list out₀ i₀ out i = length list - i
 
 loop-holds : tie.Need-loop-i-init invariant-loop decreases-loop

@@ -16,12 +16,12 @@ use Rattle.walk.proofs.Adding.{relocs_turn, relocs_done}
 use Rattle.walk.proofs.entries.add_relocs.Statement.{statement}
 use Rattle.walk.proofs.entries.add_relocs.Tie as tie
 
-abbrev invariant-loop : tie.invariant-loop
+abbrev invariant-loop : tie.invariant-loop-i
 invariant-loop relocs reloc_places part start place made out₀ i₀ out i =
     (i ≤ length part) × (length out ≡ length out₀)
     × (add_relocs (reloc_of relocs reloc_places) place start (relocs_in out (made + i)) (drop i part) ≡ add_relocs (reloc_of relocs reloc_places) place start (relocs_in out₀ made) part)
 
-abbrev decreases-loop : tie.decreases-loop
+abbrev decreases-loop : tie.decreases-loop-i
 decreases-loop relocs reloc_places part start place made out₀ i₀ out i = length part - i
 
 abbrev S : Type 0

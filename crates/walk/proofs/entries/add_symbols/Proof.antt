@@ -19,14 +19,14 @@ use Rattle.walk.proofs.Adding.{symbols_longer, symbols_turn, symbols_done}
 use Rattle.walk.proofs.entries.add_symbols.Statement.{statement}
 use Rattle.walk.proofs.entries.add_symbols.Tie as tie
 
-abbrev invariant-loop : tie.invariant-loop
+abbrev invariant-loop : tie.invariant-loop-i
 invariant-loop symbols symbol_places name_bytes name_places name_lengths part s unit place room made chains₀ out₀ k₀ i₀ chains out k i =
     (i ≤ length part) × (length chains ≡ length chains₀) × (length out ≡ length out₀)
     × Entries (length symbol_places) room chains out k
     × (add_symbols (image_of symbols symbol_places name_bytes name_places name_lengths) unit place s (symbols_in out k) (drop i part)
     ≡ add_symbols (image_of symbols symbol_places name_bytes name_places name_lengths) unit place s (symbols_in out₀ made) part)
 
-abbrev decreases-loop : tie.decreases-loop
+abbrev decreases-loop : tie.decreases-loop-i
 decreases-loop symbols symbol_places name_bytes name_places name_lengths part s unit place room made chains₀ out₀ k₀ i₀ chains out k i = length part - i
 
 abbrev S : Type 0
