@@ -85,8 +85,8 @@ same-length-8 c = search rules
 returns-2 : tie.Need-returns
 unfolding tables_of from_sections from_symbols
 returns-2 c =
-    let t = c.before.before.before.before.before.before.before.before.before.before.before in
-    let k = stored c in
+    let t = c.before.before.before.before.before.before.before.before.before.before in
+    let k = stored c.before in
     c.named_tables.ensures
     ∙ lengths_as _ _ _ _ _ _ _ _ (length-take-le _ _ k.named.measured) k.sizes
     ∙ then_goes (names-said t) _ (ap meaning c.in_default.is)

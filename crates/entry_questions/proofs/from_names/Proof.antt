@@ -71,10 +71,10 @@ slice-reshare-prefix-with-columns-2 : tie.Need-slice_bounds-with_columns-end-3
 slice-reshare-prefix-with-columns-2 c = (stored c).named.measured
 
 slice-aggregate-with-columns-2 : tie.Need-slice_bounds-with_columns-end-4
-slice-aggregate-with-columns-2 c = sym (length-take-le _ _ (stored c.before).named.measured)
+slice-aggregate-with-columns-2 c = sym (length-take-le _ _ (stored c).named.measured)
 
 with-columns-requires : tie.Need-with_columns-requires
-with-columns-requires c κs = names-taken _ _ _ _ _ _ (stored c.before)
+with-columns-requires c κs = names-taken _ _ _ _ _ _ (stored c)
 
 same-length-5 : tie.Need-shape_of-places
 same-length-5 c = c.check_names-a.auto.places
@@ -91,10 +91,10 @@ same-length-8 c = c.check_names-a.auto.chain
 returns-2 : tie.Need-returns
 unfolding answer_of
 returns-2 c =
-    let t = c.before.before.before.before.before.before.before.before.before.before.before.before in
+    let t = c.before.before.before.before.before.before.before.before.before.before in
     let a = (start t).args in
     c.with_columns.ensures
-    ∙ columns_as _ _ _ _ _ _ (stored c.before.before) a.sections.now a.section_places.now a.image.now a.symbols.now a.splits.now a.question
+    ∙ columns_as _ _ _ _ _ _ (stored c.before) a.sections.now a.section_places.now a.image.now a.symbols.now a.splits.now a.question
     ∙ then_goes (names-said t) _ (ap meaning c.in_default.is)
 
 pub from_names_spec : {M : Type 1} → statement M

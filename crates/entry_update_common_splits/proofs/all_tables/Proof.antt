@@ -56,10 +56,10 @@ slice-reshare-prefix-named-tables-2 : tie.Need-slice_bounds-named_tables-end-3
 slice-reshare-prefix-named-tables-2 c = (stored c).named.measured
 
 slice-aggregate-named-tables-2 : tie.Need-slice_bounds-named_tables-end-4
-slice-aggregate-named-tables-2 c = sym (length-take-le _ _ (stored c.before).named.measured)
+slice-aggregate-named-tables-2 c = sym (length-take-le _ _ (stored c).named.measured)
 
 named-tables-requires : tie.Need-named_tables-requires
-named-tables-requires c κs = names_front (stored c.before.before.before)
+named-tables-requires c κs = names_front (stored c.before.before)
 
 same-length-5 : tie.Need-shape_of-places
 same-length-5 c = search rules
@@ -86,7 +86,7 @@ returns-2 c =
     let a = c.args in
     let e = ap meaning c.in_default.is in
     gives_goes (sym t.check_names-a.ensures.said ∙ e)
-    (gives_as (names_as a.sections.now a.splits.now (not (eqb a.has_start 0)) a.start (length a.out.now) (stored c.before.before.before.before.before.before.before.before)) c.named_tables.ensures)
+    (gives_as (names_as a.sections.now a.splits.now (not (eqb a.has_start 0)) a.start (length a.out.now) (stored c.before.before.before.before.before.before.before)) c.named_tables.ensures)
 
 pub all_tables_spec : {M : Type 1} → statement M
 all_tables_spec =

@@ -71,7 +71,7 @@ returns-2 c =
     let t = c in
     let a = c.args in
     c.with_sections.ensures
-    ∙ names_as _ _ _ _ _ _ a.sections.now a.symbols.now a.splits.now (stored c)
+    ∙ names_as _ _ _ _ _ _ a.sections.now a.symbols.now a.splits.now (stored c.before)
     ∙ then_goes t.check_names-a.ensures.said _ (ap meaning c.in_default.is)
 
 pub from_names_spec : {M : Type 1} → statement M

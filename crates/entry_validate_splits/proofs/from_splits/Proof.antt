@@ -51,10 +51,10 @@ enum-told-2 c = search rules
 validate-requires : tie.Need-validate-requires
 validate-requires c κs =
     let s = c in
-    let t = c.before.before.before.before.before.before.before.before.before.before.before.before.before.before.before in
+    let t = c.before.before.before.before.before.before.before.before.before.before.before in
     let few = splits_few t (ap meaning c.in_default.is) in
     let long = s.requires.3 in
-    let kept = t.take_split_columns.auto.1.1.1.1.1.1 in (
+    let kept = t.take_split_columns-a.auto.1.1.1.1.1.1 in (
       s.requires.1,
       s.requires.2,
       record {

@@ -76,7 +76,7 @@ loop-again c =
     let l = c.loop-count in
     let p = c.place_gap-found in (
       turn_on _ _ _ _ _ _ _ _ _ c.requires.4 _ _ _ _ l.invariant.0 (gap-follows c.before.before.before.before.before.before.before.before.before.before.before.before.before) _ _ (is c) c.key_of-key.ensures.is
-          p.new.0 p.new.1.0 p.result (omega (arith, l.invariant.0.small, c.requires.3)) p.auto.0 p.auto.1.0 p.ensures,
+          p.new.keys p.new.gap_ends p.result (omega (arith, l.invariant.0.small, c.requires.3)) p.auto.keys p.auto.gap_ends p.ensures,
       c.gap_end-end.auto.marks ∙ l.invariant.1,
       c.gap_end-end.ensures.1,
     )

@@ -54,17 +54,17 @@ joint-good c = handed _ _ c.in-Join.is c.decide_round-d.ensures.1
 still-long : (c : tie.After-join_at_once-made invariant-loop decreases-loop)
     → let m = c.join_at_once-made in
     let a = c.args in
-    Same (columns m.new.0 m.new.1.0 m.new.1.1.0 m.new.1.1.1.0) (columns a.starts.now a.ends.now a.units.now a.rest.now)
+    Same (columns m.new.starts m.new.ends m.new.units m.new.rest) (columns a.starts.now a.ends.now a.units.now a.rest.now)
 still-long c =
     let m = c.join_at_once-made in
     let q = c.loop-number.invariant.1 in
-    record { starts = m.auto.0 ∙ q.starts; ends = m.auto.1.0 ∙ q.ends; units = m.auto.1.1.0 ∙ q.units; rest = m.auto.1.1.1.0 ∙ q.rest }
+    record { starts = m.auto.starts ∙ q.starts; ends = m.auto.ends ∙ q.ends; units = m.auto.units ∙ q.units; rest = m.auto.rest ∙ q.rest }
 
 -- where it made nothing, the join is of the rows as they were
 joined-rows : (c : tie.After-join-k invariant-loop decreases-loop)
     → let l = c.loop-number in
     let j = c.join-k in
-    rows (columns j.new.0 j.new.1.0 j.new.1.1.0 j.new.1.1.1.0) j.result ≡ joined_by c.in-Join.joint (rows (columns l.starts l.ends l.units l.rest) l.k)
+    rows (columns j.new.starts j.new.ends j.new.units j.new.rest) j.result ≡ joined_by c.in-Join.joint (rows (columns l.starts l.ends l.units l.rest) l.k)
 joined-rows c =
     let l = c.loop-number in
     let m = c.join_at_once-made in
@@ -194,7 +194,7 @@ loop-less : tie.Need-loop-number-smaller invariant-loop decreases-loop
 loop-less c =
     let l = c.loop-number in
     let j = c.join-k in
-    join_less _ (columns l.starts l.ends l.units l.rest) (columns j.new.0 j.new.1.0 j.new.1.1.0 j.new.1.1.1.0) l.k j.result l.s _
+    join_less _ (columns l.starts l.ends l.units l.rest) (columns j.new.starts j.new.ends j.new.units j.new.rest) l.k j.result l.s _
     (joins c) (joined-rows c.before.before.before.before.before.before.before.before)
 
 loop-again : tie.Need-loop-number-preserved invariant-loop decreases-loop
@@ -206,10 +206,10 @@ loop-again c =
     let d = c in (
       omega (arith, j.ensures.1, l.invariant.0),
       record {
-        starts = j.auto.0 ∙ long.starts;
-        ends = j.auto.1.0 ∙ long.ends;
-        units = j.auto.1.1.0 ∙ long.units;
-        rest = j.auto.1.1.1.0 ∙ long.rest;
+        starts = j.auto.starts ∙ long.starts;
+        ends = j.auto.ends ∙ long.ends;
+        units = j.auto.units ∙ long.units;
+        rest = j.auto.rest ∙ long.rest;
       },
       joint-good d,
       ap (λ (x : List Split). merge_one (given (sections_in a.heads.now a.head_places.now) a.cap) x d.in-Join.joint) (joined-rows c.before.before.before.before.before.before.before.before)

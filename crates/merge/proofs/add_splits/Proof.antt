@@ -71,7 +71,7 @@ returns c =
     let a = c.args in
     let o = c.add_split-r in (
       sym (places_refused a.partials.now a.partial_places.now _ _ l.i c.loop-i-test.true _ c.partial_at-new.ensures
-          (sym o.ensures.0 ∙ ap (λ (r : Merged). merged r (columns o.new.0 o.new.1.0 o.new.1.1.0 o.new.1.1.1.0)) c.in-Refused.is))
+          (sym o.ensures.0 ∙ ap (λ (r : Merged). merged r (columns o.new.starts o.new.ends o.new.units o.new.rest)) c.in-Refused.is))
           ∙ l.invariant.3,
       omega arith,
     )
@@ -94,13 +94,13 @@ loop-again c =
       omega (arith, c.loop-i-test.true),
       omega (arith, o.ensures.1, ap count q),
       record {
-        starts = o.auto.0 ∙ l.invariant.2.starts;
-        ends = o.auto.1.0 ∙ l.invariant.2.ends;
-        units = o.auto.1.1.0 ∙ l.invariant.2.units;
-        rest = o.auto.1.1.1.0 ∙ l.invariant.2.rest;
+        starts = o.auto.starts ∙ l.invariant.2.starts;
+        ends = o.auto.ends ∙ l.invariant.2.ends;
+        units = o.auto.units ∙ l.invariant.2.units;
+        rest = o.auto.rest ∙ l.invariant.2.rest;
       },
       sym (places_on a.partials.now a.partial_places.now _ _ l.i c.loop-i-test.true _ c.partial_at-new.ensures
-          (sym o.ensures.0 ∙ ap (λ (r : Merged). merged r (columns o.new.0 o.new.1.0 o.new.1.1.0 o.new.1.1.1.0)) q))
+          (sym o.ensures.0 ∙ ap (λ (r : Merged). merged r (columns o.new.starts o.new.ends o.new.units o.new.rest)) q))
           ∙ l.invariant.3,
     )
 

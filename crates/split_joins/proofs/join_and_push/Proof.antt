@@ -24,13 +24,13 @@ abbrev judged : tie.After-rest_of-packed → tie.After-takes_place
 judged c = c.before.before
 
 abbrev stopped : tie.After-takes_place → tie.After-next_outside-stop
-stopped c = c.before.before.before.before.before
+stopped c = c.before
 
 abbrev found : tie.After-next_outside-stop → tie.After-next_within-first
-found c = c.before.before.before.before.before
+found c = c.before
 
 abbrev entered : tie.After-next_within-first → tie.Start
-entered c = c
+entered c = c.before.before.before.before.before
 
 -- s may take the place
 takes : (c : tie.After-rest_of-packed) → let o = stopped (judged c) in let a = (entered (found o)).args in
@@ -39,12 +39,12 @@ takes c = (judged c).takes_place.ensures (is_so _ c.if-not-takes_place.false)
 
 -- moving keeps the lengths
 kept : (c : tie.After-shift_rows_down) → let a = (entered (found (stopped (judged (packed c))))).args in let l = c.shift_rows_down.new in
-    Same (columns l.0 l.1.0 l.1.1.0 l.1.1.1.0) (columns a.starts.now a.ends.now a.units.now a.rest.now)
-kept c = let k = c.shift_rows_down.auto in record { starts = k.0; ends = k.1.0; units = k.1.1.0; rest = k.1.1.1.0 }
+    Same (columns l.starts l.ends l.units l.rest) (columns a.starts.now a.ends.now a.units.now a.rest.now)
+kept c = let k = c.shift_rows_down.auto in record { starts = k.starts; ends = k.ends; units = k.units; rest = k.rest }
 
 -- the place is one of the rows, in all columns; and so its bytes can be counted
 held : (c : tie.After-shift_rows_down) → let l = c.shift_rows_down.new in
-    Long (columns l.0 l.1.0 l.1.1.0 l.1.1.1.0) (suc (found (stopped (judged (packed c)))).next_within-first.result)
+    Long (columns l.starts l.ends l.units l.rest) (suc (found (stopped (judged (packed c)))).next_within-first.result)
 held c =
     let o = stopped (judged (packed c)) in
     let h = (takes (packed c)).some in

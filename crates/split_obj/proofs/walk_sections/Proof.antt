@@ -301,17 +301,17 @@ loop2-again c = half_on _ _ _ c.loop-a.invariant c.if-current-a-eq0.false c.if-a
 parted : (l : L) → l.for_section-m.result ≤ length l.for_section-m.last.1.1.1.0
 parted l =
     let s = l in
-    omega (arith, l.for_section-m.ensures.small, l.for_section-m.kept.1.1.1.0, (section l).sections.inv.0.tabled.part_long)
+    omega (arith, l.for_section-m.ensures.small, l.for_section-m.auto.part, (section l).sections.inv.0.tabled.part_long)
 
 slice-reshare-prefix-give : tie.Need-slice_bounds-give-end invariant-loop2 decreases-loop2 invariant-loop decreases-loop invariant-sections decreases-sections
 slice-reshare-prefix-give c = parted (at (chosen c.before.before.before.before.before.before))
 
 slice-aggregate-give : tie.Need-slice_bounds-give-end-in-Give invariant-loop2 decreases-loop2 invariant-loop decreases-loop invariant-sections decreases-sections
-slice-aggregate-give c = sym (length-take-le _ _ (parted (at (chosen c))))
+slice-aggregate-give c = sym (length-take-le _ _ (parted (at (chosen c.before.before.before.before.before.before))))
 
 give-requires : tie.Need-give-gave-requires invariant-loop2 decreases-loop2 invariant-loop decreases-loop invariant-sections decreases-sections
 give-requires c κs =
-    let g = c in
+    let g = c.before.before.before.before.before.before in
     let k = chosen g in
     let l = at k in
     let s = l.before.before.before.before.before.before.before.before.before.before.before.before.before.before.before.before.before.before.before.before.before.before.before.before.before.before.before.before.before.before.before.before.before.before.before in
@@ -521,7 +521,7 @@ same-length-21 : tie.Need-shape_of-scratch-in-Fault-gave invariant-loop2 decreas
 same-length-21 c = let r = c.before.before.before.before.before.before.before.before.before.before in let l = place r in r.give-gave.auto.scratch ∙ l.loop-current.inv.1.of_scratch ∙ (section l).sections.inv.1.of_scratch
 
 same-length-22 : tie.Need-shape_of-part-in-Fault-gave invariant-loop2 decreases-loop2 invariant-loop decreases-loop invariant-sections decreases-sections
-same-length-22 c = let r = c.before.before.before.before.before.before.before.before.before.before in let l = place r in l.for_section-m.kept.1.1.1.0 ∙ (section l).sections.inv.1.of_part
+same-length-22 c = let r = c.before.before.before.before.before.before.before.before.before.before in let l = place r in l.for_section-m.auto.part ∙ (section l).sections.inv.1.of_part
 
 same-length-23 : tie.Need-shape_of-pieces-in-Fault-gave invariant-loop2 decreases-loop2 invariant-loop decreases-loop invariant-sections decreases-sections
 same-length-23 c = let r = c.before.before.before.before.before.before.before.before.before.before in let l = place r in r.give-gave.auto.pieces ∙ l.loop-current.inv.1.of_pieces ∙ (section l).sections.inv.1.of_pieces
