@@ -163,16 +163,16 @@ returns-2 c =
     let a = (entered f).args in
     let s = a.s in
     let k = f.next_within-first.result in
-    let l = m.shift_rows_down.last in
-    let put = stored l.0 l.1.0 l.1.1.0 l.1.1.1.0 k s.start s.end s.unit r.rest_of-packed.result in
-    let other = row_other l.0 l.1.0 l.1.1.0 l.1.1.1.0 k s.start s.end s.unit r.rest_of-packed.result in (
+    let l = m.shift_rows_down.new in
+    let put = stored l.starts l.ends l.units l.rest k s.start s.end s.unit r.rest_of-packed.result in
+    let other = row_other l.starts l.ends l.units l.rest k s.start s.end s.unit r.rest_of-packed.result in (
       λ z. absurd (let w : ⊥ = omega arith in w),
       λ z. at_once s (columns a.starts.now a.ends.now a.units.now a.rest.now) put a.n k o.next_outside-stop.result o.next_outside-stop.ensures.1
           (λ j h. f.next_within-first.ensures.2 j zero-le h)
           o.next_outside-stop.ensures.2
           (takes r)
           (λ j h. other j (λ w. omega (arith, h, w)) ∙ m.shift_rows_down.ensures.below j (omega (arith, h)))
-          (row_stored l.0 l.1.0 l.1.1.0 l.1.1.1.0 k s.start s.end s.unit r.rest_of-packed.result
+          (row_stored l.starts l.ends l.units l.rest k s.start s.end s.unit r.rest_of-packed.result
           (held m).starts (held m).ends (held m).units (held m).rest
           ∙ r.rest_of-packed.ensures)
           (λ j h. other (k + 1 + j) (λ w. omega (arith, w)) ∙ m.shift_rows_down.ensures.moved j h),
