@@ -109,7 +109,7 @@ parent c = c.in-Open.parent
 abbrev move : AtNode → Move
 move c = move_of (graph c) (cur c) (next c)
 
-turn : (c : AtNode) → Turn (graph c) (entry c).args.table.now (loop c).loop-next.table (nodes c) (loop c).loop-next.false (cur c) (next c) (parent c)
+turn : (c : AtNode) → Turn (graph c) (entry c).args.table.now (loop c).loop-next.table (nodes c) (loop c).loop-next.left (cur c) (next c) (parent c)
 turn c = record { sound = (ready c).sound; inv = (loop c).loop-next.invariant; is = c.in-Open.is }
 
 here : (c : AtNode) → cur c < 1025
@@ -129,7 +129,7 @@ finishing c = sym c.next_move-m.ensures ∙ c.in-Finish.is
 closing : (c : AtClose) → move (close_node c) ≡ Close
 closing c = sym c.next_move-m.ensures ∙ c.in-Close.is
 
-room : (c : AtClose) → 0 < (loop (close_node c)).loop-next.false
+room : (c : AtClose) → 0 < (loop (close_node c)).loop-next.left
 room c = walk_room (turn (close_node c)) (closing c)
 
 abbrev after : AtTake → ℕ
