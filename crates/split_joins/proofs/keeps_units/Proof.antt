@@ -53,10 +53,12 @@ loop-again c =
       omega arith,
       omega arith,
       each_more (λ k. Alone u a.n a.first a.stop a.unit (u k)) a.first l.i l.invariant.2
-          (elim c.if-u-unit.branch [ then-u-unit+else-before-behind w ↦
-          let none = or_false w.has_unit-before.result w.has_unit-behind.result w.if-before-behind.false in
-          alone_none u a.n a.first a.stop a.unit (u l.i) (omega arith) (sym w.has_unit-before.ensures ∙ none.0) (sym w.has_unit-behind.ensures ∙ none.1)
-          | else-u-unit w ↦ alone_same u a.n a.first a.stop a.unit (u l.i) (omega (arith, w.if-u-unit.false)) ]),
+          (elim c.if-u-unit.branch [
+            | then-u-unit+else-before-behind w ↦
+                let none = or_false w.has_unit-before.result w.has_unit-behind.result w.if-before-behind.false in
+                alone_none u a.n a.first a.stop a.unit (u l.i) (omega arith) (sym w.has_unit-before.ensures ∙ none.0) (sym w.has_unit-behind.ensures ∙ none.1)
+            | else-u-unit w ↦ alone_same u a.n a.first a.stop a.unit (u l.i) (omega (arith, w.if-u-unit.false))
+          ]),
     )
 
 returns-2 : tie.Need-returns invariant-loop decreases-loop
