@@ -341,7 +341,7 @@ abbrev R : Type 0
 R = tie.After-give-gave invariant-loop2 decreases-loop2 invariant-loop decreases-loop invariant-sections decreases-sections
 
 abbrev giving : R → G
-giving r = r
+giving r = r.before.before.before.before.before.before.before
 
 abbrev place : R → L
 place r = at (chosen (giving r))
