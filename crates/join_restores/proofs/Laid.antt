@@ -21,7 +21,7 @@ pub laid_uncovered : (n start : ℕ) (under : List ℕ) (ps : List Part) (k : �
 unfolding laid_on
 laid_uncovered n start under [] k f = refl
 laid_uncovered n start under (p ∷ ps) k f =
-    laid_uncovered n start _ ps k (λ q m. f q (Memᴰ.tail m)) ∙ go (eqb p.section n) refl
+    laid_uncovered n start (cond (eqb p.section n) (sets under (p.address - start) p.bytes) under) ps k (λ q m. f q (Memᴰ.tail m)) ∙ go (eqb p.section n) refl
   where
     go : (b : Bool) → eqb p.section n ≡ b → get_or (cond b (sets under (p.address - start) p.bytes) under) k 0 ≡ get_or under k 0
     go true e =
@@ -31,7 +31,7 @@ laid_uncovered n start under (p ∷ ps) k f =
 
 -- ---- members
 
-pub map_member : {A B : Type 0} (f : A → B) {l : List A} {x : A} → Memᴰ x l → Memᴰ (f x) (map f l)
+pub map_member : {A B : Type 0} (f : A → B) {x : A} {l : List A} → Memᴰ x l → Memᴰ (f x) (map f l)
 map_member f (Memᴰ.head e) = Memᴰ.head (ap f e)
 map_member f (Memᴰ.tail m) = Memᴰ.tail (map_member f m)
 
@@ -43,7 +43,7 @@ member_map {A} f (x ∷ l) {y} m = go (Memᴰ.cases_cons m) (λ k. member_map f 
     go (inl e) ih = (x, Memᴰ.head refl, e)
     go (inr k) ih = let r = ih k in (r.0, Memᴰ.tail r.1, r.2)
 
-pub keep_member : {A : Type 0} (p : A → Bool) {l : List A} {x : A} → Memᴰ x l → p x ≡ true → Memᴰ x (keep_if p l)
+pub keep_member : {A : Type 0} (p : A → Bool) {x : A} {l : List A} → Memᴰ x l → p x ≡ true → Memᴰ x (keep_if p l)
 unfolding keep_if
 keep_member {A} p {x = x} (Memᴰ.head {x = y} {xs = l} e) h = go (p y) (sym h ∙ ap p e)
   where
