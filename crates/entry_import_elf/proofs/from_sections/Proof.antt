@@ -75,7 +75,7 @@ slice-reshare-prefix-fill-sections : tie.Need-slice_bounds-fill_sections-end
 slice-reshare-prefix-fill-sections c = search rules
 
 slice-aggregate-fill-sections : tie.Need-slice_bounds-fill_sections-end-2
-slice-aggregate-fill-sections c = sym (length-take-le _ _ (slice-reshare-prefix-fill-sections c.before))
+slice-aggregate-fill-sections c = sym (length-take-le _ _ (slice-reshare-prefix-fill-sections c))
 
 fill-sections-requires : tie.Need-fill_sections-requires
 fill-sections-requires c κs =
@@ -108,19 +108,19 @@ filled : (c : tie.After-fill_sections) (names : List (List ℕ))
 filled c names k = c.fill_sections.ensures names k (numbers c.before.before.before.before.before.before.before.before (bounds c.before.before.before).0)
 
 slice-aggregate-from-image : tie.Need-slice_bounds-from_image-end-2
-slice-aggregate-from-image c = sym (length-take-le _ _ (slice-reshare-prefix-from-image c.before))
+slice-aggregate-from-image c = sym (length-take-le _ _ (slice-reshare-prefix-from-image c))
 
 slice-reshare-prefix-from-image-2 : tie.Need-slice_bounds-from_image-end-3
 slice-reshare-prefix-from-image-2 c = search rules
 
 slice-aggregate-from-image-2 : tie.Need-slice_bounds-from_image-end-4
-slice-aggregate-from-image-2 c = sym (length-take-le _ _ (slice-reshare-prefix-from-image-2 c.before))
+slice-aggregate-from-image-2 c = sym (length-take-le _ _ (slice-reshare-prefix-from-image-2 c))
 
 slice-reshare-prefix-from-image-3 : tie.Need-slice_bounds-from_image-end-5
 slice-reshare-prefix-from-image-3 c = search rules
 
 slice-aggregate-from-image-3 : tie.Need-slice_bounds-from_image-end-6
-slice-aggregate-from-image-3 c = sym (length-take-le _ _ (slice-reshare-prefix-from-image-3 c.before))
+slice-aggregate-from-image-3 c = sym (length-take-le _ _ (slice-reshare-prefix-from-image-3 c))
 
 from-image-requires : tie.Need-from_image-g-requires
 from-image-requires c κs =

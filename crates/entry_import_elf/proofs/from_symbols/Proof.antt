@@ -88,7 +88,7 @@ slice-reshare-prefix-take-symbols : tie.Need-slice_bounds-take_symbols-end
 slice-reshare-prefix-take-symbols c = search rules
 
 slice-aggregate-take-symbols : tie.Need-slice_bounds-take_symbols-end-2
-slice-aggregate-take-symbols c = sym (length-take-le _ _ (slice-reshare-prefix-take-symbols c.before))
+slice-aggregate-take-symbols c = sym (length-take-le _ _ (slice-reshare-prefix-take-symbols c))
 
 take-symbols-requires : tie.Need-take_symbols-a-requires
 take-symbols-requires c κs = (c.requires.3, c.requires.4)

@@ -13,6 +13,7 @@ use Rattle.entry_piece_bytes.proofs.Leaving.{refused_leaves, put_leaves, none_le
 use borrow.Author.Rules.{rules}
 use Rattle.entry_piece_bytes.proofs.put_place.Statement.{statement}
 use Rattle.entry_piece_bytes.proofs.put_place.Tie as tie
+use Rattle.entry_piece_bytes.proofs.put_place.Lts.{then-out-ge8, else-out-ge8}
 
 clear-from-requires : tie.Need-clear_from-requires
 clear-from-requires c κs = search rules
@@ -44,23 +45,21 @@ word-of-requires-2 c κs = search rules
 same-length-2 : tie.Need-shape_of-out
 same-length-2 c =
     let cleared = c.clear_from.auto.out in
-    ⊎_elim (λ w. ap length w.9 ∙ w.6.kept.0 ∙ w.2.kept.0 ∙ cleared) (λ w. ap length w.1 ∙ cleared) c.if-out-ge8.branch
+    elim c.if-out-ge8.branch [ then-out-ge8 w ↦ ap length w.out-is ∙ w.put32-then-out-ge8.auto.b ∙ w.put32.auto.b ∙ cleared | else-out-ge8 w ↦ ap length w.out-is ∙ cleared ]
 
 returns-2 : tie.Need-returns
 returns-2 c =
     let a = c.args in
     let cleared = c.clear_from.ensures in
     let passed = c.in_default.is in
-    ⊎_elim
-    (λ w.
-    put_leaves a.r _ c.word_of-2.ensures a.out.now _ passed (omega (arith, w.0.taken, c.clear_from.auto.out))
-    (w.9
-    ∙ sets_then (clear_from 0 0 a.out.now) 0 (enc32 a.r.place.offset) 4 (enc32 a.r.place.length) w.6.ensures
-    (w.2.ensures ∙ ap (λ (l : List ℕ). sets l 0 (enc32 a.r.place.offset)) cleared) refl))
-    (λ w.
-    none_leaves a.r _ c.word_of-2.ensures a.out.now _ passed (omega (arith, w.0.left, c.clear_from.auto.out))
-    (w.1 ∙ cleared))
-    c.if-out-ge8.branch
+    elim c.if-out-ge8.branch [ then-out-ge8 w ↦
+    put_leaves a.r _ c.word_of-2.ensures a.out.now _ passed (omega (arith, w.if-out-ge8.true, c.clear_from.auto.out))
+    (w.out-is
+    ∙ sets_then (clear_from 0 0 a.out.now) 0 (enc32 a.r.place.offset) 4 (enc32 a.r.place.length) w.put32-then-out-ge8.ensures
+    (w.put32.ensures ∙ ap (λ (l : List ℕ). sets l 0 (enc32 a.r.place.offset)) cleared) refl)
+    | else-out-ge8 w ↦
+    none_leaves a.r _ c.word_of-2.ensures a.out.now _ passed (omega (arith, w.if-out-ge8.false, c.clear_from.auto.out))
+    (w.out-is ∙ cleared) ]
 
 pub put_place_spec : {M : Type 1} → statement M
 put_place_spec =

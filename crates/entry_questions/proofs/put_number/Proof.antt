@@ -11,6 +11,7 @@ use Rattle.entry_questions.proofs.Numbers.{refused_leaves, put_leaves, none_leav
 use borrow.Author.Rules.{rules}
 use Rattle.entry_questions.proofs.put_number.Statement.{statement}
 use Rattle.entry_questions.proofs.put_number.Tie as tie
+use Rattle.entry_questions.proofs.put_number.Lts.{then-out-ge4, else-out-ge4}
 
 clear-from-requires : tie.Need-clear_from-requires
 clear-from-requires c κs = search rules
@@ -39,17 +40,15 @@ word-of-requires-2 c κs = search rules
 same-length-2 : tie.Need-shape_of-out
 same-length-2 c =
     let cleared = c.clear_from.auto.out in
-    ⊎_elim (λ w. ap length w.5 ∙ w.2.kept.0 ∙ cleared) (λ w. ap length w.1 ∙ cleared) c.if-out-ge4.branch
+    elim c.if-out-ge4.branch [ then-out-ge4 w ↦ ap length w.out-is ∙ w.put32.auto.b ∙ cleared | else-out-ge4 w ↦ ap length w.out-is ∙ cleared ]
 
 returns-2 : tie.Need-returns
 returns-2 c =
     let a = c.args in
     let cleared = c.clear_from.ensures in
     let passed = c.in_default.is in
-    ⊎_elim
-    (λ w. put_leaves a.r _ c.word_of-2.ensures a.out.now _ passed (omega (arith, w.0.taken, c.clear_from.auto.out)) (w.5 ∙ w.2.ensures ∙ ap (λ (l : List ℕ). sets l 0 (enc32 a.r.value)) cleared))
-    (λ w. none_leaves a.r _ c.word_of-2.ensures a.out.now _ passed (omega (arith, w.0.left, c.clear_from.auto.out)) (w.1 ∙ cleared))
-    c.if-out-ge4.branch
+    elim c.if-out-ge4.branch [ then-out-ge4 w ↦ put_leaves a.r _ c.word_of-2.ensures a.out.now _ passed (omega (arith, w.if-out-ge4.true, c.clear_from.auto.out)) (w.out-is ∙ w.put32.ensures ∙ ap (λ (l : List ℕ). sets l 0 (enc32 a.r.value)) cleared)
+    | else-out-ge4 w ↦ none_leaves a.r _ c.word_of-2.ensures a.out.now _ passed (omega (arith, w.if-out-ge4.false, c.clear_from.auto.out)) (w.out-is ∙ cleared) ]
 
 pub put_number_spec : {M : Type 1} → statement M
 put_number_spec =
