@@ -40,15 +40,15 @@ enter-gaps-requires c κs =
     let names = names_of a.name_bytes.now a.name_places.now a.name_lengths.now (length a.name_places.now) in
     let t = columns a.starts.now a.ends.now a.units.now a.rest.now in
     let o = c.find_gaps-search in
-    let keys = o.new.1.1.1.1.1.1.1.1.1.1.1.1.1.1.1.1.0 in
-    let ends = o.new.1.1.1.1.1.1.1.1.1.1.1.1.1.1.1.1.1.0 in
-    let k = c.before.before.before.before.before.before.before.before.before.before.search2.given in (
+    let keys = o.new.keys in
+    let ends = o.new.gap_ends in
+    let k = c.in-Found in (
       q.3,
       q.4,
       all_held a.heads.now a.head_places.now a.image.now a.image_places.now a.name_places.now q.1,
       named_tables a.heads.now a.head_places.now a.image.now a.image_places.now a.name_places.now q.1 a.symbols.now a.symbol_places.now a.order.now a.name_bytes.now a.name_lengths.now a.buckets.now a.chain.now q.0 q.8 q.9,
       q.10,
-      found_gaps_lem g sections t a.n a.keys.now a.gap_ends.now keys ends k.0.0 q.2 q.7 o.auto.1.1.1.1.1.1.1.1.1.1.1.1.1.1.1.1.0 o.auto.1.1.1.1.1.1.1.1.1.1.1.1.1.1.1.1.1.0 o.ensures.0 k.1,
+      found_gaps_lem g sections t a.n a.keys.now a.gap_ends.now keys ends k.count q.2 q.7 o.auto.keys o.auto.gap_ends o.ensures.0 k.is,
     )
 
 same_length : tie.Need-shape_of-starts-in-Refused
@@ -81,10 +81,10 @@ returns c =
     let names = names_of a.name_bytes.now a.name_places.now a.name_lengths.now (length a.name_places.now) in
     let t = columns a.starts.now a.ends.now a.units.now a.rest.now in
     let o = c.find_gaps-search in
-    let keys = o.new.1.1.1.1.1.1.1.1.1.1.1.1.1.1.1.1.0 in
-    let ends = o.new.1.1.1.1.1.1.1.1.1.1.1.1.1.1.1.1.1.0 in
-    let k = c.before.search.given in (
-      filled_refused g sections t a.n (given (sections_in a.heads.now a.head_places.now) a.cap) (ceilings names a.most a.most_bytes) names keys ends k.0.0 k.0.1.0 k.0.1.1.0 o.ensures.0 k.1,
+    let keys = o.new.keys in
+    let ends = o.new.gap_ends in
+    let k = c.in-Refused in (
+      filled_refused g sections t a.n (given (sections_in a.heads.now a.head_places.now) a.cap) (ceilings names a.most a.most_bytes) names keys ends k.number k.section k.address o.ensures.0 k.is,
       stand_none (beside a.added_bytes.now a.added_places.now a.added_lengths.now) a.most a.most_bytes q.10,
       zero-le,
     )
@@ -128,11 +128,11 @@ returns-2 c =
     let names = names_of a.name_bytes.now a.name_places.now a.name_lengths.now (length a.name_places.now) in
     let t = columns a.starts.now a.ends.now a.units.now a.rest.now in
     let o = c.find_gaps-search in
-    let keys = o.new.1.1.1.1.1.1.1.1.1.1.1.1.1.1.1.1.0 in
-    let ends = o.new.1.1.1.1.1.1.1.1.1.1.1.1.1.1.1.1.1.0 in
-    let k = c.before.before.before.before.before.before.before.before.before.before.before.before.before.before.before.before.before.before.before.before.before.before.before.before.before.search2.given in
+    let keys = o.new.keys in
+    let ends = o.new.gap_ends in
+    let k = c.in-Found in
     let e = c.enter_gaps.ensures in
-    (e.0 ∙ filled_found g sections t a.n (given (sections_in a.heads.now a.head_places.now) a.cap) (ceilings names a.most a.most_bytes) names keys ends k.0.0 o.ensures.0 k.1, e.1, e.2)
+    (e.0 ∙ filled_found g sections t a.n (given (sections_in a.heads.now a.head_places.now) a.cap) (ceilings names a.most a.most_bytes) names keys ends k.count o.ensures.0 k.is, e.1, e.2)
 
 pub create_gap_splits_spec : {M : Type 1} → statement M
 create_gap_splits_spec =

@@ -20,7 +20,7 @@ same-length-2 c = search rules
 returns : tie.Need-returns
 returns c =
     let k = c.checked-a in
-    finished _ k.new.1.1.1.1.1.0 k.new.1.1.1.1.1.1.0 k.auto.1.1.1.1.1.0 k.auto.1.1.1.1.1.1.0 k.ensures c.finish.ensures
+    finished _ k.new.out k.new.counts k.auto.out k.auto.counts k.ensures c.finish.ensures
 
 pub add_splits_spec : {M : Type 1} → statement M
 add_splits_spec =

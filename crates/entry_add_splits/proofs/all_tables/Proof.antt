@@ -76,7 +76,7 @@ returns-2 : tie.Need-returns-in-Refused-b
 unfolding add_splits_of from_sections from_splits
 returns-2 c =
     gives_goes (sym c.check_names-a.ensures.said ∙ ap meaning c.in_default.is)
-    (gives_as (lengths_as _ _ _ _ (stored c).sizes) (gives_stops _ c.take_sections-b.ensures.said (ap meaning c.in-Refused-b.is)))
+    (gives_as (lengths_as _ _ _ _ (stored c.before.before.before.before.before).sizes) (gives_stops _ c.take_sections-b.ensures.said (ap meaning c.in-Refused-b.is)))
 
 enum-told-4 : tie.Need-enum_told-in_default-b
 enum-told-4 c = search rules
@@ -86,7 +86,7 @@ slice-reshare-prefix-from-splits c =
     let t = c.take_sections-b in
     let s = c in
     let n = taken_few 15 _ s.args.sections.now _ _ t.ensures (ap meaning c.in_default-b.is) in
-    omega (arith, n, t.auto.1.1.1.0, c.check_names-a.auto.places, s.requires.places_long)
+    omega (arith, n, t.auto.places, c.check_names-a.auto.places, s.requires.places_long)
 
 slice-aggregate-from-splits : tie.Need-slice_bounds-from_splits-end-2
 slice-aggregate-from-splits c =
@@ -121,7 +121,7 @@ returns-3 c =
     let a = c.args in
     let told = ap meaning c.in_default-b.is in
     gives_goes (sym c.check_names-a.ensures.said ∙ ap meaning c.in_default.is)
-    (gives_as (lengths_as _ _ _ _ (stored c.before.before.before.before.before.before.before.before.before.before.before.before.before).sizes)
+    (gives_as (lengths_as _ _ _ _ (stored c.before.before.before.before.before.before.before.before.before.before.before.before).sizes)
     (gives_goes (sym t.ensures.said ∙ told)
     (gives_as (heads_as _ a.sections.now _ _ _ (taken_places 15 _ a.sections.now _ _ t.ensures told)) c.from_splits.ensures)))
 

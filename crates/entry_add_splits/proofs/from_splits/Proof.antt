@@ -54,10 +54,10 @@ give-merged-requires c κs =
     let n = w.ensures.1 in
     let h = room_low (length s.args.out.now) in (
       record {
-        starts = omega (arith, e, n, h, w.auto.1.1.1.1.1.1.1.0);
-        ends = omega (arith, e, n, h, w.auto.1.1.1.1.1.1.1.1.0);
-        units = omega (arith, e, n, h, w.auto.1.1.1.1.1.1.1.1.1.0);
-        rest = omega (arith, e, n, h, w.auto.1.1.1.1.1.1.1.1.1.1.0);
+        starts = omega (arith, e, n, h, w.auto.starts);
+        ends = omega (arith, e, n, h, w.auto.ends);
+        units = omega (arith, e, n, h, w.auto.units);
+        rest = omega (arith, e, n, h, w.auto.rest);
       },
       omega (arith, e, n, room_fits (length s.args.out.now)),
       omega (arith, e, n, h),

@@ -48,7 +48,7 @@ returns : tie.Need-returns-in-Refused
 unfolding from_splits
 returns c =
     let t = c.take_split_columns-a in
-    let w = refused_as _ (columns t.new.1.1.1.1.1.1.0 t.new.1.1.1.1.1.1.1.0 t.new.1.1.1.1.1.1.1.1.0 t.new.1.1.1.1.1.1.1.1.1.0) t.ensures.said c.in-Refused.is c.as_merged.ensures in
+    let w = refused_as _ (columns t.new.starts t.new.ends t.new.units t.new.rest) t.ensures.said c.in-Refused.is c.as_merged.ensures in
     (w.0, omega (arith, w.1))
 
 enum-told-2 : tie.Need-enum_told-in_default
@@ -82,7 +82,7 @@ returns-2 : tie.Need-returns-in-Refused-b
 unfolding from_splits
 returns-2 c =
     let t = c.take_split_columns-a in
-    let w = refused_as _ (columns t.new.1.1.1.1.1.1.0 t.new.1.1.1.1.1.1.1.0 t.new.1.1.1.1.1.1.1.1.0 t.new.1.1.1.1.1.1.1.1.1.0) c.take_partials-b.ensures.said c.in-Refused-b.is c.as_merged-in-Refused-b.ensures in
+    let w = refused_as _ (columns t.new.starts t.new.ends t.new.units t.new.rest) c.take_partials-b.ensures.said c.in-Refused-b.is c.as_merged-in-Refused-b.ensures in
     (w.0 ∙ then_goes t.ensures.said _ (ap meaning c.in_default.is), omega (arith, w.1))
 
 enum-told-4 : tie.Need-enum_told-in_default-b
@@ -93,7 +93,7 @@ slice-reshare-prefix-add-splits c =
     let u = c.take_partials-b in
     let s = c in
     let n = taken_few partial_width _ s.args.partials.now _ _ u.ensures (ap meaning c.in_default-b.is) in
-    omega (arith, n, u.auto.1.1.1.0, c.take_split_columns-a.auto.places, s.requires.1.places_long)
+    omega (arith, n, u.auto.places, c.take_split_columns-a.auto.places, s.requires.1.places_long)
 
 slice-aggregate-add-splits : tie.Need-slice_bounds-add_splits-end-2
 slice-aggregate-add-splits c =
@@ -106,10 +106,10 @@ add-splits-requires c κs =
     let q = s.requires.1 in
     let h = s.requires.2 in (
       record {
-        starts = omega (arith, h, t.auto.1.1.1.1.1.1.0, q.starts_long);
-        ends = omega (arith, h, t.auto.1.1.1.1.1.1.1.0, q.ends_long);
-        units = omega (arith, h, t.auto.1.1.1.1.1.1.1.1.0, q.units_long);
-        rest = omega (arith, h, t.auto.1.1.1.1.1.1.1.1.1.0, q.rest_long);
+        starts = omega (arith, h, t.auto.starts, q.starts_long);
+        ends = omega (arith, h, t.auto.ends, q.ends_long);
+        units = omega (arith, h, t.auto.units, q.units_long);
+        rest = omega (arith, h, t.auto.rest, q.rest_long);
       },
       (table_passed split_width _ s.args.splits.now _ (sym t.ensures.said ∙ ap meaning c.in_default.is)).1,
       s.requires.0,
@@ -141,7 +141,7 @@ returns-3 c =
     let told = ap meaning c.in_default.is in
     let told-too = ap meaning c.in_default-b.is in (
       o.ensures.0
-          ∙ merged_as (sections_in a.heads.now a.head_places.now) a.room (columns t.new.1.1.1.1.1.1.0 t.new.1.1.1.1.1.1.1.0 t.new.1.1.1.1.1.1.1.1.0 t.new.1.1.1.1.1.1.1.1.1.0) (length a.splits.now / split_width) (stage_splits a.splits.now) a.partials.now
+          ∙ merged_as (sections_in a.heads.now a.head_places.now) a.room (columns t.new.starts t.new.ends t.new.units t.new.rest) (length a.splits.now / split_width) (stage_splits a.splits.now) a.partials.now
           (t.ensures.taken (sym t.ensures.said ∙ told)) (taken_places partial_width _ a.partials.now _ _ u.ensures told-too)
           ∙ then_goes u.ensures.said _ told-too
           ∙ then_goes t.ensures.said _ told,

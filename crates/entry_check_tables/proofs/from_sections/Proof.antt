@@ -53,19 +53,19 @@ slice-reshare-prefix-from-symbols c =
 
 slice-aggregate-from-symbols : tie.Need-slice_bounds-from_symbols-end-2
 slice-aggregate-from-symbols c =
-    let t = c.before.before.before.before in
-    sym (taken-count 15 _ (start t).args.sections.now _ _ t.take_image.ensures (ap meaning c.in_default.is))
+    let t = c.before.before.before in
+    sym (taken-count 15 _ (start t).args.sections.now _ _ t.take_image-a.ensures (ap meaning c.in_default.is))
 
 from-symbols-requires : tie.Need-from_symbols-requires
 from-symbols-requires c κs =
-    let t = c.before.before.before.before.before.before in
+    let t = c.before.before.before.before.before in
     let s = start t in
     let f = few t.main_ceilings-most.ensures in
     let e = ap meaning c.in_default.is in
-    let n = taken_few 15 _ s.args.sections.now _ _ t.take_image.ensures e in (
-      taken-held 15 _ s.args.sections.now _ _ t.take_image.ensures e (omega (arith, f.of_sections)),
+    let n = taken_few 15 _ s.args.sections.now _ _ t.take_image-a.ensures e in (
+      taken-held 15 _ s.args.sections.now _ _ t.take_image-a.ensures e (omega (arith, f.of_sections)),
       s.requires.places_long,
-      rw (taken-count 15 _ s.args.sections.now _ _ t.take_image.ensures e) (omega (arith, f.of_sections, s.requires.floors_long)),
+      rw (taken-count 15 _ s.args.sections.now _ _ t.take_image-a.ensures e) (omega (arith, f.of_sections, s.requires.floors_long)),
     )
 
 same-length-2 : tie.Need-shape_of-heads
@@ -80,11 +80,11 @@ same-length-4 c = search rules
 returns-2 : tie.Need-returns
 unfolding from_sections
 returns-2 c =
-    let t = c.before.before.before.before.before.before.before.before.before.before.before in
+    let t = c.before.before.before.before.before.before.before.before.before.before in
     let s = start t in
     let e = ap meaning c.in_default.is in
     c.from_symbols.ensures
-    ∙ heads_as _ _ s.args.sections.now _ _ _ _ (taken_places 15 _ s.args.sections.now _ _ t.take_image.ensures e)
+    ∙ heads_as _ _ s.args.sections.now _ _ _ _ (taken_places 15 _ s.args.sections.now _ _ t.take_image-a.ensures e)
     ∙ then_goes (image_said t) _ e
 
 pub from_sections_spec : {M : Type 1} → statement M

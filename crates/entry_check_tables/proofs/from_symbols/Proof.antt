@@ -72,7 +72,7 @@ enum-told-2 c = search rules
 take-relocs-requires : tie.Need-take_relocs-b-requires
 take-relocs-requires c κs =
     let t = c in
-    let m = t.before.before in
+    let m = t.before.before.before.before.before.before.before in
     let s = start m in
     (s.requires.0, room _ (few m.main_ceilings-most.ensures).of_relocations (t.take_symbols-a.auto.places ∙ s.requires.1), s.requires.2)
 
@@ -128,7 +128,7 @@ take-units-requires c κs =
     let u = at-relocs t in
     let v = at-symbols u in
     let m = v.before.before in
-    room _ (few m.main_ceilings-most.ensures).of_units (t.take_splits-c.auto.places ∙ u.take_relocs-b.kept.1.1.1.1.1.0 ∙ v.take_symbols-a.kept.1.1.1.1.1.0 ∙ (start m).requires.1)
+    room _ (few m.main_ceilings-most.ensures).of_units (t.take_splits-c.auto.places ∙ u.take_relocs-b.auto.places ∙ v.take_symbols-a.auto.places ∙ (start m).requires.1)
 
 same-length-6 : tie.Need-shape_of-places
 same-length-6 c = search rules

@@ -25,7 +25,7 @@ same-length-4 c = search rules
 returns : tie.Need-returns
 returns c =
     let k = c.checked-a.auto in
-    leaves_at _ k.1.1.1.1.1.1.1.0 k.1.1.1.1.1.1.1.1.0 k.1.1.1.1.1.1.1.1.1.0 k.1.1.1.1.1.1.1.1.1.1.0
+    leaves_at _ k.out_ends k.out_bytes k.out k.counts
     c.checked-a.ensures c.finish.ensures
 
 pub create_gap_splits_spec : {M : Type 1} → statement M

@@ -83,23 +83,23 @@ slice-reshare-prefix-with-sections : tie.Need-slice_bounds-with_sections-end
 slice-reshare-prefix-with-sections c = (stored c.before).named.placed
 
 slice-aggregate-with-sections : tie.Need-slice_bounds-with_sections-end-2
-slice-aggregate-with-sections c = sym (length-take-le _ _ (stored c).named.placed)
+slice-aggregate-with-sections c = sym (length-take-le _ _ (stored c.before).named.placed)
 
 slice-reshare-prefix-with-sections-2 : tie.Need-slice_bounds-with_sections-end-3
-slice-reshare-prefix-with-sections-2 c = (stored c).named.measured
+slice-reshare-prefix-with-sections-2 c = (stored c.before).named.measured
 
 slice-aggregate-with-sections-2 : tie.Need-slice_bounds-with_sections-end-4
-slice-aggregate-with-sections-2 c = sym (length-take-le _ _ (stored c.before.before).named.measured)
+slice-aggregate-with-sections-2 c = sym (length-take-le _ _ (stored c.before).named.measured)
 
 sub-with-sections : tie.Need-overflow_sub-most
-sub-with-sections c = fit_few _ _ _ (fit c.before.before.before.before)
+sub-with-sections c = fit_few _ _ _ (fit c.before)
 
 sub-with-sections-2 : tie.Need-overflow_sub-most_bytes
-sub-with-sections-2 c = omega (arith, c.last_end-end.ensures, fit_end _ _ _ (fit c.before.before.before.before))
+sub-with-sections-2 c = omega (arith, c.last_end-end.ensures, fit_end _ _ _ (fit c.before))
 
 with-sections-requires : tie.Need-with_sections-requires
 with-sections-requires c κs =
-    let e = c.before.before.before.before.before.before.before.before in
+    let e = c.before.before.before.before.before in
     let a = c.args in
     (names-taken _ _ _ _ _ _ (stored e), space _ _ _ _ _ _ (stored e) (length a.out_ends.now) (length a.out_bytes.now) _ _ _ c.names_room-most.ensures c.bytes_room-most_bytes.ensures c.last_end-end.ensures (fit e) (passed e))
 
@@ -130,7 +130,7 @@ same-length-12 c = search rules
 returns-3 : tie.Need-returns
 unfolding gap_splits_of
 returns-3 c =
-    let e = c.before.before.before.before.before.before.before.before.before.before.before.before.before.before.before.before.before in
+    let e = c.before.before.before.before.before.before.before.before.before.before.before.before.before.before in
     let a = c.args in
     gives_goes
     (ap₂ (λ (m b : ℕ). fit_check m b a.name_ends.now) (sym c.names_room-most.ensures) (sym c.bytes_room-most_bytes.ensures) ∙ fit e)

@@ -73,11 +73,11 @@ slice-reshare-prefix-with-splits-2 : tie.Need-slice_bounds-with_splits-end-3
 slice-reshare-prefix-with-splits-2 c = order-inside c
 
 slice-aggregate-with-splits-2 : tie.Need-slice_bounds-with_splits-end-4
-slice-aggregate-with-splits-2 c = sym (length-take-le _ _ (order-inside c.before))
+slice-aggregate-with-splits-2 c = sym (length-take-le _ _ (order-inside c))
 
 with-splits-requires : tie.Need-with_splits-requires
 with-splits-requires c κs =
-    let e = c.before.before.before.before.before in
+    let e = c.before.before.before.before in
     let t = c in
     let s = c in
     let a = s.args in
@@ -114,7 +114,7 @@ same-length-10 c = search rules
 returns-2 : tie.Need-returns
 unfolding from_symbols
 returns-2 c =
-    let e = c.before.before.before.before.before.before.before.before.before.before.before.before.before.before in
+    let e = c.before.before.before.before.before.before.before.before.before.before.before.before.before in
     let a = c.args in
     let names = names_of a.name_bytes.now a.name_places.now a.name_lengths.now (length a.name_places.now) in
     gives_goes (passed e)

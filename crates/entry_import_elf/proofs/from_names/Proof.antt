@@ -32,8 +32,8 @@ said c names l =
 
 -- they were accepted: the columns hold them
 held : (c : tie.In_default)
-    → let t = c in let a = t.args in let last = t.check_names-a.new.1.1.1 in
-    Stored a.ends.now a.bytes.now last.0 last.1.0 last.1.1.0 last.1.1.1.0 (length a.ends.now / 2)
+    → let t = c in let a = t.args in let last = t.check_names-a.new in
+    Stored a.ends.now a.bytes.now last.places last.lengths last.heads last.chain (length a.ends.now / 2)
 held c = let s = c.check_names-a.ensures in s.stored (sym s.said ∙ ap meaning c.in_default.is)
 
 enum_told : tie.Need-enum_told-1
@@ -73,7 +73,7 @@ slice-aggregate-with-sections c = sym (length-take-le _ _ (held c).named.measure
 with-sections-requires : tie.Need-with_sections-requires
 with-sections-requires c κs =
     let s = c in
-    (s.requires.0, record { names = s.requires.1.names; known = stored_known s.requires.1.laid (held c.before.before.before.before.before) })
+    (s.requires.0, record { names = s.requires.1.names; known = stored_known s.requires.1.laid (held c.before.before.before) })
 
 same-length-5 : tie.Need-shape_of-sections
 same-length-5 c = search rules
@@ -100,8 +100,8 @@ returns-2 : tie.Need-returns
 returns-2 c =
     λ names room l.
     let a = c.args in
-    rows_as (names_go (length a.file.now) (record { names = room; sections = sections_room (length a.sections.now) (length a.section_places.now); symbols = symbols_room (length a.symbols.now) }) (tables_of a.file.now names) (said c.before.before.before.before.before.before.before.before.before.before.before.before.before.before.before.before.before.before.before.before.before.before names l) (ap meaning c.in_default.is))
-    (c.with_sections.ensures names (stored_known l (held c.before.before.before.before.before.before.before.before.before.before.before.before)) (stored_lengths l (held c.before.before.before.before.before.before.before.before.before.before.before.before)))
+    rows_as (names_go (length a.file.now) (record { names = room; sections = sections_room (length a.sections.now) (length a.section_places.now); symbols = symbols_room (length a.symbols.now) }) (tables_of a.file.now names) (said c.before.before.before.before.before.before.before.before.before.before.before.before.before.before.before.before.before.before.before names l) (ap meaning c.in_default.is))
+    (c.with_sections.ensures names (stored_known l (held c.before.before.before.before.before.before.before.before.before.before)) (stored_lengths l (held c.before.before.before.before.before.before.before.before.before.before)))
 
 pub from_names_spec : {M : Type 1} → statement M
 from_names_spec =

@@ -80,12 +80,12 @@ slice-aggregate-fill-sections c = sym (length-take-le _ _ (slice-reshare-prefix-
 fill-sections-requires : tie.Need-fill_sections-requires
 fill-sections-requires c κs =
     let s = c in
-    let b = bounds c.before.before.before in
+    let b = bounds c.before.before in
     let m = c.take_sections-m.result in
     let l = c.take_sections-m.new.column in (
       s.requires.0,
       s.requires.1,
-      numbers_of (header_table s.args.file.now) (take m l) (numbers c.before.before.before.before.before.before.before.before b.0) (omega (arith, length-take m l, b.0)),
+      numbers_of (header_table s.args.file.now) (take m l) (numbers c.before.before.before.before.before.before.before b.0) (omega (arith, length-take m l, b.0)),
       omega (arith, length-take m l, b.1),
       omega (arith, length-take m l, b.2),
     )
@@ -105,7 +105,7 @@ filled : (c : tie.After-fill_sections) (names : List (List ℕ))
     Known names a.ends.now a.bytes.now a.heads.now a.chain.now
     → (c.fill_sections.new.sections ≡ sets a.sections.now 0 (sections_table t.sections))
     × (c.fill_sections.new.section_places ≡ sets a.section_places.now 0 (places_table t.places))
-filled c names k = c.fill_sections.ensures names k (numbers c.before.before.before.before.before.before.before.before.before (bounds c.before.before.before.before).0)
+filled c names k = c.fill_sections.ensures names k (numbers c.before.before.before.before.before.before.before.before (bounds c.before.before.before).0)
 
 slice-aggregate-from-image : tie.Need-slice_bounds-from_image-end-2
 slice-aggregate-from-image c = sym (length-take-le _ _ (slice-reshare-prefix-from-image c.before))
@@ -127,7 +127,7 @@ from-image-requires c κs =
     let s = c in
     let m = c.take_sections-m.result in
     let l = c.take_sections-m.new.column in
-    (s.requires.0, omega (arith, length-take m l, (bounds c.before.before.before.before.before.before.before.before.before.before.before.before.before.before).0), s.requires.1, s.requires.3, s.requires.4)
+    (s.requires.0, omega (arith, length-take m l, (bounds c.before.before.before.before.before.before.before.before.before.before).0), s.requires.1, s.requires.3, s.requires.4)
 
 same-length-2 : tie.Need-shape_of-sections
 same-length-2 c = search rules
@@ -152,13 +152,13 @@ returns-2 c =
     λ names k l.
     let a = c.args in
     let t = tables_of a.file.now names in
-    let b = bounds c.before.before.before.before.before.before.before.before.before.before.before.before.before.before.before.before.before.before.before.before.before in
-    let n = counted c.before.before.before.before.before.before.before.before.before.before.before.before.before.before.before.before.before.before.before.before.before.before.before.before.before.before names in
-    let f = filled c.before.before.before.before.before.before.before.before.before.before.before.before.before.before.before.before.before names k in
+    let b = bounds c.before.before.before.before.before.before.before.before.before.before.before.before.before.before.before.before.before in
+    let n = counted c.before.before.before.before.before.before.before.before.before.before.before.before.before.before.before.before.before.before.before.before.before.before names in
+    let f = filled c.before.before.before.before.before.before.before.before.before.before.before.before.before.before names k in
     let ws = front a.sections.now (sections_table t.sections) f.0 (omega (arith, n, long_sections t.sections)) b.1 in
     let wp = front a.section_places.now (places_table t.places) f.1 (omega (arith, n, long_places t.places, places_count a.file.now names, sections_count a.file.now names)) b.2 in
-    let g = c.from_image-g.ensures names k (numbers c.before.before.before.before.before.before.before.before.before.before.before.before.before.before.before.before.before.before.before.before.before.before.before.before.before.before b.0) l ws wp in
-    let st = sections_asked (length a.file.now) (sections_room (length a.sections.now) (length a.section_places.now)) (symbols_room (length a.symbols.now)) t n (omega (arith, c.if-room-m.false, room_is c.before.before.before.before.before.before.before.before.before.before.before.before.before.before.before.before.before.before.before.before.before.before)) in
+    let g = c.from_image-g.ensures names k (numbers c.before.before.before.before.before.before.before.before.before.before.before.before.before.before.before.before.before.before.before.before.before.before b.0) l ws wp in
+    let st = sections_asked (length a.file.now) (sections_room (length a.sections.now) (length a.section_places.now)) (symbols_room (length a.symbols.now)) t n (omega (arith, c.if-room-m.false, room_is c.before.before.before.before.before.before.before.before.before.before.before.before.before.before.before.before.before.before)) in
     record {
       said = g.said ∙ st;
       sections_written = λ _. f.0;

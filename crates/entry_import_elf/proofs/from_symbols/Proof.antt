@@ -103,9 +103,9 @@ returns-2 : tie.Need-returns
 returns-2 c =
     λ names k q s.
     let a = c.args in
-    let n = counted c.before.before.before.before.before.before.before.before.before.before.before.before names in
-    let w = written c.before.before.before.before.before.before.before names k q in
-    let whole = front a.symbols.now (symbols_table (tables_of a.file.now names).symbols) w (omega (arith, n, long_symbols (tables_of a.file.now names).symbols)) (fits c.before.before.before.before.before.before.before) in
+    let n = counted c.before.before.before.before.before.before.before.before.before.before.before names in
+    let w = written c.before.before.before.before.before.before names k q in
+    let whole = front a.symbols.now (symbols_table (tables_of a.file.now names).symbols) w (omega (arith, n, long_symbols (tables_of a.file.now names).symbols)) (fits c.before.before.before.before.before.before) in
     let ends = k.laid.ends_are ∙ ap (λ (l : List (List ℕ)). name_ends l) (sym (names_are a.file.now names)) in
     let asked = symbols_asked (symbols_room (length a.symbols.now)) (tables_of a.file.now names) n (omega (arith, c.if-room-n.false, c.smaller-room.ensures.0)) in
     record {

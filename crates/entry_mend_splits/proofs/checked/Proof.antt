@@ -59,22 +59,22 @@ enum-told-4 c = search rules
 array-share-prefix-places : tie.Need-slice_bounds-places-end
 array-share-prefix-places c =
     let t = c.take_heads-b in
-    omega (arith, (t.ensures.heads (ap meaning c.in_default-b.is)).few, t.auto.1.1.0)
+    omega (arith, (t.ensures.heads (ap meaning c.in_default-b.is)).few, t.auto.places)
 
 slice-aggregate-from-splits : tie.Need-slice_bounds-from_splits-end
 slice-aggregate-from-splits c =
     let t = c.take_heads-b in
-    sym (length-take-le _ _ (omega (arith, (t.ensures.heads (ap meaning c.in_default-b.is)).few, t.auto.1.1.0)))
+    sym (length-take-le _ _ (omega (arith, (t.ensures.heads (ap meaning c.in_default-b.is)).few, t.auto.places)))
 
 array-share-prefix-section-ends : tie.Need-slice_bounds-section_ends-end
 array-share-prefix-section-ends c =
     let t = c.take_heads-b in
-    omega (arith, (t.ensures.heads (ap meaning c.in_default-b.is)).few, t.auto.1.1.1.0)
+    omega (arith, (t.ensures.heads (ap meaning c.in_default-b.is)).few, t.auto.section_ends)
 
 slice-aggregate-from-splits-2 : tie.Need-slice_bounds-from_splits-end-2
 slice-aggregate-from-splits-2 c =
     let t = c.take_heads-b in
-    sym (length-take-le _ _ (omega (arith, (t.ensures.heads (ap meaning c.in_default-b.is)).few, t.auto.1.1.1.0)))
+    sym (length-take-le _ _ (omega (arith, (t.ensures.heads (ap meaning c.in_default-b.is)).few, t.auto.section_ends)))
 
 from-splits-requires : tie.Need-from_splits-requires
 from-splits-requires c κs = let h = c.take_heads-b.ensures.heads (ap meaning c.in_default-b.is) in (h.held, h.ends_are)

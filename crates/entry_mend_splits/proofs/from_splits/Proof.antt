@@ -75,10 +75,10 @@ mend-table-requires c κs =
     let h = room_low (length s.args.out.now) in
     let n = (table_passed split_width _ s.args.splits.now _ (sym t.ensures.said ∙ ap meaning c.in_default.is)).1 in
     record {
-      starts = omega (arith, e, n, h, t.auto.1.1.1.1.1.1.0);
-      ends = omega (arith, e, n, h, t.auto.1.1.1.1.1.1.1.0);
-      units = omega (arith, e, n, h, t.auto.1.1.1.1.1.1.1.1.0);
-      rest = omega (arith, e, n, h, t.auto.1.1.1.1.1.1.1.1.1.0);
+      starts = omega (arith, e, n, h, t.auto.starts);
+      ends = omega (arith, e, n, h, t.auto.ends);
+      units = omega (arith, e, n, h, t.auto.units);
+      rest = omega (arith, e, n, h, t.auto.rest);
     }
 
 slice-aggregate-give-mended : tie.Need-slice_bounds-give_mended-end
@@ -102,14 +102,14 @@ give-mended-requires c κs =
     let h = room_low (length s.args.out.now) in
     let n = (table_passed split_width _ s.args.splits.now _ (sym t.ensures.said ∙ ap meaning c.in_default.is)).1 in (
       record {
-        starts = omega (arith, e, n, h, t.auto.1.1.1.1.1.1.0);
-        ends = omega (arith, e, n, h, t.auto.1.1.1.1.1.1.1.0, w.auto.1.0);
-        units = omega (arith, e, n, h, t.auto.1.1.1.1.1.1.1.1.0);
-        rest = omega (arith, e, n, h, t.auto.1.1.1.1.1.1.1.1.1.0);
+        starts = omega (arith, e, n, h, t.auto.starts);
+        ends = omega (arith, e, n, h, t.auto.ends, w.auto.ends);
+        units = omega (arith, e, n, h, t.auto.units);
+        rest = omega (arith, e, n, h, t.auto.rest);
       },
       omega (arith, e, n, room_fits (length s.args.out.now)),
       omega (arith, e, n, h),
-      lines_low (columns t.new.1.1.1.1.1.1.0 t.new.1.1.1.1.1.1.1.0 t.new.1.1.1.1.1.1.1.1.0 t.new.1.1.1.1.1.1.1.1.1.0) _ (omega (arith, e, n, h)) w.ensures,
+      lines_low (columns t.new.starts t.new.ends t.new.units t.new.rest) _ (omega (arith, e, n, h)) w.ensures,
     )
 
 same_length : tie.Need-shape_of-out
@@ -129,7 +129,7 @@ returns-2 c =
     let a = s.args in
     let told = ap meaning c.in_default.is in
     gives_as (ap (λ (room : ℕ). from_splits a.lengths.now (sections_in a.heads.now a.head_places.now) a.splits.now room (length a.lines.now)) c.room_of.ensures)
-    (mended_gives a.lengths.now (sections_in a.heads.now a.head_places.now) a.splits.now _ (columns t.new.1.1.1.1.1.1.0 t.new.1.1.1.1.1.1.1.0 t.new.1.1.1.1.1.1.1.1.0 t.new.1.1.1.1.1.1.1.1.1.0) (columns t.new.1.1.1.1.1.1.0 w.new.1.0 t.new.1.1.1.1.1.1.1.1.0 t.new.1.1.1.1.1.1.1.1.1.0) _ t.ensures.said told
+    (mended_gives a.lengths.now (sections_in a.heads.now a.head_places.now) a.splits.now _ (columns t.new.starts t.new.ends t.new.units t.new.rest) (columns t.new.starts w.new.ends t.new.units t.new.rest) _ t.ensures.said told
     (omega (arith, c.room_of.ensures, room_fits (length a.out.now))) s.requires.1 (t.ensures.taken (sym t.ensures.said ∙ told)) w.ensures c.give_mended.ensures)
 
 pub from_splits_spec : {M : Type 1} → statement M

@@ -23,7 +23,7 @@ same-length-3 c = search rules
 returns : tie.Need-returns
 returns c =
     let k = c.checked-a in
-    leaves _ _ k.auto.1.1.1.1.0 k.auto.1.1.1.1.1.0 k.auto.1.1.1.1.1.1.0 k.ensures c.finish.ensures
+    leaves _ _ k.auto.out k.auto.lines k.auto.counts k.ensures c.finish.ensures
 
 pub mend_splits_spec : {M : Type 1} → statement M
 mend_splits_spec =

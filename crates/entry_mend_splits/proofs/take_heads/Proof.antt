@@ -31,7 +31,7 @@ slice-reshare-prefix-fill-section-ends c =
     let t = c.take_sections-a in
     let s = c in
     let a = s.args in
-    omega (arith, heads_few a.lengths.now a.sections.now _ t.ensures (ap meaning c.in_default.is), t.auto.1.1.1.0, s.requires.0)
+    omega (arith, heads_few a.lengths.now a.sections.now _ t.ensures (ap meaning c.in_default.is), t.auto.places, s.requires.0)
 
 slice-aggregate-fill-section-ends : tie.Need-slice_bounds-fill_section_ends-end-2
 slice-aggregate-fill-section-ends c =

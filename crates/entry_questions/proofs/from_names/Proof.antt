@@ -29,8 +29,8 @@ names-said c =
 
 -- they were accepted: the columns hold them
 stored : (c : tie.In_default)
-    → let t = c.before.before.before.before.before.before.before.before.before in let a = (start t).args in let last = t.check_names-a.new.1.1.1 in
-    Stored a.ends.now a.bytes.now last.0 last.1.0 last.1.1.0 last.1.1.1.0 (length a.ends.now / 2)
+    → let t = c.before.before.before.before.before.before.before.before.before in let a = (start t).args in let last = t.check_names-a.new in
+    Stored a.ends.now a.bytes.now last.places last.lengths last.heads last.chain (length a.ends.now / 2)
 stored c = let s = c.check_names-a.ensures in s.stored (sym s.said ∙ ap meaning c.in_default.is)
 
 main-ceilings-requires : tie.Need-main_ceilings-most-requires
@@ -71,10 +71,10 @@ slice-reshare-prefix-with-columns-2 : tie.Need-slice_bounds-with_columns-end-3
 slice-reshare-prefix-with-columns-2 c = (stored c).named.measured
 
 slice-aggregate-with-columns-2 : tie.Need-slice_bounds-with_columns-end-4
-slice-aggregate-with-columns-2 c = sym (length-take-le _ _ (stored c.before).named.measured)
+slice-aggregate-with-columns-2 c = sym (length-take-le _ _ (stored c).named.measured)
 
 with-columns-requires : tie.Need-with_columns-requires
-with-columns-requires c κs = names-taken _ _ _ _ _ _ (stored c.before)
+with-columns-requires c κs = names-taken _ _ _ _ _ _ (stored c)
 
 same-length-5 : tie.Need-shape_of-places
 same-length-5 c = c.check_names-a.auto.places
@@ -91,10 +91,10 @@ same-length-8 c = c.check_names-a.auto.chain
 returns-2 : tie.Need-returns
 unfolding answer_of
 returns-2 c =
-    let t = c.before.before.before.before.before.before.before.before.before.before.before.before in
+    let t = c.before.before.before.before.before.before.before.before.before.before in
     let a = (start t).args in
     c.with_columns.ensures
-    ∙ columns_as _ _ _ _ _ _ (stored c.before.before) a.sections.now a.section_places.now a.image.now a.symbols.now a.splits.now a.question
+    ∙ columns_as _ _ _ _ _ _ (stored c.before) a.sections.now a.section_places.now a.image.now a.symbols.now a.splits.now a.question
     ∙ then_goes (names-said t) _ (ap meaning c.in_default.is)
 
 pub from_names_spec : {M : Type 1} → statement M

@@ -27,10 +27,10 @@ abbrev start : tie.After-take_image-a → tie.Start
 start c = c.before.before.before.before.before.before.before.before.before.before.before.before.before.before.before.before.before
 
 abbrev at-image : tie.After-take_symbol_order-t → tie.After-take_image-a
-at-image c = c.before.before.before.before.before.before.before.before
+at-image c = c.before.before.before.before.before.before.before
 
 abbrev at-symbols : tie.After-take_splits-c → tie.After-take_symbol_order-t
-at-symbols c = c.before.before.before.before.before.before.before.before.before.before
+at-symbols c = c.before.before.before.before.before.before.before.before.before
 
 abbrev at-splits : tie.After-take_image_places-p → tie.After-take_splits-c
 at-splits c = c.before.before.before.before.before
@@ -58,7 +58,7 @@ sections_few c =
     omega (arith, taken_few 15 _ (start t).args.sections.now _ _ t.take_image-a.ensures (image_passed c), (few t.main_ceilings-most.ensures).of_sections)
 
 heads-inside : (c : tie.After-take_symbol_order-t) → length (start (at-image c)).args.sections.now / 15 ≤ length (heads (at-image c))
-heads-inside c = let t = at-image c in omega (arith, sections_few c, t.take_image-a.kept.1.1.1.1.1.0, (start t).requires.1.heads_long)
+heads-inside c = let t = at-image c in omega (arith, sections_few c, t.take_image-a.auto.places, (start t).requires.1.heads_long)
 
 heads-there : (c : tie.After-take_symbol_order-t)
     → let n = length (start (at-image c)).args.sections.now / 15 in
@@ -118,12 +118,12 @@ symbols_few c =
 symbols_inside : (c : tie.After-take_splits-c) → length (start (at-image (at-symbols c))).args.symbols.now / 20 ≤ length (symbol_places (at-symbols c))
 symbols_inside c =
     let u = at-symbols c in
-    omega (arith, symbols_few c, u.take_symbol_order-t.kept.1.1.1.1.1.0, (start (at-image u)).requires.1.symbols_long)
+    omega (arith, symbols_few c, u.take_symbol_order-t.auto.places, (start (at-image u)).requires.1.symbols_long)
 
 order-inside : (c : tie.After-take_splits-c) → (at-symbols c).take_symbol_order-t.result.ordered ≤ length (order (at-symbols c))
 order-inside c =
     let u = at-symbols c in
-    omega (arith, u.take_symbol_order-t.ensures.small, symbols_few c, u.take_symbol_order-t.kept.1.1.1.1.1.1.0, (start (at-image u)).requires.1.order_long)
+    omega (arith, u.take_symbol_order-t.ensures.small, symbols_few c, u.take_symbol_order-t.auto.order, (start (at-image u)).requires.1.order_long)
 
 splits-inside : (c : tie.After-take_image_places-p)
     → length (start (at-image (at-symbols (at-splits c)))).args.splits.now / split_width ≤ length (split_places (at-splits c))
@@ -134,7 +134,7 @@ splits-inside c =
       arith,
       taken_few split_width _ (start t).args.splits.now _ _ v.take_splits-c.ensures (splits_passed c),
       (few t.main_ceilings-most.ensures).of_splits,
-      v.take_splits-c.kept.1.1.1.1.1.0,
+      v.take_splits-c.auto.places,
       (start t).requires.1.splits_long,
     )
 
@@ -173,15 +173,15 @@ slice-reshare-prefix-take-symbol-order c =
 
 slice-aggregate-take-symbol-order : tie.Need-slice_bounds-take_symbol_order-end-2
 slice-aggregate-take-symbol-order c =
-    let t = c.before.before.before.before in
-    sym (taken-count 15 _ (start t).args.sections.now _ _ t.take_image.ensures (ap meaning c.in_default.is))
+    let t = c.before.before.before in
+    sym (taken-count 15 _ (start t).args.sections.now _ _ t.take_image-a.ensures (ap meaning c.in_default.is))
 
 take-symbol-order-requires : tie.Need-take_symbol_order-t-requires
 take-symbol-order-requires c κs =
-    let t = c.before.before.before.before.before.before.before in
+    let t = c.before.before.before.before.before.before in
     let p = (start t).requires.1 in
     let f = few t.main_ceilings-most.ensures in (
-      taken-held 15 _ (start t).args.sections.now _ _ t.take_image.ensures (ap meaning c.in_default.is) (omega (arith, f.of_sections)),
+      taken-held 15 _ (start t).args.sections.now _ _ t.take_image-a.ensures (ap meaning c.in_default.is) (omega (arith, f.of_sections)),
       record {
         few = f.of_symbols;
         places_long = omega (arith, f.of_symbols, p.symbols_long);
@@ -218,11 +218,11 @@ slice-reshare-prefix-take-splits : tie.Need-slice_bounds-take_splits-end
 slice-reshare-prefix-take-splits c = heads-inside c.before.before.before.before.before.before.before
 
 slice-aggregate-take-splits : tie.Need-slice_bounds-take_splits-end-2
-slice-aggregate-take-splits c = sym (length-take-le _ _ (heads-inside c.before.before.before.before.before.before.before.before))
+slice-aggregate-take-splits c = sym (length-take-le _ _ (heads-inside c.before.before.before.before.before.before.before))
 
 take-splits-requires : tie.Need-take_splits-c-requires
 take-splits-requires c κs =
-    let u = c.before.before.before.before.before.before.before.before.before in
+    let u = c.before.before.before.before.before.before.before.before in
     let t = at-image u in
     let f = few t.main_ceilings-most.ensures in (
       taken-held 15 _ (start t).args.sections.now _ _ t.take_image-a.ensures (image_passed u) (omega (arith, f.of_sections)),
@@ -266,19 +266,19 @@ slice-reshare-prefix-ask : tie.Need-slice_bounds-ask-end
 slice-reshare-prefix-ask c = symbols_inside (at-splits c.before.before)
 
 slice-aggregate-ask : tie.Need-slice_bounds-ask-end-2
-slice-aggregate-ask c = sym (length-take-le _ _ (symbols_inside (at-splits c.before.before.before)))
+slice-aggregate-ask c = sym (length-take-le _ _ (symbols_inside (at-splits c.before.before)))
 
 slice-reshare-prefix-ask-2 : tie.Need-slice_bounds-ask-end-3
-slice-reshare-prefix-ask-2 c = order-inside (at-splits c.before.before.before)
+slice-reshare-prefix-ask-2 c = order-inside (at-splits c.before.before)
 
 slice-aggregate-ask-2 : tie.Need-slice_bounds-ask-end-4
-slice-aggregate-ask-2 c = sym (length-take-le _ _ (order-inside (at-splits c.before.before.before.before)))
+slice-aggregate-ask-2 c = sym (length-take-le _ _ (order-inside (at-splits c.before.before)))
 
 slice-reshare-prefix-ask-3 : tie.Need-slice_bounds-ask-end-5
-slice-reshare-prefix-ask-3 c = heads-inside (at-symbols (at-splits c.before.before.before.before))
+slice-reshare-prefix-ask-3 c = heads-inside (at-symbols (at-splits c.before.before))
 
 slice-aggregate-ask-3 : tie.Need-slice_bounds-ask-end-6
-slice-aggregate-ask-3 c = sym (length-take-le _ _ (heads-inside (at-symbols (at-splits c))))
+slice-aggregate-ask-3 c = sym (length-take-le _ _ (heads-inside (at-symbols (at-splits c.before.before))))
 
 slice-reshare-prefix-ask-4 : tie.Need-slice_bounds-ask-end-7
 slice-reshare-prefix-ask-4 c = c.take_image_places-p.ensures.inside
@@ -287,14 +287,14 @@ slice-aggregate-ask-4 : tie.Need-slice_bounds-ask-end-8
 slice-aggregate-ask-4 c = sym (length-take-le _ _ c.take_image_places-p.ensures.inside)
 
 slice-reshare-prefix-ask-5 : tie.Need-slice_bounds-ask-end-9
-slice-reshare-prefix-ask-5 c = splits-inside c.before.before.before.before.before
+slice-reshare-prefix-ask-5 c = splits-inside c.before.before
 
 slice-aggregate-ask-5 : tie.Need-slice_bounds-ask-end-10
-slice-aggregate-ask-5 c = sym (length-take-le _ _ (splits-inside c.before.before.before.before.before.before))
+slice-aggregate-ask-5 c = sym (length-take-le _ _ (splits-inside c.before.before))
 
 ask-requires : tie.Need-ask-requires
 ask-requires c κs =
-    let x = c.before.before.before.before.before.before in
+    let x = c.before.before in
     let v = at-splits x in
     let u = at-symbols v in
     let t = at-image u in
@@ -304,33 +304,33 @@ ask-requires c κs =
       tables-taken _ _ _ a.symbols.now (symbols-accepted v) f.of_symbols (symbol_places u) (order u) _ _ _ u.take_symbol_order-t.result u.take_symbol_order-t.ensures
           (sym s.requires.0.paired) s.requires.0.named,
       sections_kept _ _ _ a.image.now a.sections.now (sym t.take_image-a.ensures.said ∙ image_passed u) f.of_sections (heads t) (images x) _ _ (heads-there u)
-          s.requires.0.paired x.take_image_places.ensures (images_long x),
+          s.requires.0.paired x.take_image_places-p.ensures (images_long x),
       homes_taken _ _ _ a.splits.now (sym v.take_splits-c.ensures.said ∙ splits_passed x) (omega (arith, f.of_splits))
           (taken_places split_width _ a.splits.now _ _ v.take_splits-c.ensures (splits_passed x)) (length-map (take (length a.sections.now / 15) (heads t)) (section_at a.sections.now)),
     )
 
 same-length-11 : tie.Need-shape_of-heads
-same-length-11 c = (at-image (at-symbols (at-splits c.before.before.before.before.before.before.before))).take_image-a.auto.places
+same-length-11 c = (at-image (at-symbols (at-splits c.before.before.before))).take_image-a.auto.places
 
 same-length-12 : tie.Need-shape_of-images
 same-length-12 c = c.take_image_places-p.auto.column
 
 same-length-13 : tie.Need-shape_of-places
-same-length-13 c = (at-symbols (at-splits c.before.before.before.before.before.before.before)).take_symbol_order-t.auto.places
+same-length-13 c = (at-symbols (at-splits c.before.before.before)).take_symbol_order-t.auto.places
 
 same-length-14 : tie.Need-shape_of-order
-same-length-14 c = (at-symbols (at-splits c.before.before.before.before.before.before.before)).take_symbol_order-t.auto.order
+same-length-14 c = (at-symbols (at-splits c.before.before.before)).take_symbol_order-t.auto.order
 
 same-length-15 : tie.Need-shape_of-scratch
-same-length-15 c = (at-symbols (at-splits c.before.before.before.before.before.before.before)).take_symbol_order-t.auto.scratch
+same-length-15 c = (at-symbols (at-splits c.before.before.before)).take_symbol_order-t.auto.scratch
 
 same-length-16 : tie.Need-shape_of-split_places
-same-length-16 c = (at-splits c.before.before.before.before.before.before.before).take_splits-c.auto.places
+same-length-16 c = (at-splits c.before.before.before).take_splits-c.auto.places
 
 returns-4 : tie.Need-returns
 unfolding from_sections
 returns-4 c =
-    let x = c.before.before.before.before.before.before.before in
+    let x = c.before.before.before in
     let v = at-splits x in
     let u = at-symbols v in
     let t = at-image u in
@@ -338,7 +338,7 @@ returns-4 c =
     c.ask.ensures
     ∙ question_as a.symbols.now a.sections.now a.image.now a.splits.now a.section_places.now _ _ _ _ _ _ _ a.question
     (u.take_symbol_order-t.ensures.placed (symbols-accepted v)) (heads-there u) (taken_places split_width _ a.splits.now _ _ v.take_splits-c.ensures (splits_passed x))
-    (λ n h. place_is _ a.name_lengths.now a.section_places.now a.image.now a.sections.now (sym t.take_image-a.ensures.said ∙ image_passed u) (images x) _ x.take_image_places.ensures n (omega (arith, h, sections_few u, images_long x)))
+    (λ n h. place_is _ a.name_lengths.now a.section_places.now a.image.now a.sections.now (sym t.take_image-a.ensures.said ∙ image_passed u) (images x) _ x.take_image_places-p.ensures n (omega (arith, h, sections_few u, images_long x)))
     ∙ then_goes (splits-said v) _ (splits_passed x)
     ∙ then_goes (symbols-said u) _ (symbols_passed v)
     ∙ then_goes (image_said t) _ (image_passed u)

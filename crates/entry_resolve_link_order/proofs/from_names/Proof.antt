@@ -98,7 +98,7 @@ returns-2 c =
     let t = c.check_names-a in
     let passed = sym t.ensures.said ∙ ap meaning c.in_default.is in
     let stored = t.ensures.stored passed in
-    from_names_as a.name_ends.now a.name_bytes.now t.new.1.1.1.0 t.new.1.1.1.1.0 t.new.1.1.1.1.1.0 t.new.1.1.1.1.1.1.0 a.sections.now a.split_bytes.now a.unit_bytes.now (length a.out.now) stored passed
+    from_names_as a.name_ends.now a.name_bytes.now t.new.places t.new.lengths t.new.heads t.new.chain a.sections.now a.split_bytes.now a.unit_bytes.now (length a.out.now) stored passed
     c.section_tables.ensures
 
 pub from_names_spec : {M : Type 1} → statement M

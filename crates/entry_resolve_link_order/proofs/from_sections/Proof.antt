@@ -35,7 +35,7 @@ slice-reshare-prefix-split-tables c =
     let a = s.args in
     let t = c.take_sections-a in
     let told = ap meaning c.in_default.is in
-    omega (arith, taken_few 15 _ a.sections.now _ _ t.ensures told, t.auto.1.1.1.0, s.requires.1)
+    omega (arith, taken_few 15 _ a.sections.now _ _ t.ensures told, t.auto.places, s.requires.1)
 
 slice-aggregate-split-tables : tie.Need-slice_bounds-split_tables-end-2
 slice-aggregate-split-tables c =

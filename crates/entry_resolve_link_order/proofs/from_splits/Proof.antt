@@ -57,15 +57,15 @@ from-units-requires c κs =
     let a = s.args in
     let t = c.take_split_columns-a in
     let told = ap meaning c.in_default.is in
-    let col = columns t.new.1.1.1.1.1.1.0 t.new.1.1.1.1.1.1.1.0 t.new.1.1.1.1.1.1.1.1.0 t.new.1.1.1.1.1.1.1.1.1.0 in
+    let col = columns t.new.starts t.new.ends t.new.units t.new.rest in
     let q = s.requires.1 in (
       splits-taken a.lengths.now a.heads.now a.head_places.now a.name_bytes.now a.name_places.now a.split_bytes.now col t.ensures told s.requires.0 (record {
-        starts = omega (arith, t.auto.1.1.1.1.1.1.0, q.starts_long);
-        ends = omega (arith, t.auto.1.1.1.1.1.1.1.0, q.ends_long);
-        units = omega (arith, t.auto.1.1.1.1.1.1.1.1.0, q.units_long);
-        rest = omega (arith, t.auto.1.1.1.1.1.1.1.1.1.0, q.rest_long);
+        starts = omega (arith, t.auto.starts, q.starts_long);
+        ends = omega (arith, t.auto.ends, q.ends_long);
+        units = omega (arith, t.auto.units, q.units_long);
+        rest = omega (arith, t.auto.rest, q.rest_long);
       }),
-      t.auto.1.1.1.1.1.0 ∙ q.places_long,
+      t.auto.places ∙ q.places_long,
     )
 
 same-length-6 : tie.Need-shape_of-places
@@ -92,7 +92,7 @@ returns-2 c =
     let a = s.args in
     let t = c.take_split_columns-a in
     let told = ap meaning c.in_default.is in
-    let col = columns t.new.1.1.1.1.1.1.0 t.new.1.1.1.1.1.1.1.0 t.new.1.1.1.1.1.1.1.1.0 t.new.1.1.1.1.1.1.1.1.1.0 in
+    let col = columns t.new.starts t.new.ends t.new.units t.new.rest in
     from_splits_as _ _ a.lengths.now _ a.split_bytes.now a.unit_bytes.now (length a.out.now) (rows_taken a.lengths.now a.heads.now a.head_places.now a.name_bytes.now a.name_places.now a.split_bytes.now col t.ensures told) (sym t.ensures.said ∙ told) c.from_units.ensures
 
 pub from_splits_spec : {M : Type 1} → statement M

@@ -35,7 +35,7 @@ slice-reshare-prefix-ordered c =
     let a = s.args in
     let t = c.take_units-a in
     let told = ap meaning c.in_default.is in
-    omega (arith, taken_few 8 _ a.unit_bytes.now _ _ t.ensures told, t.auto.1.1.1.0, s.requires.1)
+    omega (arith, taken_few 8 _ a.unit_bytes.now _ _ t.ensures told, t.auto.places, s.requires.1)
 
 slice-aggregate-ordered : tie.Need-slice_bounds-ordered-end-2
 slice-aggregate-ordered c =

@@ -37,7 +37,7 @@ returns : tie.Need-returns
 returns c =
     let a = c.args in
     let k = c.checked-r in
-    leaves _ _ _ k.result a.out.now k.new.1.1.1.1.1.0 a.counts.now _ _ _ k.ensures c.word_of.ensures c.clear_from.ensures
+    leaves _ _ _ k.result a.out.now k.new.out a.counts.now _ _ _ k.ensures c.word_of.ensures c.clear_from.ensures
     (c.put_count.ensures ∙ ap (store_count 0 k.result.kept) c.clear_from-2.ensures)
 
 pub resolve_link_order_spec : {M : Type 1} → statement M

@@ -44,18 +44,18 @@ kept-of-requires c κs = search rules
 
 lay-requires : tie.Need-lay-requires
 lay-requires c κs =
-    let s = c in
+    let s = c.before.before.before.before.before.before.before.before.before.before.before.before.before.before.before.before.before.before.before.before.before.before.before.before.before.before.before.before.before.before.before.before.before.before.before.before.before.before.before.before.before.before.before.before.before.before.before.before.before.before.before.before.before.before.before.before.before.before.before.before.before.before.before.before.before.before.before.before.before.before.before.before.before.before.before.before.before.before.before.before.before.before.before.before in
     let f = c.run_file-r in
     let l = s.requires.1 in
     let cap = c.room_of-cap.ensures in
     let low = room_low (length s.args.out_splits.now) in
     fits_as (kept-fits _ _ _ (sizes_at s) c.room_of-cap.result (record {
-      starts = omega (arith, cap, low, l.starts_long, f.auto.1.1.1.1.1.1.1.0);
-      ends = omega (arith, cap, low, l.ends_long, f.auto.1.1.1.1.1.1.1.1.0);
-      units = omega (arith, cap, low, l.units_long, f.auto.1.1.1.1.1.1.1.1.1.0);
-      rest = omega (arith, cap, low, l.rest_long, f.auto.1.1.1.1.1.1.1.1.1.1.0);
+      starts = omega (arith, cap, low, l.starts_long, f.auto.starts);
+      ends = omega (arith, cap, low, l.ends_long, f.auto.ends);
+      units = omega (arith, cap, low, l.units_long, f.auto.units);
+      rest = omega (arith, cap, low, l.rest_long, f.auto.rest);
     }) (omega (arith, cap, low)) (omega (arith, cap, room_fits (length s.args.out_splits.now))) f.result.ran f.ensures.holds)
-    c.kept_of.ensures (same_sizes (length s.args.out_ends.now) (length s.args.out_bytes.now) (length s.args.out_splits.now) (length s.args.counts.now) f.auto.1.1.1.1.1.1.1.1.1.1.1.1.1.1.1.1.1.0 f.auto.1.1.1.1.1.1.1.1.1.1.1.1.1.1.1.1.1.1.0 f.auto.1.1.1.1.1.1.1.1.1.1.1.1.1.1.1.1.1.1.1.0 f.auto.1.1.1.1.1.1.1.1.1.1.1.1.1.1.1.1.1.1.1.1.0)
+    c.kept_of.ensures (same_sizes (length s.args.out_ends.now) (length s.args.out_bytes.now) (length s.args.out_splits.now) (length s.args.counts.now) f.auto.out_units f.auto.pieces f.auto.entries f.auto.offsets)
 
 word-for-requires : tie.Need-word_for-requires
 word-for-requires c κs = search rules
@@ -125,13 +125,13 @@ same-length-21 c = search rules
 
 returns : tie.Need-returns
 returns c =
-    let s = c in
+    let s = c.before.before.before.before.before.before.before.before.before.before.before.before.before.before.before.before.before.before.before.before.before.before.before.before.before.before.before.before.before.before.before.before.before.before.before.before.before.before.before.before.before.before.before.before.before.before.before.before.before.before.before.before.before.before.before.before.before.before.before.before.before.before.before.before.before.before.before.before.before.before.before.before.before.before.before.before.before.before.before.before.before.before.before.before.before.before.before.before.before.before.before.before.before.before.before.before.before.before.before.before.before.before in
     let f = c.run_file-r in
     let cap = c.room_of-cap.ensures in
     leaves _ _ _ _ _ _ f.result.ran _ _ _ _ _ _ _ _
     (f.ensures.is ∙ ap (λ (n : ℕ). run_of s.args.file.now (rooms_in s.args.file.now (length s.args.out_ends.now / 2) (length s.args.out_bytes.now) n (length s.args.out_units.now / 8) (output_of s))) cap)
     c.kept_of.ensures
-    (same_sizes (length s.args.out_ends.now) (length s.args.out_bytes.now) (length s.args.out_splits.now) (length s.args.counts.now) f.auto.1.1.1.1.1.1.1.1.1.1.1.1.1.1.1.1.1.0 f.auto.1.1.1.1.1.1.1.1.1.1.1.1.1.1.1.1.1.1.0 f.auto.1.1.1.1.1.1.1.1.1.1.1.1.1.1.1.1.1.1.1.0 f.auto.1.1.1.1.1.1.1.1.1.1.1.1.1.1.1.1.1.1.1.1.0)
+    (same_sizes (length s.args.out_ends.now) (length s.args.out_bytes.now) (length s.args.out_splits.now) (length s.args.counts.now) f.auto.out_units f.auto.pieces f.auto.entries f.auto.offsets)
     c.word_for.ensures c.lay.ensures
 
 pub in_columns_spec : {M : Type 1} → statement M

@@ -59,11 +59,11 @@ slice-reshare-prefix-with-sections-2 : tie.Need-slice_bounds-with_sections-end-3
 slice-reshare-prefix-with-sections-2 c = (stored c).named.measured
 
 slice-aggregate-with-sections-2 : tie.Need-slice_bounds-with_sections-end-4
-slice-aggregate-with-sections-2 c = sym (length-take-le _ _ (stored c.before).named.measured)
+slice-aggregate-with-sections-2 c = sym (length-take-le _ _ (stored c).named.measured)
 
 with-sections-requires : tie.Need-with_sections-requires
 with-sections-requires c κs =
-    let e = c.before.before.before.before in
+    let e = c.before.before.before in
     let a = c.args in
     (names-taken _ _ _ _ _ _ (stored e), omega (arith, lengths_count _ _ _ _ _ _ (stored e), names_few 4096 a.name_ends.now a.name_bytes.now (sym c.check_names-a.ensures.said ∙ (ap meaning c.in_default.is))))
 
@@ -94,7 +94,7 @@ returns-2 c =
     let t = c in
     let a = c.args in
     gives_goes (sym t.check_names-a.ensures.said ∙ (ap meaning c.in_default.is))
-    (gives_as (names_as _ _ _ _ _ _ (stored c.before.before.before.before.before.before.before.before.before.before.before) a.sections.now a.section_places.now a.image.now a.symbols.now a.relocs.now a.splits.now a.unit_table.now (room_in (length a.pieces.now) (length a.entries.now) (length a.offsets.now)))
+    (gives_as (names_as _ _ _ _ _ _ (stored c.before.before.before.before.before.before.before.before.before.before) a.sections.now a.section_places.now a.image.now a.symbols.now a.relocs.now a.splits.now a.unit_table.now (room_in (length a.pieces.now) (length a.entries.now) (length a.offsets.now)))
     c.with_sections.ensures)
 
 pub from_names_spec : {M : Type 1} → statement M

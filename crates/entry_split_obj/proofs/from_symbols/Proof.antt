@@ -75,12 +75,12 @@ slice-reshare-prefix-with-relocs-2 : tie.Need-slice_bounds-with_relocs-end-3
 slice-reshare-prefix-with-relocs-2 c = order-inside c
 
 slice-aggregate-with-relocs-2 : tie.Need-slice_bounds-with_relocs-end-4
-slice-aggregate-with-relocs-2 c = sym (length-take-le _ _ (order-inside c.before))
+slice-aggregate-with-relocs-2 c = sym (length-take-le _ _ (order-inside c))
 
 with-relocs-requires : tie.Need-with_relocs-requires
 with-relocs-requires c κs =
     let t = c in
-    let e = c.before.before.before.before in
+    let e = c.before.before.before in
     let s = c in
     let a = s.args in
     let count = length a.name_lengths.now in (
@@ -114,7 +114,7 @@ same-length-9 c = c.with_relocs.auto.offsets
 returns-2 : tie.Need-returns
 unfolding from_symbols
 returns-2 c =
-    let e = c.before.before.before.before.before.before.before.before.before.before.before in
+    let e = c.before.before.before.before.before.before.before.before.before.before in
     let a = c.args in
     gives_goes (passed e)
     (gives_as (ap (λ (l : List ℕ). from_relocs a.name_lengths.now (sections_in a.heads.now a.head_places.now) (image_of a.symbols.now l a.name_bytes.now a.name_places.now a.name_lengths.now) (sections_of a.heads.now a.head_places.now a.image.now a.image_places.now) a.relocs.now a.splits.now a.unit_table.now (room_in (length a.pieces.now) (length a.entries.now) (length a.offsets.now))) (places_are e))

@@ -15,8 +15,8 @@ use Rattle.entry_trim_splits.proofs.from_names.Tie as tie
 
 -- the names were accepted: the columns hold them
 stored : (c : tie.In_default)
-    → let t = c in let a = c.args in let last = t.check_names-a.new.1.1.1 in
-    Stored a.name_ends.now a.name_bytes.now last.0 last.1.0 last.1.1.0 last.1.1.1.0 (length a.name_ends.now / 2)
+    → let t = c in let a = c.args in let last = t.check_names-a.new in
+    Stored a.name_ends.now a.name_bytes.now last.places last.lengths last.heads last.chain (length a.name_ends.now / 2)
 stored c = let s = c.check_names-a.ensures in s.stored (sym s.said ∙ ap meaning c.in_default.is)
 
 check-names-requires : tie.Need-check_names-a-requires
@@ -54,10 +54,10 @@ slice-reshare-prefix-with-sections-2 : tie.Need-slice_bounds-with_sections-end-3
 slice-reshare-prefix-with-sections-2 c = (stored c).named.measured
 
 slice-aggregate-with-sections-2 : tie.Need-slice_bounds-with_sections-end-4
-slice-aggregate-with-sections-2 c = sym (length-take-le _ _ (stored c.before).named.measured)
+slice-aggregate-with-sections-2 c = sym (length-take-le _ _ (stored c).named.measured)
 
 with-sections-requires : tie.Need-with_sections-requires
-with-sections-requires c κs = names-taken _ _ _ _ _ _ (stored c.before.before.before)
+with-sections-requires c κs = names-taken _ _ _ _ _ _ (stored c.before.before)
 
 same-length-5 : tie.Need-shape_of-places
 same-length-5 c = search rules
@@ -83,7 +83,7 @@ returns-2 c =
     let t = c in
     let a = c.args in
     gives_goes (sym t.check_names-a.ensures.said ∙ ap meaning c.in_default.is)
-    (gives_as (names_as _ _ _ _ _ _ (stored c.before.before.before.before.before.before.before.before) a.sections.now a.section_places.now a.image.now a.symbols.now a.splits.now (length a.out.now)) c.with_sections.ensures)
+    (gives_as (names_as _ _ _ _ _ _ (stored c.before.before.before.before.before.before.before) a.sections.now a.section_places.now a.image.now a.symbols.now a.splits.now (length a.out.now)) c.with_sections.ensures)
 
 pub from_names_spec : {M : Type 1} → statement M
 from_names_spec =

@@ -84,26 +84,26 @@ enum-told-2 c = search rules
 
 trim-rows-requires : tie.Need-trim_rows-requires
 trim-rows-requires c κs =
-    let t = c.before.before.before.before.before.before.before.before.before.before.before.before.before.before.before.before.before.before in
+    let t = c.before.before.before.before.before.before.before.before.before.before.before.before.before.before.before in
     let s = c in
     let a = s.args in
     let e = ap meaning c.in_default.is in
-    let passed = sym t.take_split_columns.ensures.said ∙ e in
+    let passed = sym t.take_split_columns-a.ensures.said ∙ e in
     let few = splits_few t e in
     let low = room_low (length a.out.now) in
     let long = s.requires.3 in
-    let kept = t.take_split_columns.auto.1.1.1.1.1.1 in
-    let last = t.take_split_columns.new.1.1.1.1.1.1 in (
+    let kept = t.take_split_columns-a.auto in
+    let last = t.take_split_columns-a.new in (
       s.requires.0,
       s.requires.1,
       s.requires.2.kept,
-      rows-placed _ a.name_lengths.now (sections_in a.heads.now a.head_places.now) a.splits.now (columns last.0 last.1.0 last.1.1.0 last.1.1.1.0) passed
-          (t.take_split_columns.ensures.taken passed)
+      rows-placed _ a.name_lengths.now (sections_in a.heads.now a.head_places.now) a.splits.now (columns last.starts last.ends last.units last.rest) passed
+          (t.take_split_columns-a.ensures.taken passed)
           (record {
-            starts = omega (arith, few, low, long.starts_long, kept.0);
-            ends = omega (arith, few, low, long.ends_long, kept.1.0);
-            units = omega (arith, few, low, long.units_long, kept.1.1.0);
-            rest = omega (arith, few, low, long.rest_long, kept.1.1.1.0);
+            starts = omega (arith, few, low, long.starts_long, kept.starts);
+            ends = omega (arith, few, low, long.ends_long, kept.ends);
+            units = omega (arith, few, low, long.units_long, kept.units);
+            rest = omega (arith, few, low, long.rest_long, kept.rest);
           })
           (length a.head_places.now) (length-map a.head_places.now (section_at a.heads.now)),
       omega (arith, few, low, long.falls_long),
@@ -138,13 +138,13 @@ same-length-13 c = search rules
 returns-2 : tie.Need-returns
 unfolding from_splits
 returns-2 c =
-    let t = c.before.before.before.before.before.before.before.before.before.before.before.before.before.before.before.before.before.before.before.before.before.before.before.before.before.before.before in
+    let t = c.before.before.before.before.before.before.before.before.before.before.before.before.before.before.before.before.before.before.before.before.before.before.before.before in
     let a = c.args in
     let e = ap meaning c.in_default.is in
     gives_goes (sym (splits-said t) ∙ e)
     (gives_as
     (ap (trimmed (image_of a.symbols.now a.symbol_places.now a.name_bytes.now a.name_places.now a.name_lengths.now) (sections_of a.heads.now a.head_places.now a.image.now a.image_places.now))
-    (t.take_split_columns.ensures.taken (sym t.take_split_columns.ensures.said ∙ e)))
+    (t.take_split_columns-a.ensures.taken (sym t.take_split_columns-a.ensures.said ∙ e)))
     c.trim_rows.ensures)
 
 pub from_splits_spec : {M : Type 1} → statement M

@@ -63,7 +63,7 @@ slice-reshare-prefix-with-splits-2 : tie.Need-slice_bounds-with_splits-end-3
 slice-reshare-prefix-with-splits-2 c = order-inside c
 
 slice-aggregate-with-splits-2 : tie.Need-slice_bounds-with_splits-end-4
-slice-aggregate-with-splits-2 c = sym (length-take-le _ _ (order-inside c.before))
+slice-aggregate-with-splits-2 c = sym (length-take-le _ _ (order-inside c))
 
 with-splits-requires : tie.Need-with_splits-requires
 with-splits-requires c κs =

@@ -24,7 +24,7 @@ returns c =
     let a = c.args in
     let t = c.checked-a in
     let o = trim_of a.name_ends.now a.name_bytes.now a.sections.now a.section_places.now a.image.now a.symbols.now a.splits.now (length a.out.now) in
-    finished o _ _ t.auto.1.1.1.1.1.1.1.0 t.auto.1.1.1.1.1.1.1.1.0 t.ensures c.finish.ensures
+    finished o _ _ t.auto.out t.auto.counts t.ensures c.finish.ensures
 
 pub trim_splits_spec : {M : Type 1} → statement M
 trim_splits_spec =

@@ -17,8 +17,8 @@ use Rattle.entry_update_common_splits.proofs.all_tables.Tie as tie
 
 -- the names were accepted: the columns hold them
 stored : (c : tie.In_default)
-    → let t = c in let a = t.args in let last = t.check_names-a.new.1.1.1 in
-    Stored a.name_ends.now a.name_bytes.now last.0 last.1.0 last.1.1.0 last.1.1.1.0 (length a.name_ends.now / 2)
+    → let t = c in let a = t.args in let last = t.check_names-a.new in
+    Stored a.name_ends.now a.name_bytes.now last.places last.lengths last.heads last.chain (length a.name_ends.now / 2)
 stored c = let s = c.check_names-a.ensures in s.stored (sym s.said ∙ ap meaning c.in_default.is)
 
 check-names-requires : tie.Need-check_names-a-requires
@@ -56,10 +56,10 @@ slice-reshare-prefix-named-tables-2 : tie.Need-slice_bounds-named_tables-end-3
 slice-reshare-prefix-named-tables-2 c = (stored c).named.measured
 
 slice-aggregate-named-tables-2 : tie.Need-slice_bounds-named_tables-end-4
-slice-aggregate-named-tables-2 c = sym (length-take-le _ _ (stored c.before).named.measured)
+slice-aggregate-named-tables-2 c = sym (length-take-le _ _ (stored c).named.measured)
 
 named-tables-requires : tie.Need-named_tables-requires
-named-tables-requires c κs = names_front (stored c.before.before.before)
+named-tables-requires c κs = names_front (stored c.before.before)
 
 same-length-5 : tie.Need-shape_of-places
 same-length-5 c = search rules
@@ -86,7 +86,7 @@ returns-2 c =
     let a = c.args in
     let e = ap meaning c.in_default.is in
     gives_goes (sym t.check_names-a.ensures.said ∙ e)
-    (gives_as (names_as a.sections.now a.splits.now (not (eqb a.has_start 0)) a.start (length a.out.now) (stored c.before.before.before.before.before.before.before.before)) c.named_tables.ensures)
+    (gives_as (names_as a.sections.now a.splits.now (not (eqb a.has_start 0)) a.start (length a.out.now) (stored c.before.before.before.before.before.before.before)) c.named_tables.ensures)
 
 pub all_tables_spec : {M : Type 1} → statement M
 all_tables_spec =

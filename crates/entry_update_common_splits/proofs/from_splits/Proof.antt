@@ -83,18 +83,18 @@ enum-told-2 c = search rules
 
 update-requires : tie.Need-update-requires
 update-requires c κs =
-    let t = c.before.before.before.before.before.before.before.before.before.before.before.before.before.before.before.before.before in
+    let t = c.before.before.before.before.before.before.before.before.before.before.before.before.before.before in
     let s = start t in
     let few = splits_few t (ap meaning c.in_default.is) in
     let low = room_low (length s.args.out.now) in
     let long = s.requires.2 in
-    let kept = t.take_split_columns.auto.1.1.1.1.1.1 in (
+    let kept = t.take_split_columns-a.auto in (
       s.requires.0,
       record {
-        starts = omega (arith, few, low, long.starts_long, kept.0);
-        ends = omega (arith, few, low, long.ends_long, kept.1.0);
-        units = omega (arith, few, low, long.units_long, kept.1.1.0);
-        rest = omega (arith, few, low, long.rest_long, kept.1.1.1.0);
+        starts = omega (arith, few, low, long.starts_long, kept.starts);
+        ends = omega (arith, few, low, long.ends_long, kept.ends);
+        units = omega (arith, few, low, long.units_long, kept.units);
+        rest = omega (arith, few, low, long.rest_long, kept.rest);
       },
       omega (arith, few, low),
       omega (arith, few, room_fits (length s.args.out.now)),
@@ -124,12 +124,12 @@ same-length-12 c = search rules
 returns-2 : tie.Need-returns
 unfolding from_splits
 returns-2 c =
-    let t = c.before.before.before.before.before.before.before.before.before.before.before.before.before.before.before.before.before.before.before.before.before.before.before.before in
+    let t = c.before.before.before.before.before.before.before.before.before.before.before.before.before.before.before.before.before.before.before.before.before in
     let a = (start t).args in
     let e = ap meaning c.in_default.is in
-    let passed = sym t.take_split_columns.ensures.said ∙ e in
+    let passed = sym t.take_split_columns-a.ensures.said ∙ e in
     gives_goes (sym (splits-said t) ∙ e)
-    (gives_as (ap (common_of a.has_start a.start (bss_in a.name_bytes.now a.name_places.now a.name_lengths.now a.heads.now a.head_places.now)) (t.take_split_columns.ensures.taken passed)) c.update.ensures)
+    (gives_as (ap (common_of a.has_start a.start (bss_in a.name_bytes.now a.name_places.now a.name_lengths.now a.heads.now a.head_places.now)) (t.take_split_columns-a.ensures.taken passed)) c.update.ensures)
 
 pub from_splits_spec : {M : Type 1} → statement M
 from_splits_spec =

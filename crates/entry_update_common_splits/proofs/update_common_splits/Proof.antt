@@ -24,7 +24,7 @@ returns c =
     let a = c.args in
     let t = c.checked-a in
     let o = update_of a.name_ends.now a.name_bytes.now a.sections.now a.splits.now a.has_start a.start (length a.out.now) in
-    leaves_as o t.auto.1.1.1.1.1.1.0 t.auto.1.1.1.1.1.1.1.0 (c.finish.ensures o) t.ensures
+    leaves_as o t.auto.out t.auto.counts (c.finish.ensures o) t.ensures
 
 pub update_common_splits_spec : {M : Type 1} → statement M
 update_common_splits_spec =

@@ -53,7 +53,7 @@ returns c =
     let names = section_names a.heads.now a.head_places.now a.name_bytes.now a.name_places.now a.name_lengths.now in
     let old = rows (columns a.starts.now a.ends.now a.units.now a.rest.now) a.n in
     let u = c.unit_of-named in
-    let c' = beside u.new.1.1.1.1.1.1.1.0 u.new.1.1.1.1.1.1.1.1.0 u.new.1.1.1.1.1.1.1.1.1.0 in
+    let c' = beside u.new.added_bytes u.new.added_places u.new.added_lengths in
     enters_full names (given (sections_in a.heads.now a.head_places.now) a.cap) base before old (gap a.section a.start a.end) c'
     (columns a.starts.now a.ends.now a.units.now a.rest.now) a.most a.most_bytes a.cap u.ensures c.in-Full.is
 
@@ -87,12 +87,12 @@ returns-2 c =
     let names = section_names a.heads.now a.head_places.now a.name_bytes.now a.name_places.now a.name_lengths.now in
     let old = rows (columns a.starts.now a.ends.now a.units.now a.rest.now) a.n in
     let u = c.unit_of-named in
-    let c' = beside u.new.1.1.1.1.1.1.1.0 u.new.1.1.1.1.1.1.1.1.0 u.new.1.1.1.1.1.1.1.1.1.0 in
+    let c' = beside u.new.added_bytes u.new.added_places u.new.added_lengths in
     let o = c.add_split-r in
-    let k = c.before.before.before.before.before.before.before.before.before.before.before.before.before.before.before.before.named.given in
+    let k = c.in-Number in
     enters_merged names (given (sections_in a.heads.now a.head_places.now) a.cap) base before old (gap a.section a.start a.end) c'
-    (columns o.new.0 o.new.1.0 o.new.1.1.0 o.new.1.1.1.0) a.most a.most_bytes a.cap o.result
-    k.0.0 k.0.1.0 k.0.1.1.0 u.ensures k.1 c.gap_split-new.ensures o.ensures.0 o.ensures.1 c.as_entered.ensures
+    (columns o.new.starts o.new.ends o.new.units o.new.rest) a.most a.most_bytes a.cap o.result
+    k.unit k.more k.bytes u.ensures k.is c.gap_split-new.ensures o.ensures.0 o.ensures.1 c.as_entered.ensures
 
 pub enter_gap_spec : {M : Type 1} → statement M
 enter_gap_spec =

@@ -52,7 +52,7 @@ start-of-requires c κs =
 mul-end : tie.Need-offset_bounds-gap_ends-i invariant-loop decreases-loop
 mul-end c =
     let q = c.requires in
-    omega (arith, q.5.long_ends, c.loop-i-test.true, c.well-formed.1.1.1.1.1.1.1.1.1.1.1.1.1.1.1.1.1.1.1.0)
+    omega (arith, q.5.long_ends, c.loop-i-test.true, c.well_formed.1.1.1.1.1.1.1.1.1.1.1.1.1.1.1.1.1.1.1.0)
 
 shared-slice-read-end : tie.Need-bounds-gap_ends-i invariant-loop decreases-loop
 shared-slice-read-end c =
@@ -120,12 +120,12 @@ returns c =
     let cl = beside l.added_bytes l.added_places l.added_lengths in
     let tl = columns l.starts l.ends l.units l.rest in
     let o = c.enter_gap-r in
-    let c' = beside o.new.1.1.1.1.1.1.1.1.1.1.1.1.1.0 o.new.1.1.1.1.1.1.1.1.1.1.1.1.1.1.0 o.new.1.1.1.1.1.1.1.1.1.1.1.1.1.1.1.0 in
-    let t' = columns o.new.0 o.new.1.0 o.new.1.1.0 o.new.1.1.1.0 in
+    let c' = beside o.new.added_bytes o.new.added_places o.new.added_lengths in
+    let t' = columns o.new.starts o.new.ends o.new.units o.new.rest in
     let t = c.loop-i-test.true in
     let here = gap_here a.keys.now a.gap_ends.now l.i c.section_of-section.ensures c.start_of-start.ensures in
-    let k = c.before.r.given in (
-      refused_here nm g base a.most a.most_bytes a.cap a.keys.now a.gap_ends.now a.count c₀ t₀ a.n cl tl l.k l.names l.used l.i l.invariant t c' t' k.0.0 k.0.1.0 k.0.1.1.0 here o.ensures.is k.1,
+    let k = c.in-Refused in (
+      refused_here nm g base a.most a.most_bytes a.cap a.keys.now a.gap_ends.now a.count c₀ t₀ a.n cl tl l.k l.names l.used l.i l.invariant t c' t' k.number k.place k.address here o.ensures.is k.is,
       stand_none c' a.most a.most_bytes o.ensures.stand.room,
       zero-le,
     )
@@ -137,7 +137,7 @@ add-i : tie.Need-overflow_add-i invariant-loop decreases-loop
 add-i c =
     let t = c.loop-i-test.true in
     let q = c.requires in
-    omega (arith, t, q.5.long_keys, c.well-formed.1.1.1.1.1.1.1.1.1.1.1.1.1.1.1.1.1.1.0)
+    omega (arith, t, q.5.long_keys, c.well_formed.1.1.1.1.1.1.1.1.1.1.1.1.1.1.1.1.1.1.0)
 
 loop-less : tie.Need-loop-i-smaller invariant-loop decreases-loop
 loop-less c =
@@ -157,19 +157,19 @@ loop-again c =
     let cl = beside l.added_bytes l.added_places l.added_lengths in
     let tl = columns l.starts l.ends l.units l.rest in
     let o = c.enter_gap-r in
-    let c' = beside o.new.1.1.1.1.1.1.1.1.1.1.1.1.1.0 o.new.1.1.1.1.1.1.1.1.1.1.1.1.1.1.0 o.new.1.1.1.1.1.1.1.1.1.1.1.1.1.1.1.0 in
-    let t' = columns o.new.0 o.new.1.0 o.new.1.1.0 o.new.1.1.1.0 in
+    let c' = beside o.new.added_bytes o.new.added_places o.new.added_lengths in
+    let t' = columns o.new.starts o.new.ends o.new.units o.new.rest in
     let t = c.loop-i-test.true in
     let here = gap_here a.keys.now a.gap_ends.now l.i c.section_of-section.ensures c.start_of-start.ensures in
-    let k = c.before.r2.given in
-    goes_on nm g base a.most a.most_bytes a.cap a.keys.now a.gap_ends.now a.count c₀ t₀ a.n cl tl l.k l.names l.used l.i l.invariant t (length a.head_places.now) q.5 q.3.few c' t' k.0.0 k.0.1.0 k.0.1.1.0 here o.ensures k.1
+    let k = c.in-Accepted in
+    goes_on nm g base a.most a.most_bytes a.cap a.keys.now a.gap_ends.now a.count c₀ t₀ a.n cl tl l.k l.names l.used l.i l.invariant t (length a.head_places.now) q.5 q.3.few c' t' k.more k.bytes k.splits here o.ensures k.is
     (record {
-      starts = o.auto.0 ∙ l.invariant.same_table.starts;
-      ends = o.auto.1.0 ∙ l.invariant.same_table.ends;
-      units = o.auto.1.1.0 ∙ l.invariant.same_table.units;
-      rest = o.auto.1.1.1.0 ∙ l.invariant.same_table.rest;
+      starts = o.auto.starts ∙ l.invariant.same_table.starts;
+      ends = o.auto.ends ∙ l.invariant.same_table.ends;
+      units = o.auto.units ∙ l.invariant.same_table.units;
+      rest = o.auto.rest ∙ l.invariant.same_table.rest;
     })
-    (o.auto.1.1.1.1.1.1.1.1.1.1.1.1.1.0 ∙ l.invariant.same_bytes) (o.auto.1.1.1.1.1.1.1.1.1.1.1.1.1.1.0 ∙ l.invariant.same_places) (o.auto.1.1.1.1.1.1.1.1.1.1.1.1.1.1.1.0 ∙ l.invariant.same_lengths)
+    (o.auto.added_bytes ∙ l.invariant.same_bytes) (o.auto.added_places ∙ l.invariant.same_places) (o.auto.added_lengths ∙ l.invariant.same_lengths)
 
 same-length-8 : tie.Need-shape_of-starts invariant-loop decreases-loop
 same-length-8 c = c.loop-i.invariant.same_table.starts

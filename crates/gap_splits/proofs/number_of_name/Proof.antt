@@ -61,7 +61,7 @@ returns-2 c =
     let f = c.find-k in
     let old = beside a.added_bytes.now a.added_places.now a.added_lengths.now in
     let o = c.append-done in
-    let new = beside o.new.0 o.new.1.1.0 o.new.1.1.1.0 in
+    let new = beside o.new.bytes o.new.places o.new.lengths in
     let far = far_away a.name_bytes.now a.name_places.now a.name_lengths.now (length a.name_places.now) a.x.now f.ensures c.if-k-n.false in
     numbered_new base a.x.now old new a.names a.used a.most a.most_bytes s.requires.2 far s.requires.3 o.ensures c.if-done.true (omega (arith, long))
 
@@ -83,7 +83,7 @@ returns-3 c =
     let f = c.find-k in
     let old = beside a.added_bytes.now a.added_places.now a.added_lengths.now in
     let o = c.append-done in
-    let new = beside o.new.0 o.new.1.1.0 o.new.1.1.1.0 in
+    let new = beside o.new.bytes o.new.places o.new.lengths in
     let far = far_away a.name_bytes.now a.name_places.now a.name_lengths.now (length a.name_places.now) a.x.now f.ensures c.if-k-n.false in
     numbered-full base a.x.now old new a.names a.used a.most a.most_bytes s.requires.2 far s.requires.3 o.ensures c.if-done.false
 

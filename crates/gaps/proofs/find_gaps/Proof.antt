@@ -61,10 +61,10 @@ loop-again c =
     let l = c.loop-k in
     let g = c.gaps_of-search in (
       search_on (image_at s) (sections_at s) (columns_at s) s.args.n s.args.keys.now s.args.gap_ends.now l.keys l.gap_ends l.found l.k l.invariant.0 c.loop-k-test.true s.requires.2
-          g.new.1.1.1.1.1.1.1.1.1.1.1.1.1.1.1.1.0 g.new.1.1.1.1.1.1.1.1.1.1.1.1.1.1.1.1.1.0 c.in-Found.more
-          g.auto.1.1.1.1.1.1.1.1.1.1.1.1.1.1.1.1.0 g.auto.1.1.1.1.1.1.1.1.1.1.1.1.1.1.1.1.1.0
-          (sym (ap (searched g.new.1.1.1.1.1.1.1.1.1.1.1.1.1.1.1.1.0 g.new.1.1.1.1.1.1.1.1.1.1.1.1.1.1.1.1.1.0) c.in-Found.is) ∙ g.ensures.0),
-      g.auto.1.1.1.1.1.1.1.1.1.1.1.1.1.1.1.0 ∙ l.invariant.1,
+          g.new.keys g.new.gap_ends c.in-Found.more
+          g.auto.keys g.auto.gap_ends
+          (sym (ap (searched g.new.keys g.new.gap_ends) c.in-Found.is) ∙ g.ensures.0),
+      g.auto.marks ∙ l.invariant.1,
       g.ensures.1,
     )
 
@@ -85,7 +85,7 @@ returns c =
     let s = c.before.before.before.before.before.before.before.before.before.before.before.before.before.before.before.before.before.before.before.before.before.before.before.before.before.before.before.before.before.before in
     let l = c.loop-k in
     let g = c.gaps_of-search in
-    let found = searched g.new.1.1.1.1.1.1.1.1.1.1.1.1.1.1.1.1.0 g.new.1.1.1.1.1.1.1.1.1.1.1.1.1.1.1.1.1.0 in (
+    let found = searched g.new.keys g.new.gap_ends in (
       ap found c.in-Refused.is
           ∙ search_refused (image_at s) (sections_at s) (columns_at s) s.args.n s.args.keys.now s.args.gap_ends.now l.keys l.gap_ends l.found l.k l.invariant.0 c.loop-k-test.true _ _ _
           (sym (ap found c.in-Refused.is) ∙ g.ensures.0),

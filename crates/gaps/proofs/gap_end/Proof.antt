@@ -24,7 +24,7 @@ end-at-requires c κs =
     let s = c in
     let a = s.args in
     let stopped = c.stop_of-j in
-    (readable c.before.before.before.before.before, still_markable (symbol_of a.b.now a.places.now) (length a.places.now) a.marks.now stopped.new.1.1.1.1.0 s.requires.1 stopped.auto.1.1.1.1.0, stopped.ensures, s.requires.3)
+    (readable c.before.before.before.before, still_markable (symbol_of a.b.now a.places.now) (length a.places.now) a.marks.now stopped.new.marks s.requires.1 stopped.auto.marks, stopped.ensures, s.requires.3)
 
 slice-aggregate-clear-marks : tie.Need-slice_bounds-clear_marks-end
 slice-aggregate-clear-marks c = sym (length-take-le c.stop_of-j.result c.for_section_range-part.result.now c.stop_of-j.ensures.small)
@@ -34,7 +34,7 @@ clear-marks-requires c κs =
     let s = c in
     let a = s.args in
     let stopped = c.stop_of-j in
-    (readable_take _ _ _ stopped.result (readable c.before.before.before.before.before.before.before.before), still_markable (symbol_of a.b.now a.places.now) (length a.places.now) a.marks.now stopped.new.1.1.1.1.0 s.requires.1 stopped.auto.1.1.1.1.0)
+    (readable_take _ _ _ stopped.result (readable c.before.before.before.before.before.before), still_markable (symbol_of a.b.now a.places.now) (length a.places.now) a.marks.now stopped.new.marks s.requires.1 stopped.auto.marks)
 
 same_length : tie.Need-shape_of-marks
 same_length c = search rules
@@ -44,7 +44,7 @@ returns c =
     let a = c.args in
     let stopped = c.stop_of-j in (
       c.end_at-end.ensures ∙ end_of_part _ _ _ _ _ _ c.for_section_range-part.ensures,
-      all_clean (symbol_of a.b.now a.places.now) (take stopped.result c.for_section_range-part.result.now) stopped.new.1.1.1.1.0 a.current c.for_section_range-part.result.now c.clear_marks.new.marks stopped.result refl stopped.ensures c.clear_marks.ensures,
+      all_clean (symbol_of a.b.now a.places.now) (take stopped.result c.for_section_range-part.result.now) stopped.new.marks a.current c.for_section_range-part.result.now c.clear_marks.new.marks stopped.result refl stopped.ensures c.clear_marks.ensures,
     )
 
 pub gap_end_spec : {M : Type 1} → statement M

@@ -97,11 +97,11 @@ loop-again c =
     let l = c.loop-i in
     let g = c.gaps_before-search in (
       walk_on _ _ _ _ _ _ _ _ _ _ _ p.2 p.5 _ _ _ _ _ l.invariant.0 (there c.before.before.before.before.before.before.before.before.before.before.before.before.before.before) _ c.row-s.ensures (before_end c.before.before.before.before.before.before.before.before.before.before.before.before.before.before)
-          g.new.1.1.1.1.0 g.new.1.1.1.1.1.0 c.in-Found.more c.end_after-current.result c.next_below-i-in-Found.result
-          g.auto.1.1.1.1.0 g.auto.1.1.1.1.1.0
-          (sym (ap (searched g.new.1.1.1.1.0 g.new.1.1.1.1.1.0) c.in-Found.is) ∙ g.ensures.0)
+          g.new.keys g.new.gap_ends c.in-Found.more c.end_after-current.result c.next_below-i-in-Found.result
+          g.auto.keys g.auto.gap_ends
+          (sym (ap (searched g.new.keys g.new.gap_ends) c.in-Found.is) ∙ g.ensures.0)
           c.next_below-i-in-Found.ensures c.end_after-current.ensures,
-      g.auto.1.1.1.0 ∙ l.invariant.1,
+      g.auto.marks ∙ l.invariant.1,
       g.ensures.1,
     )
 
@@ -123,7 +123,7 @@ returns c =
     let p = s.requires in
     let l = c.loop-i in
     let g = c.gaps_before-search in
-    let found = searched g.new.1.1.1.1.0 g.new.1.1.1.1.1.0 in (
+    let found = searched g.new.keys g.new.gap_ends in (
       ap found c.in-Refused.is
           ∙ walk_refused _ _ _ _ _ _ _ _ _ _ _ p.2 p.5 _ _ _ _ _ l.invariant.0 (there c.before.before.before.before.before.before.before.before.before.before.before.before) _ c.row-s.ensures (before_end c.before.before.before.before.before.before.before.before.before.before.before.before) _ _ _
           (sym (ap found c.in-Refused.is) ∙ g.ensures.0),
@@ -146,8 +146,8 @@ returns-2 c = let s = c in let l = c.loop-i in (walk_done _ _ _ _ _ _ _ _ _ _ _ 
 all-passed : (c : tie.Else-end-current invariant-loop decreases-loop) → c.args.n ≤ c.loop-i.i
 all-passed c = go (lt_or_ge c.loop-i.i c.args.n)
   where
-    go : (c.before.before.loop.i < c.before.before.before.before.before.before.before.before.before.before.before.before.before.before.args.n) ⊎ (c.before.before.before.before.before.before.before.before.before.before.before.before.before.before.args.n ≤ c.before.before.loop.i) → c.before.before.before.before.before.before.before.before.before.before.before.before.before.before.args.n ≤ c.before.before.loop.i
-    go (inl h) = absurd (omega (arith, c.if1.false, ltb-false c.before.before.loop.current c.before.before.before.before.before.before.before.before.before.before.before.before.before.before.args.end (and_false (ltb c.before.before.loop.i c.before.before.before.before.before.before.before.before.before.before.before.before.before.before.args.n) (ltb c.before.before.loop.current c.before.before.before.before.before.before.before.before.before.before.before.before.before.before.args.end) c.before.loop-test.false (lt-ltb c.before.before.loop.i c.before.before.before.before.before.before.before.before.before.before.before.before.before.before.args.n h))))
+    go : (c.loop-i.i < c.args.n) ⊎ (c.args.n ≤ c.loop-i.i) → c.args.n ≤ c.loop-i.i
+    go (inl h) = absurd (omega (arith, c.if-end-current.false, ltb-false c.loop-i.current c.args.end (and_false (ltb c.loop-i.i c.args.n) (ltb c.loop-i.current c.args.end) c.loop-i-test.false (lt-ltb c.loop-i.i c.args.n h))))
     go (inr h) = h
 
 gaps-to-requires : tie.Need-gaps_to-requires invariant-loop decreases-loop

@@ -32,10 +32,10 @@ link-nodes-requires c κs =
     let col = columns a.starts.now a.ends.now a.units.now a.rest.now in
     let k = c.keep_nodes-k in
     let few = few_numbers col a.n a.heads.now a.head_places.now a.name_bytes.now a.name_places.now a.name_lengths.now a.unit_bytes.now a.unit_places.now a.column.now a.numbers.now a.from.now a.to.now s.requires.0 s.requires.1 in
-    let long : length (take k.result k.new.1.1.1.0) ≡ k.result = length-take-le _ _ (omega (arith, k.ensures.small, k.auto.1.1.1.0)) in
+    let long : length (take k.result k.new.s) ≡ k.result = length-take-le _ _ (omega (arith, k.ensures.small, k.auto.s)) in
     let e = c.split_edges-e in (
-      omega (arith, k.ensures.small, e.ensures.small, s.requires.0.few, s.requires.1.from_long, e.auto.1.1.1.1.1.1.1.1.1.1.1.0),
-      omega (arith, k.ensures.small, e.ensures.small, s.requires.0.few, s.requires.1.to_long, e.auto.1.1.1.1.1.1.1.1.1.1.1.1.0),
+      omega (arith, k.ensures.small, e.ensures.small, s.requires.0.few, s.requires.1.from_long, e.auto.from),
+      omega (arith, k.ensures.small, e.ensures.small, s.requires.0.few, s.requires.1.to_long, e.auto.to),
     )
 
 same_length : tie.Need-shape_of-numbers
@@ -54,7 +54,7 @@ returns c =
     let col = columns a.starts.now a.ends.now a.units.now a.rest.now in
     let k = c.keep_nodes-k in
     let few = few_numbers col a.n a.heads.now a.head_places.now a.name_bytes.now a.name_places.now a.name_lengths.now a.unit_bytes.now a.unit_places.now a.column.now a.numbers.now a.from.now a.to.now s.requires.0 s.requires.1 in
-    let long : length (take k.result k.new.1.1.1.0) ≡ k.result = length-take-le _ _ (omega (arith, k.ensures.small, k.auto.1.1.1.0)) in
+    let long : length (take k.result k.new.s) ≡ k.result = length-take-le _ _ (omega (arith, k.ensures.small, k.auto.s)) in
     let l = c.link_nodes in
     edged col a.n a.heads.now a.head_places.now a.name_bytes.now a.name_places.now a.name_lengths.now a.unit_bytes.now a.unit_places.now a.column.now a.numbers.now a.from.now a.to.now s.requires.0 s.requires.1 _ _ _ _ _ _ _ c.split_edges-e.ensures k.ensures.is (omega (arith, k.ensures.small)) l.ensures.0 l.ensures.1 l.ensures.2
 

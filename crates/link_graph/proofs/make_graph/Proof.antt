@@ -28,8 +28,8 @@ count-units-requires c κs =
     record {
       few = omega (arith, s.requires.0.few);
       room = omega (arith, s.requires.0.few, s.requires.1.nodes_long);
-      named = units_named col a.n s.requires.0.long.units (length b.new.0) (λ i h. omega (arith, s.requires.1.named i h, b.auto.0));
-      blank = b.ensures ∙ ap (λ (k : ℕ). replicate k 65535) (sym b.auto.0);
+      named = units_named col a.n s.requires.0.long.units (length b.new.column) (λ i h. omega (arith, s.requires.1.named i h, b.auto.column));
+      blank = b.ensures ∙ ap (λ (k : ℕ). replicate k 65535) (sym b.auto.column);
     }
 
 make-edges-requires : tie.Need-make_edges-e-requires
@@ -39,12 +39,12 @@ make-edges-requires c κs =
     let col = columns a.starts.now a.ends.now a.units.now a.rest.now in
     let b = c.blank in
     let u = c.count_units-m in
-    let same : length u.new.1.0 ≡ length a.column.now = u.auto.1.0 ∙ b.auto.0 in (
+    let same : length u.new.column ≡ length a.column.now = u.auto.column ∙ b.auto.column in (
       s.requires.0,
       record {
         units = record { whole = s.requires.1.units.whole; few = s.requires.1.units.few; named = λ k h. omega (arith, s.requires.1.units.named k h, same) };
         named = λ i h. omega (arith, s.requires.1.named i h, same);
-        marked = subst (Marked u.new.1.0) (counted-nodes col a.n s.requires.0.long.units) u.ensures.marked;
+        marked = subst (Marked u.new.column) (counted-nodes col a.n s.requires.0.long.units) u.ensures.marked;
         numbers_are = s.requires.1.numbers_are;
         from_long = s.requires.1.from_long;
         to_long = s.requires.1.to_long;

@@ -30,9 +30,9 @@ unit-line-requires c κs =
     let s = c.before.before.before.before.before.before.before.before.before.before.before.before.before.before.before.before.before.before.before in
     let r = s.requires.2 in
     let q = c.seek-ready.ensures in
-    let g = c.before.before.ready.given in
+    let g = c.in-Units in
     let t = tables s in
-    let d = unit_ready t q g.1 in
+    let d = unit_ready t q g.is in
     let f = r.few_units in (
       s.requires.0,
       r.pieces,
@@ -41,9 +41,9 @@ unit-line-requires c κs =
       r.few_symbols,
       r.symbols,
       omega arith,
-      (unit_before t q g.1).few,
-      r.units g.0.0 d,
-      r.unit_names g.0.0 d,
+      (unit_before t q g.is).few,
+      r.units g.unit d,
+      r.unit_names g.unit d,
     )
 
 enum-known-ready-2 : tie.Need-enum_known-ready-in-Pieces-1
@@ -54,12 +54,12 @@ piece-line-requires c κs =
     let s = c.before.before.before.before.before.before.before.before.before.before.before.before.before.before.before.before.before.before.before in
     let r = s.requires.2 in
     let q = c.seek-ready.ensures in
-    let g = c.before.before.ready2.given in
+    let g = c.in-Pieces in
     let t = tables s in
-    let d = piece_ready t q g.1 in
+    let d = piece_ready t q g.is in
     let h = r.pieces in
     let f = r.few_pieces in
-    (s.requires.0, omega arith, omega arith, r.piece_names g.0.1.0 d)
+    (s.requires.0, omega arith, omega arith, r.piece_names g.at d)
 
 enum-known-ready-3 : tie.Need-enum_known-ready-in-Symbols-1
 enum-known-ready-3 c = c.in-Symbols.in-Symbols-own.keys3
@@ -69,11 +69,11 @@ symbol-line-requires c κs =
     let s = c.before.before.before.before.before.before.before.before.before.before.before.before.before.before.before.before.before.before.before in
     let r = s.requires.2 in
     let q = c.seek-ready.ensures in
-    let g = c.before.before.ready3.given in
+    let g = c.in-Symbols in
     let t = tables s in
-    let d = symbol_ready t q g.1 in
+    let d = symbol_ready t q g.is in
     let h = r.piece_symbols in
-    (s.requires.0, r.pieces, omega arith, omega arith, r.symbols g.0.1.0 d, r.symbol_names g.0.1.0 d)
+    (s.requires.0, r.pieces, omega arith, omega arith, r.symbols g.at d, r.symbol_names g.at d)
 
 enum-known-ready-4 : tie.Need-enum_known-ready-in-Relocs-1
 enum-known-ready-4 c = c.in-Relocs.in-Relocs-own.keys4
@@ -83,11 +83,11 @@ reloc-line-requires c κs =
     let s = c.before.before.before.before.before.before.before.before.before.before.before.before.before.before.before.before.before.before.before in
     let r = s.requires.2 in
     let q = c.seek-ready.ensures in
-    let g = c.before.before.ready4.given in
+    let g = c.in-Relocs in
     let t = tables s in
-    let d = reloc_ready t q g.1 in
+    let d = reloc_ready t q g.is in
     let h = r.piece_relocs in
-    (s.requires.0, r.pieces, omega arith, omega arith, r.relocs g.0.1.0 d)
+    (s.requires.0, r.pieces, omega arith, omega arith, r.relocs g.at d)
 
 enum-known-ready-5 : tie.Need-enum_known-ready-in-Total-1
 enum-known-ready-5 c = c.in-Total.in-Total-own.keys5
@@ -109,45 +109,45 @@ same_length c = c.unit_line.ensures.0.written.long
 
 returns : tie.Need-returns-in-Units
 returns c =
-    let g = c.before.before.before.before.before.ready.given in
+    let g = c.in-Units in
     let t = tables c.before.before.before.before.before.before.before.before.before.before.before.before.before.before.before.before.before.before.before.before.before.before in
-    next_unit t c.seek-ready.ensures g.0.0 g.0.1.0 g.1 c.unit_line.ensures.1 c.unit_line.ensures.0
+    next_unit t c.seek-ready.ensures g.unit g.bytes g.is c.unit_line.ensures.1 c.unit_line.ensures.0
 
 same-length-2 : tie.Need-shape_of-out-in-Pieces
 same-length-2 c = c.piece_line.ensures.written.long
 
 returns-2 : tie.Need-returns-in-Pieces
 returns-2 c =
-    let g = c.before.before.before.before.before.ready2.given in
+    let g = c.in-Pieces in
     let t = tables c.before.before.before.before.before.before.before.before.before.before.before.before.before.before.before.before.before.before.before.before.before.before in
-    next_piece t c.seek-ready.ensures g.0.0 g.0.1.0 g.0.1.1.0 g.1 c.piece_line.ensures
+    next_piece t c.seek-ready.ensures g.unit g.at g.bytes g.is c.piece_line.ensures
 
 same-length-3 : tie.Need-shape_of-out-in-Symbols
 same-length-3 c = c.symbol_line.ensures.written.long
 
 returns-3 : tie.Need-returns-in-Symbols
 returns-3 c =
-    let g = c.before.before.before.before.before.ready3.given in
+    let g = c.in-Symbols in
     let t = tables c.before.before.before.before.before.before.before.before.before.before.before.before.before.before.before.before.before.before.before.before.before.before in
-    next_symbol t c.seek-ready.ensures g.0.0 g.0.1.0 g.0.1.1.0 g.1 c.symbol_line.ensures
+    next_symbol t c.seek-ready.ensures g.unit g.at g.bytes g.is c.symbol_line.ensures
 
 same-length-4 : tie.Need-shape_of-out-in-Relocs
 same-length-4 c = c.reloc_line.ensures.written.long
 
 returns-4 : tie.Need-returns-in-Relocs
 returns-4 c =
-    let g = c.before.before.before.before.before.ready4.given in
+    let g = c.in-Relocs in
     let t = tables c.before.before.before.before.before.before.before.before.before.before.before.before.before.before.before.before.before.before.before.before.before.before in
-    next_reloc t c.seek-ready.ensures g.0.0 g.0.1.0 g.0.1.1.0 g.1 c.reloc_line.ensures
+    next_reloc t c.seek-ready.ensures g.unit g.at g.bytes g.is c.reloc_line.ensures
 
 same-length-5 : tie.Need-shape_of-out-in-Total
 same-length-5 c = c.write_total-length.ensures.long
 
 returns-5 : tie.Need-returns-in-Total
 returns-5 c =
-    let g = c.before.before.before.before.before.ready5.given in
+    let g = c.in-Total in
     let t = tables c.before.before.before.before.before.before.before.before.before.before.before.before.before.before.before.before.before.before.before.before.before.before in
-    next_total t c.seek-ready.ensures g.0.0 g.1 c.write_total-length.ensures
+    next_total t c.seek-ready.ensures g.bytes g.is c.write_total-length.ensures
 
 returns-6 : tie.Need-returns-in-Done
 returns-6 c = next_done (tables c.before.before.before.before.before.before.before.before.before.before.before.before.before.before.before.before.before.before) c.seek-ready.ensures c.in-Done.is

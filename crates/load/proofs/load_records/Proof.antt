@@ -79,7 +79,7 @@ loop-again c =
     let k = c.keep_record-n in (
       k.ensures.ready,
       going_on l.loop-at.invariant.1 c.loop-at-test.true c.record_number-number.ensures c.if-number-gt0.false c.next_record-at.ensures k.ensures.tables,
-      same_on l.loop-at.invariant.2 k.auto.1.1.1.1.0 k.auto.1.1.1.1.1.0 k.auto.1.1.1.1.1.1.0 k.auto.1.1.1.1.1.1.1.0,
+      same_on l.loop-at.invariant.2 k.auto.places k.auto.lengths k.auto.heads k.auto.chain,
     )
 
 same-length-5 : tie.Need-shape_of-places invariant-loop decreases-loop

@@ -39,7 +39,7 @@ pushes c = sym c.decide_round-d.ensures.0 ∙ ap decided c.in-Push.is
 pushes-below : (c : tie.In-Push invariant-loop decreases-loop) → c.loop-number.k < c.args.cap
 pushes-below c = let l = c.loop-number in push_below _ (columns l.starts l.ends l.units l.rest) l.k l.s (pushes c)
 
-joins : (c : tie.In-Join-2 invariant-loop decreases-loop)
+joins : (c : tie.In-Join invariant-loop decreases-loop)
     → let l = c.loop-number in
     let a = c.args in
     decide (given (sections_in a.heads.now a.head_places.now) a.cap) (rows (columns l.starts l.ends l.units l.rest) l.k) l.s
@@ -47,24 +47,24 @@ joins : (c : tie.In-Join-2 invariant-loop decreases-loop)
 joins c = sym c.decide_round-d.ensures.0 ∙ ap decided c.in-Join.is
 
 -- .. and the joint split that it hands on
-joint-good : (c : tie.In-Join-2 invariant-loop decreases-loop) → Good c.in-Join.joint.alignment
+joint-good : (c : tie.In-Join invariant-loop decreases-loop) → Good c.in-Join.joint.alignment
 joint-good c = handed _ _ c.in-Join.is c.decide_round-d.ensures.1
 
 -- the join at once leaves the columns as long as they were
 still-long : (c : tie.After-join_at_once-made invariant-loop decreases-loop)
     → let m = c.join_at_once-made in
     let a = c.args in
-    Same (columns m.new.0 m.new.1.0 m.new.1.1.0 m.new.1.1.1.0) (columns a.starts.now a.ends.now a.units.now a.rest.now)
+    Same (columns m.new.starts m.new.ends m.new.units m.new.rest) (columns a.starts.now a.ends.now a.units.now a.rest.now)
 still-long c =
     let m = c.join_at_once-made in
     let q = c.loop-number.invariant.1 in
-    record { starts = m.auto.0 ∙ q.starts; ends = m.auto.1.0 ∙ q.ends; units = m.auto.1.1.0 ∙ q.units; rest = m.auto.1.1.1.0 ∙ q.rest }
+    record { starts = m.auto.starts ∙ q.starts; ends = m.auto.ends ∙ q.ends; units = m.auto.units ∙ q.units; rest = m.auto.rest ∙ q.rest }
 
 -- where it made nothing, the join is of the rows as they were
 joined-rows : (c : tie.After-join-k invariant-loop decreases-loop)
     → let l = c.loop-number in
     let j = c.join-k in
-    rows (columns j.new.0 j.new.1.0 j.new.1.1.0 j.new.1.1.1.0) j.result ≡ joined_by c.in-Join.joint (rows (columns l.starts l.ends l.units l.rest) l.k)
+    rows (columns j.new.starts j.new.ends j.new.units j.new.rest) j.result ≡ joined_by c.in-Join.joint (rows (columns l.starts l.ends l.units l.rest) l.k)
 joined-rows c =
     let l = c.loop-number in
     let m = c.join_at_once-made in
@@ -164,7 +164,7 @@ join-at-once-requires : tie.Need-join_at_once-made-requires invariant-loop decre
 join-at-once-requires c κs =
     let l = c.loop-number in
     let q = c.requires in
-    (long_same _ _ l.k _ l.invariant.1 l.invariant.0 q.0, q.2, joint-good c)
+    (long_same _ _ l.k _ l.invariant.1 l.invariant.0 q.0, q.2, joint-good c.before.before.before.before)
 
 same-length-13 : tie.Need-shape_of-starts-then-made-gt0 invariant-loop decreases-loop
 same-length-13 c = (still-long c.before.before.before.before.before.before.before.before.before).starts
@@ -183,7 +183,7 @@ returns-4 c =
     let l = c.loop-number in
     let a = c.args in
     let made = c.join_at_once-made.ensures.1 c.if-made-gt0.true in
-    (made.0 a.cap l.invariant.0 ∙ sym (round_join _ _ l.s _ (joins c)) ∙ l.invariant.3, omega (arith, made.1, l.invariant.0))
+    (made.0 a.cap l.invariant.0 ∙ sym (round_join _ _ l.s _ (joins c.before.before.before.before.before.before.before.before.before.before.before.before.before.before)) ∙ l.invariant.3, omega (arith, made.1, l.invariant.0))
 
 join-requires : tie.Need-join-k-requires invariant-loop decreases-loop
 join-requires c κs =
@@ -194,8 +194,8 @@ loop-less : tie.Need-loop-number-smaller invariant-loop decreases-loop
 loop-less c =
     let l = c.loop-number in
     let j = c.join-k in
-    join_less _ (columns l.starts l.ends l.units l.rest) (columns j.new.0 j.new.1.0 j.new.1.1.0 j.new.1.1.1.0) l.k j.result l.s _
-    (joins c) (joined-rows c.before.before.before.before.before.before.before.before)
+    join_less _ (columns l.starts l.ends l.units l.rest) (columns j.new.starts j.new.ends j.new.units j.new.rest) l.k j.result l.s _
+    (joins c.before.before.before.before.before.before.before.before.before.before.before.before.before.before.before.before.before.before.before.before.before.before.before.before.before.before.before) (joined-rows c.before.before.before.before.before.before.before.before)
 
 loop-again : tie.Need-loop-number-preserved invariant-loop decreases-loop
 loop-again c =
@@ -203,13 +203,13 @@ loop-again c =
     let a = c.args in
     let j = c.join-k in
     let long = still-long c.before.before.before.before.before.before.before.before.before.before.before.before.before.before.before.before.before.before.before.before.before.before in
-    let d = c in (
+    let d = c.before.before.before.before.before.before.before.before.before.before.before.before.before.before.before.before.before.before.before.before.before.before.before.before.before.before.before in (
       omega (arith, j.ensures.1, l.invariant.0),
       record {
-        starts = j.auto.0 ∙ long.starts;
-        ends = j.auto.1.0 ∙ long.ends;
-        units = j.auto.1.1.0 ∙ long.units;
-        rest = j.auto.1.1.1.0 ∙ long.rest;
+        starts = j.auto.starts ∙ long.starts;
+        ends = j.auto.ends ∙ long.ends;
+        units = j.auto.units ∙ long.units;
+        rest = j.auto.rest ∙ long.rest;
       },
       joint-good d,
       ap (λ (x : List Split). merge_one (given (sections_in a.heads.now a.head_places.now) a.cap) x d.in-Join.joint) (joined-rows c.before.before.before.before.before.before.before.before)

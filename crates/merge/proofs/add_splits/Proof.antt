@@ -71,7 +71,7 @@ returns c =
     let a = c.args in
     let o = c.add_split-r in (
       sym (places_refused a.partials.now a.partial_places.now _ _ l.i c.loop-i-test.true _ c.partial_at-new.ensures
-          (sym o.ensures.0 ∙ ap (λ (r : Merged). merged r (columns o.new.0 o.new.1.0 o.new.1.1.0 o.new.1.1.1.0)) c.in-Refused.is))
+          (sym o.ensures.0 ∙ ap (λ (r : Merged). merged r (columns o.new.starts o.new.ends o.new.units o.new.rest)) c.in-Refused.is))
           ∙ l.invariant.3,
       omega arith,
     )
@@ -80,7 +80,7 @@ enum-known-r-2 : tie.Need-enum_known-r-in-Accepted-1 invariant-loop decreases-lo
 enum-known-r-2 c = search rules
 
 add-i : tie.Need-overflow_add-i invariant-loop decreases-loop
-add-i c = omega (arith, c.loop-i-test.true, c.well-formed.1.1.1.1.1.1.1.1.1.0)
+add-i c = omega (arith, c.loop-i-test.true, c.well_formed.1.1.1.1.1.1.1.1.1.0)
 
 loop-less : tie.Need-loop-i-smaller invariant-loop decreases-loop
 loop-less c = omega (arith, c.loop-i-test.true)
@@ -94,13 +94,13 @@ loop-again c =
       omega (arith, c.loop-i-test.true),
       omega (arith, o.ensures.1, ap count q),
       record {
-        starts = o.auto.0 ∙ l.invariant.2.starts;
-        ends = o.auto.1.0 ∙ l.invariant.2.ends;
-        units = o.auto.1.1.0 ∙ l.invariant.2.units;
-        rest = o.auto.1.1.1.0 ∙ l.invariant.2.rest;
+        starts = o.auto.starts ∙ l.invariant.2.starts;
+        ends = o.auto.ends ∙ l.invariant.2.ends;
+        units = o.auto.units ∙ l.invariant.2.units;
+        rest = o.auto.rest ∙ l.invariant.2.rest;
       },
       sym (places_on a.partials.now a.partial_places.now _ _ l.i c.loop-i-test.true _ c.partial_at-new.ensures
-          (sym o.ensures.0 ∙ ap (λ (r : Merged). merged r (columns o.new.0 o.new.1.0 o.new.1.1.0 o.new.1.1.1.0)) q))
+          (sym o.ensures.0 ∙ ap (λ (r : Merged). merged r (columns o.new.starts o.new.ends o.new.units o.new.rest)) q))
           ∙ l.invariant.3,
     )
 

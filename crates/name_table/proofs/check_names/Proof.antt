@@ -36,7 +36,7 @@ take-names-requires c κs =
     let s = c in
     let size = size_passed 2 _ _ (sym c.table_size-size.ensures ∙ ap meaning c.in_default.is) in
     let cleared = c.clear_heads in
-    (omega arith, same_room _ (record { of_places = refl; of_lengths = refl; of_heads = cleared.auto.0; of_chain = refl }) s.requires size.1, stored_none _ _ _ _ _ _ (indexed_cleared _ _ _ s.requires.heads_long cleared.ensures s.requires.chain_long))
+    (omega arith, same_room _ (record { of_places = refl; of_lengths = refl; of_heads = cleared.auto.heads; of_chain = refl }) s.requires size.1, stored_none _ _ _ _ _ _ (indexed_cleared _ _ _ s.requires.heads_long cleared.ensures s.requires.chain_long))
 
 same_length : tie.Need-shape_of-places
 same_length c = search rules

@@ -25,7 +25,7 @@ slice-aggregate-order-twice c =
     let s = c in
     let a = s.args in
     let u = c.order_units-k in
-    let k-fits : u.result ≤ length u.new.1.1.0 = omega (arith, u.ensures.small, u.auto.1.1.0, s.requires.1.units.few, s.requires.1.numbers_long) in
+    let k-fits : u.result ≤ length u.new.numbers = omega (arith, u.ensures.small, u.auto.numbers, s.requires.1.units.few, s.requires.1.numbers_long) in
     sym (length-take-le _ _ k-fits)
 
 order-twice-requires : tie.Need-order_twice-requires
@@ -52,7 +52,7 @@ slice-relend-prefix-make-graph c =
     let s = c in
     let a = s.args in
     let u = c.order_units-k in
-    let k-fits : u.result ≤ length u.new.1.1.0 = omega (arith, u.ensures.small, u.auto.1.1.0, s.requires.1.units.few, s.requires.1.numbers_long) in
+    let k-fits : u.result ≤ length u.new.numbers = omega (arith, u.ensures.small, u.auto.numbers, s.requires.1.units.few, s.requires.1.numbers_long) in
     k-fits
 
 slice-aggregate-make-graph : tie.Need-slice_bounds-make_graph-end-2
@@ -60,7 +60,7 @@ slice-aggregate-make-graph c =
     let s = c in
     let a = s.args in
     let u = c.order_units-k in
-    let k-fits : u.result ≤ length u.new.1.1.0 = omega (arith, u.ensures.small, u.auto.1.1.0, s.requires.1.units.few, s.requires.1.numbers_long) in
+    let k-fits : u.result ≤ length u.new.numbers = omega (arith, u.ensures.small, u.auto.numbers, s.requires.1.units.few, s.requires.1.numbers_long) in
     sym (length-take-le _ _ k-fits)
 
 make-graph-requires : tie.Need-make_graph-made-requires
@@ -82,52 +82,52 @@ slice-reshare-prefix-sort-graph c =
     let s = c in
     let a = s.args in
     let m = c.make_graph-made in
-    omega (arith, m.ensures.few_nodes, m.auto.1.1.1.1.1.1.1.1.1.1.1.1.1.1.0, s.requires.1.nodes_long)
+    omega (arith, m.ensures.few_nodes, m.auto.nodes, s.requires.1.nodes_long)
 
 slice-aggregate-sort-graph : tie.Need-slice_bounds-sort_graph-end-2
 slice-aggregate-sort-graph c =
     let s = c in
     let a = s.args in
     let m = c.make_graph-made in
-    sym (length-take-le _ _ (omega (arith, m.ensures.few_nodes, m.auto.1.1.1.1.1.1.1.1.1.1.1.1.1.1.0, s.requires.1.nodes_long)))
+    sym (length-take-le _ _ (omega (arith, m.ensures.few_nodes, m.auto.nodes, s.requires.1.nodes_long)))
 
 slice-reshare-prefix-sort-graph-2 : tie.Need-slice_bounds-sort_graph-end-3
 slice-reshare-prefix-sort-graph-2 c =
     let s = c in
     let a = s.args in
     let m = c.make_graph-made in
-    omega (arith, m.ensures.few_edges, m.auto.1.1.1.1.1.1.1.1.1.1.1.1.1.1.1.0, s.requires.1.from_long)
+    omega (arith, m.ensures.few_edges, m.auto.from, s.requires.1.from_long)
 
 slice-aggregate-sort-graph-2 : tie.Need-slice_bounds-sort_graph-end-4
 slice-aggregate-sort-graph-2 c =
     let s = c in
     let a = s.args in
     let m = c.make_graph-made in
-    sym (length-take-le _ _ (omega (arith, m.ensures.few_edges, m.auto.1.1.1.1.1.1.1.1.1.1.1.1.1.1.1.0, s.requires.1.from_long)))
+    sym (length-take-le _ _ (omega (arith, m.ensures.few_edges, m.auto.from, s.requires.1.from_long)))
 
 slice-reshare-prefix-sort-graph-3 : tie.Need-slice_bounds-sort_graph-end-5
 slice-reshare-prefix-sort-graph-3 c =
     let s = c in
     let a = s.args in
     let m = c.make_graph-made in
-    omega (arith, m.ensures.few_edges, m.auto.1.1.1.1.1.1.1.1.1.1.1.1.1.1.1.1.0, s.requires.1.to_long)
+    omega (arith, m.ensures.few_edges, m.auto.to, s.requires.1.to_long)
 
 slice-aggregate-sort-graph-3 : tie.Need-slice_bounds-sort_graph-end-6
 slice-aggregate-sort-graph-3 c =
     let s = c in
     let a = s.args in
     let m = c.make_graph-made in
-    sym (length-take-le _ _ (omega (arith, m.ensures.few_edges, m.auto.1.1.1.1.1.1.1.1.1.1.1.1.1.1.1.1.0, s.requires.1.to_long)))
+    sym (length-take-le _ _ (omega (arith, m.ensures.few_edges, m.auto.to, s.requires.1.to_long)))
 
 sort-graph-requires : tie.Need-sort_graph-requires
 sort-graph-requires c κs =
     let s = c in
     let a = s.args in
     let m = c.make_graph-made in
-    let column-kept = m.auto.1.1.1.1.1.1.1.1.1.1.1.1.1.0 in
-    let long-nodes = length-take-le m.result.nodes m.new.1.1.1.1.1.1.1.1.1.1.1.1.1.1.0 (omega (arith, m.ensures.few_nodes, m.auto.1.1.1.1.1.1.1.1.1.1.1.1.1.1.0, s.requires.1.nodes_long)) in
-    let long-from = length-take-le m.result.edges m.new.1.1.1.1.1.1.1.1.1.1.1.1.1.1.1.0 (omega (arith, m.ensures.few_edges, m.auto.1.1.1.1.1.1.1.1.1.1.1.1.1.1.1.0, s.requires.1.from_long)) in
-    let long-to = length-take-le m.result.edges m.new.1.1.1.1.1.1.1.1.1.1.1.1.1.1.1.1.0 (omega (arith, m.ensures.few_edges, m.auto.1.1.1.1.1.1.1.1.1.1.1.1.1.1.1.1.0, s.requires.1.to_long)) in
+    let column-kept = m.auto.column in
+    let long-nodes = length-take-le m.result.nodes m.new.nodes (omega (arith, m.ensures.few_nodes, m.auto.nodes, s.requires.1.nodes_long)) in
+    let long-from = length-take-le m.result.edges m.new.from (omega (arith, m.ensures.few_edges, m.auto.from, s.requires.1.from_long)) in
+    let long-to = length-take-le m.result.edges m.new.to (omega (arith, m.ensures.few_edges, m.auto.to, s.requires.1.to_long)) in
     record {
       nodes_are = m.ensures.nodes_are;
       within = record { nodes = omega (arith, long-nodes, m.ensures.few_nodes); edges = omega (arith, long-from, m.ensures.few_edges); paired = long-to ∙ sym long-from };
@@ -141,10 +141,10 @@ same-length-3 c =
     let s = c in
     let a = s.args in
     let u = c.order_units-k in
-    let k-fits : u.result ≤ length u.new.1.1.0 = omega (arith, u.ensures.small, u.auto.1.1.0, s.requires.1.units.few, s.requires.1.numbers_long) in
+    let k-fits : u.result ≤ length u.new.numbers = omega (arith, u.ensures.small, u.auto.numbers, s.requires.1.units.few, s.requires.1.numbers_long) in
     let m = c.make_graph-made in
-    let part = length-take-le u.result u.new.1.1.0 k-fits in
-    simp (length-append, length-drop) (omega (arith, m.auto.1.1.1.1.1.1.1.1.1.1.1.1.0, part, u.auto.1.1.0))
+    let part = length-take-le u.result u.new.numbers k-fits in
+    simp (length-append, length-drop) (omega (arith, m.auto.numbers, part, u.auto.numbers))
 
 same-length-4 : tie.Need-shape_of-scratch
 same-length-4 c = c.sort_graph.auto.table ∙ c.order_units-k.auto.scratch

@@ -39,7 +39,7 @@ slice-reshare-prefix-write-records c =
     let t = c.toposort-r in
     let fits : c.room_of-room.result ≤ length a.table.now = omega (arith, c.room_of-room.ensures.low, s.requires.table_long) in
     let sorted = sorts_in g c.room_of-room.result a.table.now fits t.ensures in
-    kept_there g size c.room_of-room.result t.result t.new.1.1.1.0 (drop c.room_of-room.result a.table.now) c.kept-m.result s.requires.within.nodes c.room_of-room.ensures sorted c.kept-m.ensures
+    kept_there g size c.room_of-room.result t.result t.new.table (drop c.room_of-room.result a.table.now) c.kept-m.result s.requires.within.nodes c.room_of-room.ensures sorted c.kept-m.ensures
 
 slice-aggregate-write-records : tie.Need-slice_bounds-write_records-end-2
 slice-aggregate-write-records c =
@@ -50,7 +50,7 @@ slice-aggregate-write-records c =
     let t = c.toposort-r in
     let fits : c.room_of-room.result ≤ length a.table.now = omega (arith, c.room_of-room.ensures.low, s.requires.table_long) in
     let sorted = sorts_in g c.room_of-room.result a.table.now fits t.ensures in
-    sym (kept_long g size c.room_of-room.result t.result t.new.1.1.1.0 (drop c.room_of-room.result a.table.now) c.kept-m.result s.requires.within.nodes c.room_of-room.ensures sorted c.kept-m.ensures)
+    sym (kept_long g size c.room_of-room.result t.result t.new.table (drop c.room_of-room.result a.table.now) c.kept-m.result s.requires.within.nodes c.room_of-room.ensures sorted c.kept-m.ensures)
 
 write-records-requires : tie.Need-write_records-requires
 write-records-requires c κs =
@@ -62,9 +62,9 @@ write-records-requires c κs =
     let fits : c.room_of-room.result ≤ length a.table.now = omega (arith, c.room_of-room.ensures.low, s.requires.table_long) in
     let sorted = sorts_in g c.room_of-room.result a.table.now fits t.ensures in
     let col = columns a.starts.now a.ends.now a.units.now a.rest.now in
-    let left = kept-nodes g size c.room_of-room.result t.result t.new.1.1.1.0 (drop c.room_of-room.result a.table.now) c.kept-m.result s.requires.within.nodes c.room_of-room.ensures sorted c.kept-m.ensures in
-    let long = kept_long g size c.room_of-room.result t.result t.new.1.1.1.0 (drop c.room_of-room.result a.table.now) c.kept-m.result s.requires.within.nodes c.room_of-room.ensures sorted c.kept-m.ensures in
-    let room = kept-fits g size c.room_of-room.result t.result t.new.1.1.1.0 (drop c.room_of-room.result a.table.now) c.kept-m.result s.requires.within.nodes c.room_of-room.ensures sorted c.kept-m.ensures in (
+    let left = kept-nodes g size c.room_of-room.result t.result t.new.table (drop c.room_of-room.result a.table.now) c.kept-m.result s.requires.within.nodes c.room_of-room.ensures sorted c.kept-m.ensures in
+    let long = kept_long g size c.room_of-room.result t.result t.new.table (drop c.room_of-room.result a.table.now) c.kept-m.result s.requires.within.nodes c.room_of-room.ensures sorted c.kept-m.ensures in
+    let room = kept-fits g size c.room_of-room.result t.result t.new.table (drop c.room_of-room.result a.table.now) c.kept-m.result s.requires.within.nodes c.room_of-room.ensures sorted c.kept-m.ensures in (
       s.requires.rows_are,
       s.requires.units,
       s.requires.nodes_are,
@@ -97,7 +97,7 @@ returns c =
     let fits : c.room_of-room.result ≤ length a.table.now = omega (arith, c.room_of-room.ensures.low, s.requires.table_long) in
     let sorted = sorts_in g c.room_of-room.result a.table.now fits t.ensures in
     let col = columns a.starts.now a.ends.now a.units.now a.rest.now in
-    sorted_resolves g size c.room_of-room.result t.result t.new.1.1.1.0 (drop c.room_of-room.result a.table.now) c.kept-m.result s.requires.within.nodes c.room_of-room.ensures sorted c.kept-m.ensures
+    sorted_resolves g size c.room_of-room.result t.result t.new.table (drop c.room_of-room.result a.table.now) c.kept-m.result s.requires.within.nodes c.room_of-room.ensures sorted c.kept-m.ensures
     (rows col a.n) (units_in a.unit_bytes.now a.unit_places.now) c.answer_of.result a.out.now _ refl c.answer_of.ensures c.write_records.ensures
 
 pub sort_graph_spec : {M : Type 1} → statement M

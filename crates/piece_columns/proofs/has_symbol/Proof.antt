@@ -22,7 +22,7 @@ L = tie.At-loop-j invariant-loop decreases-loop
 
 -- j lies among the first k entries
 le : (l : L) → l.loop-j.j ≤ l.args.k
-le l = let a = l.args in on_le (entry_at a.out.now) a.unit a.symbol a.k l.loop-j.j l.loop-j.inv
+le l = let a = l.args in on_le (entry_at a.out.now) a.unit a.symbol a.k l.loop-j.j l.loop-j.invariant
 
 number-requires : tie.Need-number-j-requires invariant-loop decreases-loop
 number-requires c κs = let s = c in (in_lasts s.args.chains.now s.args.symbol s.requires.0).1

@@ -41,7 +41,7 @@ sort-requires c κs =
     let s = c in
     let n = c.fill_numbers in
     let count = n.ensures ∙ ap numbers s.requires.2 in (
-      omega (arith, n.auto.0, s.requires.1, s.requires.2),
+      omega (arith, n.auto.order, s.requires.1, s.requires.2),
       readable s.args.starts.now _ _ _ c.fill_places.ensures count (omega (arith, c.fill_keys.auto.table, s.requires.1)),
     )
 

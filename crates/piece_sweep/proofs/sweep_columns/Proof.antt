@@ -17,15 +17,15 @@ order-pieces-requires : tie.Need-order_pieces-requires
 order-pieces-requires c κs =
     let s = c in
     let f = c.fill_starts in
-    let k = f.auto.1.1.0 in
+    let k = f.auto.starts in
     (starts-placed _ s.args.b.now _ k f.ensures s.requires.0, omega (arith, k, s.requires.1), s.requires.2 ∙ sym k)
 
 pass-requires : tie.Need-pass-requires
 pass-requires c κs =
     let s = c in
     let f = c.fill_starts in (
-      starts-placed _ s.args.b.now _ f.auto.1.1.0 f.ensures s.requires.0,
-      subst (All (λ k. k < length f.new.1.1.0)) (sym c.order_pieces.ensures) (order_below s.args.b.now f.new.1.1.0),
+      starts-placed _ s.args.b.now _ f.auto.starts f.ensures s.requires.0,
+      subst (All (λ k. k < length f.new.starts)) (sym c.order_pieces.ensures) (order_below s.args.b.now f.new.starts),
     )
 
 same_length : tie.Need-shape_of-starts
@@ -39,7 +39,7 @@ returns c =
     let s = c in
     let f = c.fill_starts in
     c.pass.ensures
-    ∙ pass_finds (length s.args.starts.now) s.args.b.now (λ i. (c.shared_slice_known-1.given i).fits) _ _ (starts_are _ s.args.b.now _ f.auto.1.1.0 f.ensures) c.order_pieces.ensures
+    ∙ pass_finds (length s.args.starts.now) s.args.b.now (λ i. (c.shared_slice_known-1.given i).fits) _ _ (starts_are _ s.args.b.now _ f.auto.starts f.ensures) c.order_pieces.ensures
 
 pub sweep_columns_spec : {M : Type 1} → statement M
 sweep_columns_spec =

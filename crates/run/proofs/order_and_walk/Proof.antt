@@ -60,7 +60,7 @@ returns-2 : tie.Need-returns-in-Accepted
 returns-2 c =
     let s = c.before.before.before.before.before.before.before.before.before.before.before.before.before.before.before.before.before.before.before.before.before.before.before.before.before.before.before.before.before.before.before in
     let w = c.order_rows in
-    entered_before s.args.file.now (tables_of s) (room_of s) (table_of s) w.new.1.1.1.1.1.1.1.1.1.1.1.1.1.1.1.1.0 w.new.1.1.1.1.1.1.1.1.1.1.1.1.1.1.1.1.1.0 w.new.1.1.1.1.1.1.1.1.1.1.1.1.1.1.1.1.1.1.0 w.new.1.1.1.1.1.1.1.1.1.1.1.1.1.1.1.1.1.1.1.0 (length s.args.out_units.now / 8) s.args.e w.result c.in-Accepted.is w.ensures
+    entered_before s.args.file.now (tables_of s) (room_of s) (table_of s) w.new.out_units w.new.pieces w.new.entries w.new.offsets (length s.args.out_units.now / 8) s.args.e w.result c.in-Accepted.is w.ensures
 
 pub order_and_walk_spec : {M : Type 1} → statement M
 order_and_walk_spec =

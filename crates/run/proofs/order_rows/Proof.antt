@@ -38,9 +38,9 @@ enum_told c = search rules
 
 walk-with-columns-requires : tie.Need-walk_with_columns-w-requires
 walk-with-columns-requires c κs =
-    let s = c in
+    let s = c.before.before.before.before.before.before.before.before.before.before.before.before.before.before.before.before.before.before.before.before.before.before.before.before.before in
     let o = c.ordered-linked in
-    let left = stands s.args.file.now (tables_of s) (room_of s) (table_of s) s.args.added s.args.used s.args.n o.new.1.1.1.1.1.1.1.1.1.1.1.1.0 [] [] [] s.requires.0.usable s.requires.1 (length s.args.out_units.now) o.ensures in
+    let left = stands s.args.file.now (tables_of s) (room_of s) (table_of s) s.args.added s.args.used s.args.n o.new.out [] [] [] s.requires.0.usable s.requires.1 (length s.args.out_units.now) o.ensures in
     (s.requires.0, s.requires.1, left.whole, left.named)
 
 after-walk-requires : tie.Need-after_walk-requires
@@ -53,7 +53,7 @@ returns : tie.Need-returns-in-Refused
 returns c =
     let s = c.before.before.before.before.before.before.before.before.before.before.before.before.before.before.before.before.before.before.before.before.before.before.before in
     let o = c.ordered-linked in
-    unlinked_right s.args.file.now (tables_of s) (room_of s) (table_of s) s.args.added s.args.used s.args.n o.new.1.1.1.1.1.1.1.1.1.1.1.1.0 s.args.pieces.now s.args.entries.now s.args.offsets.now
+    unlinked_right s.args.file.now (tables_of s) (room_of s) (table_of s) s.args.added s.args.used s.args.n o.new.out s.args.pieces.now s.args.entries.now s.args.offsets.now
     s.requires.0.usable s.requires.1 (length s.args.out_units.now) o.ensures c.unlinked.result c.in-Refused.is c.unlinked.ensures
 
 same-length-2 : tie.Need-shape_of-out_units-in-Accepted
@@ -70,10 +70,10 @@ same-length-5 c = search rules
 
 returns-2 : tie.Need-returns-in-Accepted
 returns-2 c =
-    let s = c in
+    let s = c.before.before.before.before.before.before.before.before.before.before.before.before.before.before.before.before.before.before.before.before.before.before.before.before.before.before.before.before.before.before.before.before.before in
     let o = c.ordered-linked in
     let w = c.walk_with_columns-w in
-    walked_right s.args.file.now (tables_of s) (room_of s) (table_of s) s.args.added s.args.used s.args.n o.new.1.1.1.1.1.1.1.1.1.1.1.1.0 w.new.1.1.1.1.1.1.1.1.1.1.1.1.1.1.1.1.0 w.new.1.1.1.1.1.1.1.1.1.1.1.1.1.1.1.1.1.0 w.new.1.1.1.1.1.1.1.1.1.1.1.1.1.1.1.1.1.1.0
+    walked_right s.args.file.now (tables_of s) (room_of s) (table_of s) s.args.added s.args.used s.args.n o.new.out w.new.pieces w.new.entries w.new.offsets
     s.requires.0.usable s.requires.1 (length s.args.out_units.now) o.ensures c.after_walk.result c.in-Accepted.is w.result w.ensures c.after_walk.ensures
 
 pub order_rows_spec : {M : Type 1} → statement M

@@ -26,7 +26,7 @@ slice-reshare-prefix-number-units : tie.Need-slice_bounds-number_units-end
 slice-reshare-prefix-number-units c = search rules
 
 slice-aggregate-number-units : tie.Need-slice_bounds-number_units-end-2
-slice-aggregate-number-units c = sym (length-take-le _ _ (placed c.before.before.before))
+slice-aggregate-number-units c = sym (length-take-le _ _ (placed c.before.before))
 
 number-units-requires : tie.Need-number_units-requires
 number-units-requires c κs =
@@ -37,17 +37,17 @@ slice-reshare-prefix-walk-columns : tie.Need-slice_bounds-walk_columns-end
 slice-reshare-prefix-walk-columns c = search rules
 
 slice-aggregate-walk-columns : tie.Need-slice_bounds-walk_columns-end-2
-slice-aggregate-walk-columns c = sym (length-take-le _ _ (placed c.before.before.before.before.before.before.before.before))
+slice-aggregate-walk-columns c = sym (length-take-le _ _ (placed c.before.before.before.before.before.before))
 
 walk-columns-requires : tie.Need-walk_columns-requires
 walk-columns-requires c κs =
     let s = c in
-    let f = c.before.before.before.before.before.before.before.before.before.before.before.before in
+    let f = c.before.before.before.before.before.before.before.before.before in
     let n = c.number_units in
-    let count = length-take-le s.args.k f.fill_places.new.0 (placed f) in (
-      ready s.requires.0 s.args.unit_table.now (take s.args.k f.fill_places.new.0) n.new.1.1.0
+    let count = length-take-le s.args.k f.fill_places.new.places (placed f) in (
+      ready s.requires.0 s.args.unit_table.now (take s.args.k f.fill_places.new.places) n.new.column
           (columns s.args.starts.now s.args.ends.now s.args.units.now s.args.rest.now) s.args.n s.requires.1 n.ensures
-          (omega (arith, count, s.requires.2.few)) (omega (arith, n.auto.1.1.0, s.requires.4.numbers_long)),
+          (omega (arith, count, s.requires.2.few)) (omega (arith, n.auto.column, s.requires.4.numbers_long)),
       few_symbols s.requires.0.usable,
     )
 

@@ -63,7 +63,7 @@ run-loaded-requires : tie.Need-run_loaded-ran-requires
 run-loaded-requires c κs =
     let q = c.requires in
     let p = c.prepare_file-p in
-    (stored p.ensures c.in_default.is (omega (arith, q.0.images_long, p.auto.1.1.1.1.1.0)), q.1, q.2)
+    (stored p.ensures c.in_default.is (omega (arith, q.0.images_long, p.auto.images)), q.1, q.2)
 
 same-length-7 : tie.Need-shape_of-places
 same-length-7 c = c.prepare_file-p.auto.places
@@ -118,7 +118,7 @@ same-length-23 c = search rules
 
 returns-2 : tie.Need-returns
 returns-2 c =
-    let s = c in
+    let s = c.before.before.before.before.before.before.before.before.before.before.before.before.before.before.before.before.before.before.before.before.before.before.before.before.before.before.before.before.before.before.before.before.before.before.before.before.before.before.before.before.before.before.before.before.before.before.before.before.before.before.before.before.before.before.before.before.before.before.before.before.before.before.before.before.before.before.before.before.before.before.before.before.before in
     let p = c.prepare_file-p.ensures in
     let e = c.run_loaded-ran.ensures in
     let told = c.in_default.is in

@@ -133,7 +133,7 @@ same-length-11 c = search rules
 
 returns : tie.Need-returns
 returns c =
-    let s = c in
+    let s = c.before.before.before.before.before.before.before.before.before.before.before.before.before.before.before.before.before.before.before.before.before.before.before.before.before.before.before.before.before.before.before.before.before.before.before.before.before.before.before.before.before.before.before.before.before.before.before.before.before.before.before.before.before.before.before.before.before.before.before.before.before in
     let e = c.run_tables.ensures in
     (e.0 ∙ ap (stages_of s) (parts_are s.requires.0), e.1)
 

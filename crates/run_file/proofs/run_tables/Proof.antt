@@ -68,7 +68,7 @@ order-and-walk-requires c κs =
     let room = left_sum s.args.most (length s.args.names.now) 4096 c.names_room-more_names.ensures (few_names u) in (
       record { usable = usable_rest u; images_are = q.0.images_are; order_is = q.0.order_is },
       record {
-        long = long_same _ _ _ _ (record { starts = e.auto.1.1.1.1.1.1.1.1.1.1.1.1.0; ends = e.auto.1.1.1.1.1.1.1.1.1.1.1.1.1.0; units = e.auto.1.1.1.1.1.1.1.1.1.1.1.1.1.1.0; rest = e.auto.1.1.1.1.1.1.1.1.1.1.1.1.1.1.1.0 }) e.ensures.2 (lent_long q.1 q.2);
+        long = long_same _ _ _ _ (record { starts = e.auto.starts; ends = e.auto.ends; units = e.auto.units; rest = e.auto.rest }) e.ensures.2 (lent_long q.1 q.2);
         few = omega (arith, q.2, e.ensures.2);
         homed = rows_homed u _ _ _ _ _ e.result e.ensures.0 (omega (arith, base, room, e.ensures.1.few));
       },
@@ -110,7 +110,7 @@ same-length-11 c = search rules
 returns : tie.Need-returns
 unfolding rooms_in names_in
 returns c =
-    let s = c in
+    let s = c.before.before.before.before.before.before.before.before.before.before.before.before.before.before.before.before.before.before.before.before.before.before.before.before.before.before.before.before.before.before.before.before.before.before.before.before.before.before.before.before.before.before.before.before.before.before.before.before.before.before.before.before.before.before.before.before.before.before.before.before in
     let q = s.requires in
     let e = c.split_rows-e in
     let w = c.order_and_walk in

@@ -25,10 +25,10 @@ mark-common-requires c κs =
     let n = m.ensures.1 in (
       q.0,
       record {
-        starts = omega (arith, n, m.auto.0, q.3.starts);
-        ends = omega (arith, n, m.auto.1.0, q.3.ends);
-        units = omega (arith, n, m.auto.1.1.0, q.3.units);
-        rest = omega (arith, n, m.auto.1.1.1.0, q.3.rest);
+        starts = omega (arith, n, m.auto.starts, q.3.starts);
+        ends = omega (arith, n, m.auto.ends, q.3.ends);
+        units = omega (arith, n, m.auto.units, q.3.units);
+        rest = omega (arith, n, m.auto.rest, q.3.rest);
       },
     )
 

@@ -34,7 +34,7 @@ fill-merged-requires c κs =
       tables-ordered q.0 _ q.2,
       images_kept q.0 _ q.1,
       symbols_sound q.0,
-      long_same _ _ _ _ (record { starts = m.auto.1.1.1.1.1.0; ends = m.auto.1.1.1.1.1.1.0; units = m.auto.1.1.1.1.1.1.1.0; rest = m.auto.1.1.1.1.1.1.1.1.0 }) (omega arith) q.4,
+      long_same _ _ _ _ (record { starts = m.auto.starts; ends = m.auto.ends; units = m.auto.units; rest = m.auto.rest }) (omega arith) q.4,
       m.ensures.1,
       q.6,
       q.7,
@@ -56,7 +56,7 @@ trim-filled-requires c κs =
       images_kept q.0 _ q.1,
       rows-placed q.0 a.cap (ceilings (names_of a.file.now a.names.now a.lengths.now (length a.names.now)) a.most a.most_bytes) a.images.now q.1 _ _ _ f.result
           (f.ensures.0 ∙ ap (gaps_with a.file.now (tables_with a.names.now a.lengths.now a.sections.now a.symbols.now [] a.partials.now []) a.cap (ceilings (names_of a.file.now a.names.now a.lengths.now (length a.names.now)) a.most a.most_bytes) a.images.now) m.ensures.0)
-          (long_same _ _ _ _ (record { starts = f.auto.1.1.1.1.1.1.1.1.1.1.0 ∙ m.auto.1.1.1.1.1.0; ends = f.auto.1.1.1.1.1.1.1.1.1.1.1.0 ∙ m.auto.1.1.1.1.1.1.0; units = f.auto.1.1.1.1.1.1.1.1.1.1.1.1.0 ∙ m.auto.1.1.1.1.1.1.1.0; rest = f.auto.1.1.1.1.1.1.1.1.1.1.1.1.1.0 ∙ m.auto.1.1.1.1.1.1.1.1.0 }) f.ensures.2 q.4),
+          (long_same _ _ _ _ (record { starts = f.auto.starts ∙ m.auto.starts; ends = f.auto.ends ∙ m.auto.ends; units = f.auto.units ∙ m.auto.units; rest = f.auto.rest ∙ m.auto.rest }) f.ensures.2 q.4),
       omega (arith, f.ensures.2, q.11),
     )
 

@@ -24,27 +24,27 @@ abbrev judged : tie.After-rest_of-packed → tie.After-takes_place
 judged c = c.before.before
 
 abbrev stopped : tie.After-takes_place → tie.After-next_outside-stop
-stopped c = c.before.before.before.before.before
+stopped c = c.before
 
 abbrev found : tie.After-next_outside-stop → tie.After-next_within-first
-found c = c.before.before.before.before.before
+found c = c.before
 
 abbrev entered : tie.After-next_within-first → tie.Start
-entered c = c
+entered c = c.before.before.before.before.before
 
 -- s may take the place
 takes : (c : tie.After-rest_of-packed) → let o = stopped (judged c) in let a = (entered (found o)).args in
     TakesPlace a.s (columns a.starts.now a.ends.now a.units.now a.rest.now) a.n (found o).next_within-first.result o.next_outside-stop.result
-takes c = (judged c).takes_place.ensures (is_so _ c.if-not-takes_place.false)
+takes c = (judged c).takes_place.ensures c.if-not-takes_place.false
 
 -- moving keeps the lengths
 kept : (c : tie.After-shift_rows_down) → let a = (entered (found (stopped (judged (packed c))))).args in let l = c.shift_rows_down.new in
-    Same (columns l.0 l.1.0 l.1.1.0 l.1.1.1.0) (columns a.starts.now a.ends.now a.units.now a.rest.now)
-kept c = let k = c.shift_rows_down.auto in record { starts = k.0; ends = k.1.0; units = k.1.1.0; rest = k.1.1.1.0 }
+    Same (columns l.starts l.ends l.units l.rest) (columns a.starts.now a.ends.now a.units.now a.rest.now)
+kept c = let k = c.shift_rows_down.auto in record { starts = k.starts; ends = k.ends; units = k.units; rest = k.rest }
 
 -- the place is one of the rows, in all columns; and so its bytes can be counted
 held : (c : tie.After-shift_rows_down) → let l = c.shift_rows_down.new in
-    Long (columns l.0 l.1.0 l.1.1.0 l.1.1.1.0) (suc (found (stopped (judged (packed c)))).next_within-first.result)
+    Long (columns l.starts l.ends l.units l.rest) (suc (found (stopped (judged (packed c)))).next_within-first.result)
 held c =
     let o = stopped (judged (packed c)) in
     let h = (takes (packed c)).some in
@@ -163,16 +163,16 @@ returns-2 c =
     let a = (entered f).args in
     let s = a.s in
     let k = f.next_within-first.result in
-    let l = m.shift_rows_down.last in
-    let put = stored l.0 l.1.0 l.1.1.0 l.1.1.1.0 k s.start s.end s.unit r.rest_of-packed.result in
-    let other = row_other l.0 l.1.0 l.1.1.0 l.1.1.1.0 k s.start s.end s.unit r.rest_of-packed.result in (
+    let l = m.shift_rows_down.new in
+    let put = stored l.starts l.ends l.units l.rest k s.start s.end s.unit r.rest_of-packed.result in
+    let other = row_other l.starts l.ends l.units l.rest k s.start s.end s.unit r.rest_of-packed.result in (
       λ z. absurd (let w : ⊥ = omega arith in w),
       λ z. at_once s (columns a.starts.now a.ends.now a.units.now a.rest.now) put a.n k o.next_outside-stop.result o.next_outside-stop.ensures.1
           (λ j h. f.next_within-first.ensures.2 j zero-le h)
           o.next_outside-stop.ensures.2
           (takes r)
           (λ j h. other j (λ w. omega (arith, h, w)) ∙ m.shift_rows_down.ensures.below j (omega (arith, h)))
-          (row_stored l.0 l.1.0 l.1.1.0 l.1.1.1.0 k s.start s.end s.unit r.rest_of-packed.result
+          (row_stored l.starts l.ends l.units l.rest k s.start s.end s.unit r.rest_of-packed.result
           (held m).starts (held m).ends (held m).units (held m).rest
           ∙ r.rest_of-packed.ensures)
           (λ j h. other (k + 1 + j) (λ w. omega (arith, w)) ∙ m.shift_rows_down.ensures.moved j h),

@@ -87,7 +87,7 @@ abbrev num : X → ℕ
 num x = x.sections.n
 
 below : (x : X) → num x < x.args.last
-below x = let h = x.sections.inv.0.up in let d = x.if-n-last.left in omega arith
+below x = let h = x.sections.invariant.0.up in let d = x.if-n-last.false in omega arith
 
 there : (x : X) → num x < length x.args.head_places.now
 there x = omega (arith, below x, x.requires.0.within)
@@ -122,8 +122,8 @@ carried l =
     let s = l.before.before.before.before.before.before.before.before.before.before.before.before.before.before.before.before.before.before.before.before.before.before.before.before.before.before.before.before.before.before.before.before.before.before.before in
     let x = section l in
     let k = x.sections in
-    l.loop-current.inv.0.same
-    ∙ goes_section (input s) (num x) s.args.last (output_in k.pieces k.entries k.offsets k.done) _ k.inv.0.same (below x) (lowest l) l.section_start-low.ensures l.section_end-found.result l.section_end-found.ensures (end_of l) l.in-Is.is (cols s) s.args.rows l.next_split-i.result refl l.next_split-i.ensures
+    l.loop-current.invariant.0.same
+    ∙ goes_section (input s) (num x) s.args.last (output_in k.pieces k.entries k.offsets k.done) _ k.invariant.0.same (below x) (lowest l) l.section_start-low.ensures l.section_end-found.result l.section_end-found.ensures (end_of l) l.in-Is.is (cols s) s.args.rows l.next_split-i.result refl l.next_split-i.ensures
 
 -- a split that is there
 abbrev at : C → L
@@ -209,7 +209,7 @@ row-requires c κs =
     }
 
 add-next-split : tie.Need-overflow_add-i invariant-loop2 decreases-loop2 invariant-loop decreases-loop invariant-sections decreases-sections
-add-next-split c = let l = c in omega (arith, l.loop-current.invariant.0.small, l.well-formed)
+add-next-split c = let l = c in omega (arith, l.loop-current.invariant.0.small, l.well_formed)
 
 next-split-requires-2 : tie.Need-next_split-j-requires invariant-loop2 decreases-loop2 invariant-loop decreases-loop invariant-sections decreases-sections
 next-split-requires-2 c κs =
@@ -255,10 +255,10 @@ loop-again c =
       record {
         small = hits.small;
         passes = hits.passes;
-        same = goes_skip (input s) s.args.last (num (section l)) (lowest l) (end_of l) (cols s) s.args.rows l.loop-current.current l.loop-current.i (out l) (whole_of l) l.loop-current.inv.0.same k.loop-current-test.true (small k) k.next_split-j.result k.start_of-next.result k.next_split-j.ensures k.start_of-next.ensures k.row-s.result k.row-s.ensures k.choose-step.result k.choose-step.ensures.0 c.in-Skip.is;
-        tabled = l.loop-current.inv.0.tabled;
+        same = goes_skip (input s) s.args.last (num (section l)) (lowest l) (end_of l) (cols s) s.args.rows l.loop-current.current l.loop-current.i (out l) (whole_of l) l.loop-current.invariant.0.same k.loop-current-test.true (small k) k.next_split-j.result k.start_of-next.result k.next_split-j.ensures k.start_of-next.ensures k.row-s.result k.row-s.ensures k.choose-step.result k.choose-step.ensures.0 c.in-Skip.is;
+        tabled = l.loop-current.invariant.0.tabled;
       },
-      l.loop-current.inv.1,
+      l.loop-current.invariant.1,
     )
 
 enum-known-step : tie.Need-enum_known-step invariant-loop2 decreases-loop2 invariant-loop decreases-loop invariant-sections decreases-sections
@@ -298,26 +298,26 @@ loop2-again : tie.Need-loop-a-preserved invariant-loop2 decreases-loop2 invarian
 loop2-again c = half_on _ _ _ c.loop-a.invariant c.if-current-a-eq0.false c.if-a-le4.false
 
 -- the section's relocations
-parted : (l : L) → l.for_section-m.result ≤ length l.for_section-m.last.1.1.1.0
+parted : (l : L) → l.for_section-m.result ≤ length l.for_section-m.new.part
 parted l =
     let s = l in
-    omega (arith, l.for_section-m.ensures.small, l.for_section-m.kept.1.1.1.0, (section l).sections.inv.0.tabled.part_long)
+    omega (arith, l.for_section-m.ensures.small, l.for_section-m.auto.part, (section l).sections.invariant.0.tabled.part_long)
 
 slice-reshare-prefix-give : tie.Need-slice_bounds-give-end invariant-loop2 decreases-loop2 invariant-loop decreases-loop invariant-sections decreases-sections
 slice-reshare-prefix-give c = parted (at (chosen c.before.before.before.before.before.before))
 
 slice-aggregate-give : tie.Need-slice_bounds-give-end-in-Give invariant-loop2 decreases-loop2 invariant-loop decreases-loop invariant-sections decreases-sections
-slice-aggregate-give c = sym (length-take-le _ _ (parted (at (chosen c))))
+slice-aggregate-give c = sym (length-take-le _ _ (parted (at (chosen c.before.before.before.before.before.before))))
 
 give-requires : tie.Need-give-gave-requires invariant-loop2 decreases-loop2 invariant-loop decreases-loop invariant-sections decreases-sections
 give-requires c κs =
-    let g = c in
+    let g = c.before.before.before.before.before.before in
     let k = chosen g in
     let l = at k in
     let s = l.before.before.before.before.before.before.before.before.before.before.before.before.before.before.before.before.before.before.before.before.before.before.before.before.before.before.before.before.before.before.before.before.before.before.before in
     let x = section l in
     let ready = s.requires.0 in
-    let tabled = l.loop-current.inv.0.tabled in (
+    let tabled = l.loop-current.invariant.0.tabled in (
       tabled.beside,
       ready.asked.tables,
       record { whole = ready.whole; rising = ready.rising; is = l.for_section-m.ensures.is; few = ready.few_relocs },
@@ -326,7 +326,7 @@ give-requires c κs =
         few = omega (arith, few x);
         low =
             subst (λ (y : Split). (head_of s.args.heads.now s.args.head_places.now (num x)).address ≤ y.start) (sym k.row-s.ensures)
-            (subst (λ (m : ℕ). m ≤ (row_at (cols s) l.loop-current.i).start) l.section_start-low.ensures (row_low (num x) (lowest l) (end_of l) (cols s) l.loop-current.i (l.loop-current.inv.0.passes (small k))));
+            (subst (λ (m : ℕ). m ≤ (row_at (cols s) l.loop-current.i).start) l.section_start-low.ensures (row_low (num x) (lowest l) (end_of l) (cols s) l.loop-current.i (l.loop-current.invariant.0.passes (small k))));
       },
       omega (arith, (gives g).listed, tabled.counts_long, length-counts l.loop-current.scratch),
       omega (arith, (gives g).listed, ready.few_units),
@@ -341,13 +341,13 @@ abbrev R : Type 0
 R = tie.After-give-gave invariant-loop2 decreases-loop2 invariant-loop decreases-loop invariant-sections decreases-sections
 
 abbrev giving : R → G
-giving r = r
+giving r = r.before.before.before.before.before.before.before
 
 abbrev place : R → L
 place r = at (chosen (giving r))
 
 fit_is : (r : R) → halved 16 (alignment_of (giving r)) (place r).loop-current.current ≡ r.loop-a.a
-fit_is r = half_fits _ _ _ r.loop-a.inv r.if-current-a-eq0.taken
+fit_is r = half_fits _ _ _ r.loop-a.invariant r.if-current-a-eq0.true
 
 loop-less-2 : tie.Need-loop-current-smaller invariant-loop2 decreases-loop2 invariant-loop decreases-loop invariant-sections decreases-sections
 loop-less-2 c =
@@ -362,12 +362,12 @@ loop-again-2 c =
     let l = at k in
     let s = l.before.before.before.before.before.before.before.before.before.before.before.before.before.before.before.before.before.before.before.before.before.before.before.before.before.before.before.before.before.before.before.before.before.before.before in
     let hits = k.next_split-j.ensures in
-    let lengths = l.loop-current.inv.1 in
-    let tabled = l.loop-current.inv.0.tabled in (
+    let lengths = l.loop-current.invariant.1 in
+    let tabled = l.loop-current.invariant.0.tabled in (
       record {
         small = hits.small;
         passes = hits.passes;
-        same = goes_given (input s) s.args.last (num (section l)) (lowest l) (end_of l) (cols s) s.args.rows l.loop-current.current l.loop-current.i (out l) (whole_of l) l.loop-current.inv.0.same k.loop-current-test.taken (small k) k.next_split-j.result k.start_of-next.result k.next_split-j.ensures k.start_of-next.ensures k.row-s.result k.row-s.ensures k.choose-step.result k.choose-step.ensures.0 (unit_of g) (alignment_of g) g.in-Give.is r.loop-a.a (fit_is r) (gives g).starts r.give-gave.new.pieces r.give-gave.new.entries r.give-gave.new.offsets r.give-gave.result (r.give-gave.ensures.is (length s.args.head_places.now) (input s).sections.bytes (input s).splits (input s).units) c.in-Made.more c.in-Made.is;
+        same = goes_given (input s) s.args.last (num (section l)) (lowest l) (end_of l) (cols s) s.args.rows l.loop-current.current l.loop-current.i (out l) (whole_of l) l.loop-current.invariant.0.same k.loop-current-test.true (small k) k.next_split-j.result k.start_of-next.result k.next_split-j.ensures k.start_of-next.ensures k.row-s.result k.row-s.ensures k.choose-step.result k.choose-step.ensures.0 (unit_of g) (alignment_of g) g.in-Give.is r.loop-a.a (fit_is r) (gives g).starts r.give-gave.new.pieces r.give-gave.new.entries r.give-gave.new.offsets r.give-gave.result (r.give-gave.ensures.is (length s.args.head_places.now) (input s).sections.bytes (input s).splits (input s).units) c.in-Made.more c.in-Made.is;
         tabled = record {
           beside = subst (Besides (length s.args.symbol_places.now) s.args.room r.give-gave.new.scratch r.give-gave.new.pieces r.give-gave.new.entries r.give-gave.new.offsets) c.in-Made.is r.give-gave.ensures.beside;
           counts_long = omega (arith, tabled.counts_long, r.give-gave.auto.scratch);
@@ -407,7 +407,7 @@ sections-again c =
     let s = l.before.before.before.before.before.before.before.before.before.before.before.before.before.before.before.before.before.before.before.before.before.before.before.before.before.before.before.before.before.before.before.before.before.before.before in
     let x = section l in
     let inner = l.loop-current.invariant.1 in
-    let outer = x.sections.inv.1 in (
+    let outer = x.sections.invariant.1 in (
       record {
         up = omega (arith, below x);
         same = section_done (input s) s.args.last (num x) (lowest l) (end_of l) (cols s) s.args.rows l.loop-current.current l.loop-current.i (out l) _ (carried l) (below x) c.loop-current-test.false;
@@ -515,22 +515,22 @@ returns-4 c =
     let s = l.before.before.before.before.before.before.before.before.before.before.before.before.before.before.before.before.before.before.before.before.before.before.before.before.before.before.before.before.before.before.before.before.before.before.before in
     let half = c.loop-a in
     refused_at _ _ _ _ _ _ _ 75 (num (section l)) l.loop-current.current _ c.refused-answer-then-a-le4.ensures
-    (ends_misfit (input s) s.args.last (num (section l)) (lowest l) (end_of l) (cols s) s.args.rows l.loop-current.current l.loop-current.i (out l) _ (carried l) k.loop-current-test.taken (small k) k.next_split-j.result k.start_of-next.result k.next_split-j.ensures k.start_of-next.ensures k.row-s.result k.row-s.ensures k.choose-step.result k.choose-step.ensures.0 (unit_of g) (alignment_of g) g.in-Give.is half.a (half_stops _ _ _ half.invariant c.if-current-a-eq0.false c.if-a-le4.true) c.if-current-a-eq0.false)
+    (ends_misfit (input s) s.args.last (num (section l)) (lowest l) (end_of l) (cols s) s.args.rows l.loop-current.current l.loop-current.i (out l) _ (carried l) k.loop-current-test.true (small k) k.next_split-j.result k.start_of-next.result k.next_split-j.ensures k.start_of-next.ensures k.row-s.result k.row-s.ensures k.choose-step.result k.choose-step.ensures.0 (unit_of g) (alignment_of g) g.in-Give.is half.a (half_stops _ _ _ half.invariant c.if-current-a-eq0.false c.if-a-le4.true) c.if-current-a-eq0.false)
 
 same-length-21 : tie.Need-shape_of-scratch-in-Fault-gave invariant-loop2 decreases-loop2 invariant-loop decreases-loop invariant-sections decreases-sections
-same-length-21 c = let r = c.before.before.before.before.before.before.before.before.before.before in let l = place r in r.give-gave.auto.scratch ∙ l.loop-current.inv.1.of_scratch ∙ (section l).sections.inv.1.of_scratch
+same-length-21 c = let r = c.before.before.before.before.before.before.before.before.before.before in let l = place r in r.give-gave.auto.scratch ∙ l.loop-current.invariant.1.of_scratch ∙ (section l).sections.invariant.1.of_scratch
 
 same-length-22 : tie.Need-shape_of-part-in-Fault-gave invariant-loop2 decreases-loop2 invariant-loop decreases-loop invariant-sections decreases-sections
-same-length-22 c = let r = c.before.before.before.before.before.before.before.before.before.before in let l = place r in l.for_section-m.kept.1.1.1.0 ∙ (section l).sections.inv.1.of_part
+same-length-22 c = let r = c.before.before.before.before.before.before.before.before.before.before in let l = place r in l.for_section-m.auto.part ∙ (section l).sections.invariant.1.of_part
 
 same-length-23 : tie.Need-shape_of-pieces-in-Fault-gave invariant-loop2 decreases-loop2 invariant-loop decreases-loop invariant-sections decreases-sections
-same-length-23 c = let r = c.before.before.before.before.before.before.before.before.before.before in let l = place r in r.give-gave.auto.pieces ∙ l.loop-current.inv.1.of_pieces ∙ (section l).sections.inv.1.of_pieces
+same-length-23 c = let r = c.before.before.before.before.before.before.before.before.before.before in let l = place r in r.give-gave.auto.pieces ∙ l.loop-current.invariant.1.of_pieces ∙ (section l).sections.invariant.1.of_pieces
 
 same-length-24 : tie.Need-shape_of-entries-in-Fault-gave invariant-loop2 decreases-loop2 invariant-loop decreases-loop invariant-sections decreases-sections
-same-length-24 c = let r = c.before.before.before.before.before.before.before.before.before.before in let l = place r in r.give-gave.auto.entries ∙ l.loop-current.inv.1.of_entries ∙ (section l).sections.inv.1.of_entries
+same-length-24 c = let r = c.before.before.before.before.before.before.before.before.before.before in let l = place r in r.give-gave.auto.entries ∙ l.loop-current.invariant.1.of_entries ∙ (section l).sections.invariant.1.of_entries
 
 same-length-25 : tie.Need-shape_of-offsets-in-Fault-gave invariant-loop2 decreases-loop2 invariant-loop decreases-loop invariant-sections decreases-sections
-same-length-25 c = let r = c.before.before.before.before.before.before.before.before.before.before in let l = place r in r.give-gave.auto.offsets ∙ l.loop-current.inv.1.of_offsets ∙ (section l).sections.inv.1.of_offsets
+same-length-25 c = let r = c.before.before.before.before.before.before.before.before.before.before in let l = place r in r.give-gave.auto.offsets ∙ l.loop-current.invariant.1.of_offsets ∙ (section l).sections.invariant.1.of_offsets
 
 returns-5 : tie.Need-returns-in-Fault-gave invariant-loop2 decreases-loop2 invariant-loop decreases-loop invariant-sections decreases-sections
 returns-5 c =
@@ -540,7 +540,7 @@ returns-5 c =
     let l = at k in
     let s = l.before.before.before.before.before.before.before.before.before.before.before.before.before.before.before.before.before.before.before.before.before.before.before.before.before.before.before.before.before.before.before.before.before.before.before in
     refused_at _ _ _ _ _ _ _ c.in-Fault-gave.number (num (section l)) l.loop-current.current _ c.refused-answer-in-Fault-gave.ensures
-    (ends_refused (input s) s.args.last (num (section l)) (lowest l) (end_of l) (cols s) s.args.rows l.loop-current.current l.loop-current.i (out l) _ (carried l) k.loop-current-test.taken (small k) k.next_split-j.result k.start_of-next.result k.next_split-j.ensures k.start_of-next.ensures k.row-s.result k.row-s.ensures k.choose-step.result k.choose-step.ensures.0 (unit_of g) (alignment_of g) g.in-Give.is r.loop-a.a (fit_is r) (gives g).starts r.give-gave.new.pieces r.give-gave.new.entries r.give-gave.new.offsets r.give-gave.result (r.give-gave.ensures.is (length s.args.head_places.now) (input s).sections.bytes (input s).splits (input s).units) c.in-Fault-gave.number c.in-Fault-gave.is)
+    (ends_refused (input s) s.args.last (num (section l)) (lowest l) (end_of l) (cols s) s.args.rows l.loop-current.current l.loop-current.i (out l) _ (carried l) k.loop-current-test.true (small k) k.next_split-j.result k.start_of-next.result k.next_split-j.ensures k.start_of-next.ensures k.row-s.result k.row-s.ensures k.choose-step.result k.choose-step.ensures.0 (unit_of g) (alignment_of g) g.in-Give.is r.loop-a.a (fit_is r) (gives g).starts r.give-gave.new.pieces r.give-gave.new.entries r.give-gave.new.offsets r.give-gave.result (r.give-gave.ensures.is (length s.args.head_places.now) (input s).sections.bytes (input s).splits (input s).units) c.in-Fault-gave.number c.in-Fault-gave.is)
 
 same-length-26 : tie.Need-shape_of-scratch-in-Fault invariant-loop2 decreases-loop2 invariant-loop decreases-loop invariant-sections decreases-sections
 same-length-26 c = let l = c.before.before.before.before.before.before.before.before in l.loop-current.invariant.1.of_scratch ∙ (section l).sections.invariant.1.of_scratch

@@ -34,10 +34,10 @@ give-filled-requires c κs =
       q.4,
       o.ensures.1,
       record {
-        starts = omega (arith, few, q.8, q.5.starts_long, o.auto.1.1.1.1.1.1.1.1.1.1.1.1.0);
-        ends = omega (arith, few, q.8, q.5.ends_long, o.auto.1.1.1.1.1.1.1.1.1.1.1.1.1.0);
-        units = omega (arith, few, q.8, q.5.units_long, o.auto.1.1.1.1.1.1.1.1.1.1.1.1.1.1.0);
-        rest = omega (arith, few, q.8, q.5.rest_long, o.auto.1.1.1.1.1.1.1.1.1.1.1.1.1.1.1.0);
+        starts = omega (arith, few, q.8, q.5.starts_long, o.auto.starts);
+        ends = omega (arith, few, q.8, q.5.ends_long, o.auto.ends);
+        units = omega (arith, few, q.8, q.5.units_long, o.auto.units);
+        rest = omega (arith, few, q.8, q.5.rest_long, o.auto.rest);
       },
       omega (arith, few, q.9),
       omega (arith, few, q.8),

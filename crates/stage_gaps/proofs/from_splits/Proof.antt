@@ -69,10 +69,10 @@ fill-rows-requires c κs =
       q.3,
       q.4,
       record {
-        starts_long = t.auto.1.1.1.1.1.1.0 ∙ q.5.starts_long;
-        ends_long = t.auto.1.1.1.1.1.1.1.0 ∙ q.5.ends_long;
-        units_long = t.auto.1.1.1.1.1.1.1.1.0 ∙ q.5.units_long;
-        rest_long = t.auto.1.1.1.1.1.1.1.1.1.0 ∙ q.5.rest_long;
+        starts_long = t.auto.starts ∙ q.5.starts_long;
+        ends_long = t.auto.ends ∙ q.5.ends_long;
+        units_long = t.auto.units ∙ q.5.units_long;
+        rest_long = t.auto.rest ∙ q.5.rest_long;
       },
       q.6,
       (table_passed split_width _ a.splits.now _ (sym t.ensures.said ∙ ap meaning c.in_default.is)).1,
@@ -131,7 +131,7 @@ returns-2 c =
     let a = c.args in
     let t = c.take_split_columns-a in
     let base = (names_of a.name_bytes.now a.name_places.now a.name_lengths.now (length a.name_places.now)) in
-    splits_go a.name_lengths.now (sections_in a.heads.now a.head_places.now) (image_of a.symbols.now a.symbol_places.now a.name_bytes.now a.name_places.now a.name_lengths.now) (sections_of a.heads.now a.head_places.now a.image.now a.image_places.now) (ceilings base a.most a.most_bytes) base a.splits.now (columns t.new.1.1.1.1.1.1.0 t.new.1.1.1.1.1.1.1.0 t.new.1.1.1.1.1.1.1.1.0 t.new.1.1.1.1.1.1.1.1.1.0) c.room_of-room.ensures t.ensures (ap meaning c.in_default.is) c.fill_rows.ensures
+    splits_go a.name_lengths.now (sections_in a.heads.now a.head_places.now) (image_of a.symbols.now a.symbol_places.now a.name_bytes.now a.name_places.now a.name_lengths.now) (sections_of a.heads.now a.head_places.now a.image.now a.image_places.now) (ceilings base a.most a.most_bytes) base a.splits.now (columns t.new.starts t.new.ends t.new.units t.new.rest) c.room_of-room.ensures t.ensures (ap meaning c.in_default.is) c.fill_rows.ensures
 
 pub from_splits_spec : {M : Type 1} → statement M
 from_splits_spec =

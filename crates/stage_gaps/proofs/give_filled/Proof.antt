@@ -69,9 +69,9 @@ same-length-4 c = search rules
 returns-2 : tie.Need-returns-in-Accepted
 returns-2 c =
     let a = c.args in
-    let k = c.before.before.before.before.before.before.before.before.before.before.before.before.before.before.before.before.r2.given in
-    gives_laid (ap (meant (names_of a.name_bytes.now a.name_places.now a.name_lengths.now (length a.name_places.now)) (beside a.added_bytes.now a.added_places.now a.added_lengths.now) (columns a.starts.now a.ends.now a.units.now a.rest.now)) k.1) refl
-    (filled_laid (names_of a.name_bytes.now a.name_places.now a.name_lengths.now (length a.name_places.now)) (beside a.added_bytes.now a.added_places.now a.added_lengths.now) (columns a.starts.now a.ends.now a.units.now a.rest.now) k.0.0 k.0.1.1.0 c.give_names-bytes.ensures c.put_splits.ensures (length-names a.name_bytes.now a.name_places.now a.name_lengths.now (length a.name_places.now)) c.give_counts.ensures)
+    let k = c.in-Accepted in
+    gives_laid (ap (meant (names_of a.name_bytes.now a.name_places.now a.name_lengths.now (length a.name_places.now)) (beside a.added_bytes.now a.added_places.now a.added_lengths.now) (columns a.starts.now a.ends.now a.units.now a.rest.now)) k.is) refl
+    (filled_laid (names_of a.name_bytes.now a.name_places.now a.name_lengths.now (length a.name_places.now)) (beside a.added_bytes.now a.added_places.now a.added_lengths.now) (columns a.starts.now a.ends.now a.units.now a.rest.now) k.names k.splits c.give_names-bytes.ensures c.put_splits.ensures (length-names a.name_bytes.now a.name_places.now a.name_lengths.now (length a.name_places.now)) c.give_counts.ensures)
 
 pub give_filled_spec : {M : Type 1} → statement M
 give_filled_spec =

@@ -26,7 +26,7 @@ put-names-requires-2 c κs =
     let f = length-names a.added_bytes.now a.added_places.now a.added_lengths.now a.names in
     let o = c.put_names-end in
     let r = o.ensures.last in
-    (q.1, omega (arith, q.2.long_ends, e, f, o.auto.1.1.1.1.1.1.0), omega (arith, q.2.long_bytes, r, o.auto.1.1.1.1.1.1.1.0), omega (arith, q.2.short, r))
+    (q.1, omega (arith, q.2.long_ends, e, f, o.auto.out_ends), omega (arith, q.2.long_bytes, r, o.auto.out_bytes), omega (arith, q.2.short, r))
 
 add-clear-from : tie.Need-overflow_add-n
 add-clear-from c =
@@ -34,7 +34,7 @@ add-clear-from c =
     let q = c.requires in
     let e = length-names a.bytes.now a.places.now a.lengths.now (length a.places.now) in
     let f = length-names a.added_bytes.now a.added_places.now a.added_lengths.now a.names in
-    omega (arith, q.2.long_ends, e, f, c.well-formed.1.1.1.1.1.1.1.0)
+    omega (arith, q.2.long_ends, e, f, c.well_formed.1.1.1.1.1.1.1.0)
 
 mul-clear-from : tie.Need-overflow_mul-n
 mul-clear-from c =
@@ -42,7 +42,7 @@ mul-clear-from c =
     let q = c.requires in
     let e = length-names a.bytes.now a.places.now a.lengths.now (length a.places.now) in
     let f = length-names a.added_bytes.now a.added_places.now a.added_lengths.now a.names in
-    omega (arith, q.2.long_ends, e, f, c.well-formed.1.1.1.1.1.1.1.0)
+    omega (arith, q.2.long_ends, e, f, c.well_formed.1.1.1.1.1.1.1.0)
 
 clear-from-requires : tie.Need-clear_from-requires
 clear-from-requires c κs = search rules

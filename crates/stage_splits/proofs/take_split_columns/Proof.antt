@@ -72,7 +72,7 @@ returns-2 c =
     let s = t in
     let l = c.load in
     let e = ap meaning c.in_default.is in
-    taken-rows s.args.b.now _ (columns l.new.1.1.0 l.new.1.1.1.0 l.new.1.1.1.1.0 l.new.1.1.1.1.1.0) t.take_splits-a.ensures.said
+    taken-rows s.args.b.now _ (columns l.new.starts l.new.ends l.new.units l.new.rest) t.take_splits-a.ensures.said
     (taken_places split_width _ s.args.b.now _ _ t.take_splits-a.ensures e) l.ensures
 
 pub take_split_columns_spec : {M : Type 1} → statement M

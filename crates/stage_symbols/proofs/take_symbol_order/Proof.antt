@@ -31,7 +31,7 @@ slice-aggregate-make-order : tie.Need-slice_bounds-make_order-end-2
 slice-aggregate-make-order c = let s = c in sym (taken-count 20 s.args.ceiling s.args.symbols.now c.take_symbols-answer.new.places _ c.take_symbols-answer.ensures (ap meaning c.in_default.is))
 
 make-order-requires : tie.Need-make_order-ordered-requires
-make-order-requires c κs = let s = c in let t = c.take_symbols-answer in let e = ap meaning c.in_default.is in (order_room s.args.ceiling s.args.symbols.now _ _ t.result t.ensures e _ _ (room_kept t.auto.1.1.1.1.1.0 s.requires.1), symbols_whole s.args.ceiling s.args.symbols.now _ _ t.result t.ensures e s.requires.1.few)
+make-order-requires c κs = let s = c in let t = c.take_symbols-answer in let e = ap meaning c.in_default.is in (order_room s.args.ceiling s.args.symbols.now _ _ t.result t.ensures e _ _ (room_kept t.auto.places s.requires.1), symbols_whole s.args.ceiling s.args.symbols.now _ _ t.result t.ensures e s.requires.1.few)
 
 same-length-2 : tie.Need-shape_of-places
 same-length-2 c = search rules

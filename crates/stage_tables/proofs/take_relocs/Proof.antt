@@ -39,7 +39,7 @@ slice-reshare-prefix-check-relocs : tie.Need-slice_bounds-check_relocs-end
 slice-reshare-prefix-check-relocs c =
     let s = c in
     let t = c.fill_table-size in
-    omega (arith, size_few 23 s.args.ceiling s.args.b.now t.new.1.1.1.0 t.ensures (ap meaning c.in_default.is), t.auto.1.1.1.0, s.requires.1.long)
+    omega (arith, size_few 23 s.args.ceiling s.args.b.now t.new.places t.ensures (ap meaning c.in_default.is), t.auto.places, s.requires.1.long)
 
 slice-aggregate-check-relocs : tie.Need-slice_bounds-check_relocs-end-2
 slice-aggregate-check-relocs c = sym (size_places 23 _ c.args.b.now _ c.fill_table-size.ensures (ap meaning c.in_default.is))
@@ -58,7 +58,7 @@ same-length-3 c = search rules
 returns-2 : tie.Need-returns
 unfolding fault
 returns-2 c =
-    let s = c in
+    let s = c.before.before.before.before.before.before.before.before.before.before.before.before.before.before in
     records_said 23 _ s.args.b.now _ c.fill_table-size.ensures (ap meaning c.in_default.is) (fault s) c.check_relocs.ensures
 
 pub take_relocs_spec : {M : Type 1} → statement M

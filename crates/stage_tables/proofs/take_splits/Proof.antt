@@ -39,7 +39,7 @@ slice-reshare-prefix-check-splits : tie.Need-slice_bounds-check_splits-end
 slice-reshare-prefix-check-splits c =
     let s = c in
     let t = c.fill_table-size in
-    omega (arith, size_few split_width s.args.ceiling s.args.b.now t.new.1.1.1.0 t.ensures (ap meaning c.in_default.is), t.auto.1.1.1.0, s.requires.1.long)
+    omega (arith, size_few split_width s.args.ceiling s.args.b.now t.new.places t.ensures (ap meaning c.in_default.is), t.auto.places, s.requires.1.long)
 
 slice-aggregate-check-splits : tie.Need-slice_bounds-check_splits-end-2
 slice-aggregate-check-splits c = sym (size_places split_width _ c.args.b.now _ c.fill_table-size.ensures (ap meaning c.in_default.is))
@@ -55,7 +55,7 @@ same-length-2 c = search rules
 returns-2 : tie.Need-returns
 unfolding fault
 returns-2 c =
-    let s = c in
+    let s = c.before.before.before.before.before.before.before.before.before.before.before in
     records_said split_width _ s.args.b.now _ c.fill_table-size.ensures (ap meaning c.in_default.is) (fault s) c.check_splits.ensures
 
 pub take_splits_spec : {M : Type 1} → statement M

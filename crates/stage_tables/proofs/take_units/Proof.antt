@@ -39,7 +39,7 @@ slice-reshare-prefix-check-units : tie.Need-slice_bounds-check_units-end
 slice-reshare-prefix-check-units c =
     let s = c in
     let t = c.fill_table-size in
-    omega (arith, size_few 8 s.args.ceiling s.args.b.now t.new.1.1.1.0 t.ensures (ap meaning c.in_default.is), t.auto.1.1.1.0, s.requires.long)
+    omega (arith, size_few 8 s.args.ceiling s.args.b.now t.new.places t.ensures (ap meaning c.in_default.is), t.auto.places, s.requires.long)
 
 slice-aggregate-check-units : tie.Need-slice_bounds-check_units-end-2
 slice-aggregate-check-units c = sym (size_places 8 _ c.args.b.now _ c.fill_table-size.ensures (ap meaning c.in_default.is))
@@ -55,7 +55,7 @@ same-length-2 c = search rules
 returns-2 : tie.Need-returns
 unfolding fault
 returns-2 c =
-    let s = c in
+    let s = c.before.before.before.before.before.before.before.before.before in
     records_said 8 _ s.args.b.now _ c.fill_table-size.ensures (ap meaning c.in_default.is) (fault s) c.check_units.ensures
 
 pub take_units_spec : {M : Type 1} → statement M

@@ -65,14 +65,14 @@ number-units-requires c κs =
     let t = c in
     let s = c in
     let a = s.args in
-    units_listed a.name_lengths.now a.unit_table.now (passed c) _ _ (places_are c)
+    units_listed a.name_lengths.now a.unit_table.now (passed c.before) _ _ (places_are c.before)
     (omega (arith, s.requires.4, s.requires.6.numbers_long))
 
 slice-reshare-prefix-walk-columns : tie.Need-slice_bounds-walk_columns-end
-slice-reshare-prefix-walk-columns c = passed-few c
+slice-reshare-prefix-walk-columns c = passed-few c.before.before.before.before
 
 slice-aggregate-walk-columns : tie.Need-slice_bounds-walk_columns-end-2
-slice-aggregate-walk-columns c = sym (length-take-le _ _ (passed-few c.before.before.before.before.before))
+slice-aggregate-walk-columns c = sym (length-take-le _ _ (passed-few c.before.before.before.before))
 
 walk-columns-requires : tie.Need-walk_columns-requires
 walk-columns-requires c κs =
@@ -81,7 +81,7 @@ walk-columns-requires c κs =
     let s = c in
     let a = s.args in
     let count = taken-count 8 1024 a.unit_table.now _ _ t.take_units-a.ensures (ap meaning c.in_default.is) in
-    let few = units_few a.name_lengths.now a.unit_table.now (passed c.before.before.before.before.before.before.before.before.before) in (
+    let few = units_few a.name_lengths.now a.unit_table.now (passed c.before.before.before.before.before.before.before) in (
       record {
         asked = s.requires.0;
         kept = s.requires.1.kept;
@@ -115,7 +115,7 @@ same-length-6 c = c.walk_columns.auto.offsets
 returns-2 : tie.Need-returns
 returns-2 c =
     let w = c in
-    let e = c.before.before.before.before.before.before.before.before.before.before.before.before.before.before.before.before in
+    let e = c.before.before.before.before.before.before.before.before.before.before.before.before.before.before in
     let a = c.args in
     units_go a.name_lengths.now (image_of a.symbols.now a.symbol_places.now a.name_bytes.now a.name_places.now a.name_lengths.now) (sections_of a.heads.now a.head_places.now a.image.now a.image_places.now) (reloc_of a.relocs.now a.reloc_places.now) (length a.reloc_places.now) (rows_of (columns a.starts.now a.ends.now a.units.now a.rest.now) a.rows) a.unit_table.now
     (take (length a.unit_table.now / 8) e.take_units-a.new.places) (room_in (length a.pieces.now) (length a.entries.now) (length a.offsets.now)) w.walk_columns.result w.walk_columns.new.pieces w.walk_columns.new.entries w.walk_columns.new.offsets

@@ -31,23 +31,23 @@ kept l = l.loop-i.invariant.2 ∙ l.clear.auto.column
 
 -- the number that was found is the definition's
 by-definition : (c : tie.After-reloc_fault-number invariant-loop decreases-loop)
-    → let l = c.before.before.before.before in let a = (start l).args in
+    → let l = c.before.before.before in let a = (start l).args in
     c.reloc_fault-number.result
-    ≡ reloc_fault (sections_in a.heads.now a.head_places.now) a.symbols (relocs_in a.b.now a.places.now) l.loop.i
+    ≡ reloc_fault (sections_in a.heads.now a.head_places.now) a.symbols (relocs_in a.b.now a.places.now) l.loop-i.i
 by-definition c =
-    let l = c.before.before.before.before in
+    let l = c.before.before.before in
     let a = (start l).args in
-    reloc_fault_here a.heads.now a.head_places.now _ a.b.now a.places.now _ l.loop.floors c.reloc_at-r.ensures
-    c.reloc_fault-number.ensures l.loop.invariant.1 c.loop-i-test.true
+    reloc_fault_here a.heads.now a.head_places.now _ a.b.now a.places.now _ l.loop-i.floors c.reloc_at-r.ensures
+    c.reloc_fault-number.ensures l.loop-i.invariant.1 c.loop-i-test.true
 
 -- a relocation without a fault has a known section, and an address to which one can be added
 passed : (c : tie.Else-number-gt0 invariant-loop decreases-loop)
     → let r = c.reloc_at-r.result in let l = c in
     (r.section < length l.loop-i.floors) × (r.address % 4 ≡ 0)
 passed c =
-    let l = c.before.before.before.before.before in
+    let l = c.before.before.before.before in
     let a = (start l).args in
-    let p = reloc_passed a.heads.now a.head_places.now _ a.b.now a.places.now _ l.loop.floors
+    let p = reloc_passed a.heads.now a.head_places.now _ a.b.now a.places.now _ l.loop-i.floors
     c.reloc_at-r.ensures c.reloc_fault-number.ensures c.if-number-gt0.false in
     (omega (arith, (start l).requires.2, kept l), p.1)
 
@@ -63,13 +63,13 @@ reloc-at-requires : tie.Need-reloc_at-r-requires invariant-loop decreases-loop
 reloc-at-requires c κs = held (start c.before).requires.1 _ c.loop-i-test.true
 
 reloc-fault-requires : tie.Need-reloc_fault-number-requires invariant-loop decreases-loop
-reloc-fault-requires c κs = (start c.before.before.before).requires.0
+reloc-fault-requires c κs = (start c.before.before).requires.0
 
 cast-t18 : tie.Need-overflow_cast-result invariant-loop decreases-loop
-cast-t18 c = omega (arith, (start c.before.before.before.before.before).requires.1.few)
+cast-t18 c = omega (arith, (start c.before.before.before.before).requires.1.few)
 
 same_length : tie.Need-shape_of-floors-then-number-gt0 invariant-loop decreases-loop
-same_length c = kept c.before.before.before.before.before
+same_length c = kept c.before.before.before.before
 
 returns : tie.Need-returns-then-number-gt0 invariant-loop decreases-loop
 returns c =
@@ -97,7 +97,7 @@ loop-less c = omega arith
 loop-again : tie.Need-loop-i-preserved invariant-loop decreases-loop
 loop-again c =
     let t = c in
-    let l = t.before in
+    let l = t.before.before.before.before.before.before in
     let a = (start l).args in
     let r = found (reloc_at a.b.now) a.places.now l.loop-i.i no_reloc t.loop-i-test.true c.reloc_at-r.ensures in
     let h : l.loop-i.i < length (relocs_in a.b.now a.places.now) = rw (length-map a.places.now (reloc_at a.b.now)) t.loop-i-test.true in (

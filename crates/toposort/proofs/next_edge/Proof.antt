@@ -20,9 +20,9 @@ cast-result c = omega (arith, c.shared_slice_known-1.given c.args.v)
 returns : tie.Need-returns-then-start-eq0
 returns c = (found, subst (λ (x : ℕ). x ≤ length c.args.from.now) (sym found) (next_small _ _ _ _ _ c.requires))
   where
-    found : get_or c.before.before.args.heads.now c.before.before.args.v 0
-        ≡ next_edge c.before.before.args.from.now c.before.before.args.v c.before.before.args.start
-    found = next_first _ _ _ _ _ c.before.before.requires c.before.if1.true
+    found : get_or c.args.heads.now c.args.v 0
+        ≡ next_edge c.args.from.now c.args.v c.args.start
+    found = next_first _ _ _ _ _ c.requires c.if-start-eq0.true
 
 sub-result : tie.Need-overflow_sub-result
 sub-result c = omega arith
@@ -39,9 +39,9 @@ cast-result-2 c = omega (arith, c.shared_slice_known-2-1.given (c.args.start - 1
 returns-2 : tie.Need-returns
 returns-2 c = (found, subst (λ (x : ℕ). x ≤ length c.args.from.now) (sym found) (next_small _ _ _ _ _ c.requires))
   where
-    found : get_or c.before.before.args.chain.now (c.before.before.args.start - 1) 0
-        ≡ next_edge c.before.before.args.from.now c.before.before.args.v c.before.before.args.start
-    found = next_later _ _ _ _ _ c.before.before.requires c.before.if1.false
+    found : get_or c.args.chain.now (c.args.start - 1) 0
+        ≡ next_edge c.args.from.now c.args.v c.args.start
+    found = next_later _ _ _ _ _ c.requires c.if-start-eq0.false
 
 pub next_edge_spec : {M : Type 1} → statement M
 next_edge_spec =

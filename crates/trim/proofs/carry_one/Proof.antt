@@ -43,7 +43,7 @@ sub-last c = omega (arith, c.past_start-last.ensures.past)
 -- the last row at the start of row k
 place : (c : tie.After-past_start-last) → let s = c in last_at (rows (columns s.args.starts.now s.args.ends.now s.args.units.now s.args.rest.now) s.args.n) s.args.k ≡ c.past_start-last.result - 1
 place c =
-    let s = c in
+    let s = c.before.before.before.before.before.before.before in
     last_is (row_of_table s) s.args.n s.args.k s.requires.1 _ _ _ c.row-s.ensures c.past_start-last.ensures.is (omega (arith, c.past_start-last.ensures.past))
 
 inside : (c : tie.After-past_start-last) → c.past_start-last.result - 1 < c.args.n
@@ -63,7 +63,7 @@ same_length c = search rules
 
 returns-2 : tie.Need-returns-then-old-s
 returns-2 c =
-    let s = c in
+    let s = c.before.before.before.before.before.before.before.before.before.before.before in
     let p = c.before.before.before.before in
     let a = s.args in
     ap (λ (r : Answer). seen r (rows (columns a.starts.now a.ends.now a.units.now a.rest.now) a.n)) c.refusal.ensures
@@ -77,7 +77,7 @@ same-length-2 c = search rules
 
 returns-3 : tie.Need-returns
 returns-3 c =
-    let s = c in
+    let s = c.before.before.before.before.before.before.before.before.before.before.before.before.before.before in
     let p = c.before.before.before.before.before.before.before in
     let a = s.args in
     ap accepted c.set_end.ensures

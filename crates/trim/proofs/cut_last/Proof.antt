@@ -20,7 +20,7 @@ same_length c = search rules
 
 returns : tie.Need-returns-then-after-eq0
 returns c =
-    let s = c in
+    let s = c.before.before.before.before.before.before in
     cut_none s.args.section s.args.end (row_of_table s) s.args.n _ c.after_last-after.ensures.none_after c.if-after-eq0.true
 
 sub-if2 : tie.Need-overflow_sub-after
@@ -38,7 +38,7 @@ same-length-2 c = search rules
 returns-2 : tie.Need-returns-then-ends-after
 unfolding row_of
 returns-2 c =
-    let s = c in
+    let s = c.before.before.before.before.before.before.before.before in
     let r = c.after_last-after.ensures in
     let some : 0 < c.after_last-after.result = omega (arith, c.if-after-eq0.false) in
     cut_stays s.args.section s.args.end (row_of_table s) s.args.n _ r.none_after some r.small (r.is some) c.if-ends-after.true
@@ -55,7 +55,7 @@ same-length-3 c = search rules
 returns-3 : tie.Need-returns
 unfolding row_of
 returns-3 c =
-    let s = c in
+    let s = c.before.before.before.before.before.before.before.before.before.before.before.before in
     let r = c.after_last-after.ensures in
     let some : 0 < c.after_last-after.result = omega (arith, c.if-after-eq0.false) in
     c.set_end.ensures

@@ -48,7 +48,7 @@ same-length-2 c = c.find_falls-found.auto.falls
 
 returns : tie.Need-returns-in-Refused
 unfolding trimmed
-returns c = let s = c in seen-stops _ _ (falls_of (image s) (sections s).head (table s)) (after_falls s) c.find_falls-found.ensures (table s) c.in-Refused.is
+returns c = let s = c.before.before.before.before.before.before.before.before.before.before.before.before.before.before.before.before.before.before.before.before in seen-stops _ _ (falls_of (image s) (sections s).head (table s)) (after_falls s) c.find_falls-found.ensures (table s) c.in-Refused.is
 
 enum-told-2 : tie.Need-enum_told-in_default
 enum-told-2 c = search rules
@@ -70,7 +70,7 @@ same-length-4 c = c.find_falls-found.auto.falls
 returns-2 : tie.Need-returns-in-Refused-carried
 unfolding trimmed
 returns-2 c =
-    let s = c in
+    let s = c.before.before.before.before.before.before.before.before.before.before.before.before.before.before.before.before.before.before.before.before.before.before.before.before.before in
     seen-stops _ _ _ (after_carried s) c.carry_out-carried.ensures _ c.in-Refused-carried.is
     ∙ sym (seen_goes _ _ (falls_of (image s) (sections s).head (table s)) (after_falls s) c.find_falls-found.ensures c.in_default.is)
 
@@ -92,7 +92,7 @@ same-length-6 c = c.find_falls-found.auto.falls
 returns-3 : tie.Need-returns
 unfolding trimmed
 returns-3 c =
-    let s = c in
+    let s = c.before.before.before.before.before.before.before.before.before.before.before.before.before.before.before.before.before.before.before.before.before.before.before.before.before.before.before.before.before in
     c.cut_sections.ensures
     ∙ sym (seen_goes _ _ _ (after_carried s) c.carry_out-carried.ensures c.in_default-carried.is)
     ∙ sym (seen_goes _ _ (falls_of (image s) (sections s).head (table s)) (after_falls s) c.find_falls-found.ensures c.in_default.is)

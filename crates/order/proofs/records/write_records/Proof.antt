@@ -39,7 +39,7 @@ write-units-requires c κs =
     let b = c.blank in
     let h = c.mark_hand in
     let r = c.mark_records in
-    let f = filled splits us a.column.now b.new.0 h.new.1.1.1.1.1.0 r.new.1.1.0 b.ensures b.auto.0 h.auto.1.1.1.1.1.0 r.auto.1.1.0 h.ensures r.ensures in
+    let f = filled splits us a.column.now b.new.column h.new.column r.new.column b.ensures b.auto.column h.auto.column r.auto.column h.ensures r.ensures in
     let w = s.requires.3 in (
       record {
         whole = s.requires.1.whole;
@@ -65,11 +65,11 @@ returns c =
     let b = c.blank in
     let h = c.mark_hand in
     let r = c.mark_records in
-    let f = filled splits us a.column.now b.new.0 h.new.1.1.1.1.1.0 r.new.1.1.0 b.ensures b.auto.0 h.auto.1.1.1.1.1.0 r.auto.1.1.0 h.ensures r.ensures in
+    let f = filled splits us a.column.now b.new.column h.new.column r.new.column b.ensures b.auto.column h.auto.column r.auto.column h.ensures r.ensures in
     let w = s.requires.3 in
     c.write_units.ensures
     ∙ ap (λ (l : List units.Unit). sets a.out.now 0 (units_bytes l))
-    (records_are splits us r.new.1.1.0 a.nodes.now a.list.now (omega (arith, s.requires.1.few, length-map a.unit_places.now (unit_at a.unit_bytes.now))) s.requires.2 f.0
+    (records_are splits us r.new.column a.nodes.now a.list.now (omega (arith, s.requires.1.few, length-map a.unit_places.now (unit_at a.unit_bytes.now))) s.requires.2 f.0
     w.inside (subst (λ (k : ℕ). All (λ x. x < k) a.nodes.now) (sym f.1) w.named))
 
 pub write_records_spec : {M : Type 1} → statement M

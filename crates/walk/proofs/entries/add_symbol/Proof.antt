@@ -35,7 +35,7 @@ abbrev H : Type 0
 H = tie.After-has_symbol
 
 abbrev start : H → S
-start c = c
+start c = c.before.before.before.before.before.before.before.before.before.before.before.before
 
 abbrev out : H → List PieceSymbol
 out c = let a = (start c).args in symbols_in a.out.now a.k
@@ -75,7 +75,7 @@ is-passed-over-requires c κs = search rules
 
 has-symbol-requires : tie.Need-has_symbol-requires
 has-symbol-requires c κs =
-    let s = c in
+    let s = c.before.before.before.before.before.before.before.before.before.before.before in
     (omega (arith, s.requires.0.there, s.requires.3.most_symbols, lasts-long s), s.requires.3.chained)
 
 same_length : tie.Need-shape_of-chains-then-is_passed_over-has_symbol
@@ -86,7 +86,7 @@ same-length-2 c = search rules
 
 returns : tie.Need-returns-then-is_passed_over-has_symbol
 returns c =
-    let s = c in
+    let s = c.before.before.before.before.before.before.before.before.before.before.before.before.before in
     record {
       is = symbol_passed (image s) s.args.unit s.args.place s.args.s (out c.before) s.args.i c.symbol_at-y.result c.name_at-name.result.now (symbol_is c.before) (name_is c.before) (test_is c.before true c.if-is_passed_over-has_symbol.true);
       few = s.requires.3.few;
@@ -117,7 +117,7 @@ entry-of-requires c κs =
 
 push-symbol-requires : tie.Need-push_symbol-requires
 push-symbol-requires c κs =
-    let s = c in
+    let s = c.before.before.before.before.before.before.before.before.before.before.before.before.before.before.before.before.before in
     let h = c.if-k-room.false in
     let e = ap (λ (y : PieceSymbol). y.symbol) c.entry_of.ensures ∙ entry_symbol s.args.unit s.args.place s.args.s s.args.i c.symbol_at-y.result in (
       omega (arith, e, s.requires.0.there, s.requires.3.most_symbols, lasts-long s),

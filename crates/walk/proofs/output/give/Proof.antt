@@ -285,12 +285,12 @@ returns-4 c =
       is = λ count bytes splits units.
           piece_given (image s) (head s) (reloc s) (relocs s) s.args.n s.args.unit s.args.alignment s.args.s s.args.room s.args.made s.args.pieces.now s.args.entries.now s.args.offsets.now count bytes splits units s.requires.6
           (forwards c.before.before.before.before.before.before.before.before.before.before.before.before.before.before.before.before.before.before.before.before.before.before.before c.if-is_backwards.false count bytes splits units) k.add_symbols-added.new.out m now.is now.few
-          (ne_eqb (s.args.s.flags % 2) 1 c.if-s-eq1.false) gp.new.0 gp.new.1.0 gp.new.1.1.0 gp.result gp.ensures;
+          (ne_eqb (s.args.s.flags % 2) 1 c.if-s-eq1.false) gp.new.counts gp.new.pieces gp.new.offsets gp.result gp.ensures;
       beside =
-          piece_beside (image s).count s.args.room (record { pieces = s.args.made.pieces; symbols = m; relocs = s.args.made.relocs }) _ k.add_symbols-added.new.chains k.add_symbols-added.new.out gp.new.0 gp.new.1.0 gp.new.1.1.0
+          piece_beside (image s).count s.args.room (record { pieces = s.args.made.pieces; symbols = m; relocs = s.args.made.relocs }) _ k.add_symbols-added.new.chains k.add_symbols-added.new.out gp.new.counts gp.new.pieces gp.new.offsets
           (pieces_with (head s s.args.n) s.args.n s.args.unit s.args.alignment s.args.s s.args.pieces.now s.args.made)
           (relocs_with (reloc s) (relocs s) s.args.n s.args.s s.args.offsets.now s.args.made) gp.result
-          (chains_behind (between k) gp.new.0 (whole k) ∙ chains_front k.add_symbols-added.new.chains s.args.scratch.now (front k)) (counts_behind (between k) gp.new.0 (whole k)) (omega (arith, s.requires.0.long, behind-long c))
+          (chains_behind (between k) gp.new.counts (whole k) ∙ chains_front k.add_symbols-added.new.chains s.args.scratch.now (front k)) (counts_behind (between k) gp.new.counts (whole k)) (omega (arith, s.requires.0.long, behind-long c))
           (entered k m now) gp.ensures;
     }
 

@@ -122,7 +122,7 @@ piece-of-requires c κs =
 push-piece-requires : tie.Need-push_piece-requires
 push-piece-requires c κs =
     let s = c in
-    let e = c.before.before.before.before.before.before.before.before.before.before.before.before in
+    let e = c.before.before.before.before.before.before.before.before.before.before in
     let unit = ap (λ (p : Piece). p.unit) c.piece_of-p.ensures ∙ piece_unit c.section_at-head.result s.args.n s.args.unit c.count_of-number.result s.args.alignment s.args.s in (
       omega (arith, unit, s.requires.3),
       s.requires.0.counted,
@@ -144,7 +144,7 @@ same-length-3 c = search rules
 
 returns-2 : tie.Need-returns
 returns-2 c =
-    let e = c.before.before.before.before.before.before.before.before.before.before.before.before.before.before.before.before.before.before in
+    let e = c.before.before.before.before.before.before.before.before.before.before.before.before.before.before.before.before in
     let r = range-of e in
     let s = start r in
     let g = s.requires.0 in
@@ -161,7 +161,7 @@ returns-2 c =
         counted = push.ensures.counted;
         few_pieces = omega (arith, (left e).1);
         few_relocs = (left e).0;
-        pieces_long = omega (arith, g.pieces_long, push.auto.1.0);
+        pieces_long = omega (arith, g.pieces_long, push.auto.out);
         offsets_long = omega (arith, g.offsets_long, c.add_relocs.auto.out);
         most_pieces = g.most_pieces;
         most_relocs = g.most_relocs;
