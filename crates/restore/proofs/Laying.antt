@@ -32,7 +32,7 @@ use Rattle.restore.proofs.Walked.{reached_all}
 pub laid-append : (n start : ℕ) (under : List ℕ) (ps qs : List Part) → laid_on n start under (ps ++ qs) ≡ laid_on n start (laid_on n start under ps) qs
 unfolding laid_on
 laid-append n start under [] qs = refl
-laid-append n start under (p ∷ ps) qs = laid-append n start _ ps qs
+laid-append n start under (p ∷ ps) qs = laid-append n start (cond (eqb p.section n) (sets under (p.address - start) p.bytes) under) ps qs
 
 -- parts of another section change nothing
 laid_other : (n start : ℕ) (under : List ℕ) (ps : List Part) → All (λ p. p.section ≢ n) ps → laid_on n start under ps ≡ under
@@ -43,7 +43,7 @@ laid_other n start under (p ∷ ps) (each d a) = ap (λ (l : List ℕ). laid_on 
 pub laid-length : (n start : ℕ) (under : List ℕ) (ps : List Part) → length (laid_on n start under ps) ≡ length under
 unfolding laid_on
 laid-length n start under [] = refl
-laid-length n start under (p ∷ ps) = laid-length n start _ ps ∙ go (eqb p.section n)
+laid-length n start under (p ∷ ps) = laid-length n start (cond (eqb p.section n) (sets under (p.address - start) p.bytes) under) ps ∙ go (eqb p.section n)
   where
     go : (b : Bool) → length (cond b (sets under (p.address - start) p.bytes) under) ≡ length under
     go true = length-sets under (p.address - start) p.bytes

@@ -47,7 +47,7 @@ module _ (n : ℕ) where
   counted-below : (seen : List ℕ) {us : List ℕ} → All (λ v. v < n) seen → All (λ v. v < n) us → All (λ v. v < n) (counted seen us)
   unfolding counted
   counted-below seen p none = p
-  counted-below seen p (each {x = x} h q) = counted-below _ (go (has_node seen x)) q
+  counted-below seen p (each {x = x} h q) = counted-below (cond (has_node seen x) seen (seen ++ (x ∷ []))) (go (has_node seen x)) q
     where
       go : (b : Bool) → All (λ v. v < n) (cond b seen (seen ++ (x ∷ [])))
       go true = p

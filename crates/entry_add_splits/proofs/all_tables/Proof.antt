@@ -19,8 +19,8 @@ use Rattle.entry_add_splits.proofs.all_tables.Tie as tie
 stored : (c : tie.In_default)
     → let t = c.check_names-a in
     let a = c.args in
-    let last = t.new.1.1.1 in
-    Stored a.ends.now a.bytes.now last.0 last.1.0 last.1.1.0 last.1.1.1.0 (length a.ends.now / 2)
+    let last = t.new in
+    Stored a.ends.now a.bytes.now last.places last.lengths last.heads last.chain (length a.ends.now / 2)
 stored c = let s = c.check_names-a.ensures in s.stored (sym s.said ∙ ap meaning c.in_default.is)
 
 check-names-requires : tie.Need-check_names-a-requires

@@ -23,7 +23,7 @@ seek-requires : tie.Need-seek-ready-requires
 seek-requires c κs = let s = c in let r = s.requires.2 in (r.few_units, r.pieces, r.piece_symbols, r.piece_relocs, s.requires.1)
 
 enum-known-ready : tie.Need-enum_known-ready
-enum-known-ready c = c.in-Units.in-Units-own.keys1
+enum-known-ready c = c.in-Units-1.keys1
 
 unit-line-requires : tie.Need-unit_line-requires
 unit-line-requires c κs =
@@ -47,7 +47,7 @@ unit-line-requires c κs =
     )
 
 enum-known-ready-2 : tie.Need-enum_known-ready-in-Pieces-1
-enum-known-ready-2 c = c.in-Pieces.in-Pieces-own.keys2
+enum-known-ready-2 c = c.in-Pieces-1.keys2
 
 piece-line-requires : tie.Need-piece_line-requires
 piece-line-requires c κs =
@@ -62,7 +62,7 @@ piece-line-requires c κs =
     (s.requires.0, omega arith, omega arith, r.piece_names g.at d)
 
 enum-known-ready-3 : tie.Need-enum_known-ready-in-Symbols-1
-enum-known-ready-3 c = c.in-Symbols.in-Symbols-own.keys3
+enum-known-ready-3 c = c.in-Symbols-1.keys3
 
 symbol-line-requires : tie.Need-symbol_line-requires
 symbol-line-requires c κs =
@@ -76,7 +76,7 @@ symbol-line-requires c κs =
     (s.requires.0, r.pieces, omega arith, omega arith, r.symbols g.at d, r.symbol_names g.at d)
 
 enum-known-ready-4 : tie.Need-enum_known-ready-in-Relocs-1
-enum-known-ready-4 c = c.in-Relocs.in-Relocs-own.keys4
+enum-known-ready-4 c = c.in-Relocs-1.keys4
 
 reloc-line-requires : tie.Need-reloc_line-requires
 reloc-line-requires c κs =
@@ -90,7 +90,7 @@ reloc-line-requires c κs =
     (s.requires.0, r.pieces, omega arith, omega arith, r.relocs g.at d)
 
 enum-known-ready-5 : tie.Need-enum_known-ready-in-Total-1
-enum-known-ready-5 c = c.in-Total.in-Total-own.keys5
+enum-known-ready-5 c = c.in-Total-1.keys5
 
 cast-write-total : tie.Need-overflow_cast-unit_places
 cast-write-total c = let s = c in let h = s.requires.2.few_units in omega arith
@@ -102,7 +102,7 @@ write-total-requires : tie.Need-write_total-length-requires
 write-total-requires c κs = c.requires.0
 
 enum_told : tie.Need-enum_told-1
-enum_told c = c.in-Done.in-Done-own.keys6
+enum_told c = c.in-Done-1.keys6
 
 same_length : tie.Need-shape_of-out-in-Units
 same_length c = c.unit_line.ensures.0.written.long

@@ -15,10 +15,10 @@ use Rattle.write_srecords.proofs.write_lines.Statement.{statement}
 use Rattle.write_srecords.proofs.write_lines.Tie as tie
 
 abbrev invariant-loop : tie.invariant-loop-k
-invariant-loop sections out₀ from n k₀ at₀ read₀ t9 out k at read = Left (stage_sections sections) out₀ from out k at read
+invariant-loop sections out₀ from n k₀ at₀ read₀ out k at read = Left (stage_sections sections) out₀ from out k at read
 
 abbrev decreases-loop : tie.decreases-loop-k
-decreases-loop sections out₀ from n k₀ at₀ read₀ t9 out k at read = n - k
+decreases-loop sections out₀ from n k₀ at₀ read₀ out k at read = n - k
 
 loop-holds : tie.Need-loop-k-init invariant-loop decreases-loop
 loop-holds c = let s = c in left_start (stage_sections s.args.sections.now) _ _ s.requires.there s.requires.behind

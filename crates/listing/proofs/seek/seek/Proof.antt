@@ -8,34 +8,34 @@ use Rattle.listing.proofs.seek.seek.Statement.{statement}
 use Rattle.listing.proofs.seek.seek.Tie as tie
 
 enum-known-cursor : tie.Need-enum_known-cursor
-enum-known-cursor c = c.in-Units.in-Units-own.keys1
+enum-known-cursor c = c.in-Units-1.keys1
 
 seek-unit-requires : tie.Need-seek_unit-requires
 seek-unit-requires c κs = let s = c in subst (Valid s.args.units) c.in-Units.is s.requires.4
 
 enum-known-cursor-2 : tie.Need-enum_known-cursor-in-Pieces-1
-enum-known-cursor-2 c = c.in-Pieces.in-Pieces-own.keys2
+enum-known-cursor-2 c = c.in-Pieces-1.keys2
 
 seek-piece-requires : tie.Need-seek_piece-requires
 seek-piece-requires c κs = let s = c in (s.requires.0, s.requires.1, s.requires.2, s.requires.3, subst (Valid s.args.units) c.in-Pieces.is s.requires.4)
 
 enum-known-cursor-3 : tie.Need-enum_known-cursor-in-Symbols-1
-enum-known-cursor-3 c = c.in-Symbols.in-Symbols-own.keys3
+enum-known-cursor-3 c = c.in-Symbols-1.keys3
 
 seek-symbol-requires : tie.Need-seek_symbol-requires
 seek-symbol-requires c κs = let s = c in (s.requires.0, s.requires.1, s.requires.2, s.requires.3, subst (Valid s.args.units) c.in-Symbols.is s.requires.4)
 
 enum-known-cursor-4 : tie.Need-enum_known-cursor-in-Relocs-1
-enum-known-cursor-4 c = c.in-Relocs.in-Relocs-own.keys4
+enum-known-cursor-4 c = c.in-Relocs-1.keys4
 
 seek-reloc-requires : tie.Need-seek_reloc-requires
 seek-reloc-requires c κs = let s = c in (s.requires.0, s.requires.1, s.requires.3, subst (Valid s.args.units) c.in-Relocs.is s.requires.4)
 
 enum-known-cursor-5 : tie.Need-enum_known-cursor-in-Total-1
-enum-known-cursor-5 c = c.in-Total.in-Total-own.keys5
+enum-known-cursor-5 c = c.in-Total-1.keys5
 
 enum_told : tie.Need-enum_told-1
-enum_told c = c.in-Done.in-Done-own.keys6
+enum_told c = c.in-Done-1.keys6
 
 returns : tie.Need-returns-in-Units
 returns c = let a = c.args in rw c.in-Units.is (c.seek_unit.ensures (pieces_in a.pieces.now a.piece_count) (symbols_in a.piece_symbols.now a.piece_symbol_count) (relocs_in a.piece_relocs.now a.piece_reloc_count))
