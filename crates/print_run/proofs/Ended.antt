@@ -14,7 +14,7 @@ use Rattle.load.specs.Columns.{part, tables_in}
 use Rattle.loaded.proofs.Bytes.{loaded_usable}
 use Rattle.splits.specs.Columns.{Columns}
 use Rattle.walk.specs.declared.Counts.{Counts}
-use Rattle.stage_walk.specs.Room.{room_in}
+use Rattle.stage_walk.specs.Room.{room_for, room_in}
 use Rattle.stage_walk.proofs.Room.{room_low, room_pieces, room_12, room_8}
 use Rattle.run.specs.declared.Ran.{Ran}
 use Rattle.run.specs.declared.Ran.TheVariants.{Done, Cycle, Refused}
@@ -23,7 +23,12 @@ use Rattle.run.specs.Answers.{ran_in}
 use Rattle.run_file.specs.RunFile.{rooms_in, Holds, Runs}
 use Rattle.run_file.specs.declared.RanFile.{RanFile}
 use Rattle.run_listing.proofs.Readable.{run_readable}
-use Rattle.print_run.specs.Printed.{Printable, PrintableIf}
+use Rattle.print_run.specs.Printed.{Printable, PrintableIf, text_of, main_room, Prints}
+use Rattle.core.specs.declared.option.Option.{Option}
+use Rattle.core.specs.declared.result.Result.{Result}
+use Rattle.core.specs.declared.result.Result.TheVariants.{Ok, Err}
+use Rattle.std.specs.Prelude.{OnOk}
+use Rattle.std.specs.Io.KnownBytes.{Appends}
 use Rattle.pieces.specs.Pieces.{piece_width}
 
 -- ---- the loader's columns
@@ -82,3 +87,29 @@ pub runs_printable : {file places lengths : List ℕ} {c : Beside} {table : Colu
     → PrintableIf file r.counts places lengths c units pieces entries offsets r.ran
 runs_printable {file} {places} {lengths} {c} {table} {units} {pieces} {entries} {offsets} {units-room} {a} {b} {d} r q =
     run_printable file places lengths r.counts c table units pieces entries offsets units-room a b d r.ran q.is q.holds q.loaded
+
+-- THEOREM: the text of the answer of the run of a file, in the tables that it left, is what the file prints
+pub printed : {E : Type 0} {file places lengths : List ℕ} {c : Beside} {table : Columns} {units pieces entries offsets : List ℕ} {units-room : ℕ} (a b d : ℕ) (r : RanFile)
+    → Runs file 4096 65535 1024 units-room (room_in a b d) r places lengths c table units pieces entries offsets
+    → (result : Result (Unit {0}) E) (old new : Option (List ℕ))
+    → OnOk result (Appends old new (text_of file r.counts places lengths c units pieces entries offsets r.ran))
+    → OnOk result (Prints file units-room (room_in a b d) old new)
+printed {places = places} {lengths = lengths} {c = c} {table = table} {units = units} {pieces = pieces} {entries = entries} {offsets = offsets} a b d r q (Ok v) old new w = record {
+  answer = r;
+  places = places;
+  lengths = lengths;
+  added = c;
+  table = table;
+  units = units;
+  pieces = pieces;
+  entries = entries;
+  offsets = offsets;
+  runs = q;
+  written = w;
+}
+printed a b d r q (Err e) old new w = tt
+
+-- the tables of the outputs have document 01's ceilings
+pub room_is : room_in 30720 49152 32768 ≡ main_room
+unfolding room_for
+room_is = refl

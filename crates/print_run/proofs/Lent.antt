@@ -1,7 +1,7 @@
 -- The parts of the loader's column, as they are lent, are the tables that are listed.
 -- Assumes nothing.
 use Prim.Native.Nat.{ℕ, ◌+◌, ◌-◌}
-use mathlib.Core.Path.{◌≡◌}
+use mathlib.Core.Path.{◌≡◌, refl}
 use mathlib.Core.List.{List}
 use lib.ListN.{take, drop}
 use Rattle.obj.specs.Records.{stage_places}
@@ -10,8 +10,9 @@ use Rattle.load.specs.declared.Counts as load
 use Rattle.load.specs.Columns.{tables_in}
 use Rattle.load.proofs.Parts.{part-lent}
 use Rattle.walk.specs.declared.Counts.{Counts}
-use Rattle.listing.specs.Tables.{Readable}
-use Rattle.print_run.specs.Printed.{tables_of, Printable}
+use Rattle.listing.specs.Listing.{listing}
+use Rattle.listing.specs.Tables.{Readable, run_of}
+use Rattle.print_run.specs.Printed.{tables_of, done_text, Printable}
 
 pub readable_lent : {file places lengths units pieces entries offsets : List ℕ} {counts : load.Counts} {added : Beside} {n : ℕ} {made : Counts}
     → Printable file counts places lengths added units n pieces entries offsets made
@@ -23,3 +24,15 @@ pub readable_lent : {file places lengths units pieces entries offsets : List ℕ
 unfolding tables_in
 readable_lent {places = places} {counts = counts} p column e =
     rw (part-lent 10304 counts.names places, part-lent 64 counts.symbols places, part-lent 4160 counts.relocations places, e) p.readable
+
+-- .. and what is listed of them is what the run prints
+pub listed_lent : (file places lengths units pieces entries offsets : List ℕ) (counts : load.Counts) (added : Beside) (n : ℕ) (made : Counts) (column : List ℕ)
+    → take n column ≡ stage_places 8 n
+    → listing
+    (run_of
+    (tables_of file (take (10304 + counts.names - 10304) (drop 10304 places)) (take counts.names lengths) added (take (64 + counts.symbols - 64) (drop 64 places))
+    (take (4160 + counts.relocations - 4160) (drop 4160 places)) units (take n column) pieces entries offsets made))
+    ≡ done_text file counts places lengths added units n pieces entries offsets made
+unfolding tables_in done_text
+listed_lent file places lengths units pieces entries offsets counts added n made column e =
+    rw (part-lent 10304 counts.names places, part-lent 64 counts.symbols places, part-lent 4160 counts.relocations places, e) refl

@@ -1,13 +1,20 @@
--- What the functions that print a run are given: no contract can say what is written, so these are what makes each read and each line safe. What is listed is `listing` of
+-- What the functions that print a run are given, which makes each read and each line safe, and what they write. What is listed is `listing` of
 -- listing/specs/Listing.antt, a line at a time from its first cursor on (`lines_listing` of listing/proofs/Whole.antt).
 use Rattle.std.specs.Prelude.{ℕ, ◌≤◌, ◌≡◌, List, length}
+use Rattle.core.specs.declared.option.Option.{Option}
+use Rattle.std.specs.Io.KnownBytes.{Appends}
 use Rattle.names.specs.Append.{Columns as Beside}
 use Rattle.load.specs.declared.Counts as load
 use Rattle.load.specs.Columns.{tables_in}
 use Rattle.walk.specs.declared.Counts.{Counts}
 use Rattle.run.specs.declared.Ran.{Ran}
 use Rattle.run.specs.declared.Ran.TheVariants.{Done, Cycle, Refused}
-use Rattle.listing.specs.Tables.{Tables, Readable}
+use Rattle.run_file.specs.declared.RanFile.{RanFile}
+use Rattle.run_file.specs.RunFile.{Runs}
+use Rattle.splits.specs.Columns.{Columns}
+use Rattle.lines.specs.Lines.{refused_line}
+use Rattle.listing.specs.Listing.{listing}
+use Rattle.listing.specs.Tables.{Tables, Readable, run_of}
 use Rattle.run_listing.specs.Tables.{listed_tables}
 
 -- the tables that the lines are read of: those of the image lie in the file
@@ -38,3 +45,34 @@ abbrev pub PrintableIf : (file : List ℕ) → load.Counts → (places lengths :
 PrintableIf file counts places lengths added units pieces entries offsets (Done names used splits n made) = Printable file counts places lengths added units n pieces entries offsets made
 PrintableIf file counts places lengths added units pieces entries offsets (Cycle n) = Unit {0}
 PrintableIf file counts places lengths added units pieces entries offsets (Refused number section address) = Unit {0}
+
+-- ---- what is written
+
+-- of a run that was done: the listing of its tables, of n units
+unfoldable pub done_text : (file : List ℕ) → load.Counts → (places lengths : List ℕ) → Beside → (units : List ℕ) → (n : ℕ) → (pieces entries offsets : List ℕ) → Counts → List ℕ
+done_text file counts places lengths added units n pieces entries offsets made =
+    listing (run_of (listed_tables file (tables_in counts places lengths) added units pieces entries offsets n made))
+
+-- of each answer of a run: "A refusal prints only `refused`, number, section, address", and "61 cycle" is a refusal here, at section and address 0
+abbrev pub text_of : (file : List ℕ) → load.Counts → (places lengths : List ℕ) → Beside → (units pieces entries offsets : List ℕ) → Ran → List ℕ
+text_of file counts places lengths added units pieces entries offsets (Done names used splits n made) = done_text file counts places lengths added units n pieces entries offsets made
+text_of file counts places lengths added units pieces entries offsets (Cycle n) = refused_line 61 0 0
+text_of file counts places lengths added units pieces entries offsets (Refused number section address) = refused_line number section address
+
+-- "Outputs: 1,024 pieces, 4,096 piece symbols, 4,096 piece relocations"
+abbrev pub main_room : Counts
+main_room = record { pieces = 1024; symbols = 4096; relocs = 4096 }
+
+-- of a record file: the text of the answer of its run, with document 01's ceilings and room for so many units and so much output, in tables that hold what the answer means
+pub record Prints (file : List ℕ) (units-room : ℕ) (room : Counts) (old new : Option (List ℕ)) : Type 0 where
+  pub answer : RanFile
+  pub places : List ℕ
+  pub lengths : List ℕ
+  pub added : Beside
+  pub table : Columns
+  pub units : List ℕ
+  pub pieces : List ℕ
+  pub entries : List ℕ
+  pub offsets : List ℕ
+  pub runs : Runs file 4096 65535 1024 units-room room answer places lengths added table units pieces entries offsets
+  pub written : Appends old new (text_of file answer.counts places lengths added units pieces entries offsets answer.ran)

@@ -1,12 +1,16 @@
-// The run of a record file, printed: the listing of what it gives, or its refusal, to standard output. No buffer holds the whole listing: each line is written from a
+// The run of a record file, printed: the listing of what it gives, or its refusal, to a writer. No buffer holds the whole listing: each line is written from a
 // buffer of 208 bytes. Writing that fails ends the printing.
 #![tactic(auto)]
 
-ghost use Rattle.std.specs.Prelude.{◌≤◌, ◌≡◌, length};
+ghost use Rattle.std.specs.Prelude.{◌≤◌, ◌≡◌, ◌/◌, length, OnOk};
+ghost use Rattle.std.specs.Io.KnownBytes.{Appends};
 ghost use Rattle.gap_splits.specs.Answers.{beside};
-ghost use Rattle.listing.specs.Tables.{Readable};
+ghost use Rattle.lines.specs.Lines.{refused_line};
+ghost use Rattle.listing.specs.Listing.{listing};
+ghost use Rattle.listing.specs.Tables.{Readable, run_of};
+ghost use Rattle.stage_walk.specs.Room.{room_in};
 ghost use Rattle.run_file.specs.RunFile.{Lent, Loader};
-ghost use Rattle.print_run.specs.Printed.{tables_of, Printable, PrintableIf};
+ghost use Rattle.print_run.specs.Printed.{tables_of, done_text, text_of, Printable, PrintableIf, main_room, Prints};
 
 use lines::write_refused;
 use listing::{Cursor, next_line};
@@ -19,8 +23,8 @@ use tables::fill_places;
 use walk::Counts as Made;
 
 // The listing, line by line: a unit, "After a unit's pieces come `sym` ..; then `reloc` ..", and at the end the total.
-fn print_lines<'a>(
-    out: &mut impl Write,
+fn print_lines<'a, W: Write>(
+    out: &mut W,
     base_bytes: &'a [u8],
     base_places: &[u32],
     base_lengths: &[u8],
@@ -41,6 +45,9 @@ fn print_lines<'a>(
         × Readable
         (tables_of base_bytes.now base_places.now base_lengths.now (beside added_bytes.now added_places.now added_lengths.now) symbol_places.now reloc_places.now
         units.now unit_places.now pieces.now entries.now offsets.now made) }
+    ensures { OnOk result (Appends (W.contents out.old) (W.contents out.new)
+        (listing (run_of (tables_of base_bytes.now base_places.now base_lengths.now (beside added_bytes.now added_places.now added_lengths.now) symbol_places.now reloc_places.now
+        units.now unit_places.now pieces.now entries.now offsets.now made)))) }
 {
     let piece_count = made.pieces;
     let entry_count = made.symbols;
@@ -79,8 +86,8 @@ fn print_lines<'a>(
 }
 
 // The listing of a run that was done, of n units: the parts of the column of places are the tables of names, symbols and relocations.
-fn print_tables<'a>(
-    out: &mut impl Write,
+fn print_tables<'a, W: Write>(
+    out: &mut W,
     file: &'a [u8],
     counts: Counts,
     places: &[u32],
@@ -100,6 +107,8 @@ fn print_tables<'a>(
     requires { Printable file.now counts places.now lengths.now (beside added_bytes.now added_places.now added_lengths.now) units.now n pieces.now entries.now offsets.now made
         × (length unit_places.old ≡ 1024)
         × (208 ≤ length line.old) }
+    ensures { OnOk result (Appends (W.contents out.old) (W.contents out.new)
+        (done_text file.now counts places.now lengths.now (beside added_bytes.now added_places.now added_lengths.now) units.now n pieces.now entries.now offsets.now made)) }
 {
     let names = counts.names;
     let names_end = NAMES + names;
@@ -127,8 +136,8 @@ fn print_tables<'a>(
 }
 
 // The same, with columns of its own for the places of the units and a line.
-fn print_done<'a>(
-    out: &mut impl Write,
+fn print_done<'a, W: Write>(
+    out: &mut W,
     file: &'a [u8],
     counts: Counts,
     places: &[u32],
@@ -144,6 +153,8 @@ fn print_done<'a>(
     made: Made,
 ) -> io::Result<()>
     requires { Printable file.now counts places.now lengths.now (beside added_bytes.now added_places.now added_lengths.now) units.now n pieces.now entries.now offsets.now made }
+    ensures { OnOk result (Appends (W.contents out.old) (W.contents out.new)
+        (done_text file.now counts places.now lengths.now (beside added_bytes.now added_places.now added_lengths.now) units.now n pieces.now entries.now offsets.now made)) }
 {
     let mut unit_places = [0u32; 1024];
     let mut line = [0u8; 208];
@@ -168,28 +179,33 @@ fn print_done<'a>(
 }
 
 // The line of a refusal, in a lent buffer.
-fn print_refused_in(
-    out: &mut impl Write,
+fn print_refused_in<W: Write>(
+    out: &mut W,
     number: u16,
     section: u16,
     address: u32,
     line: &mut [u8],
 ) -> io::Result<()>
     requires { 208 ≤ length line.old }
+    ensures { OnOk result (Appends (W.contents out.old) (W.contents out.new)
+        (refused_line number section address)) }
 {
     let n = write_refused(line, number, section, address);
     out.write_all(&line[..n])
 }
 
 // "A refusal prints only `refused`, number, section, address."
-fn print_refused(out: &mut impl Write, number: u16, section: u16, address: u32) -> io::Result<()> {
+fn print_refused<W: Write>(out: &mut W, number: u16, section: u16, address: u32) -> io::Result<()>
+    ensures { OnOk result (Appends (W.contents out.old) (W.contents out.new)
+        (refused_line number section address)) }
+{
     let mut line = [0u8; 208];
     print_refused_in(out, number, section, address, &mut line)
 }
 
 // What a run prints. "61 cycle" is a refusal here, at section and address 0.
-fn print_ran<'a>(
-    out: &mut impl Write,
+fn print_ran<'a, W: Write>(
+    out: &mut W,
     ran: Ran,
     file: &'a [u8],
     counts: Counts,
@@ -204,6 +220,8 @@ fn print_ran<'a>(
     offsets: &[u8],
 ) -> io::Result<()>
     requires { PrintableIf file.now counts places.now lengths.now (beside added_bytes.now added_places.now added_lengths.now) units.now pieces.now entries.now offsets.now ran }
+    ensures { OnOk result (Appends (W.contents out.old) (W.contents out.new)
+        (text_of file.now counts places.now lengths.now (beside added_bytes.now added_places.now added_lengths.now) units.now pieces.now entries.now offsets.now ran)) }
 {
     match ran {
         Ran::Done {
@@ -238,8 +256,8 @@ fn print_ran<'a>(
 }
 
 // The run of the file in lent columns, with document 01's ceilings, and what it prints.
-fn print_in<'a>(
-    out: &mut impl Write,
+fn print_in<'a, W: Write>(
+    out: &mut W,
     file: &'a [u8],
     places: &mut [u32],
     lengths: &mut [u8],
@@ -261,6 +279,8 @@ fn print_in<'a>(
 ) -> io::Result<()>
     requires { Loader places.old lengths.old heads.old chain.old images.old order.old
         × Lent starts.old ends.old units.old rest.old added_bytes.old added_places.old added_lengths.old }
+    ensures { OnOk result (Prints file.now (length out_units.old / 8) (room_in (length pieces.old) (length entries.old) (length offsets.old))
+        (W.contents out.old) (W.contents out.new)) }
 {
     let r = run_file(
         file,
@@ -305,8 +325,10 @@ fn print_in<'a>(
 }
 
 // The run of the file, printed, in columns of document 01's ceilings: "64 sections, 4,096 symbols, 4,096 relocations, 1,024 splits, 1,024 units, 4,096 names of 65,535
-// bytes in all" and "Outputs: 1,024 pieces, 4,096 piece symbols, 4,096 piece relocations".
-pub fn print_run(out: &mut impl Write, file: &[u8]) -> io::Result<()> {
+// bytes in all" and "Outputs: 1,024 pieces, 4,096 piece symbols, 4,096 piece relocations". Where all was written, the writer took the text of the answer of the file's run.
+pub fn print_run<W: Write>(out: &mut W, file: &[u8]) -> io::Result<()>
+    ensures { OnOk result (Prints file.now 1024 main_room (W.contents out.old) (W.contents out.new)) }
+{
     let mut places = [0u32; 14464];
     let mut lengths = [0u8; 4096];
     let mut heads = [0u16; 8192];

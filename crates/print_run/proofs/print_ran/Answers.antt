@@ -1,0 +1,11 @@
+-- Each answer of a run has its own printing.
+use Rattle.std.proofs.Common.{subst}
+use Rattle.gap_splits.specs.Answers.{beside}
+use Rattle.print_run.specs.Printed.{PrintableIf}
+use Rattle.print_run.proofs.print_ran.Goals as goal
+
+pub print_done-requires : goal.print_done-requires
+print_done-requires g c =
+    let a = c.args in
+    subst (PrintableIf a.file.now a.counts a.places.now a.lengths.now (beside a.added_bytes.now a.added_places.now a.added_lengths.now) a.units.now a.pieces.now a.entries.now a.offsets.now)
+    c.in-Done.is c.requires
