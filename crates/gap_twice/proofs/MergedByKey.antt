@@ -40,7 +40,7 @@ module _ {A : Type 0} (k : A → ℕ) where
 
   -- ---- keys that rise
 
-  pub rising_append : {a b : List A} → Rising k a → Rising k b → All (λ x. All (λ y. k x < k y) b) a → Rising k (a ++ b)
+  pub rising_append : {b a : List A} → Rising k a → Rising k b → All (λ x. All (λ y. k x < k y) b) a → Rising k (a ++ b)
   unfolding Rising
   rising_append {a = []} r q h = q
   rising_append {a = x ∷ a} r q (each h p) = (all_append r.0 h, rising_append r.1 q p)
