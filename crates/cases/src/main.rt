@@ -3,82 +3,99 @@
 // crates/toposort/proofs/Cases.antt.
 #![tactic(auto)]
 
-fn show_bytes(bytes: &[u8]) {
-    let mut i = 0;
-    while i < bytes.len() {
-        io::write_all(1, b" ");
-        io::print_decimal(1, bytes[i] as u64);
-        i += 1;
+use std::io;
+
+fn show_bytes(rt: &impl Print, bytes: &[u8]) -> io::Result<()> {
+    for b in bytes {
+        print!(rt; " {b}")?;
     }
-    io::write_all(1, b"\n");
+    println!(rt; "")
 }
 
 // Number, section and address of an answer word.
-fn show_word(word: u64) {
-    io::print_decimal(1, word / 0x1_0000_0000_0000);
-    io::write_all(1, b" ");
-    io::print_decimal(1, word / 0x1_0000_0000 % 0x1_0000);
-    io::write_all(1, b" ");
-    io::print_decimal(1, word % 0x1_0000_0000);
-    io::write_all(1, b"\n");
+fn show_word(rt: &impl Print, word: u64) -> io::Result<()> {
+    let number = word / 0x1_0000_0000_0000;
+    let section = word / 0x1_0000_0000 % 0x1_0000;
+    let address = word % 0x1_0000_0000;
+    println!(rt; "{number} {section} {address}")
 }
 
-fn toposort(nodes: u32, edges: &[u8], out: &mut [u8], counts: &mut [u8]) {
+fn toposort(
+    rt: &impl Print,
+    nodes: u32,
+    edges: &[u8],
+    out: &mut [u8],
+    counts: &mut [u8],
+) -> io::Result<()> {
     let word = entry_toposort::toposort(nodes, edges, out, counts);
-    show_word(word);
-    show_bytes(out);
-    show_bytes(counts);
+    show_word(rt, word)?;
+    show_bytes(rt, out)?;
+    show_bytes(rt, counts)
 }
 
 // P1 to P4; the outputs hold other bytes before.
-fn toposort_cases() {
+fn toposort_cases(rt: &impl Print) -> io::Result<()> {
     let mut counts = [9u8; 2];
     let mut none: [u8; 0] = [];
     let edges: [u8; 0] = [];
-    io::write_all(1, b"P1 ");
-    toposort(0, &edges, &mut none, &mut counts);
+    print!(rt; "P1 ")?;
+    toposort(rt, 0, &edges, &mut none, &mut counts)?;
     let mut four = [9u8; 8];
-    io::write_all(1, b"P2 ");
+    print!(rt; "P2 ")?;
     toposort(
+        rt,
         3,
         b"\x00\x00\x02\x00\x01\x00\x02\x00",
         &mut four,
         &mut counts,
-    );
+    )?;
     let mut three = [9u8; 6];
-    io::write_all(1, b"P3 ");
+    print!(rt; "P3 ")?;
     toposort(
+        rt,
         3,
         b"\x00\x00\x01\x00\x01\x00\x02\x00\x02\x00\x01\x00",
         &mut three,
         &mut counts,
-    );
+    )?;
     let mut two = [9u8; 4];
-    io::write_all(1, b"P4 ");
-    toposort(2, b"\x00\x00\x02\x00", &mut two, &mut counts);
+    print!(rt; "P4 ")?;
+    toposort(rt, 2, b"\x00\x00\x02\x00", &mut two, &mut counts)
 }
 
 // The other refusals, and outputs that are odd or too short.
-fn toposort_refusals() {
+fn toposort_refusals(rt: &impl Print) -> io::Result<()> {
     let mut out = [9u8; 5];
     let mut counts = [9u8; 3];
     let edges: [u8; 0] = [];
-    io::write_all(1, b"nodes ");
-    toposort(1025, &edges, &mut out, &mut counts);
+    print!(rt; "nodes ")?;
+    toposort(rt, 1025, &edges, &mut out, &mut counts)?;
     let mut again = [9u8; 5];
-    io::write_all(1, b"cut ");
-    toposort(2, b"\x00\x00\x01\x00\x01\x00\x00", &mut again, &mut counts);
+    print!(rt; "cut ")?;
+    toposort(
+        rt,
+        2,
+        b"\x00\x00\x01\x00\x01\x00\x00",
+        &mut again,
+        &mut counts,
+    )?;
     let many = [0u8; 8196];
     let mut third = [9u8; 5];
-    io::write_all(1, b"edges ");
-    toposort(1, &many, &mut third, &mut counts);
+    print!(rt; "edges ")?;
+    toposort(rt, 1, &many, &mut third, &mut counts)?;
     let mut short = [9u8; 3];
     let mut one = [9u8; 1];
-    io::write_all(1, b"short ");
-    toposort(2, b"\x00\x00\x01\x00\x01\x00\x00\x00", &mut short, &mut one);
+    print!(rt; "short ")?;
+    toposort(
+        rt,
+        2,
+        b"\x00\x00\x01\x00\x01\x00\x00\x00",
+        &mut short,
+        &mut one,
+    )
 }
 
-fn main() {
-    toposort_cases();
-    toposort_refusals();
+fn main(rt: HostRuntime) -> io::Result<()> {
+    toposort_cases(&rt)?;
+    toposort_refusals(&rt)
 }

@@ -3,6 +3,11 @@
 // sections, symbols, relocations, splits and units. `stdout` has what must come out, by document 01 and the decisions.
 #![tactic(auto)]
 
+ghost use Rattle.std.specs.Prelude.{◌≤◌, length, IfOk};
+
+use std::io;
+use std::io::Read;
+
 // ---- what is read
 
 // Bytes stand as hexadecimal digits.
@@ -140,18 +145,17 @@ fn push_all(bytes: &mut [u8], used: usize, from: &[u8]) -> usize {
 
 // ---- a character more
 
-fn in_line(s: Reading, c: u8) -> Reading {
+fn in_line(rt: &impl Print, s: Reading, c: u8) -> io::Result<Reading> {
     if c == b'\n' {
         if s.mode == TITLE {
-            io::write_all(1, b": ");
+            rt.write_all(b": ")?;
         }
-        return with_mode(s, BYTES);
+        return Ok(with_mode(s, BYTES));
     }
     if s.mode == TITLE {
-        let one = [c; 1];
-        io::write_all(1, &one);
+        rt.write_all(&[c])?;
     }
-    s
+    Ok(s)
 }
 
 fn with_used(s: Reading, used: usize, mode: u8) -> Reading {
@@ -254,54 +258,51 @@ fn started(s: Reading, mode: u8) -> Reading {
     r
 }
 
-fn on_sign(s: Reading, c: u8, bytes: &mut [u8]) -> Reading {
+fn on_sign(rt: &impl Print, s: Reading, c: u8, bytes: &mut [u8]) -> io::Result<Reading> {
     match c {
-        b'=' => started(s, TITLE),
-        b'#' => started(s, COMMENT),
-        b'"' => started(s, TEXT),
-        b'@' => started(s, WIDTH),
-        b'*' => started(s, COUNT),
-        b'<' => started(s, KEEP),
-        b'|' => with_cut(s),
-        b'N' => with_used(s, numbered_names(bytes, s.used), BYTES),
-        b'?' => check_file(s, bytes),
-        b'!' => check_tables(s, bytes),
-        _ => in_bytes(s, c, bytes),
+        b'=' => Ok(started(s, TITLE)),
+        b'#' => Ok(started(s, COMMENT)),
+        b'"' => Ok(started(s, TEXT)),
+        b'@' => Ok(started(s, WIDTH)),
+        b'*' => Ok(started(s, COUNT)),
+        b'<' => Ok(started(s, KEEP)),
+        b'|' => Ok(with_cut(s)),
+        b'N' => Ok(with_used(s, numbered_names(bytes, s.used), BYTES)),
+        b'?' => check_file(rt, s, bytes),
+        b'!' => check_tables(rt, s, bytes),
+        _ => Ok(in_bytes(s, c, bytes)),
     }
 }
 
-fn turn(s: Reading, c: u8, bytes: &mut [u8]) -> Reading {
+fn turn(rt: &impl Print, s: Reading, c: u8, bytes: &mut [u8]) -> io::Result<Reading> {
     let mode = s.mode;
     match mode {
-        1 => in_line(s, c),
-        2 => in_line(s, c),
-        3 => in_text(s, c, bytes),
-        4 => in_width(s, c),
-        5 => in_count(s, c, bytes),
-        6 => in_keep(s, c),
-        _ => on_sign(s, c, bytes),
+        1 => in_line(rt, s, c),
+        2 => in_line(rt, s, c),
+        3 => Ok(in_text(s, c, bytes)),
+        4 => Ok(in_width(s, c)),
+        5 => Ok(in_count(s, c, bytes)),
+        6 => Ok(in_keep(s, c)),
+        _ => on_sign(rt, s, c, bytes),
     }
 }
 
 // ---- a case is run
 
 // Number, section and address of an answer word.
-fn show_word(word: u64) {
-    io::print_decimal(1, word / 0x1_0000_0000_0000);
-    io::write_all(1, b" ");
-    io::print_decimal(1, word / 0x1_0000_0000 % 0x1_0000);
-    io::write_all(1, b" ");
-    io::print_decimal(1, word % 0x1_0000_0000);
+fn show_word(rt: &impl Print, word: u64) -> io::Result<()> {
+    let number = word / 0x1_0000_0000_0000;
+    let section = word / 0x1_0000_0000 % 0x1_0000;
+    let address = word % 0x1_0000_0000;
+    print!(rt; "{number} {section} {address}")
 }
 
-fn show_counts(counts: &[u8]) {
-    let mut i: usize = 0;
-    while i < counts.len() / 2 {
-        io::write_all(1, b" ");
-        io::print_decimal(1, fields::get16(counts, 2 * i) as u64);
-        i += 1;
+fn show_counts(rt: &impl Print, counts: &[u8]) -> io::Result<()> {
+    for i in 0..counts.len() / 2 {
+        let count = fields::get16(counts, 2 * i);
+        print!(rt; " {count}")?;
     }
-    io::write_all(1, b"\n");
+    println!(rt; "")
 }
 
 // The bytes in from..to, none where these are no places.
@@ -315,11 +316,14 @@ fn part(bytes: &[u8], from: usize, to: usize) -> &[u8] {
     &bytes[from..to]
 }
 
-fn check_file(s: Reading, bytes: &[u8]) -> Reading {
+fn check_file(rt: &impl Print, s: Reading, bytes: &[u8]) -> io::Result<Reading> {
     let mut counts = [9u8; 12];
-    show_word(entry_check_file::check_file(part(bytes, 0, s.used), &mut counts));
-    show_counts(&counts);
-    s
+    show_word(
+        rt,
+        entry_check_file::check_file(part(bytes, 0, s.used), &mut counts),
+    )?;
+    show_counts(rt, &counts)?;
+    Ok(s)
 }
 
 // Where table k ends: tables that a case doesn't have are empty.
@@ -340,40 +344,57 @@ fn table(s: Reading, bytes: &[u8], k: usize) -> &[u8] {
     part(bytes, end(s, k - 1), end(s, k))
 }
 
-fn check_tables(s: Reading, bytes: &[u8]) -> Reading {
-    show_word(entry_check_tables::check_tables(
-        table(s, bytes, 0),
-        table(s, bytes, 1),
-        table(s, bytes, 2),
-        table(s, bytes, 3),
-        table(s, bytes, 4),
-        table(s, bytes, 5),
-        table(s, bytes, 6),
-        table(s, bytes, 7),
-        table(s, bytes, 8),
-    ));
-    io::write_all(1, b"\n");
-    s
+fn check_tables(rt: &impl Print, s: Reading, bytes: &[u8]) -> io::Result<Reading> {
+    show_word(
+        rt,
+        entry_check_tables::check_tables(
+            table(s, bytes, 0),
+            table(s, bytes, 1),
+            table(s, bytes, 2),
+            table(s, bytes, 3),
+            table(s, bytes, 4),
+            table(s, bytes, 5),
+            table(s, bytes, 6),
+            table(s, bytes, 7),
+            table(s, bytes, 8),
+        ),
+    )?;
+    println!(rt; "")?;
+    Ok(s)
 }
 
 // ---- all cases
 
-fn run(text: &[u8], bytes: &mut [u8]) {
+fn run(rt: &impl Print, text: &[u8], bytes: &mut [u8]) -> io::Result<()> {
     let mut s = nothing();
-    let mut i: usize = 0;
-    while i < text.len() {
-        s = turn(s, text[i], bytes);
-        i += 1;
+    for c in text {
+        s = turn(rt, s, *c, bytes)?;
     }
+    Ok(())
 }
 
-fn read(text: &mut [u8], bytes: &mut [u8]) {
-    let n = io::read_full(0, text);
-    run(part(text, 0, n), bytes);
+// Reads until the buffer is full or the input ends, and says how many bytes of the buffer were read.
+fn read_full(input: &mut impl Read, buf: &mut [u8]) -> io::Result<usize>
+    ensures { IfOk result (λ n. n ≤ length buf.new) }
+{
+    let mut done = 0;
+    while done < buf.len() {
+        let n = input.read(&mut buf[done..])?;
+        if n == 0 {
+            break;
+        }
+        done += n;
+    }
+    Ok(done)
 }
 
-fn main() {
+fn read(rt: &(impl Input + Print), text: &mut [u8], bytes: &mut [u8]) -> io::Result<()> {
+    let n = read_full(&mut rt.reader(), text)?;
+    run(rt, part(text, 0, n), bytes)
+}
+
+fn main(rt: HostRuntime) -> io::Result<()> {
     let mut text = [0u8; 65536];
     let mut bytes = [0u8; 131072];
-    read(&mut text, &mut bytes);
+    read(&rt, &mut text, &mut bytes)
 }

@@ -262,11 +262,11 @@ module _ (c : Call) (t' : Filled) (e : outcome c ≡ accepted t') where
 
     -- THEOREM (document 02, (k), over the entry's definition): the tables that the entry left, handed to it again with the same sections and symbols and outputs of no
     -- smaller ceilings, are accepted and come back as they are
-    pub entry_again : OfBytes → Needed (list_of c) → (ends-size' bytes-size' size' : ℕ) → NoSmaller c.ends_size c.bytes_size c.size ends-size' bytes-size' size'
-        → gap_splits_of (ends_of t'.names) (flat t'.names ++ extra) sections places image symbols (table_bytes t'.rows) ends-size' bytes-size' size' ≡ accepted t'
+    pub entry_again : OfBytes → Needed (list_of c) → (ends_size' bytes_size' size' : ℕ) → NoSmaller c.ends_size c.bytes_size c.size ends_size' bytes_size' size'
+        → gap_splits_of (ends_of t'.names) (flat t'.names ++ extra) sections places image symbols (table_bytes t'.rows) ends_size' bytes_size' size' ≡ accepted t'
     unfolding gap_splits_of
-    entry_again small needed ends-size' bytes-size' size' w =
-        after_goes _ _ (fits_pass t'.names names_clean.short (names_room ends-size') (bytes_room bytes-size') (omega (arith, within-after.few, w.names)) (omega (arith, within-after.short, w.bytes)))
+    entry_again small needed ends_size' bytes_size' size' w =
+        after_goes _ _ (fits_pass t'.names names_clean.short (names_room ends_size') (bytes_room bytes_size') (omega (arith, within-after.few, w.names)) (omega (arith, within-after.short, w.bytes)))
         ∙ after_goes _ _ (pass_behind t'.names names_clean extra 4096 names_clean.few)
         ∙ after_goes _ _
         (ap (λ (l : List ℕ). image_check 64 l places (length image) sections) lengths_more
@@ -275,7 +275,7 @@ module _ (c : Call) (t' : Filled) (e : outcome c ≡ accepted t') where
         ∙ after_goes _ _
         (ap (λ (l : List ℕ). splits_check (room_of size') l heads (table_bytes t'.rows)) lengths_back
         ∙ split_table_passes (map length t'.names) heads t'.rows few_lengths few_heads leaves.good (origins small) (room_of size') (omega (arith, rows_few, w.splits)))
-        ∙ ap (gaps_filled (with_names image_of_lem (name_at bytes' (name_starts ends' (length ends' / 2)) (stage_lengths ends' bytes'))) sections_of_lem (given heads (room_of size')) (record { names = names_room ends-size'; bytes = bytes_room bytes-size' }))
+        ∙ ap (gaps_filled (with_names image_of_lem (name_at bytes' (name_starts ends' (length ends' / 2)) (stage_lengths ends' bytes'))) sections_of_lem (given heads (room_of size')) (record { names = names_room ends_size'; bytes = bytes_room bytes_size' }))
         (tables_back small)
         ∙ filled_again image_of_lem sections_of_lem heads most-splits room few below (list_of c) t' faultless lines.filled_first _ same_names (given heads (room_of size'))
-        (record { names = names_room ends-size'; bytes = bytes_room bytes-size' }) needed
+        (record { names = names_room ends_size'; bytes = bytes_room bytes_size' }) needed

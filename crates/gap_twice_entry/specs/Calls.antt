@@ -71,9 +71,9 @@ again c r m = record {
 }
 
 -- "the split and name tables used have the same ceilings": those of outputs of so many bytes are not below those of outputs of so many before
-pub record NoSmaller (ends_size bytes_size size ends-size' bytes-size' size' : ℕ) : Type 0 where
-  pub names : names_room ends_size ≤ names_room ends-size'
-  pub bytes : bytes_room bytes_size ≤ bytes_room bytes-size'
+pub record NoSmaller (ends_size bytes_size size ends_size' bytes_size' size' : ℕ) : Type 0 where
+  pub names : names_room ends_size ≤ names_room ends_size'
+  pub bytes : bytes_room bytes_size ≤ bytes_room bytes_size'
   pub splits : room_of size ≤ room_of size'
 
 -- "is accepted and changes nothing": the second answer is 0, and the outputs are the same, byte for byte

@@ -13,11 +13,14 @@ use listing::{Cursor, next_line};
 use load::{Counts, NAMES, RELOCATIONS, SYMBOLS};
 use run::Ran;
 use run_file::run_file;
+use std::io;
+use std::io::Write;
 use tables::fill_places;
 use walk::Counts as Made;
 
 // The listing, line by line: a unit, "After a unit's pieces come `sym` ..; then `reloc` ..", and at the end the total.
 fn print_lines<'a>(
+    out: &mut impl Write,
     base_bytes: &'a [u8],
     base_places: &[u32],
     base_lengths: &[u8],
@@ -33,7 +36,7 @@ fn print_lines<'a>(
     offsets: &[u8],
     made: Made,
     line: &mut [u8],
-)
+) -> io::Result<()>
     requires { (208 ≤ length line.old)
         × Readable
         (tables_of base_bytes.now base_places.now base_lengths.now (beside added_bytes.now added_places.now added_lengths.now) symbol_places.now reloc_places.now
@@ -68,17 +71,16 @@ fn print_lines<'a>(
         );
         let n = next.length;
         if n == 0 {
-            return;
+            return Ok(());
         }
-        if !io::write_all(1, &line[..n]) {
-            return;
-        }
+        out.write_all(&line[..n])?;
         cursor = next.next;
     }
 }
 
 // The listing of a run that was done, of n units: the parts of the column of places are the tables of names, symbols and relocations.
 fn print_tables<'a>(
+    out: &mut impl Write,
     file: &'a [u8],
     counts: Counts,
     places: &[u32],
@@ -94,7 +96,7 @@ fn print_tables<'a>(
     made: Made,
     unit_places: &mut [u32],
     line: &mut [u8],
-)
+) -> io::Result<()>
     requires { Printable file.now counts places.now lengths.now (beside added_bytes.now added_places.now added_lengths.now) units.now n pieces.now entries.now offsets.now made
         × (length unit_places.old ≡ 1024)
         × (208 ≤ length line.old) }
@@ -105,6 +107,7 @@ fn print_tables<'a>(
     let relocs_end = RELOCATIONS + counts.relocations;
     fill_places(unit_places, 8, n);
     print_lines(
+        out,
         file,
         &places[NAMES..names_end],
         &lengths[..names],
@@ -120,11 +123,12 @@ fn print_tables<'a>(
         offsets,
         made,
         line,
-    );
+    )
 }
 
 // The same, with columns of its own for the places of the units and a line.
 fn print_done<'a>(
+    out: &mut impl Write,
     file: &'a [u8],
     counts: Counts,
     places: &[u32],
@@ -138,12 +142,13 @@ fn print_done<'a>(
     entries: &[u8],
     offsets: &[u8],
     made: Made,
-)
+) -> io::Result<()>
     requires { Printable file.now counts places.now lengths.now (beside added_bytes.now added_places.now added_lengths.now) units.now n pieces.now entries.now offsets.now made }
 {
     let mut unit_places = [0u32; 1024];
     let mut line = [0u8; 208];
     print_tables(
+        out,
         file,
         counts,
         places,
@@ -159,25 +164,32 @@ fn print_done<'a>(
         made,
         &mut unit_places,
         &mut line,
-    );
+    )
 }
 
 // The line of a refusal, in a lent buffer.
-fn print_refused_in(number: u16, section: u16, address: u32, line: &mut [u8])
+fn print_refused_in(
+    out: &mut impl Write,
+    number: u16,
+    section: u16,
+    address: u32,
+    line: &mut [u8],
+) -> io::Result<()>
     requires { 208 ≤ length line.old }
 {
     let n = write_refused(line, number, section, address);
-    io::write_all(1, &line[..n]);
+    out.write_all(&line[..n])
 }
 
 // "A refusal prints only `refused`, number, section, address."
-fn print_refused(number: u16, section: u16, address: u32) {
+fn print_refused(out: &mut impl Write, number: u16, section: u16, address: u32) -> io::Result<()> {
     let mut line = [0u8; 208];
-    print_refused_in(number, section, address, &mut line);
+    print_refused_in(out, number, section, address, &mut line)
 }
 
 // What a run prints. "61 cycle" is a refusal here, at section and address 0.
 fn print_ran<'a>(
+    out: &mut impl Write,
     ran: Ran,
     file: &'a [u8],
     counts: Counts,
@@ -190,7 +202,7 @@ fn print_ran<'a>(
     pieces: &[u8],
     entries: &[u8],
     offsets: &[u8],
-)
+) -> io::Result<()>
     requires { PrintableIf file.now counts places.now lengths.now (beside added_bytes.now added_places.now added_lengths.now) units.now pieces.now entries.now offsets.now ran }
 {
     match ran {
@@ -201,6 +213,7 @@ fn print_ran<'a>(
             units: n,
             made,
         } => print_done(
+            out,
             file,
             counts,
             places,
@@ -215,17 +228,18 @@ fn print_ran<'a>(
             offsets,
             made,
         ),
-        Ran::Cycle(n) => print_refused(61, 0, 0),
+        Ran::Cycle(n) => print_refused(out, 61, 0, 0),
         Ran::Refused {
             number,
             section,
             address,
-        } => print_refused(number, section, address),
+        } => print_refused(out, number, section, address),
     }
 }
 
 // The run of the file in lent columns, with document 01's ceilings, and what it prints.
 fn print_in<'a>(
+    out: &mut impl Write,
     file: &'a [u8],
     places: &mut [u32],
     lengths: &mut [u8],
@@ -244,7 +258,7 @@ fn print_in<'a>(
     pieces: &mut [u8],
     entries: &mut [u8],
     offsets: &mut [u8],
-)
+) -> io::Result<()>
     requires { Loader places.old lengths.old heads.old chain.old images.old order.old
         × Lent starts.old ends.old units.old rest.old added_bytes.old added_places.old added_lengths.old }
 {
@@ -274,6 +288,7 @@ fn print_in<'a>(
     let ran = r.ran;
     let counts = r.counts;
     print_ran(
+        out,
         ran,
         file,
         counts,
@@ -286,12 +301,12 @@ fn print_in<'a>(
         pieces,
         entries,
         offsets,
-    );
+    )
 }
 
 // The run of the file, printed, in columns of document 01's ceilings: "64 sections, 4,096 symbols, 4,096 relocations, 1,024 splits, 1,024 units, 4,096 names of 65,535
 // bytes in all" and "Outputs: 1,024 pieces, 4,096 piece symbols, 4,096 piece relocations".
-pub fn print_run(file: &[u8]) {
+pub fn print_run(out: &mut impl Write, file: &[u8]) -> io::Result<()> {
     let mut places = [0u32; 14464];
     let mut lengths = [0u8; 4096];
     let mut heads = [0u16; 8192];
@@ -310,6 +325,7 @@ pub fn print_run(file: &[u8]) {
     let mut entries = [0u8; 49152];
     let mut offsets = [0u8; 32768];
     print_in(
+        out,
         file,
         &mut places,
         &mut lengths,
@@ -328,5 +344,5 @@ pub fn print_run(file: &[u8]) {
         &mut pieces,
         &mut entries,
         &mut offsets,
-    );
+    )
 }

@@ -2,6 +2,9 @@
 // then what `splitlist` prints for it: the Rust's listing, or document 01's refusal.
 #![tactic(auto)]
 
+use std::io;
+use std::io::Read;
+
 // ---- what is read
 
 // Bytes stand as hexadecimal digits.
@@ -109,31 +112,31 @@ fn first(bytes: &[u8], n: usize) -> &[u8] {
 }
 
 // What the case that was read prints, where there is one.
-fn close(s: Reading, bytes: &[u8]) {
+fn close(rt: &impl Print, s: Reading, bytes: &[u8]) -> io::Result<()> {
     if s.open {
-        print_run::print_run(first(bytes, s.used));
+        print_run::print_run(&mut io::writer(rt), first(bytes, s.used))?;
     }
+    Ok(())
 }
 
 // The next case begins.
-fn next_case(s: Reading, bytes: &[u8]) -> Reading {
-    close(s, bytes);
-    io::write_all(1, b"=");
-    Reading {
+fn next_case(rt: &impl Print, s: Reading, bytes: &[u8]) -> io::Result<Reading> {
+    close(rt, s, bytes)?;
+    rt.write_all(b"=")?;
+    Ok(Reading {
         mode: TITLE,
         high: 16,
         used: 0,
         count: 0,
         open: true,
-    }
+    })
 }
 
 // ---- a character more
 
-fn in_title(s: Reading, c: u8) -> Reading {
-    let one = [c; 1];
-    io::write_all(1, &one);
-    in_comment(s, c)
+fn in_title(rt: &impl Print, s: Reading, c: u8) -> io::Result<Reading> {
+    rt.write_all(&[c])?;
+    Ok(in_comment(s, c))
 }
 
 fn in_comment(s: Reading, c: u8) -> Reading {
@@ -175,62 +178,64 @@ fn in_bytes(s: Reading, c: u8, bytes: &mut [u8]) -> Reading {
     with_used(s, push(bytes, s.used, high % 16 * 16 + d % 16))
 }
 
-fn on_sign(s: Reading, c: u8, bytes: &mut [u8]) -> Reading {
+fn on_sign(rt: &impl Print, s: Reading, c: u8, bytes: &mut [u8]) -> io::Result<Reading> {
     match c {
-        b'=' => next_case(s, bytes),
-        b'#' => with_mode(s, COMMENT),
-        b'*' => with_mode(s, COUNT),
-        _ => in_bytes(s, c, bytes),
+        b'=' => next_case(rt, s, bytes),
+        b'#' => Ok(with_mode(s, COMMENT)),
+        b'*' => Ok(with_mode(s, COUNT)),
+        _ => Ok(in_bytes(s, c, bytes)),
     }
 }
 
-fn turn(s: Reading, c: u8, bytes: &mut [u8]) -> Reading {
+fn turn(rt: &impl Print, s: Reading, c: u8, bytes: &mut [u8]) -> io::Result<Reading> {
     let mode = s.mode;
     match mode {
-        1 => in_title(s, c),
-        2 => in_comment(s, c),
-        3 => in_count(s, c, bytes),
-        _ => on_sign(s, c, bytes),
+        1 => in_title(rt, s, c),
+        2 => Ok(in_comment(s, c)),
+        3 => Ok(in_count(s, c, bytes)),
+        _ => on_sign(rt, s, c, bytes),
     }
 }
 
 // ---- all cases
 
-fn read_text(start: Reading, text: &[u8], bytes: &mut [u8]) -> Reading {
+fn read_text(
+    rt: &impl Print,
+    start: Reading,
+    text: &[u8],
+    bytes: &mut [u8],
+) -> io::Result<Reading> {
     let mut s = start;
-    let mut i: usize = 0;
-    while i < text.len() {
-        s = turn(s, text[i], bytes);
-        i += 1;
+    for c in text {
+        s = turn(rt, s, *c, bytes)?;
     }
-    s
+    Ok(s)
 }
 
-// All of standard input, a part at a time. A proved loop has to end, and nothing says that the input does: so the turns are counted down, from a number that no input uses
+// All of standard input, a part at a time. A proved loop has to end, and nothing says that the input does: so the turns are counted, up to a number that no input uses
 // up.
-fn read_all(text: &mut [u8], bytes: &mut [u8]) -> Reading {
+fn read_all(rt: &(impl Input + Print), text: &mut [u8], bytes: &mut [u8]) -> io::Result<Reading> {
+    let mut input = rt.reader();
     let mut s = nothing();
-    let mut turns = u64::MAX;
-    while turns > 0 {
-        let n = io::read_full(0, text);
+    for _ in 0..u64::MAX {
+        let n = input.read(text)?;
         if n == 0 {
-            return s;
+            break;
         }
-        s = read_text(s, &text[..n], bytes);
-        turns -= 1;
+        s = read_text(rt, s, &text[..n], bytes)?;
     }
-    s
+    Ok(s)
 }
 
 // All cases: the last one ends with the input.
-fn run(text: &mut [u8], bytes: &mut [u8]) {
-    let s = read_all(text, bytes);
-    close(s, bytes);
+fn run(rt: &(impl Input + Print), text: &mut [u8], bytes: &mut [u8]) -> io::Result<()> {
+    let s = read_all(rt, text, bytes)?;
+    close(rt, s, bytes)
 }
 
 // "a file over 65,536 bytes is refused first": one byte more is kept of a case, so that a longer one is refused and not cut.
-fn main() {
+fn main(rt: HostRuntime) -> io::Result<()> {
     let mut text = [0u8; 4096];
     let mut bytes = [0u8; 65537];
-    run(&mut text, &mut bytes);
+    run(&rt, &mut text, &mut bytes)
 }

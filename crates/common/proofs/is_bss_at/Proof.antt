@@ -22,7 +22,7 @@ name-at-requires c κs =
     let s = c in
     let n = s.requires.0.names in
     let h : c.index-name.result < length s.args.name_places.now = omega (arith, c.index-name.ensures, ap (λ (t : Section). t.name) c.section_at-head.ensures, s.requires.0.named s.args.k s.requires.1) in
-    (h, omega (arith, n.decreases), n.inside c.index-name.result h)
+    (h, omega (arith, n.measured), n.inside c.index-name.result h)
 
 is-bss-requires : tie.Need-is_bss-requires
 is-bss-requires c κs = search rules

@@ -45,7 +45,7 @@ loop-again c =
     let l = c.loop-i in
     let s = c in
     let a = s.args in
-    (omega arith, writing_more a.starts.now a.ends.now a.units.now a.rest.now a.t1 l.rest a.n l.i c.rest_of.result (let q = l.invariant.1.long in omega arith) c.loop-i-test.true s.requires.2 c.rest_of.ensures l.invariant.1)
+    (omega arith, writing_more a.starts.now a.ends.now a.units.now a.rest.now a.table l.rest a.n l.i c.rest_of.result (let q = l.invariant.1.long in omega arith) c.loop-i-test.true s.requires.2 c.rest_of.ensures l.invariant.1)
 
 same_length : tie.Need-shape_of-rest invariant-loop decreases-loop
 same_length c = c.loop-i.invariant.1.long
@@ -55,7 +55,7 @@ returns c =
     let l = c.loop-i in
     let a = c.args in
     let e : l.i ≡ a.n = omega arith in
-    writing_done a.starts.now a.ends.now a.units.now a.rest.now a.t1 l.rest a.n (let q : length a.t1 ≡ 1024 = search (rules, unmapped) in omega arith) (rw e at l.invariant.1)
+    writing_done a.starts.now a.ends.now a.units.now a.rest.now a.table l.rest a.n (let q : length a.table ≡ 1024 = search (rules, unmapped) in omega arith) (rw e at l.invariant.1)
 
 pub put_records_spec : {M : Type 1} → statement M
 put_records_spec =

@@ -29,8 +29,8 @@ names-said c =
 
 -- they were accepted: the columns hold them
 stored : (c : tie.In_default)
-    → let t = c.before.before.before.before.before.before.before.before.before in let a = (start t).args in let last = t.check_names-a.new.1.1.1 in
-    Stored a.ends.now a.bytes.now last.0 last.1.0 last.1.1.0 last.1.1.1.0 (length a.ends.now / 2)
+    → let t = c.before.before.before.before.before.before.before.before.before in let a = (start t).args in let last = t.check_names-a.new in
+    Stored a.ends.now a.bytes.now last.places last.lengths last.heads last.chain (length a.ends.now / 2)
 stored c = let s = c.check_names-a.ensures in s.stored (sym s.said ∙ ap meaning c.in_default.is)
 
 main-ceilings-requires : tie.Need-main_ceilings-most-requires

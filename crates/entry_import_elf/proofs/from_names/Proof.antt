@@ -32,8 +32,8 @@ said c names l =
 
 -- they were accepted: the columns hold them
 held : (c : tie.In_default)
-    → let t = c in let a = t.args in let last = t.check_names-a.new.1.1.1 in
-    Stored a.ends.now a.bytes.now last.0 last.1.0 last.1.1.0 last.1.1.1.0 (length a.ends.now / 2)
+    → let t = c in let a = t.args in let last = t.check_names-a.new in
+    Stored a.ends.now a.bytes.now last.places last.lengths last.heads last.chain (length a.ends.now / 2)
 held c = let s = c.check_names-a.ensures in s.stored (sym s.said ∙ ap meaning c.in_default.is)
 
 enum_told : tie.Need-enum_told-1

@@ -92,18 +92,18 @@ trim-rows-requires c κs =
     let few = splits_few t e in
     let low = room_low (length a.out.now) in
     let long = s.requires.3 in
-    let kept = t.take_split_columns-a.auto.1.1.1.1.1.1 in
-    let last = t.take_split_columns-a.new.1.1.1.1.1.1 in (
+    let kept = t.take_split_columns-a.auto in
+    let last = t.take_split_columns-a.new in (
       s.requires.0,
       s.requires.1,
       s.requires.2.kept,
-      rows-placed _ a.name_lengths.now (sections_in a.heads.now a.head_places.now) a.splits.now (columns last.0 last.1.0 last.1.1.0 last.1.1.1.0) passed
+      rows-placed _ a.name_lengths.now (sections_in a.heads.now a.head_places.now) a.splits.now (columns last.starts last.ends last.units last.rest) passed
           (t.take_split_columns-a.ensures.taken passed)
           (record {
-            starts = omega (arith, few, low, long.starts_long, kept.0);
-            ends = omega (arith, few, low, long.ends_long, kept.1.0);
-            units = omega (arith, few, low, long.units_long, kept.1.1.0);
-            rest = omega (arith, few, low, long.rest_long, kept.1.1.1.0);
+            starts = omega (arith, few, low, long.starts_long, kept.starts);
+            ends = omega (arith, few, low, long.ends_long, kept.ends);
+            units = omega (arith, few, low, long.units_long, kept.units);
+            rest = omega (arith, few, low, long.rest_long, kept.rest);
           })
           (length a.head_places.now) (length-map a.head_places.now (section_at a.heads.now)),
       omega (arith, few, low, long.falls_long),

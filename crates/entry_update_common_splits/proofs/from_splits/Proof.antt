@@ -88,13 +88,13 @@ update-requires c κs =
     let few = splits_few t (ap meaning c.in_default.is) in
     let low = room_low (length s.args.out.now) in
     let long = s.requires.2 in
-    let kept = t.take_split_columns-a.auto.1.1.1.1.1.1 in (
+    let kept = t.take_split_columns-a.auto in (
       s.requires.0,
       record {
-        starts = omega (arith, few, low, long.starts_long, kept.0);
-        ends = omega (arith, few, low, long.ends_long, kept.1.0);
-        units = omega (arith, few, low, long.units_long, kept.1.1.0);
-        rest = omega (arith, few, low, long.rest_long, kept.1.1.1.0);
+        starts = omega (arith, few, low, long.starts_long, kept.starts);
+        ends = omega (arith, few, low, long.ends_long, kept.ends);
+        units = omega (arith, few, low, long.units_long, kept.units);
+        rest = omega (arith, few, low, long.rest_long, kept.rest);
       },
       omega (arith, few, low),
       omega (arith, few, room_fits (length s.args.out.now)),

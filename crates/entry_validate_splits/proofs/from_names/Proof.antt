@@ -15,8 +15,8 @@ use Rattle.entry_validate_splits.proofs.from_names.Tie as tie
 
 -- the names were accepted: the columns hold them
 stored : (c : tie.In_default)
-    → let t = c in let a = c.args in let last = t.check_names-a.new.1.1.1 in
-    Stored a.name_ends.now a.name_bytes.now last.0 last.1.0 last.1.1.0 last.1.1.1.0 (length a.name_ends.now / 2)
+    → let t = c in let a = c.args in let last = t.check_names-a.new in
+    Stored a.name_ends.now a.name_bytes.now last.places last.lengths last.heads last.chain (length a.name_ends.now / 2)
 stored c = let s = c.check_names-a.ensures in s.stored (sym s.said ∙ ap meaning c.in_default.is)
 
 check-names-requires : tie.Need-check_names-a-requires

@@ -54,14 +54,14 @@ validate-requires c κs =
     let t = c.before.before.before.before.before.before.before.before.before.before.before in
     let few = splits_few t (ap meaning c.in_default.is) in
     let long = s.requires.3 in
-    let kept = t.take_split_columns-a.auto.1.1.1.1.1.1 in (
+    let kept = t.take_split_columns-a.auto in (
       s.requires.1,
       s.requires.2,
       record {
-        starts = omega (arith, few, long.starts_long, kept.0);
-        ends = omega (arith, few, long.ends_long, kept.1.0);
-        units = omega (arith, few, long.units_long, kept.1.1.0);
-        rest = omega (arith, few, long.rest_long, kept.1.1.1.0);
+        starts = omega (arith, few, long.starts_long, kept.starts);
+        ends = omega (arith, few, long.ends_long, kept.ends);
+        units = omega (arith, few, long.units_long, kept.units);
+        rest = omega (arith, few, long.rest_long, kept.rest);
       },
     )
 

@@ -52,7 +52,7 @@ start-of-requires c κs =
 mul-end : tie.Need-offset_bounds-gap_ends-i invariant-loop decreases-loop
 mul-end c =
     let q = c.requires in
-    omega (arith, q.5.long_ends, c.loop-i-test.true, c.well-formed.1.1.1.1.1.1.1.1.1.1.1.1.1.1.1.1.1.1.1.0)
+    omega (arith, q.5.long_ends, c.loop-i-test.true, c.well_formed.1.1.1.1.1.1.1.1.1.1.1.1.1.1.1.1.1.1.1.0)
 
 shared-slice-read-end : tie.Need-bounds-gap_ends-i invariant-loop decreases-loop
 shared-slice-read-end c =
@@ -137,7 +137,7 @@ add-i : tie.Need-overflow_add-i invariant-loop decreases-loop
 add-i c =
     let t = c.loop-i-test.true in
     let q = c.requires in
-    omega (arith, t, q.5.long_keys, c.well-formed.1.1.1.1.1.1.1.1.1.1.1.1.1.1.1.1.1.1.0)
+    omega (arith, t, q.5.long_keys, c.well_formed.1.1.1.1.1.1.1.1.1.1.1.1.1.1.1.1.1.1.0)
 
 loop-less : tie.Need-loop-i-smaller invariant-loop decreases-loop
 loop-less c =

@@ -19,7 +19,7 @@ enum-known-next : tie.Need-enum_known-next
 enum-known-next c = search rules
 
 -- the next split's alignment, as the definition has it
-is : (c : tie.In-Is-2) → let a = c.args in accepted c.in-Is.alignment ≡ alignment_of_next (symbol_of a.b.now a.places.now) (length a.places.now) a.section a.least a.s
+is : (c : tie.In-Is) → let a = c.args in accepted c.in-Is.alignment ≡ alignment_of_next (symbol_of a.b.now a.places.now) (length a.places.now) a.section a.least a.s
 is c = sym (ap (next_meaning c.args.section c.args.s.start) c.in-Is.is) ∙ c.next_alignment-next.ensures
 
 returns : tie.Need-returns-then-s-current
@@ -27,10 +27,10 @@ returns c =
     let s = c in
     let a = s.args in
     let before = gaps_in a.keys.now a.gap_ends.now a.count in
-    (sym (ap (into before) (before_below _ _ _ _ _ _ _ (is c) c.if-s-current.true) ∙ into-stops before _ _ _), s.requires.0.clean)
+    (sym (ap (into before) (before_below _ _ _ _ _ _ _ (is c.before.before) c.if-s-current.true) ∙ into-stops before _ _ _), s.requires.0.clean)
 
 gaps-to-requires : tie.Need-gaps_to-requires
-gaps-to-requires c κs = let p = c.requires in (p.0, p.1, c.if-s-current.false, p.3, next_good _ _ _ _ c.args.current c.args.s _ (is c) p.2 p.5 p.4)
+gaps-to-requires c κs = let p = c.requires in (p.0, p.1, c.if-s-current.false, p.3, next_good _ _ _ _ c.args.current c.args.s _ (is c.before.before.before.before.before) p.2 p.5 p.4)
 
 enum_told : tie.Need-enum_told-1
 enum_told c = search rules
@@ -47,7 +47,7 @@ same-length-3 c = search rules
 returns-2 : tie.Need-returns-else-s-current
 returns-2 c =
     let a = c.args in
-    (c.gaps_to.ensures.0 ∙ ap (into (gaps_in a.keys.now a.gap_ends.now a.count)) (sym (before_on _ _ _ _ _ _ _ (is c) c.if-s-current.false)), c.gaps_to.ensures.1)
+    (c.gaps_to.ensures.0 ∙ ap (into (gaps_in a.keys.now a.gap_ends.now a.count)) (sym (before_on _ _ _ _ _ _ _ (is c.before.before.before.before.before.before.before.before.before.before.before.before) c.if-s-current.false)), c.gaps_to.ensures.1)
 
 returns-3 : tie.Need-returns-in-Backwards
 returns-3 c =

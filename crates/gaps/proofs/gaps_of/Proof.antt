@@ -79,7 +79,7 @@ default-alignment-requires : tie.Need-default_alignment-least-requires
 default-alignment-requires c κs = tt
 
 -- .. where there is one
-accepted-is : (c : tie.In-Is-2) → let s = c.before.before.before.before.before.before.before.before.before.before.before.before.before.before.before.before.before.before.before.before.before in accepted c.in-Is.end ≡ splitting_end (image_at s) s.args.k ((sections_at s).head s.args.k) ((sections_at s).bytes s.args.k)
+accepted-is : (c : tie.In-Is) → let s = c.before.before.before.before.before.before.before.before.before.before.before.before.before.before.before.before.before.before.before.before.before in accepted c.in-Is.end ≡ splitting_end (image_at s) s.args.k ((sections_at s).head s.args.k) ((sections_at s).bytes s.args.k)
 accepted-is c = sym (ap (end_meaning c.args.k c.section_at-head.result.address) c.in-Is.is) ∙ end_is c.before
 
 -- the default alignment as the definition has it
@@ -96,7 +96,7 @@ section-gaps-requires c κs =
     let a = s.args in
     let p = s.requires in
     let end = c.in-Is.end in
-    let within = end_within (image_at s) a.k ((sections_at s).head a.k) ((sections_at s).bytes a.k) end (sym (accepted-is c)) in (
+    let within = end_within (image_at s) a.k ((sections_at s).head a.k) ((sections_at s).bytes a.k) end (sym (accepted-is c.before.before.before.before.before.before)) in (
       p.2,
       subst (λ (h : Section). Space (symbol_of a.b.now a.places.now) (length a.places.now) a.k h.address end (rows (columns a.starts.now a.ends.now a.units.now a.rest.now) a.n) a.keys.now a.gap_ends.now a.count)
           (sym c.section_at-head.ensures) (p.6 end),
@@ -127,7 +127,7 @@ returns c =
     let end = c.in-Is.end in (
       c.section_gaps.ensures.0
           ∙ ap₂ (λ (least start : ℕ). into before (gaps_from (image_at s).symbol (image_at s).count a.k least end start (keep_if (below a.k end) l))) (default-is c.before.before.before.before.before.before.before.before.before.before) (ap (λ (h : Section). h.address) c.section_at-head.ensures)
-          ∙ section_on (image_at s) (sections_at s) a.k l before end (accepted-is c),
+          ∙ section_on (image_at s) (sections_at s) a.k l before end (accepted-is c.before.before.before.before.before.before.before.before.before.before.before.before.before),
       c.section_gaps.ensures.1,
     )
 

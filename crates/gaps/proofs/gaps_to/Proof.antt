@@ -60,22 +60,22 @@ key-of-requires : tie.Need-key_of-key-requires invariant-loop decreases-loop
 key-of-requires c κs = tt
 
 -- the gap's end, as the definition has it
-is : (c : tie.In-Is-2 invariant-loop decreases-loop) → let a = c.args in gap_end (symbol_of a.b.now a.places.now) (length a.places.now) a.section c.loop-count.at a.next ≡ accepted c.in-Is.e
+is : (c : tie.In-Is invariant-loop decreases-loop) → let a = c.args in gap_end (symbol_of a.b.now a.places.now) (length a.places.now) a.section c.loop-count.at a.next ≡ accepted c.in-Is.e
 is c = sym c.gap_end-end.ensures.0 ∙ ap (end_meaning c.args.section c.loop-count.at) c.in-Is.is
 
 place-gap-requires : tie.Need-place_gap-found-requires invariant-loop decreases-loop
-place-gap-requires c κs = turn_room _ _ _ _ _ _ _ _ _ c.requires.4 _ _ _ _ c.loop-count.invariant.0 (gap-follows c.before.before.before.before.before.before.before.before) _ _ (is c) c.key_of-key.ensures.is
+place-gap-requires c κs = turn_room _ _ _ _ _ _ _ _ _ c.requires.4 _ _ _ _ c.loop-count.invariant.0 (gap-follows c.before.before.before.before.before.before.before.before) _ _ (is c.before.before.before) c.key_of-key.ensures.is
 
 loop-less : tie.Need-loop-count-smaller invariant-loop decreases-loop
 loop-less c =
     let l = c.loop-count in
-    omega (arith, (gap_ended _ _ _ _ _ _ (is c)).above, before_next _ _ _ _ _ _ _ _ _ c.requires.4 _ _ _ _ l.invariant.0 (gap-follows c.before.before.before.before.before.before.before.before.before.before.before.before.before))
+    omega (arith, (gap_ended _ _ _ _ _ _ (is c.before.before.before.before.before.before.before.before)).above, before_next _ _ _ _ _ _ _ _ _ c.requires.4 _ _ _ _ l.invariant.0 (gap-follows c.before.before.before.before.before.before.before.before.before.before.before.before.before))
 
 loop-again : tie.Need-loop-count-preserved invariant-loop decreases-loop
 loop-again c =
     let l = c.loop-count in
     let p = c.place_gap-found in (
-      turn_on _ _ _ _ _ _ _ _ _ c.requires.4 _ _ _ _ l.invariant.0 (gap-follows c.before.before.before.before.before.before.before.before.before.before.before.before.before) _ _ (is c) c.key_of-key.ensures.is
+      turn_on _ _ _ _ _ _ _ _ _ c.requires.4 _ _ _ _ l.invariant.0 (gap-follows c.before.before.before.before.before.before.before.before.before.before.before.before.before) _ _ (is c.before.before.before.before.before.before.before.before) c.key_of-key.ensures.is
           p.new.keys p.new.gap_ends p.result (omega (arith, l.invariant.0.small, c.requires.3)) p.auto.keys p.auto.gap_ends p.ensures,
       c.gap_end-end.auto.marks ∙ l.invariant.1,
       c.gap_end-end.ensures.1,

@@ -39,7 +39,7 @@ pushes c = sym c.decide_round-d.ensures.0 ∙ ap decided c.in-Push.is
 pushes-below : (c : tie.In-Push invariant-loop decreases-loop) → c.loop-number.k < c.args.cap
 pushes-below c = let l = c.loop-number in push_below _ (columns l.starts l.ends l.units l.rest) l.k l.s (pushes c)
 
-joins : (c : tie.In-Join-2 invariant-loop decreases-loop)
+joins : (c : tie.In-Join invariant-loop decreases-loop)
     → let l = c.loop-number in
     let a = c.args in
     decide (given (sections_in a.heads.now a.head_places.now) a.cap) (rows (columns l.starts l.ends l.units l.rest) l.k) l.s
@@ -47,7 +47,7 @@ joins : (c : tie.In-Join-2 invariant-loop decreases-loop)
 joins c = sym c.decide_round-d.ensures.0 ∙ ap decided c.in-Join.is
 
 -- .. and the joint split that it hands on
-joint-good : (c : tie.In-Join-2 invariant-loop decreases-loop) → Good c.in-Join.joint.alignment
+joint-good : (c : tie.In-Join invariant-loop decreases-loop) → Good c.in-Join.joint.alignment
 joint-good c = handed _ _ c.in-Join.is c.decide_round-d.ensures.1
 
 -- the join at once leaves the columns as long as they were
@@ -164,7 +164,7 @@ join-at-once-requires : tie.Need-join_at_once-made-requires invariant-loop decre
 join-at-once-requires c κs =
     let l = c.loop-number in
     let q = c.requires in
-    (long_same _ _ l.k _ l.invariant.1 l.invariant.0 q.0, q.2, joint-good c)
+    (long_same _ _ l.k _ l.invariant.1 l.invariant.0 q.0, q.2, joint-good c.before.before.before.before)
 
 same-length-13 : tie.Need-shape_of-starts-then-made-gt0 invariant-loop decreases-loop
 same-length-13 c = (still-long c.before.before.before.before.before.before.before.before.before).starts
@@ -183,7 +183,7 @@ returns-4 c =
     let l = c.loop-number in
     let a = c.args in
     let made = c.join_at_once-made.ensures.1 c.if-made-gt0.true in
-    (made.0 a.cap l.invariant.0 ∙ sym (round_join _ _ l.s _ (joins c)) ∙ l.invariant.3, omega (arith, made.1, l.invariant.0))
+    (made.0 a.cap l.invariant.0 ∙ sym (round_join _ _ l.s _ (joins c.before.before.before.before.before.before.before.before.before.before.before.before.before.before)) ∙ l.invariant.3, omega (arith, made.1, l.invariant.0))
 
 join-requires : tie.Need-join-k-requires invariant-loop decreases-loop
 join-requires c κs =
@@ -195,7 +195,7 @@ loop-less c =
     let l = c.loop-number in
     let j = c.join-k in
     join_less _ (columns l.starts l.ends l.units l.rest) (columns j.new.starts j.new.ends j.new.units j.new.rest) l.k j.result l.s _
-    (joins c) (joined-rows c.before.before.before.before.before.before.before.before)
+    (joins c.before.before.before.before.before.before.before.before.before.before.before.before.before.before.before.before.before.before.before.before.before.before.before.before.before.before.before) (joined-rows c.before.before.before.before.before.before.before.before)
 
 loop-again : tie.Need-loop-number-preserved invariant-loop decreases-loop
 loop-again c =
@@ -203,7 +203,7 @@ loop-again c =
     let a = c.args in
     let j = c.join-k in
     let long = still-long c.before.before.before.before.before.before.before.before.before.before.before.before.before.before.before.before.before.before.before.before.before.before in
-    let d = c in (
+    let d = c.before.before.before.before.before.before.before.before.before.before.before.before.before.before.before.before.before.before.before.before.before.before.before.before.before.before.before in (
       omega (arith, j.ensures.1, l.invariant.0),
       record {
         starts = j.auto.starts ∙ long.starts;

@@ -80,7 +80,7 @@ enum-known-r-2 : tie.Need-enum_known-r-in-Accepted-1 invariant-loop decreases-lo
 enum-known-r-2 c = search rules
 
 add-i : tie.Need-overflow_add-i invariant-loop decreases-loop
-add-i c = omega (arith, c.loop-i-test.true, c.well-formed.1.1.1.1.1.1.1.1.1.0)
+add-i c = omega (arith, c.loop-i-test.true, c.well_formed.1.1.1.1.1.1.1.1.1.0)
 
 loop-less : tie.Need-loop-i-smaller invariant-loop decreases-loop
 loop-less c = omega (arith, c.loop-i-test.true)

@@ -25,15 +25,15 @@ start l = l.before.before.before.before.before.before.before
 
 -- after a turn the columns are as long as before
 kept : (c : tie.After-take_name-number invariant-loop decreases-loop)
-    → let a = (start c.before.before.before.before.before.before).args in let last = c.take_name-number.new.1.1 in
-    Same a.places.now a.lengths.now a.heads.now a.chain.now last.0 last.1.0 last.1.1.0 last.1.1.1.0
+    → let a = (start c.before.before.before.before.before.before).args in let last = c.take_name-number.new in
+    Same a.places.now a.lengths.now a.heads.now a.chain.now last.places last.lengths last.heads last.chain
 kept c =
     let e = c.loop-i.invariant.2 in
-    let k = c.take_name-number.auto.1.1 in record {
-      of_places = k.0 ∙ e.of_places;
-      of_lengths = k.1.0 ∙ e.of_lengths;
-      of_heads = k.1.1.0 ∙ e.of_heads;
-      of_chain = k.1.1.1.0 ∙ e.of_chain;
+    let k = c.take_name-number.auto in record {
+      of_places = k.places ∙ e.of_places;
+      of_lengths = k.lengths ∙ e.of_lengths;
+      of_heads = k.heads ∙ e.of_heads;
+      of_chain = k.chain ∙ e.of_chain;
     }
 
 loop-holds : tie.Need-loop-i-init invariant-loop decreases-loop

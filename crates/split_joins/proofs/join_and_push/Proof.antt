@@ -35,7 +35,7 @@ entered c = c.before.before.before.before.before
 -- s may take the place
 takes : (c : tie.After-rest_of-packed) → let o = stopped (judged c) in let a = (entered (found o)).args in
     TakesPlace a.s (columns a.starts.now a.ends.now a.units.now a.rest.now) a.n (found o).next_within-first.result o.next_outside-stop.result
-takes c = (judged c).takes_place.ensures (is_so _ c.if-not-takes_place.false)
+takes c = (judged c).takes_place.ensures c.if-not-takes_place.false
 
 -- moving keeps the lengths
 kept : (c : tie.After-shift_rows_down) → let a = (entered (found (stopped (judged (packed c))))).args in let l = c.shift_rows_down.new in

@@ -12,6 +12,7 @@ use Rattle.split_joins.specs.Joins.{Alone}
 use Rattle.split_joins.proofs.Apart.{alone_same, alone_none}
 use Rattle.split_joins.proofs.keeps_units.Statement.{statement}
 use Rattle.split_joins.proofs.keeps_units.Tie as tie
+use Rattle.split_joins.proofs.keeps_units.Lts.{then-u-unit+else-before-behind, else-u-unit}
 
 abbrev invariant-loop : tie.invariant-loop-i
 invariant-loop units n first stop unit i₀ i =
@@ -52,12 +53,12 @@ loop-again c =
       omega arith,
       omega arith,
       each_more (λ k. Alone u a.n a.first a.stop a.unit (u k)) a.first l.i l.invariant.2
-          (⊎_elim
-          (λ w.
-          let none = or_false w.1.result w.2.result w.3.left in
-          alone_none u a.n a.first a.stop a.unit (u l.i) (omega arith) (sym w.1.ensures ∙ none.0) (sym w.2.ensures ∙ none.1))
-          (λ w. alone_same u a.n a.first a.stop a.unit (u l.i) (omega (arith, w.left)))
-          c.if-u-unit.branch),
+          (elim c.if-u-unit.branch [
+            | then-u-unit+else-before-behind w ↦
+                let none = or_false w.has_unit-before.result w.has_unit-behind.result w.if-before-behind.false in
+                alone_none u a.n a.first a.stop a.unit (u l.i) (omega arith) (sym w.has_unit-before.ensures ∙ none.0) (sym w.has_unit-behind.ensures ∙ none.1)
+            | else-u-unit w ↦ alone_same u a.n a.first a.stop a.unit (u l.i) (omega (arith, w.if-u-unit.false))
+          ]),
     )
 
 returns-2 : tie.Need-returns invariant-loop decreases-loop

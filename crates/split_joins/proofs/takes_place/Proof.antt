@@ -58,7 +58,7 @@ returns-4 c =
       none = λ j h l. let z = ltb-false other.next_within-other.result a.n ended.0 in other.next_within-other.ensures.2 j h (omega arith);
       own_before = ap (keep_if (of_unit s.section s.unit)) (sym (tabulate_all (row_at c₀) a.first)) ∙ no_hit _ c₀ a.first 0 _ own.next_of_unit-own.ensures (ltb-false _ _ alone.0);
       own_behind = no_hit _ c₀ a.n a.stop _ later.next_of_unit-later.ensures (ltb-false _ _ alone.1);
-      apart = k.keeps_units.ensures (is_so _ c.if-not-keeps_units.false);
+      apart = k.keeps_units.ensures c.if-not-keeps_units.false;
       lies = c.lies_between.ensures e;
     }
 

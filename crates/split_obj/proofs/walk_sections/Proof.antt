@@ -209,7 +209,7 @@ row-requires c κs =
     }
 
 add-next-split : tie.Need-overflow_add-i invariant-loop2 decreases-loop2 invariant-loop decreases-loop invariant-sections decreases-sections
-add-next-split c = let l = c in omega (arith, l.loop-current.invariant.0.small, l.well-formed)
+add-next-split c = let l = c in omega (arith, l.loop-current.invariant.0.small, l.well_formed)
 
 next-split-requires-2 : tie.Need-next_split-j-requires invariant-loop2 decreases-loop2 invariant-loop decreases-loop invariant-sections decreases-sections
 next-split-requires-2 c κs =

@@ -34,7 +34,7 @@ add-clear-from c =
     let q = c.requires in
     let e = length-names a.bytes.now a.places.now a.lengths.now (length a.places.now) in
     let f = length-names a.added_bytes.now a.added_places.now a.added_lengths.now a.names in
-    omega (arith, q.2.long_ends, e, f, c.well-formed.1.1.1.1.1.1.1.0)
+    omega (arith, q.2.long_ends, e, f, c.well_formed.1.1.1.1.1.1.1.0)
 
 mul-clear-from : tie.Need-overflow_mul-n
 mul-clear-from c =
@@ -42,7 +42,7 @@ mul-clear-from c =
     let q = c.requires in
     let e = length-names a.bytes.now a.places.now a.lengths.now (length a.places.now) in
     let f = length-names a.added_bytes.now a.added_places.now a.added_lengths.now a.names in
-    omega (arith, q.2.long_ends, e, f, c.well-formed.1.1.1.1.1.1.1.0)
+    omega (arith, q.2.long_ends, e, f, c.well_formed.1.1.1.1.1.1.1.0)
 
 clear-from-requires : tie.Need-clear_from-requires
 clear-from-requires c κs = search rules

@@ -73,17 +73,17 @@ with-units-requires c κs =
     let a = s.args in
     let e = c.before.before.before in
     let long = s.requires.5 in
-    let kept = t.take_split_columns-a.auto.1.1.1.1.1.1 in
-    let last = t.take_split_columns-a.new.1.1.1.1.1.1 in (
+    let kept = t.take_split_columns-a.auto in
+    let last = t.take_split_columns-a.new in (
       s.requires.0,
       s.requires.1,
       s.requires.2,
-      rows_named 1024 a.name_lengths.now (sections_in a.heads.now a.head_places.now) a.splits.now (columns last.0 last.1.0 last.1.1.0 last.1.1.1.0) (passed e) (t.take_split_columns-a.ensures.taken (passed e))
+      rows_named 1024 a.name_lengths.now (sections_in a.heads.now a.head_places.now) a.splits.now (columns last.starts last.ends last.units last.rest) (passed e) (t.take_split_columns-a.ensures.taken (passed e))
           (record {
-            starts = omega (arith, few e, long.starts_long, kept.0);
-            ends = omega (arith, few e, long.ends_long, kept.1.0);
-            units = omega (arith, few e, long.units_long, kept.1.1.0);
-            rest = omega (arith, few e, long.rest_long, kept.1.1.1.0);
+            starts = omega (arith, few e, long.starts_long, kept.starts);
+            ends = omega (arith, few e, long.ends_long, kept.ends);
+            units = omega (arith, few e, long.units_long, kept.units);
+            rest = omega (arith, few e, long.rest_long, kept.rest);
           }),
       s.requires.3,
       s.requires.4,

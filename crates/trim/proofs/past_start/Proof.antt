@@ -40,7 +40,7 @@ returns : tie.Need-returns-then-not-y-s invariant-loop decreases-loop
 returns c =
     let s = c.before.before.before.before.before.before.before.before.before.before.before.before in
     let l = c.loop-j in
-    let e = along_ends s.args.s (row_of_table s) s.args.n l.j _ c.row-y.ensures c.loop-j-test.true (not-true _ c.if-not-y-s.true) in
+    let e = along_ends s.args.s (row_of_table s) s.args.n l.j _ c.row-y.ensures c.loop-j-test.true c.if-not-y-s.true in
     record { is = sym e ∙ l.invariant.2; past = l.invariant.0; small = l.invariant.1 }
 
 add-j : tie.Need-overflow_add-j invariant-loop decreases-loop
@@ -56,7 +56,7 @@ loop-again c =
     let s = c.before.before.before.before.before.before.before.before.before.before.before.before in
     let l = c.loop-j in
     let h = c.loop-j-test.true in
-    let e = along_on s.args.s (row_of_table s) s.args.n l.j _ c.row-y.ensures h (not-false _ c.if-not-y-s.false) in
+    let e = along_on s.args.s (row_of_table s) s.args.n l.j _ c.row-y.ensures h c.if-not-y-s.false in
     (omega (arith, l.invariant.0), omega (arith, h), sym e ∙ l.invariant.2)
 
 returns-2 : tie.Need-returns invariant-loop decreases-loop

@@ -69,7 +69,7 @@ reloc-at-requires c κs = held_at _ _ _ c.requires.0.readable c.loop-i.i _ c.loo
 add-add-piece-reloc : tie.Need-overflow_add-made invariant-loop decreases-loop
 add-add-piece-reloc c =
     let s = c in
-    omega (arith, s.requires.1, s.well-formed.1.1.1.1.1.1.0, c.loop-i-test.true)
+    omega (arith, s.requires.1, s.well_formed.1.1.1.1.1.1.0, c.loop-i-test.true)
 
 cast-t16 : tie.Need-overflow_cast-k invariant-loop decreases-loop
 cast-t16 c = omega (arith, inside c.before, c.requires.0.few)
@@ -86,7 +86,7 @@ add-piece-reloc-requires c κs =
     omega (arith, s.requires.1, c.loop-i.invariant.1, c.loop-i-test.true)
 
 add-i : tie.Need-overflow_add-i invariant-loop decreases-loop
-add-i c = omega (arith, c.well-formed.1.1.0, c.loop-i-test.true)
+add-i c = omega (arith, c.well_formed.1.1.0, c.loop-i-test.true)
 
 loop-less : tie.Need-loop-i-smaller invariant-loop decreases-loop
 loop-less c = omega arith

@@ -98,7 +98,7 @@ returns c =
     omega (arith, full, symbols_longer (image s) s.args.unit s.args.place s.args.s (wanted k) (drop ((at k).loop-i.i + 1) s.args.part.now), ap length (turn k))
 
 add-i : tie.Need-overflow_add-i invariant-loop decreases-loop
-add-i c = omega (arith, c.well-formed.1.1.1.1.1.0, c.loop-i-test.true)
+add-i c = omega (arith, c.well_formed.1.1.1.1.1.0, c.loop-i-test.true)
 
 loop-less : tie.Need-loop-i-smaller invariant-loop decreases-loop
 loop-less c = omega arith
@@ -110,15 +110,15 @@ loop-again c =
     let l = (at k).loop-i in
     let now : AddsNow (wanted k) s.args.room k.add_symbol-added.new.chains k.add_symbol-added.new.out c.in-Now.m = subst (Adds (wanted k) s.args.room k.add_symbol-added.new.chains k.add_symbol-added.new.out) c.in-Now.is k.add_symbol-added.ensures in (
       omega arith,
-      k.add_symbol-added.auto.chains ∙ l.inv.1,
-      k.add_symbol-added.auto.out ∙ l.inv.2,
+      k.add_symbol-added.auto.chains ∙ l.invariant.1,
+      k.add_symbol-added.auto.out ∙ l.invariant.2,
       record {
         chained = now.chained;
         few = now.few;
-        long = omega (arith, l.inv.3.long, k.add_symbol-added.auto.chains);
-        out_long = omega (arith, l.inv.3.out_long, k.add_symbol-added.auto.out);
-        most = l.inv.3.most;
-        most_symbols = l.inv.3.most_symbols;
+        long = omega (arith, l.invariant.3.long, k.add_symbol-added.auto.chains);
+        out_long = omega (arith, l.invariant.3.out_long, k.add_symbol-added.auto.out);
+        most = l.invariant.3.most;
+        most_symbols = l.invariant.3.most_symbols;
       },
       ap (λ (e : List PieceSymbol). add_symbols (image s) s.args.unit s.args.place s.args.s e (drop (l.i + 1) s.args.part.now)) now.is ∙ turn k,
     )
