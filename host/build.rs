@@ -1,8 +1,8 @@
 //! Links libentries.a, from the folder `$ENTRIES_LIB`, counted from the project's
-//! root, else `target/staticlib` there.
+//! root, else `crates/entries/out` there.
 use std::{env, path::PathBuf};
 
-const DEFAULT: &str = "target/staticlib";
+const DEFAULT: &str = "crates/entries/out";
 
 fn main() {
     println!("cargo::rerun-if-env-changed=ENTRIES_LIB");
@@ -14,7 +14,7 @@ fn main() {
     println!("cargo::rerun-if-changed={}", archive.display());
     if !archive.is_file() {
         println!(
-            "cargo::error=no {}: make it with `rt staticlib entries`, or set ENTRIES_LIB",
+            "cargo::error=no {}: make it by `rt lib` in crates/entries, or set ENTRIES_LIB",
             archive.display()
         );
         return;

@@ -1,6 +1,6 @@
 #!/usr/bin/env bash
 # measure.sh OUT [SMALL LARGE SECONDS]: measures anew what docs/MEASURED.md shows, and writes it to OUT as Markdown; what OUT has up to the line of MARK below stays.
-# It takes libentries.a as it stands (`rt staticlib entries`), builds the host for measuring and for comparing, and needs valgrind. SMALL, LARGE and SECONDS
+# It takes libentries.a as it stands (`rt lib` in crates/entries), builds the host for measuring and for comparing, and needs valgrind. SMALL, LARGE and SECONDS
 # bound the soak (else 10,000,000, 100,000 and 3,600). Status: 0, or 1 if something differs or valgrind reports an invalid access.
 set -eu
 MARK='<!-- what follows is written by host/measure.sh -->'

@@ -3,7 +3,7 @@
 # run.sh [FOLDER of libentries.a]     status: 0 if nothing differs
 set -eu
 here=$(dirname "$0")
-lib=$(cd "${1:-$here/../../target/staticlib}" && pwd)/libentries.a
+lib=$(cd "${1:-$here/../../crates/entries/out}" && pwd)/libentries.a
 out=$(mktemp -d)
 trap 'rm -rf "$out"' EXIT
 cd "$here"

@@ -7,7 +7,7 @@ cd "$(dirname "$0")"
 root=$(cd ../.. && pwd)
 work=$(mktemp -d)
 trap 'rm -rf "$work"' EXIT
-cc -O2 -std=c99 -o "$work/growth" growth.c -L "$root/target/staticlib" -lentries
+cc -O2 -std=c99 -o "$work/growth" growth.c -L "$root/crates/entries/out" -lentries
 
 count() {
     valgrind --tool=callgrind --callgrind-out-file="$work/out" --toggle-collect=split_alignment "$work/growth" "$@" 2>&1 >/dev/null |

@@ -147,7 +147,7 @@ pub extern "C" fn update_common_splits(
     )
 }
 
-// The marking alone, "on a lent slice of split records": its proof is a walk by hand.
+// The marking alone, "on a lent slice of split records".
 #[unsafe(no_mangle)]
 pub extern "C" fn mark_common_splits(splits: &mut [Split], section: u16, address: u32)
     ensures { splits.new ≡ map (marked section address) splits.old }
