@@ -148,7 +148,7 @@ module _ (c : Call) (t' : Filled) (e : outcome c ≡ accepted t') where
   -- a name that has bytes is there
   known : (k : ℕ) → 0 < get_or (stage_lengths ends bytes) k 0 → (k < length ends / 2) × (get_or (stage_lengths ends bytes) k 0 ≡ length (get_or old k []))
   unfolding name_lengths
-  known k h = (omega (arith, name_there old k h, many), ListN.get_d_map length old k [])
+  known k h = (omega (arith, name_there old k h, many), ListN.get_or-map length old k [])
 
   head_named : (n : ℕ) → n < sections_of_lem.count → ((sections_of_lem.head n).name < length ends / 2) × (length (get_or old (sections_of_lem.head n).name []) ≤ 64)
   head_named n h =
