@@ -24,9 +24,9 @@ use Rattle.run_file.specs.RunFile.{rooms_in, Holds, Runs}
 use Rattle.run_file.specs.declared.RanFile.{RanFile}
 use Rattle.run_listing.proofs.Readable.{run_readable}
 use Rattle.print_run.specs.Printed.{Printable, PrintableIf, text_of, main_room, Prints}
-use Rattle.core.specs.declared.option.Option.{Option}
-use Rattle.core.specs.declared.result.Result.{Result}
-use Rattle.core.specs.declared.result.Result.TheVariants.{Ok, Err}
+use Rattle.std.specs.declared.option.Option.{Option}
+use Rattle.std.specs.declared.result.Result.{Result}
+use Rattle.std.specs.declared.result.Result.TheVariants.{Ok, Err}
 use Rattle.std.specs.Prelude.{OnOk}
 use Rattle.std.specs.Io.KnownBytes.{Appends}
 use Rattle.pieces.specs.Pieces.{piece_width}

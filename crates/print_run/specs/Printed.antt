@@ -1,7 +1,7 @@
 -- What the functions that print a run are given, which makes each read and each line safe, and what they write. What is listed is `listing` of
 -- listing/specs/Listing.antt, a line at a time from its first cursor on (`lines_listing` of listing/proofs/Whole.antt).
 use Rattle.std.specs.Prelude.{ℕ, ◌≤◌, ◌≡◌, List, length}
-use Rattle.core.specs.declared.option.Option.{Option}
+use Rattle.std.specs.declared.option.Option.{Option}
 use Rattle.std.specs.Io.KnownBytes.{Appends}
 use Rattle.names.specs.Append.{Columns as Beside}
 use Rattle.load.specs.declared.Counts as load
