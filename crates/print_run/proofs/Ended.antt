@@ -4,7 +4,7 @@ use Prim.Native.Nat.{ℕ, ◌+◌, ◌≤◌}
 use mathlib.Core.Path.{◌≡◌, refl, ap, ◌∙◌}
 use mathlib.Core.List.{List}
 use native.Mathlib.Omega.{arith}
-use lib.ListN.{length, take, drop, length-take, length-drop}
+use lib.ListN.{length, drop, length-take, length-drop}
 use Rattle.lists.specs.Outcome.{Outcome, accepted, ◌>>=◌}
 use Rattle.names.specs.Append.{Columns as Beside}
 use Rattle.tables.specs.Tables.{main_ceilings}
@@ -13,7 +13,6 @@ use Rattle.load.specs.Load.{Loaded, load_of}
 use Rattle.load.specs.Columns.{part, tables_in}
 use Rattle.loaded.proofs.Bytes.{loaded_usable}
 use Rattle.splits.specs.Columns.{Columns}
-use Rattle.walk.specs.declared.Counts.{Counts}
 use Rattle.stage_walk.specs.Room.{room_for, room_in}
 use Rattle.stage_walk.proofs.Room.{room_low, room_pieces, room_12, room_8}
 use Rattle.run.specs.declared.Ran.{Ran}
@@ -23,7 +22,7 @@ use Rattle.run.specs.Answers.{ran_in}
 use Rattle.run_file.specs.RunFile.{rooms_in, Holds, Runs}
 use Rattle.run_file.specs.declared.RanFile.{RanFile}
 use Rattle.run_listing.proofs.Readable.{run_readable}
-use Rattle.print_run.specs.Printed.{Printable, PrintableIf, text_of, main_room, Prints}
+use Rattle.print_run.specs.Printed.{PrintableIf, text_of, main_room, Prints}
 use Rattle.std.specs.declared.option.Option.{Option}
 use Rattle.std.specs.declared.result.Result.{Result}
 use Rattle.std.specs.declared.result.Result.TheVariants.{Ok, Err}
