@@ -52,14 +52,16 @@ returns-2 c =
     let a = c.args in
     let cleared = c.clear_from.ensures in
     let passed = c.in_default.is in
-    elim c.if-out-ge8.branch [ then-out-ge8 w ↦
-    put_leaves a.r _ c.word_of-2.ensures a.out.now _ passed (omega (arith, w.if-out-ge8.true, c.clear_from.auto.out))
-    (w.out-is
-    ∙ sets_then (clear_from 0 0 a.out.now) 0 (enc32 a.r.place.offset) 4 (enc32 a.r.place.length) w.put32-then-out-ge8.ensures
-    (w.put32.ensures ∙ ap (λ (l : List ℕ). sets l 0 (enc32 a.r.place.offset)) cleared) refl)
-    | else-out-ge8 w ↦
-    none_leaves a.r _ c.word_of-2.ensures a.out.now _ passed (omega (arith, w.if-out-ge8.false, c.clear_from.auto.out))
-    (w.out-is ∙ cleared) ]
+    elim c.if-out-ge8.branch [
+      | then-out-ge8 w ↦
+          put_leaves a.r _ c.word_of-2.ensures a.out.now _ passed (omega (arith, w.if-out-ge8.true, c.clear_from.auto.out))
+          (w.out-is
+          ∙ sets_then (clear_from 0 0 a.out.now) 0 (enc32 a.r.place.offset) 4 (enc32 a.r.place.length) w.put32-then-out-ge8.ensures
+          (w.put32.ensures ∙ ap (λ (l : List ℕ). sets l 0 (enc32 a.r.place.offset)) cleared) refl)
+      | else-out-ge8 w ↦
+          none_leaves a.r _ c.word_of-2.ensures a.out.now _ passed (omega (arith, w.if-out-ge8.false, c.clear_from.auto.out))
+          (w.out-is ∙ cleared)
+    ]
 
 pub put_place_spec : {M : Type 1} → statement M
 put_place_spec =

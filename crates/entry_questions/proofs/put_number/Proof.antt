@@ -47,8 +47,10 @@ returns-2 c =
     let a = c.args in
     let cleared = c.clear_from.ensures in
     let passed = c.in_default.is in
-    elim c.if-out-ge4.branch [ then-out-ge4 w ↦ put_leaves a.r _ c.word_of-2.ensures a.out.now _ passed (omega (arith, w.if-out-ge4.true, c.clear_from.auto.out)) (w.out-is ∙ w.put32.ensures ∙ ap (λ (l : List ℕ). sets l 0 (enc32 a.r.value)) cleared)
-    | else-out-ge4 w ↦ none_leaves a.r _ c.word_of-2.ensures a.out.now _ passed (omega (arith, w.if-out-ge4.false, c.clear_from.auto.out)) (w.out-is ∙ cleared) ]
+    elim c.if-out-ge4.branch [
+      | then-out-ge4 w ↦ put_leaves a.r _ c.word_of-2.ensures a.out.now _ passed (omega (arith, w.if-out-ge4.true, c.clear_from.auto.out)) (w.out-is ∙ w.put32.ensures ∙ ap (λ (l : List ℕ). sets l 0 (enc32 a.r.value)) cleared)
+      | else-out-ge4 w ↦ none_leaves a.r _ c.word_of-2.ensures a.out.now _ passed (omega (arith, w.if-out-ge4.false, c.clear_from.auto.out)) (w.out-is ∙ cleared)
+    ]
 
 pub put_number_spec : {M : Type 1} → statement M
 put_number_spec =
