@@ -8,14 +8,14 @@ ghost use Rattle.align.specs.Align.{good_align, bad_align, Aligned};
 pub fn good(a: u32) -> bool
     ensures { result ≡ good_align a }
 {
-    (u32::count_ones(a) == 1) & (a <= 65536)
+    a.count_ones() == 1 && a <= 65536
 }
 
 // Given, and not good: 0 means none.
 pub fn bad(a: u32) -> bool
     ensures { result ≡ bad_align a }
 {
-    (a != 0) & !good(a)
+    a != 0 && !good(a)
 }
 
 // The least multiple of a good alignment at or above `value`. The trailing zeros give the exponent, by which the low bits are shifted out and zeros in.
@@ -23,6 +23,6 @@ pub fn align_up(value: u32, align: u32) -> u32
     requires { (value ≤ 4026531840) × (good_align align ≡ true) }
     ensures { Aligned value align result }
 {
-    let e = u32::trailing_zeros(align);
+    let e = align.trailing_zeros();
     ((value + (align - 1)) >> e) << e
 }

@@ -96,11 +96,9 @@ fn before(bytes: &[u8], used: usize, width: usize) -> u8 {
 // The last `width` bytes once more.
 fn again(bytes: &mut [u8], used: usize, width: usize) -> usize {
     let mut end = used;
-    let mut i: usize = 0;
-    while i < width {
+    for _ in 0..width {
         let v = before(bytes, end, width);
         end = push(bytes, end, v);
-        i += 1;
     }
     end
 }
@@ -108,10 +106,8 @@ fn again(bytes: &mut [u8], used: usize, width: usize) -> usize {
 // The last `width` bytes so many times in all.
 fn repeat(bytes: &mut [u8], used: usize, width: usize, count: usize) -> usize {
     let mut end = used;
-    let mut i: usize = 1;
-    while i < count {
+    for _ in 1..count {
         end = again(bytes, end, width);
-        i += 1;
     }
     end
 }
@@ -119,10 +115,8 @@ fn repeat(bytes: &mut [u8], used: usize, width: usize, count: usize) -> usize {
 // A record file's 4,096 names of two bytes, all different.
 fn numbered_names(bytes: &mut [u8], used: usize) -> usize {
     let mut end = used;
-    let mut i: usize = 0;
-    while i < 4096 {
+    for i in 0..4096 {
         end = numbered_name(bytes, end, i);
-        i += 1;
     }
     end
 }
@@ -135,10 +129,8 @@ fn numbered_name(bytes: &mut [u8], used: usize, i: usize) -> usize {
 
 fn push_all(bytes: &mut [u8], used: usize, from: &[u8]) -> usize {
     let mut end = used;
-    let mut i: usize = 0;
-    while i < from.len() {
-        end = push(bytes, end, from[i]);
-        i += 1;
+    for byte in from {
+        end = push(bytes, end, *byte);
     }
     end
 }

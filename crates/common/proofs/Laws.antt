@@ -1,20 +1,34 @@
 -- Where the common splits begin: the sections named `.bss` found one after the other, and the cases of the answer. Assumes nothing.
-use mathlib.Core.Path.{◌≡◌, refl, sym, ap, ◌∙◌}
+use mathlib.Core.Path.{◌≡◌, refl, sym, ap, subst, ◌∙◌}
 use mathlib.Core.List.{List, [], ◌∷◌, map}
 use mathlib.Core.Bool.{Bool}
-use Prim.Native.Nat.{ℕ, suc, ◌+◌, ◌-◌, ◌≤◌, ◌<◌}
+use Prim.Native.Nat.{ℕ, suc, ◌+◌, ◌-◌, ◌<◌}
 use native.Mathlib.Omega.{arith}
-use borrow.Author.Tests.{lt-ltb, le-ltb}
+use borrow.Author.Tests.{lt-ltb}
 use lib.ListN.{length}
 use Rattle.lists.specs.Rows.{tabulate, keep_if}
 use Rattle.lists.specs.Outcome.{accepted, refused, refuse, ◌>>◌, ◌>>=◌}
 use Rattle.lists.proofs.Parts.{tabulate_all}
 use Rattle.obj.specs.declared.Split.{Split}
 use Rattle.splits.specs.Columns.{Columns, row_at, rows}
-use Rattle.splits.specs.Questions.{Hit}
-use Rattle.common.specs.declared.Bss.TheVariants.{None, One, Many}
-use Rattle.common.specs.Common.{nowhere, on, bss_sections, given_start, first_common, start_of, common_in, common_start, marked_from, marked, common_of, start_meaning}
-use Rattle.common.specs.Sections.{bss_of, first_of, given_of, Next}
+use Rattle.common.specs.declared.Bss.TheVariants as the_bss
+use Rattle.common.specs.declared.Bss.TheVariants.{One, Many}
+use Rattle.std.specs.Prelude.{Option, None, Some}
+use Rattle.common.specs.Common.{nowhere, on, bss_sections, given_start, first_common, start_of, common_in, common_start, marked_from, marked, common_of, start_meaning, First}
+use Rattle.common.specs.Sections.{bss_of, first_of, given_of}
+
+-- ---- the first that passes
+module _ {A : Type 0} (p : A → Bool) (f : ℕ → A) (n from : ℕ) where
+  pub first_hit : (k : ℕ) → k < n → keep_if p (tabulate f from (n - from)) ≡ f k ∷ keep_if p (tabulate f (k + 1) (n - (k + 1))) → First p f n from (Some k)
+  first_hit k h e = record {
+    there = λ j z.
+        let same : k ≡ j = cc in
+        subst (λ (m : ℕ). (m < n) × (keep_if p (tabulate f from (n - from)) ≡ f m ∷ keep_if p (tabulate f (m + 1) (n - (m + 1))))) same (h, e);
+    none = λ z. absurd (cc);
+  }
+
+  pub first_none : keep_if p (tabulate f from (n - from)) ≡ [] → First p f n from None
+  first_none e = record { there = λ j z. absurd (cc); none = λ z. e }
 
 -- ---- the sections named `.bss`
 module _ (p : ℕ → Bool) (n : ℕ) where
@@ -22,22 +36,15 @@ module _ (p : ℕ → Bool) (n : ℕ) where
   unfolding bss_sections
   from_first = ap (keep_if p) (tabulate_all (λ k. k) n)
 
-  -- one that there is, or none
-  there : {from : ℕ} (r : ℕ) → Next p n from r → r < n → keep_if p (tabulate (λ k. k) from (n - from)) ≡ r ∷ keep_if p (tabulate (λ k. k) (r + 1) (n - (r + 1)))
-  there r h l = h.is ∙ rw (lt-ltb r n l)
+  pub bss_none : (r : Option ℕ) → First p (λ k. k) n 0 r → r ≡ None → the_bss.None ≡ bss_of (bss_sections p n)
+  bss_none r h e = sym (ap bss_of (sym from_first ∙ h.none e))
 
-  past : {from : ℕ} (r : ℕ) → Next p n from r → n ≤ r → keep_if p (tabulate (λ k. k) from (n - from)) ≡ []
-  past r h l = h.is ∙ rw (le-ltb r n l)
+  module _ (r : Option ℕ) (h : First p (λ k. k) n 0 r) (first : ℕ) (l : r ≡ Some first) (t : Option ℕ) (g : First p (λ k. k) n (first + 1) t) where
+    pub bss_many : (second : ℕ) → t ≡ Some second → Many ≡ bss_of (bss_sections p n)
+    bss_many second m = sym (ap bss_of (sym from_first ∙ (h.there first l).1 ∙ ap (λ (s : List ℕ). first ∷ s) (g.there second m).1))
 
-  pub bss_none : (first : ℕ) → Next p n 0 first → n ≤ first → None ≡ bss_of (bss_sections p n)
-  bss_none first h l = sym (ap bss_of (sym from_first ∙ past first h l))
-
-  module _ (first : ℕ) (h : Next p n 0 first) (l : first < n) (second : ℕ) (g : Next p n (first + 1) second) where
-    pub bss_many : second < n → Many ≡ bss_of (bss_sections p n)
-    bss_many m = sym (ap bss_of (sym from_first ∙ there first h l ∙ ap (λ (t : List ℕ). first ∷ t) (there second g m)))
-
-    pub bss_one : n ≤ second → One first ≡ bss_of (bss_sections p n)
-    bss_one m = sym (ap bss_of (sym from_first ∙ there first h l ∙ ap (λ (t : List ℕ). first ∷ t) (past second g m)))
+    pub bss_one : t ≡ None → One first ≡ bss_of (bss_sections p n)
+    bss_one m = sym (ap bss_of (sym from_first ∙ (h.there first l).1 ∙ ap (λ (s : List ℕ). first ∷ s) (g.none m)))
 
 -- ---- where the common splits begin
 
@@ -54,23 +61,17 @@ first_is (k ∷ []) l = refl
 first_is (k ∷ j ∷ s) l = refl
 
 -- the first common row of a section
-module _ (section : ℕ) (c : Columns) (n r : ℕ) (h : Hit (common_in section) c n 0 r) where
+module _ (section : ℕ) (c : Columns) (n : ℕ) (r : Option ℕ) (h : First (common_in section) (row_at c) n 0 r) where
   all_rows : keep_if (common_in section) (tabulate (row_at c) 0 (n - 0)) ≡ keep_if (common_in section) (rows c n)
   all_rows = ap (keep_if (common_in section)) (tabulate_all (row_at c) n)
 
-  hit : r < n → keep_if (common_in section) (tabulate (row_at c) 0 (n - 0)) ≡ row_at c r ∷ keep_if (common_in section) (tabulate (row_at c) (r + 1) (n - (r + 1)))
-  hit l = h.is ∙ rw (lt-ltb r n l)
-
-  no_hit : n ≤ r → keep_if (common_in section) (tabulate (row_at c) 0 (n - 0)) ≡ []
-  no_hit l = h.is ∙ rw (le-ltb r n l)
-
-  pub start_there : r < n → on section (row_at c r).start ≡ start_of section (keep_if (common_in section) (rows c n))
+  pub start_there : (k : ℕ) → r ≡ Some k → on section (row_at c k).start ≡ start_of section (keep_if (common_in section) (rows c n))
   unfolding start_of
-  start_there l = sym (ap (start_of section) (sym all_rows ∙ hit l))
+  start_there k e = sym (ap (start_of section) (sym all_rows ∙ (h.there k e).1))
 
-  pub start_past : n ≤ r → nowhere ≡ start_of section (keep_if (common_in section) (rows c n))
+  pub start_past : r ≡ None → nowhere ≡ start_of section (keep_if (common_in section) (rows c n))
   unfolding start_of
-  start_past l = sym (ap (start_of section) (sym all_rows ∙ no_hit l))
+  start_past e = sym (ap (start_of section) (sym all_rows ∙ h.none e))
 
 -- ---- the stage, by the cases of the start
 module _ (given : Bool) (start : ℕ) (bss : List ℕ) (l : List Split) where

@@ -2,16 +2,15 @@
 -- "Common (0, 0)", "30 several `.bss`; 31 none; both only with a start given". In the Rust: `update_common_splits`, `common_bss_start`, `by_name`.
 -- A section is a `.bss` by its name alone; "first" is in table order, "on" by address, so that splits at the same start before the first common one become common
 -- too; a given start is any number (DECISIONS.md, 40).
-use Rattle.std.specs.Prelude.{ℕ, ◌%◌, List, [], ◌∷◌, map, Bool, cond, ◌&&◌, eqb, leb, ltb, length, get_or}
+use Rattle.std.specs.Prelude.{◌≡◌, ◌<◌, ◌+◌, ◌-◌, ℕ, List, [], ◌∷◌, map, Bool, cond, ◌&&◌, eqb, leb, ltb, length, get_or}
 use Rattle.lists.specs.Rows.{tabulate, keep_if}
 use Rattle.lists.specs.Outcome.{Outcome, accepted, refused, refuse, ◌>>◌, ◌>>=◌}
 use Rattle.obj.specs.declared.Split.{Split}
-use Rattle.obj.specs.declared.Answer.{Answer}
-use Rattle.obj.specs.declared.Answer.TheVariants.{Accepted, Refused}
+use Rattle.obj.specs.Answers.{Answer}
+use Rattle.std.specs.Prelude.{Option, None, Some, Result, Ok, Err}
+use Rattle.obj.specs.declared.Refusal.{Refusal}
 use Rattle.splits.specs.Updates.{with_common}
 use Rattle.splits.specs.Questions.{is_common}
-use Rattle.common.specs.declared.CommonStart.{CommonStart}
-use Rattle.common.specs.declared.CommonStart.TheVariants.{Nowhere, On, Several, Absent}
 
 -- ---- where the common splits begin
 
@@ -68,14 +67,21 @@ common_of given start bss rows = common_start given start bss rows >>= λ from. 
 
 -- ---- the code's answers
 
--- document 01's numbers and values for each case
-abbrev pub start_meaning : CommonStart → Outcome From
-start_meaning Nowhere = accepted nowhere
-start_meaning (On section address) = accepted (on section address)
-start_meaning Several = refused 30 0 0
-start_meaning Absent = refused 31 0 0
+-- a section and an address, or none
+abbrev pub from_of : Option (ℕ × ℕ) → From
+from_of None = nowhere
+from_of (Some (section, address)) = on section address
+
+abbrev pub start_meaning : Result (Option (ℕ × ℕ)) Refusal → Outcome From
+start_meaning (Ok at) = accepted (from_of at)
+start_meaning (Err r) = refused r.number r.section r.address
 
 -- an answer, and the rows that are left where it accepts
 abbrev pub answered : Answer → List Split → Outcome (List Split)
-answered Accepted rows = accepted rows
-answered (Refused number section address) rows = refused number section address
+answered (Ok u) rows = accepted rows
+answered (Err r) rows = refused r.number r.section r.address
+
+-- r is the first number k from `from` on, below n, of which f k passes, if there is one
+pub record First {A : Type 0} (p : A → Bool) (f : ℕ → A) (n from : ℕ) (r : Option ℕ) : Type 0 where
+  pub there : (k : ℕ) → r ≡ Some k → (k < n) × (keep_if p (tabulate f from (n - from)) ≡ f k ∷ keep_if p (tabulate f (k + 1) (n - (k + 1))))
+  pub none : r ≡ None → keep_if p (tabulate f from (n - from)) ≡ []

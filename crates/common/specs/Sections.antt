@@ -1,15 +1,15 @@
 -- The sections named `.bss`, over the tables in which the stages keep heads and names: section k's head lies at its place, and its name is a number of the
 -- name columns.
-use Rattle.std.specs.Prelude.{ℕ, ◌+◌, ◌-◌, ◌<◌, ◌≤◌, ◌≡◌, List, [], ◌∷◌, Bool, cond, ltb, length, get_or}
-use Rattle.lists.specs.Rows.{tabulate, keep_if}
+use Rattle.std.specs.Prelude.{ℕ, ◌<◌, ◌≤◌, List, [], ◌∷◌, Bool, length, get_or}
+use Rattle.lists.specs.Rows.{keep_if}
 use Rattle.obj.specs.Records.{section_at, Held}
 use Rattle.obj.specs.declared.Split.{Split}
 use Rattle.names.specs.Names.{name_at, Named}
 use Rattle.names.specs.Fixed.{is_bss}
 use Rattle.common.specs.declared.Bss.{Bss}
 use Rattle.common.specs.declared.Bss.TheVariants.{None, One, Many}
-use Rattle.common.specs.declared.CommonStart.{CommonStart}
-use Rattle.common.specs.declared.CommonStart.TheVariants.{On, Several, Absent}
+use Rattle.std.specs.Prelude.{Option, Some, Result, Ok, Err}
+use Rattle.obj.specs.declared.Refusal.{Refusal}
 use Rattle.common.specs.Common.{From, nowhere, bss_sections, start_of, common_in}
 
 -- section k is named `.bss`
@@ -38,12 +38,8 @@ first_of None rows = nowhere
 first_of (One section) rows = start_of section (keep_if (common_in section) rows)
 first_of Many rows = nowhere
 
-abbrev pub given_of : (start : ℕ) → Bss → CommonStart
-given_of start None = Absent
-given_of start (One section) = On section start
-given_of start Many = Several
-
--- r is the first number from `from` on that passes, of those below n, or n
-pub record Next (p : ℕ → Bool) (n from r : ℕ) : Type 0 where
-  pub is : keep_if p (tabulate (λ k. k) from (n - from)) ≡ cond (ltb r n) (r ∷ keep_if p (tabulate (λ k. k) (r + 1) (n - (r + 1)))) []
-  pub small : r ≤ n
+-- "30 several `.bss`; 31 none"
+abbrev pub given_of : (start : ℕ) → Bss → Result (Option (ℕ × ℕ)) Refusal
+given_of start None = Err (record { number = 31; section = 0; address = 0 })
+given_of start (One section) = Ok (Some (section, start))
+given_of start Many = Err (record { number = 30; section = 0; address = 0 })

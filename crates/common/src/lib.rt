@@ -5,14 +5,13 @@
 ghost use Rattle.std.specs.Prelude.{◌≡◌, map, ◌&&◌, eqb, ℕ, ◌/◌, ◌%◌, ◌<◌, ◌≤◌, length, take};
 ghost use Rattle.lists.specs.Rows.{keep_if};
 ghost use Rattle.lists.specs.Outcome.{accepted};
-ghost use Rattle.splits.specs.Columns.{columns, row_of, rows, Long};
-ghost use Rattle.splits.specs.Questions.{Hit};
-ghost use Rattle.common.specs.Common.{common_in, common_start, start_meaning, start_of, marked, common_of, answered};
+ghost use Rattle.splits.specs.Columns.{columns, row_of, row_at, rows, Long};
+ghost use Rattle.common.specs.Common.{common_in, common_start, from_of, start_meaning, start_of, marked, common_of, answered, First};
 ghost use Rattle.common.specs.Records.{Kept};
-ghost use Rattle.common.specs.Sections.{bss_at, bss_in, bss_of, first_of, given_of, Sections, Next};
+ghost use Rattle.common.specs.Sections.{bss_at, bss_in, bss_of, first_of, given_of, Sections};
 
 use names::{is_bss, name_at};
-use obj::{Answer, Split, refusal, section_at};
+use obj::{Refusal, Split, refuse, section_at};
 use splits::{rest_of, row};
 
 // The sections named `.bss`.
@@ -23,24 +22,7 @@ pub enum Bss {
     Many,
 }
 
-// Where the common splits begin.
-#[derive(Clone, Copy)]
-pub enum CommonStart {
-    Nowhere,
-    On(u16, u32),
-    // 30
-    Several,
-    // 31
-    Absent,
-}
-
 // ---- the section
-
-fn index(k: u16) -> usize
-    ensures { result ≡ k }
-{
-    k as usize
-}
 
 // Whether section k is named `.bss`.
 fn is_bss_at(
@@ -55,11 +37,11 @@ fn is_bss_at(
     ensures { result ≡ bss_at name_bytes.now name_places.now name_lengths.now heads.now places.now k }
 {
     let head = section_at(heads, places, k);
-    let name = index(head.name);
+    let name = head.name as usize;
     is_bss(name_at(name_bytes, name_places, name_lengths, name))
 }
 
-// The first section from `from` on that is named `.bss`, or their count.
+// The first section from `from` on that is named `.bss`.
 fn next_bss(
     name_bytes: &[u8],
     name_places: &[u32],
@@ -67,18 +49,16 @@ fn next_bss(
     heads: &[u8],
     places: &[u32],
     from: usize,
-) -> usize
+) -> Option<usize>
     requires { Sections name_bytes.now name_places.now name_lengths.now heads.now places.now × (from ≤ length places.now) }
-    ensures { Next (bss_at name_bytes.now name_places.now name_lengths.now heads.now places.now) (length places.now) from result }
+    ensures { First (bss_at name_bytes.now name_places.now name_lengths.now heads.now places.now) (λ k. k) (length places.now) from result }
 {
-    let mut k = from;
-    while k < places.len() {
+    for k in from..places.len() {
         if is_bss_at(name_bytes, name_places, name_lengths, heads, places, k) {
-            return k;
+            return Some(k);
         }
-        k += 1;
     }
-    k
+    None
 }
 
 // `by_name(".bss")`: at most one section may have the name.
@@ -92,11 +72,9 @@ fn by_name(
     requires { Sections name_bytes.now name_places.now name_lengths.now heads.now places.now }
     ensures { result ≡ bss_of (bss_in name_bytes.now name_places.now name_lengths.now heads.now places.now) }
 {
-    let n = places.len();
-    let first = next_bss(name_bytes, name_places, name_lengths, heads, places, 0);
-    if n <= first {
+    let Some(first) = next_bss(name_bytes, name_places, name_lengths, heads, places, 0) else {
         return Bss::None;
-    }
+    };
     let second = next_bss(
         name_bytes,
         name_places,
@@ -105,10 +83,10 @@ fn by_name(
         places,
         first + 1,
     );
-    if second < n {
-        return Bss::Many;
+    match second {
+        Some(_) => Bss::Many,
+        None => Bss::One(first as u16),
     }
-    Bss::One(first as u16)
 }
 
 // ---- where the common splits begin
@@ -120,7 +98,7 @@ fn is_common_in(section: u16, yrest: u64) -> bool
     (yrest % 65536 == section as u64) & (yrest / 4294967296 % 256 % 2 == 1)
 }
 
-// The first common row of a section, or n.
+// The first common row of a section.
 fn first_common(
     starts: &[u32],
     ends: &[u32],
@@ -128,18 +106,16 @@ fn first_common(
     rest: &[u64],
     n: usize,
     section: u16,
-) -> usize
+) -> Option<usize>
     requires { Long (columns starts.now ends.now units.now rest.now) n }
-    ensures { Hit (common_in section) (columns starts.now ends.now units.now rest.now) n 0 result }
+    ensures { First (common_in section) (row_at (columns starts.now ends.now units.now rest.now)) n 0 result }
 {
-    let mut i: usize = 0;
-    while i < n {
+    for i in 0..n {
         if is_common_in(section, rest[i]) {
-            return i;
+            return Some(i);
         }
-        i += 1;
     }
-    i
+    None
 }
 
 // "else from the first common one on": of the one `.bss`.
@@ -150,15 +126,12 @@ fn first_start(
     rest: &[u64],
     n: usize,
     section: u16,
-) -> CommonStart
+) -> Option<(u16, u32)>
     requires { Long (columns starts.now ends.now units.now rest.now) n }
-    ensures { start_meaning result ≡ accepted (start_of section (keep_if (common_in section) (rows (columns starts.now ends.now units.now rest.now) n))) }
+    ensures { from_of result ≡ start_of section (keep_if (common_in section) (rows (columns starts.now ends.now units.now rest.now) n)) }
 {
-    let i = first_common(starts, ends, units, rest, n, section);
-    if i < n {
-        return CommonStart::On(section, starts[i]);
-    }
-    CommonStart::Nowhere
+    let i = first_common(starts, ends, units, rest, n, section)?;
+    Some((section, starts[i]))
 }
 
 // `common_bss_start`: without a start several `.bss` or none change nothing.
@@ -169,29 +142,29 @@ fn common_bss_start(
     units: &[u16],
     rest: &[u64],
     n: usize,
-) -> CommonStart
+) -> Option<(u16, u32)>
     requires { Long (columns starts.now ends.now units.now rest.now) n }
-    ensures { start_meaning result ≡ accepted (first_of bss (rows (columns starts.now ends.now units.now rest.now) n)) }
+    ensures { from_of result ≡ first_of bss (rows (columns starts.now ends.now units.now rest.now) n) }
 {
     match bss {
-        Bss::None => CommonStart::Nowhere,
+        Bss::None => None,
         Bss::One(section) => first_start(starts, ends, units, rest, n, section),
-        Bss::Many => CommonStart::Nowhere,
+        Bss::Many => None,
     }
 }
 
-// "the given address", in the one `.bss`.
-fn given_start(bss: Bss, start: u32) -> CommonStart
+// "the given address", in the one `.bss`: "30 several `.bss`; 31 none".
+fn given_start(bss: Bss, start: u32) -> Result<Option<(u16, u32)>, Refusal>
     ensures { result ≡ given_of start bss }
 {
     match bss {
-        Bss::None => CommonStart::Absent,
-        Bss::One(section) => CommonStart::On(section, start),
-        Bss::Many => CommonStart::Several,
+        Bss::None => refuse(31, 0, 0),
+        Bss::One(section) => Ok(Some((section, start))),
+        Bss::Many => refuse(30, 0, 0),
     }
 }
 
-// Where the common splits begin: "the given address .., else .. the first common one".
+// The section and the address where the common splits begin, if they begin anywhere: "the given address .., else .. the first common one".
 pub fn common_start(
     name_bytes: &[u8],
     name_places: &[u32],
@@ -205,7 +178,7 @@ pub fn common_start(
     n: usize,
     has_start: bool,
     start: u32,
-) -> CommonStart
+) -> Result<Option<(u16, u32)>, Refusal>
     requires { Sections name_bytes.now name_places.now name_lengths.now heads.now places.now × Long (columns starts.now ends.now units.now rest.now) n }
     ensures { start_meaning result
         ≡ common_start has_start start (bss_in name_bytes.now name_places.now name_lengths.now heads.now places.now)
@@ -215,7 +188,7 @@ pub fn common_start(
     if has_start {
         return given_start(bss, start);
     }
-    common_bss_start(bss, starts, ends, units, rest, n)
+    Ok(common_bss_start(bss, starts, ends, units, rest, n))
 }
 
 // ---- the marking, in the columns
@@ -244,10 +217,8 @@ pub fn mark_columns(
     ensures { rows (columns starts.now ends.now units.now rest.new) n
         ≡ map (marked section address) (rows (columns starts.now ends.now units.now rest.old) n) }
 {
-    let mut i: usize = 0;
-    while i < n {
+    for i in 0..n {
         rest[i] = marked_rest(starts[i], rest[i], section, address);
-        i += 1;
     }
 }
 
@@ -269,10 +240,8 @@ pub fn marked_split(s: Split, section: u16, address: u32) -> Split
 pub fn mark_common_splits(splits: &mut [Split], section: u16, address: u32)
     ensures { splits.new ≡ map (marked section address) splits.old }
 {
-    let mut i: usize = 0;
-    while i < splits.len() {
+    for i in 0..splits.len() {
         splits[i] = marked_split(splits[i], section, address);
-        i += 1;
     }
 }
 
@@ -301,10 +270,8 @@ fn records(starts: &[u32], ends: &[u32], units: &[u16], rest: &[u64], n: usize) 
         origin: 0,
     };
     let mut table = [none; 1024];
-    let mut i: usize = 0;
-    while i < n {
+    for i in 0..n {
         table[i] = row(starts, ends, units, rest, i);
-        i += 1;
     }
     table
 }
@@ -321,10 +288,8 @@ fn put_records(
     requires { Long (columns starts.now ends.now units.now rest.old) n × (n ≤ 1024) × Kept (columns starts.now ends.now units.now rest.old) table n }
     ensures { rows (columns starts.now ends.now units.now rest.new) n ≡ take n table }
 {
-    let mut i: usize = 0;
-    while i < n {
+    for i in 0..n {
         rest[i] = rest_of(table[i]);
-        i += 1;
     }
 }
 
@@ -363,7 +328,7 @@ pub fn update_common_splits(
     n: usize,
     has_start: bool,
     start: u32,
-) -> Answer
+) -> Result<(), Refusal>
     requires { Sections name_bytes.now name_places.now name_lengths.now heads.now places.now × Long (columns starts.now ends.now units.now rest.old) n }
     ensures { answered result (rows (columns starts.now ends.now units.now rest.new) n)
         ≡ common_of has_start start (bss_in name_bytes.now name_places.now name_lengths.now heads.now places.now)
@@ -382,16 +347,11 @@ pub fn update_common_splits(
         n,
         has_start,
         start,
-    );
-    match from {
-        CommonStart::Nowhere => Answer::Accepted,
-        CommonStart::On(section, address) => {
-            mark_columns(starts, ends, units, rest, n, section, address);
-            Answer::Accepted
-        }
-        CommonStart::Several => refusal(30, 0, 0),
-        CommonStart::Absent => refusal(31, 0, 0),
+    )?;
+    if let Some((section, address)) = from {
+        mark_columns(starts, ends, units, rest, n, section, address);
     }
+    Ok(())
 }
 
 // The same on split records.
@@ -408,7 +368,7 @@ pub fn update_common_records(
     n: usize,
     has_start: bool,
     start: u32,
-) -> Answer
+) -> Result<(), Refusal>
     requires { Sections name_bytes.now name_places.now name_lengths.now heads.now places.now × Long (columns starts.now ends.now units.now rest.old) n × (n ≤ 1024) }
     ensures { answered result (rows (columns starts.now ends.now units.now rest.new) n)
         ≡ common_of has_start start (bss_in name_bytes.now name_places.now name_lengths.now heads.now places.now)
@@ -427,14 +387,9 @@ pub fn update_common_records(
         n,
         has_start,
         start,
-    );
-    match from {
-        CommonStart::Nowhere => Answer::Accepted,
-        CommonStart::On(section, address) => {
-            mark_records(starts, ends, units, rest, n, section, address);
-            Answer::Accepted
-        }
-        CommonStart::Several => refusal(30, 0, 0),
-        CommonStart::Absent => refusal(31, 0, 0),
+    )?;
+    if let Some((section, address)) = from {
+        mark_records(starts, ends, units, rest, n, section, address);
     }
+    Ok(())
 }

@@ -1,26 +1,25 @@
 -- From the search to the entering: what the entering asks of the tables and of the gaps, and the outcome of both. Assumes nothing.
-use mathlib.Core.Path.{◌≡◌, refl, sym, ap, ◌∙◌}
+use mathlib.Core.Path.{◌≡◌, sym, ap, ◌∙◌}
 use mathlib.Core.List.{List}
-use Prim.Native.Nat.{ℕ, ◌≤◌, ◌<◌}
+use Prim.Native.Nat.{ℕ}
 use native.Mathlib.Omega.{arith}
 use lib.ListN.{length}
-use Rattle.lists.specs.Outcome.{Outcome, accepted, refused, ◌>>=◌}
+use Rattle.lists.specs.Outcome.{accepted, refused}
 use Rattle.lists.proofs.All.{all_map}
 use Rattle.lists.proofs.Binds.{bind_goes, bind_stops}
 use Rattle.names.specs.Names.{names_of}
 use Rattle.names.specs.Index.{Indexed}
 use Rattle.tables.specs.Tables.{AllHeld}
-use Rattle.symbol_order.specs.Order.{symbol_of}
 use Rattle.symbols.specs.Sound.{Sound}
 use Rattle.sections.specs.Image.{Image, Tables}
 use Rattle.sections.specs.Sections.{Sections, Kept}
 use Rattle.splits.specs.Columns.{Columns, rows}
 use Rattle.merge.specs.Merge.{Given}
-use Rattle.gap_columns.specs.Columns.{Gap, gaps_in}
+use Rattle.gap_columns.specs.Columns.{gaps_in}
 use Rattle.gaps.specs.Gaps.{found_gaps}
-use Rattle.gaps.specs.Found.{searched, Roomy, Lies}
-use Rattle.gaps.specs.declared.Search.{Search}
-use Rattle.gaps.specs.declared.Search.TheVariants.{Found, Refused}
+use Rattle.gaps.specs.Found.{searched, Roomy}
+use Rattle.std.specs.Prelude.{Result, Ok, Err}
+use Rattle.obj.specs.declared.Refusal.{Refusal}
 use Rattle.gaps.proofs.Inside.{found_lies, found_rising}
 use Rattle.gaps.proofs.Sections.{found-fits}
 use Rattle.gap_splits.specs.Entering.{Filled, Ceilings, filled}
@@ -46,11 +45,11 @@ module _ (heads head_places image image_places name_places : List ℕ) (kept : K
 -- ---- the gaps
 module _ (g : Image) (sections : Sections) (c : Columns) (m : ℕ) where
   -- a search that found them
-  is_found : (keys ends : List ℕ) {s : Search} (count : ℕ) → searched keys ends s ≡ found_gaps g sections (rows c m) → s ≡ Found count → found_gaps g sections (rows c m) ≡ accepted (gaps_in keys ends count)
+  is_found : (keys ends : List ℕ) {s : Result ℕ Refusal} (count : ℕ) → searched keys ends s ≡ found_gaps g sections (rows c m) → s ≡ Ok count → found_gaps g sections (rows c m) ≡ accepted (gaps_in keys ends count)
   is_found keys ends count e f = sym e ∙ ap (searched keys ends) f
 
-  pub found_gaps_lem : (keys₀ ends₀ keys ends : List ℕ) {s : Search} (count : ℕ) → Sound g.symbol g.count → Roomy keys₀ ends₀ sections.count m g.count → length keys ≡ length keys₀ → length ends ≡ length ends₀
-      → searched keys ends s ≡ found_gaps g sections (rows c m) → s ≡ Found count → Gaps keys ends count sections.count
+  pub found_gaps_lem : (keys₀ ends₀ keys ends : List ℕ) {s : Result ℕ Refusal} (count : ℕ) → Sound g.symbol g.count → Roomy keys₀ ends₀ sections.count m g.count → length keys ≡ length keys₀ → length ends ≡ length ends₀
+      → searched keys ends s ≡ found_gaps g sections (rows c m) → s ≡ Ok count → Gaps keys ends count sections.count
   found_gaps_lem keys₀ ends₀ keys ends count sound room ek ee e f =
       let q = is_found keys ends count e f in
       let fit = found-fits g sections c m sound keys₀ ends₀ keys ends count room (sym q) in record {
@@ -64,12 +63,12 @@ module _ (g : Image) (sections : Sections) (c : Columns) (m : ℕ) where
     abbrev t : Filled
     t = record { names = names; rows = rows c m }
 
-    pub filled_found : {s : Search} (count : ℕ) → searched keys ends s ≡ found_gaps g sections (rows c m) → s ≡ Found count
+    pub filled_found : {s : Result ℕ Refusal} (count : ℕ) → searched keys ends s ≡ found_gaps g sections (rows c m) → s ≡ Ok count
         → filled (name_in g sections) limits room t (gaps_in keys ends count) ≡ gaps_filled g sections limits room t
     unfolding gaps_filled
     filled_found count e f = sym (bind_goes _ _ (gaps_in keys ends count) (is_found keys ends count e f))
 
-    pub filled_refused : {s : Search} (number section address : ℕ) → searched keys ends s ≡ found_gaps g sections (rows c m) → s ≡ Refused number section address
-        → refused number section address ≡ gaps_filled g sections limits room t
+    pub filled_refused : {s : Result ℕ Refusal} (d : Refusal) → searched keys ends s ≡ found_gaps g sections (rows c m) → s ≡ Err d
+        → refused d.number d.section d.address ≡ gaps_filled g sections limits room t
     unfolding gaps_filled
-    filled_refused number section address e f = sym (bind_stops _ _ number section address (sym e ∙ ap (searched keys ends) f))
+    filled_refused d e f = sym (bind_stops _ _ d.number d.section d.address (sym e ∙ ap (searched keys ends) f))

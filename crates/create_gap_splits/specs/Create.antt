@@ -8,10 +8,6 @@ use Rattle.merge.specs.Merge.{Given}
 use Rattle.gaps.specs.Gaps.{found_gaps}
 use Rattle.gap_splits.specs.Entering.{Filled, Ceilings, filled}
 use Rattle.gap_splits.specs.Answers.{section_names}
-use Rattle.gap_splits.specs.declared.Entered.{Entered}
-use Rattle.gap_splits.specs.declared.Entered.TheVariants as entered
-use Rattle.gaps.specs.declared.Search.{Search}
-use Rattle.gaps.specs.declared.Search.TheVariants.{Found, Refused}
 
 -- the name of section n
 abbrev pub name_in : Image → Sections → ℕ → List ℕ

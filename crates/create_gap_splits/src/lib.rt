@@ -16,7 +16,8 @@ ghost use Rattle.gap_splits.specs.Answers.{beside, Room, Stand, ceilings, meant,
 ghost use Rattle.create_gap_splits.specs.Create.{gaps_filled, Short};
 
 use gap_splits::{Entered, enter_gaps};
-use gaps::{Search, find_gaps};
+use gaps::find_gaps;
+use obj::Refusal;
 
 // `keys` and `gap_ends` keep the gaps between the two halves; `marks` are all 0 before and after.
 pub fn create_gap_splits(
@@ -46,7 +47,7 @@ pub fn create_gap_splits(
     marks: &mut [u8],
     keys: &mut [u64],
     gap_ends: &mut [u32],
-) -> Entered
+) -> Result<Entered, Refusal>
     requires { Tables symbols.now symbol_places.now order.now name_bytes.now name_places.now name_lengths.now
         × Kept heads.now head_places.now image.now image_places.now name_places.now
         × Sound (symbol_of symbols.now symbol_places.now) (length symbol_places.now)
@@ -71,7 +72,7 @@ pub fn create_gap_splits(
         × Stand (beside added_bytes.new added_places.new added_lengths.new) (names result) (used result) most most_bytes
         × (splits result ≤ cap) }
 {
-    let search = find_gaps(
+    let count = find_gaps(
         symbols,
         symbol_places,
         order,
@@ -90,39 +91,28 @@ pub fn create_gap_splits(
         marks,
         keys,
         gap_ends,
-    );
-    match search {
-        Search::Refused {
-            number,
-            section,
-            address,
-        } => Entered::Refused {
-            number,
-            section,
-            address,
-        },
-        Search::Found(count) => enter_gaps(
-            starts,
-            ends,
-            units,
-            rest,
-            n,
-            cap,
-            heads,
-            head_places,
-            name_bytes,
-            name_places,
-            name_lengths,
-            buckets,
-            chain,
-            added_bytes,
-            added_places,
-            added_lengths,
-            most,
-            most_bytes,
-            keys,
-            gap_ends,
-            count,
-        ),
-    }
+    )?;
+    enter_gaps(
+        starts,
+        ends,
+        units,
+        rest,
+        n,
+        cap,
+        heads,
+        head_places,
+        name_bytes,
+        name_places,
+        name_lengths,
+        buckets,
+        chain,
+        added_bytes,
+        added_places,
+        added_lengths,
+        most,
+        most_bytes,
+        keys,
+        gap_ends,
+        count,
+    )
 }

@@ -58,6 +58,7 @@ pub struct SymbolEntry {
 // ---- the structures
 
 // The header of a file.
+#[tactic(auto, unfolding(crate::specs::Elf::header_at))]
 pub fn read_header(b: &[u8]) -> Header
     requires { 52 ≤ length b.now }
     ensures { result ≡ header_at b.now }
@@ -83,6 +84,7 @@ pub fn read_header(b: &[u8]) -> Header
 }
 
 // The section header at `at`.
+#[tactic(auto, unfolding(crate::specs::Elf::section_header_at))]
 pub fn read_section_header(b: &[u8], at: usize) -> SectionHeader
     requires { at + 40 ≤ length b.now }
     ensures { result ≡ section_header_at b.now at }
@@ -102,6 +104,7 @@ pub fn read_section_header(b: &[u8], at: usize) -> SectionHeader
 }
 
 // The symbol table entry at `at`.
+#[tactic(auto, unfolding(crate::specs::Elf::symbol_entry_at))]
 pub fn read_symbol_entry(b: &[u8], at: usize) -> SymbolEntry
     requires { at + 16 ≤ length b.now }
     ensures { result ≡ symbol_entry_at b.now at }
@@ -123,14 +126,10 @@ fn string_length(table: &[u8], at: usize) -> usize
     requires { at ≤ length table.now }
     ensures { Spanned table.now at result }
 {
-    let mut i = at;
-    while i < table.len() {
-        if table[i] == 0 {
-            return i - at;
-        }
-        i += 1;
+    match table[at..].iter().position(|byte| *byte == 0) {
+        Some(length) => length,
+        None => table.len() - at,
     }
-    i - at
 }
 
 // The string at `at`: a part of its table, without the NUL; past the table the empty one.
@@ -138,7 +137,7 @@ pub fn string_at<'a>(table: &'a [u8], at: usize) -> &'a [u8]
     ensures { result.now ≡ string_at table.now at }
 {
     if table.len() < at {
-        return &table[0..0];
+        return &[];
     }
     let end = at + string_length(table, at);
     &table[at..end]
@@ -148,12 +147,8 @@ pub fn string_at<'a>(table: &'a [u8], at: usize) -> &'a [u8]
 pub fn ended_below(table: &[u8]) -> usize
     ensures { EndedBelow table.now result }
 {
-    let mut n = table.len();
-    while 0 < n {
-        if table[n - 1] == 0 {
-            return n;
-        }
-        n -= 1;
+    match table.iter().rposition(|byte| *byte == 0) {
+        Some(last) => last + 1,
+        None => 0,
     }
-    0
 }

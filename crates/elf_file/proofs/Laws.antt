@@ -1,23 +1,34 @@
 -- Parts of the file, whether a name is ended by the last NUL of its table, the checks in their order, and what a file that passed is.
 -- Assumes nothing.
-use mathlib.Core.Path.{◌≡◌, refl, sym, ap, ◌∙◌}
-use mathlib.Core.List.{List}
+use mathlib.Core.Path.{◌≡◌, refl, sym, ap, ap₂, ◌∙◌}
+use mathlib.Core.List.{List, []}
 use mathlib.Core.Bool.{Bool, true, false, not}
 use Prim.Native.Nat.{ℕ, ◌+◌, ◌-◌, ◌≤◌, ◌<◌}
 use native.Mathlib.Omega.{arith}
-use borrow.Author.Tests.{ltb-true, ltb-false, le-leb, lt-leb, le-ltb, lt-ltb}
-use lib.Dec.{ltb, leb}
+use borrow.Author.Tests.{eq-eqb, ne_eqb, ltb-true, ltb-false, le-leb, lt-leb, le-ltb, lt-ltb}
+use lib.Dec.{eqb, ltb, leb}
 use lib.ListN.{length, take, drop}
 use Rattle.lists.specs.Outcome.{accepted, refused, refuse}
 use Rattle.lists.proofs.Outcomes.{fails, passes, refuses, allows, then_inv, refuse_inv}
 use Rattle.elf.specs.Strings.{ended_at, EndedBelow}
-use Rattle.elf.specs.Elf.{header_at}
-use Rattle.elf_file.specs.File.{outside, bytes_in, section_bytes, header_table, section_strings, symbol_table, symbol_strings, header_wrong, headers_cut, sections_cut, names_cut, symbol_table_cut, file_check}
+use Rattle.lists.specs.Rows.{first_from}
+use Rattle.lists.proofs.First.{first_here, first_on, first_end}
+use Rattle.elf.specs.Elf.{header_at, no_section_header}
+use Rattle.elf.specs.declared.SectionHeader.{SectionHeader}
+use Rattle.elf_file.specs.File.{outside, bytes_in, section_bytes, count, header_of, section_of, header_table, section_strings, symbol_table, symbol_strings, header_wrong, headers_cut, sections_cut, names_cut, symbol_table_cut, file_check}
+
+-- ---- what a test answered, said of what its argument is
+
+pub asked : {A : Type 0} (f : A → Bool) {x y : A} {r t : Bool} → r ≡ f x → x ≡ y → r ≡ t → f y ≡ t
+asked f e p q = sym (ap f p) ∙ sym e ∙ q
+
+pub asked_both : {A B : Type 0} (f : A → B → Bool) {x y : A} {u v : B} {r t : Bool} → r ≡ f x u → x ≡ y → u ≡ v → r ≡ t → f y v ≡ t
+asked_both f e p q t = sym (ap₂ f p q) ∙ sym e ∙ t
 
 -- ---- parts of the file
 
 module _ (file : List ℕ) (offset size : ℕ) where
-  pub bytes_none : {r : Bool} → r ≡ outside (length file) offset size → r ≡ true → take (0 - 0) (drop 0 file) ≡ bytes_in file offset size
+  pub bytes_none : {r : Bool} → r ≡ outside (length file) offset size → r ≡ true → [] ≡ bytes_in file offset size
   unfolding bytes_in
   bytes_none e q = let t : outside (length file) offset size ≡ true = sym e ∙ q in rw t
 
@@ -39,6 +50,34 @@ not_ended strings limit at h = go (ltb at limit) refl ∙ ap not (sym (h.ended a
     go : (t : Bool) → ltb at limit ≡ t → leb limit at ≡ not (ltb at limit)
     go true e = let q = ltb-true at limit e in rw e (lt-leb limit at q)
     go false e = let q = ltb-false at limit e in rw e (le-leb limit at q)
+
+-- ---- the first SHT_SYMTAB section
+
+abbrev pub is_symbols : (headers : List ℕ) → ℕ → Bool
+is_symbols headers k = eqb (header_of headers k).kind 2
+
+-- the first from k on is the first of all
+abbrev pub FirstFrom : (headers : List ℕ) → ℕ → Type 0
+FirstFrom headers k = first_from (is_symbols headers) k (count headers - k) ≡ first_from (is_symbols headers) 0 (count headers)
+
+module _ (headers : List ℕ) (k : ℕ) where
+  pub symbols_here : {h : SectionHeader} → FirstFrom headers k → k < count headers → h ≡ header_of headers k → h.kind ≡ 2 → h ≡ symbol_table headers
+  unfolding symbol_table section_of
+  symbols_here {h} f l e q =
+      let here : is_symbols headers k ≡ true = eq-eqb (header_of headers k).kind 2 (ap (λ (x : SectionHeader). x.kind) (sym e) ∙ q) in
+      let at : first_from (is_symbols headers) 0 (count headers) ≡ k = sym f ∙ first_here (is_symbols headers) k (count headers) l here in
+      rw (at, lt-ltb k (count headers) l) e
+
+  pub symbols_on : {h : SectionHeader} → FirstFrom headers k → k < count headers → h ≡ header_of headers k → (h.kind ≡ 2 → ⊥) → FirstFrom headers (k + 1)
+  symbols_on {h} f l e q =
+      let here : is_symbols headers k ≡ false = ne_eqb (header_of headers k).kind 2 (λ z. q (ap (λ (x : SectionHeader). x.kind) e ∙ z)) in
+      sym (first_on (is_symbols headers) k (count headers) l here) ∙ f
+
+  pub symbols_none : FirstFrom headers k → count headers ≤ k → no_section_header ≡ symbol_table headers
+  unfolding symbol_table section_of
+  symbols_none f l =
+      let at : first_from (is_symbols headers) 0 (count headers) ≡ k = sym f ∙ first_end (is_symbols headers) k (count headers) l in
+      rw (at, le-ltb k (count headers) l)
 
 -- ---- the checks of a file, in their order
 

@@ -16,6 +16,8 @@ use Rattle.names.specs.Names.{number_of}
 use Rattle.names.proofs.Laws.{number_there, number_below}
 use Rattle.elf.specs.Strings.{string_at}
 use Rattle.number_names.specs.Numbers.{Room, enter_name, enter_names}
+use Rattle.std.specs.Prelude.{Result, Ok}
+use Rattle.obj.specs.declared.Refusal.{Refusal}
 use Rattle.number_names.specs.declared.Count.{Count}
 use Rattle.number_names.proofs.Laws.{enter_there, enter_cases, entered_as}
 use Rattle.elf_names.specs.Seen.{Seen, EnteredSeen, GoingSeen}
@@ -115,20 +117,20 @@ pub seen_as : (strings seen : List ℕ) {o : Outcome (List (List ℕ))} (names :
 seen_as strings seen names s q more e = subst (λ (l : List (List ℕ)). Seen strings l seen) (same_accepted (sym q ∙ e)) s
 
 -- the same outcome, said otherwise
-pub entered_so : {o want : Outcome (List (List ℕ))} {strings ends₀ bytes₀ ends bytes heads chain seen : List ℕ} {r : Count} → o ≡ want
+pub entered_so : {o want : Outcome (List (List ℕ))} {strings ends₀ bytes₀ ends bytes heads chain seen : List ℕ} {r : Result Count Refusal} → o ≡ want
     → EnteredSeen o strings ends₀ bytes₀ ends bytes heads chain seen r → EnteredSeen want strings ends₀ bytes₀ ends bytes heads chain seen r
-entered_so q e = record { entered = entered_as q e.entered; right = λ names h. e.right names (q ∙ h) }
+entered_so {ends₀ = ends₀} {bytes₀ = bytes₀} {ends = ends} {bytes = bytes} {heads = heads} {chain = chain} {r = r} q e = record { entered = entered_as ends₀ bytes₀ ends bytes heads chain r q e.entered; right = λ names h. e.right names (q ∙ h) }
 
 -- ---- a turn of a loop
 
 module _ {room : Room} {left : ℕ → List (List ℕ)} {goal o : Outcome (List (List ℕ))} {strings ends₀ bytes₀ ends bytes heads chain seen ends' bytes' heads' chain' seen' : List ℕ} {i : ℕ} {r r' : Count}
     (g : GoingSeen room left goal strings ends₀ bytes₀ ends bytes heads chain seen i r) where
   pub seen_on : (enter_names room g.going.names (left i) ≡ (o >>= λ more. enter_names room more (left (i + 1))))
-      → EnteredSeen o strings ends₀ bytes₀ ends' bytes' heads' chain' seen' r' → r'.full ≡ false
+      → EnteredSeen o strings ends₀ bytes₀ ends' bytes' heads' chain' seen' (Ok r')
       → GoingSeen room left goal strings ends₀ bytes₀ ends' bytes' heads' chain' seen' (i + 1) r'
   unfolding ◌>>=◌
-  seen_on turn e f =
-      let said : o ≡ accepted e.entered.names = e.entered.is ∙ rw f in
+  seen_on turn e =
+      let said = e.entered.is in
       record {
         going = record { names = e.entered.names; held = e.entered.held; same = sym (rw said at turn) ∙ g.going.same };
         right = e.right e.entered.names said;

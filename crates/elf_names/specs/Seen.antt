@@ -1,8 +1,9 @@
 -- Offsets of a string table whose strings are among the names: what the loops over sections and symbols keep, so that no long name is read, hashed and compared for each of its
 -- users. The names that are entered don't depend on it, only the time does.
-use Rattle.std.specs.Prelude.{ℕ, ◌+◌, ◌<◌, ◌≡◌, List, true, length, eqb}
+use Rattle.std.specs.Prelude.{ℕ, ◌+◌, ◌<◌, ◌≡◌, List, true, length, eqb, Result}
 use Rattle.lists.specs.Rows.{some}
 use Rattle.lists.specs.Outcome.{Outcome, accepted}
+use Rattle.obj.specs.declared.Refusal.{Refusal}
 use Rattle.names.specs.Names.{number_of}
 use Rattle.elf.specs.Strings.{string_at}
 use Rattle.number_names.specs.Numbers.{Room, Entered, Going}
@@ -13,7 +14,7 @@ abbrev pub Seen : (strings : List ℕ) → (names : List (List ℕ)) → (seen :
 Seen strings names seen = (at : ℕ) → some (λ k. eqb k (at + 1)) seen ≡ true → number_of names (string_at strings at) < length names
 
 -- what entering a name gave, and that the column is right for the names after it
-pub record EnteredSeen (o : Outcome (List (List ℕ))) (strings ends₀ bytes₀ ends bytes heads chain seen : List ℕ) (r : Count) : Type 0 where
+pub record EnteredSeen (o : Outcome (List (List ℕ))) (strings ends₀ bytes₀ ends bytes heads chain seen : List ℕ) (r : Result Count Refusal) : Type 0 where
   pub entered : Entered o ends₀ bytes₀ ends bytes heads chain r
   pub right : (names : List (List ℕ)) → o ≡ accepted names → Seen strings names seen
 

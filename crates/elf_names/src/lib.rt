@@ -1,7 +1,7 @@
 // The names of an ELF file's sections and symbols, numbered by first use in a lent name table.
 #![tactic(auto)]
 
-ghost use Rattle.std.specs.Prelude.{◌≡◌, List, ℕ, ◌*◌, ◌/◌, ◌<◌, ◌+◌, ◌≤◌, length, set, replicate, eqb};
+ghost use Rattle.std.specs.Prelude.{◌≡◌, List, ℕ, ◌*◌, ◌/◌, ◌<◌, ◌+◌, ◌≤◌, length, eqb};
 ghost use Rattle.lists.specs.Rows.{some};
 ghost use Rattle.elf.specs.Strings.{string_at};
 ghost use Rattle.elf_file.specs.File.{count as counted, header_of};
@@ -12,39 +12,23 @@ ghost use Rattle.elf_names.specs.Seen.{Seen, EnteredSeen};
 use elf::{read_symbol_entry, string_at};
 use elf_file::{header_of, is_allocated};
 use number_names::{Count, enter_name};
+use obj::Refusal;
 
 // ---- offsets whose strings are among the names
 //
 // A string is read to its end, hashed and compared each time it is entered, and a file may have many symbols of one very long name. So the last offsets that were entered are
 // kept, each as one more than it is, and a string at one of them is not looked at again.
 
-// No offset is kept.
-fn none_seen() -> [usize; 64]
-    ensures { result ≡ replicate 64 0 }
-{
-    [0usize; 64]
-}
-
 // The offset is one of those kept.
 fn is_seen(seen: &[usize], mark: usize) -> bool
     ensures { result ≡ some (λ k. eqb k mark) seen.now }
 {
-    let mut i: usize = 0;
-    while i < seen.len() {
-        if seen[i] == mark {
+    for kept in seen {
+        if *kept == mark {
             return true;
         }
-        i += 1;
     }
     false
-}
-
-// Keeps an offset in the place of another.
-fn keep_mark(seen: &mut [usize], slot: usize, mark: usize)
-    requires { slot < length seen.old }
-    ensures { seen.new ≡ set seen.old slot mark }
-{
-    seen[slot] = mark;
 }
 
 // Enters the string at an offset of a string table, unless it is among the names since the offset is kept.
@@ -60,7 +44,7 @@ fn enter_string(
     count: Count,
     most: usize,
     most_bytes: usize,
-) -> Count
+) -> Result<Count, Refusal>
     requires { (slot < length seen.old)
         × Holds name_ends.old name_bytes.old heads.old chain.old count.names count.used
         × Within most most_bytes (length name_ends.old) (length name_bytes.old) }
@@ -71,13 +55,9 @@ fn enter_string(
 {
     let mark = at as usize + 1;
     if is_seen(seen, mark) {
-        return Count {
-            names: count.names,
-            used: count.used,
-            full: false,
-        };
+        return Ok(count);
     }
-    keep_mark(seen, slot, mark);
+    seen[slot] = mark;
     let x = string_at(strings, at as usize);
     enter_name(
         x, name_ends, name_bytes, heads, chain, count, most, most_bytes,
@@ -100,7 +80,7 @@ fn enter_section(
     count: Count,
     most: usize,
     most_bytes: usize,
-) -> Count
+) -> Result<Count, Refusal>
     requires { (k < counted headers.now)
         × (slot < length seen.old)
         × Holds name_ends.old name_bytes.old heads.old chain.old count.names count.used
@@ -117,11 +97,7 @@ fn enter_section(
             most_bytes,
         );
     }
-    Count {
-        names: count.names,
-        used: count.used,
-        full: false,
-    }
+    Ok(count)
 }
 
 // The names of the allocated sections, in order.
@@ -135,7 +111,7 @@ pub fn enter_sections(
     at: Count,
     most: usize,
     most_bytes: usize,
-) -> Count
+) -> Result<Count, Refusal>
     requires { Holds name_ends.old name_bytes.old heads.old chain.old at.names at.used
         × Within most most_bytes (length name_ends.old) (length name_bytes.old) }
     ensures { (names : List (List ℕ)) (ends₀ bytes₀ : List ℕ)
@@ -143,14 +119,9 @@ pub fn enter_sections(
         → Entered (enter_names (record { names = most; bytes = most_bytes }) names (section_names headers.now strings.now)) ends₀ bytes₀ name_ends.new name_bytes.new heads.new chain.new result }
 {
     let n = headers.len() / 40;
-    let mut seen = none_seen();
-    let mut count = Count {
-        names: at.names,
-        used: at.used,
-        full: false,
-    };
-    let mut i: usize = 0;
-    while i < n {
+    let mut seen = [0usize; 64];
+    let mut count = at;
+    for i in 0..n {
         count = enter_section(
             headers,
             strings,
@@ -164,18 +135,14 @@ pub fn enter_sections(
             count,
             most,
             most_bytes,
-        );
-        if count.full {
-            return count;
-        }
-        i += 1;
+        )?;
     }
-    count
+    Ok(count)
 }
 
 // ---- symbols
 
-// The names of the symbols, in order, without the null one.
+// The names of the symbols, in order, without the null one. This is no twin of `enter_sections`: each entry is a name, and the null one is left out.
 pub fn enter_symbols(
     table: &[u8],
     strings: &[u8],
@@ -186,7 +153,7 @@ pub fn enter_symbols(
     at: Count,
     most: usize,
     most_bytes: usize,
-) -> Count
+) -> Result<Count, Refusal>
     requires { Holds name_ends.old name_bytes.old heads.old chain.old at.names at.used
         × Within most most_bytes (length name_ends.old) (length name_bytes.old) }
     ensures { (names : List (List ℕ)) (ends₀ bytes₀ : List ℕ)
@@ -194,14 +161,9 @@ pub fn enter_symbols(
         → Entered (enter_names (record { names = most; bytes = most_bytes }) names (symbol_names table.now strings.now)) ends₀ bytes₀ name_ends.new name_bytes.new heads.new chain.new result }
 {
     let n = table.len() / 16;
-    let mut seen = none_seen();
-    let mut count = Count {
-        names: at.names,
-        used: at.used,
-        full: false,
-    };
-    let mut i: usize = 1;
-    while i < n {
+    let mut seen = [0usize; 64];
+    let mut count = at;
+    for i in 1..n {
         let s = read_symbol_entry(table, 16 * i);
         count = enter_string(
             strings,
@@ -215,11 +177,7 @@ pub fn enter_symbols(
             count,
             most,
             most_bytes,
-        );
-        if count.full {
-            return count;
-        }
-        i += 1;
+        )?;
     }
-    count
+    Ok(count)
 }

@@ -7,17 +7,17 @@ use native.Mathlib.Omega.{arith}
 use lib.ListN.{length}
 use Rattle.lists.specs.Outcome.{Outcome, ◌>>◌}
 use Rattle.obj.specs.Answers.{meaning}
-use Rattle.obj.specs.declared.Answer.{Answer}
-use Rattle.obj.specs.declared.Answer.TheVariants.{Refused}
+use Rattle.obj.specs.Answers.{Answer}
+use Rattle.std.specs.Prelude.{Err}
+use Rattle.obj.specs.declared.Refusal.{Refusal}
 use Rattle.obj.specs.declared.Section.{Section}
 use Rattle.obj.specs.declared.Split.{Split}
 use Rattle.tables.specs.Records.{sections_in, partials_in}
 use Rattle.stage_tables.specs.StageTables.{Room}
 use Rattle.splits.specs.Columns.{Columns, columns, rows, Long}
 use Rattle.merge.specs.Merge.{given, merge_all}
-use Rattle.merge.specs.Answers.{merged, count}
-use Rattle.merge.specs.declared.Merged.{Merged}
-use Rattle.entry_add_splits.specs.Entry.{from_splits, from_sections, as_merged, Scratch}
+use Rattle.merge.specs.Answers.{merged}
+use Rattle.entry_add_splits.specs.Entry.{from_splits, from_sections, Scratch}
 
 -- a column of this length has room for as many records as are allowed
 pub column_room : {ceiling long : ℕ} (places : List ℕ) → ceiling ≤ long → long ≤ 4096 → length places ≡ long → Room ceiling places
@@ -48,7 +48,6 @@ pub lengths_as : {l m : List ℕ} (sections splits partials : List ℕ) (room : 
 lengths_as sections splits partials room e = ap (λ (x : List ℕ). from_sections x sections splits partials room) e
 
 -- a table that was refused is the outcome
-pub refused_as : {m : Outcome (Unit {0})} (n : Outcome (List Split)) {a : Answer} {r : Merged} {number section address : ℕ} (c : Columns) → meaning a ≡ m
-    → a ≡ Refused number section address → r ≡ as_merged a → (merged r c ≡ (m >> n)) × (count r ≡ 0)
+pub refused_as : {m : Outcome (Unit {0})} (n : Outcome (List Split)) {a : Answer} {d : Refusal} (c : Columns) → meaning a ≡ m → a ≡ Err d → merged (Err d) c ≡ (m >> n)
 unfolding ◌>>◌
-refused_as n c s e f = let q = sym s ∙ ap meaning e in rw (f, e, q) (refl, refl)
+refused_as n c s e = let q = sym s ∙ ap meaning e in rw q refl

@@ -3,8 +3,6 @@
 -- "The merge's partial list is checked as records"; the split table comes before it (DECISIONS.md, 10), and has the output's length as its ceiling (39).
 use Rattle.std.specs.Prelude.{ℕ, ◌≡◌, List, length}
 use Rattle.lists.specs.Outcome.{Outcome, ◌>>◌}
-use Rattle.obj.specs.declared.Answer.{Answer}
-use Rattle.obj.specs.declared.Answer.TheVariants.{Accepted, Refused}
 use Rattle.obj.specs.declared.Section.{Section}
 use Rattle.obj.specs.declared.Split.{Split}
 use Rattle.tables.specs.Tables.{main_ceilings}
@@ -13,8 +11,6 @@ use Rattle.name_table.specs.Stored.{stage_lengths}
 use Rattle.stage_tables.specs.StageTables.{stage_sections, stage_partials, stage_splits, sections_check, splits_check, partials_check}
 use Rattle.stage_splits.specs.StageSplits.{room_of}
 use Rattle.merge.specs.Merge.{given, merge_all}
-use Rattle.merge.specs.declared.Merged.{Merged}
-use Rattle.merge.specs.declared.Merged.TheVariants.{Accepted as Kept, Refused as Rejected}
 
 -- what the entry gives for an output of `size` bytes
 unfoldable pub add_splits_of : (ends bytes sections splits partials : List ℕ) → (size : ℕ) → Outcome (List Split)
@@ -44,11 +40,6 @@ unfoldable pub from_sections : (lengths sections splits partials : List ℕ) →
 from_sections lengths sections splits partials room = do
   sections_check main_ceilings.sections lengths sections
   from_splits lengths (stage_sections sections) splits partials room
-
--- the answer to a table, as that of the merge
-abbrev pub as_merged : Answer → Merged
-as_merged Accepted = Kept 0
-as_merged (Refused number section address) = Rejected number section address
 
 -- the lent columns are long enough: for the places of splits, and for the rows
 pub record Scratch (places starts ends units rest : List ℕ) : Type 0 where

@@ -6,70 +6,17 @@ ghost use Rattle.std.specs.Prelude.{◌≡◌, ◌*◌, ◌≤◌, length};
 ghost use Rattle.tables.specs.Tables.{AllHeld};
 ghost use Rattle.tables.specs.Records.{sections_in};
 ghost use Rattle.name_table.specs.Stored.{Room as NameRoom};
-ghost use Rattle.splits.specs.Columns.{columns, Long};
+ghost use Rattle.splits.specs.Columns.{columns};
 ghost use Rattle.stage_splits.specs.StageSplits.{room_of, Gives, Leaves};
 ghost use Rattle.merge.specs.Answers.{merged, count};
-ghost use Rattle.obj.specs.Records.{split_width};
-ghost use Rattle.entry_add_splits.specs.Entry.{add_splits_of, from_splits, as_merged, Scratch};
+ghost use Rattle.entry_add_splits.specs.Entry.{add_splits_of, from_splits, Scratch};
 
-use merge::Merged;
 use name_table::check_names;
-use obj::{Answer, PARTIAL_BYTES, SPLIT_BYTES};
+use obj::{PARTIAL_BYTES, Refusal, SPLIT_BYTES};
 use stage_splits::{finish, give_splits, room_of, take_split_columns};
 use stage_tables::{take_partials, take_sections};
 
-// What a merge left in the columns, in the outputs; nothing after a refusal.
-fn give_merged(
-    r: Merged,
-    starts: &[u32],
-    ends: &[u32],
-    units: &[u16],
-    rest: &[u64],
-    out: &mut [u8],
-    counts: &mut [u8],
-) -> Answer
-    requires { Long (columns starts.now ends.now units.now rest.now) (count r) × (split_width * count r ≤ length out.old) × (count r ≤ 1024) }
-    ensures { Gives (merged r (columns starts.now ends.now units.now rest.now)) result
-        (length out.old) (length counts.old) out.new counts.new }
-{
-    match r {
-        Merged::Refused {
-            number,
-            section,
-            address,
-        } => {
-            return Answer::Refused {
-                number,
-                section,
-                address,
-            };
-        }
-        Merged::Accepted { n } => {
-            give_splits(starts, ends, units, rest, n, out, counts);
-            return Answer::Accepted;
-        }
-    }
-}
-
-// The answer to a table, as that of the merge: a refusal is handed on.
-fn as_merged(a: Answer) -> Merged
-    ensures { result ≡ as_merged a }
-{
-    match a {
-        Answer::Accepted => Merged::Accepted { n: 0 },
-        Answer::Refused {
-            number,
-            section,
-            address,
-        } => Merged::Refused {
-            number,
-            section,
-            address,
-        },
-    }
-}
-
-// The split table in the columns, the partial list, and the merge of both. `lengths` are those of the names, `heads` the sections at their places; `places` has those
+// The split table in the columns, the partial list, and the merge of both: how many rows there are then. `lengths` are those of the names, `heads` the sections at their places; `places` has those
 // of the splits and, once they are in their columns, those of the partial splits.
 fn with_columns(
     lengths: &[u8],
@@ -83,13 +30,13 @@ fn with_columns(
     ends: &mut [u32],
     units: &mut [u16],
     rest: &mut [u64],
-) -> Merged
+) -> Result<usize, Refusal>
     requires { AllHeld 15 heads.now head_places.now × Scratch places.old starts.old ends.old units.old rest.old × (room ≤ 1024) }
     ensures { (merged result (columns starts.new ends.new units.new rest.new)
         ≡ from_splits lengths.now (sections_in heads.now head_places.now) splits.now partials.now room)
         × (count result ≤ room) }
 {
-    let a = take_split_columns(
+    take_split_columns(
         lengths,
         heads,
         head_places,
@@ -100,15 +47,9 @@ fn with_columns(
         ends,
         units,
         rest,
-    );
-    if let Answer::Refused { .. } = a {
-        return as_merged(a);
-    }
+    )?;
     // "1,024 splits"
-    let b = take_partials(lengths, partials, 1024, places);
-    if let Answer::Refused { .. } = b {
-        return as_merged(b);
-    }
+    take_partials(lengths, partials, 1024, places)?;
     let n = splits.len() / SPLIT_BYTES;
     let m = partials.len() / PARTIAL_BYTES;
     merge::add_splits(
@@ -134,7 +75,7 @@ fn from_splits(
     partials: &[u8],
     out: &mut [u8],
     counts: &mut [u8],
-) -> Answer
+) -> Result<(), Refusal>
     requires { AllHeld 15 heads.now head_places.now }
     ensures { Gives (from_splits lengths.now (sections_in heads.now head_places.now) splits.now partials.now (room_of (length out.old)))
         result (length out.old) (length counts.old) out.new counts.new }
@@ -145,7 +86,7 @@ fn from_splits(
     let mut ends = [0u32; 1024];
     let mut units = [0u16; 1024];
     let mut rest = [0u64; 1024];
-    let r = with_columns(
+    let n = with_columns(
         lengths,
         heads,
         head_places,
@@ -157,8 +98,9 @@ fn from_splits(
         &mut ends,
         &mut units,
         &mut rest,
-    );
-    give_merged(r, &starts, &ends, &units, &rest, out, counts)
+    )?;
+    give_splits(&starts, &ends, &units, &rest, n, out, counts);
+    Ok(())
 }
 
 // All tables, with the names in lent columns. Once they are checked only their lengths are asked, and `places` has those of the sections.
@@ -174,22 +116,16 @@ fn all_tables(
     chain: &mut [u16],
     out: &mut [u8],
     counts: &mut [u8],
-) -> Answer
+) -> Result<(), Refusal>
     requires { NameRoom 4096 places.old lengths.old heads.old chain.old }
     ensures { Gives (add_splits_of ends.now bytes.now sections.now splits.now partials.now (length out.old))
         result (length out.old) (length counts.old) out.new counts.new }
 {
     // "4,096 names"
-    let a = check_names(ends, bytes, 4096, places, lengths, heads, chain);
-    if let Answer::Refused { .. } = a {
-        return a;
-    }
+    check_names(ends, bytes, 4096, places, lengths, heads, chain)?;
     let named = &lengths[..ends.len() / 2];
     // "64 sections"
-    let b = take_sections(named, sections, 64, places);
-    if let Answer::Refused { .. } = b {
-        return b;
-    }
+    take_sections(named, sections, 64, places)?;
     let n = sections.len() / 15;
     from_splits(named, sections, &places[..n], splits, partials, out, counts)
 }
@@ -203,7 +139,7 @@ fn checked(
     partials: &[u8],
     out: &mut [u8],
     counts: &mut [u8],
-) -> Answer
+) -> Result<(), Refusal>
     ensures { Gives (add_splits_of name_ends.now name_bytes.now sections.now splits.now partials.now (length out.old))
         result (length out.old) (length counts.old) out.new counts.new }
 {

@@ -13,18 +13,17 @@ use Rattle.lists.specs.Rows.{clear_from}
 use Rattle.lists.specs.Outcome.{Outcome, refused}
 use Rattle.lists.proofs.Clear.{clear_all}
 use Rattle.obj.specs.Answers.{word, outcome_word}
-use Rattle.obj.specs.declared.Answer.{Answer}
-use Rattle.obj.specs.declared.Answer.TheVariants.{Accepted, Refused}
+use Rattle.obj.specs.declared.Refusal.{Refusal}
+use Rattle.std.specs.Prelude.{Result, Ok, Err}
 use Rattle.outputs.specs.Outputs.{counts_of, store_count, store_counts}
 use Rattle.outputs.proofs.Laws.{counts_stored}
 use Rattle.tables.specs.declared.Ceilings.{Ceilings}
 use Rattle.tables.specs.Tables.{main_ceilings}
 use Rattle.load.specs.declared.Counts.{Counts}
-use Rattle.load.specs.declared.FileAnswer.{FileAnswer}
 use Rattle.load.specs.Load.{Loaded, load_of}
-use Rattle.load.specs.Columns.{tables_in, no_counts, Allowed, Room, Counted, loaded_as, Loads}
+use Rattle.load.specs.Columns.{tables_in, no_counts, Allowed, Room, Loads}
 use Rattle.load.proofs.Keeping.{counted}
-use Rattle.entry_check_file.specs.Entry.{listed, Lent, Leaves, Answers}
+use Rattle.entry_check_file.specs.Entry.{listed, Lent, Leaves, Accepted, Answers}
 
 -- ---- the loader's columns
 
@@ -49,62 +48,30 @@ room e l = rw e (record {
 
 -- ---- the loader's answer
 
--- its word is the outcome's
-word_of_outcome : (a : Answer) (t : Loaded) → word a ≡ outcome_word (loaded_as a t)
-word_of_outcome Accepted t = refl
-word_of_outcome (Refused number section address) t = refl
-
-none-counted : Counted no_counts
-none-counted = record {
-  names = omega arith;
-  sections = omega arith;
-  symbols = omega arith;
-  relocations = omega arith;
-  splits = omega arith;
-  units = omega arith;
-}
-
-module _ (c : Ceilings) (file : List ℕ) (o : Outcome Loaded) (r : FileAnswer) (places lengths heads chain : List ℕ)
-    (l : Loads c file o r places lengths heads chain) where
-  -- the counts are small: none after a refusal, else within the ceilings
-  small : (a : Answer) → r.answer ≡ a → Counted r.counts
-  small Accepted e = let ready = (l.ready e).tabled in counted ready.allowed ready.few
-  small (Refused number section address) e =
-      let refusal : loaded_as (Refused number section address) (tables_in r.counts places lengths) ≡ o =
-      ap (λ (x : Answer). loaded_as x (tables_in r.counts places lengths)) (sym e) ∙ l.means in
-      rw (l.counted, ← refusal) none-counted
-
-  answers : Answers o r
-  answers = record {
-    said = word_of_outcome r.answer (tables_in r.counts places lengths) ∙ ap outcome_word l.means;
-    counted = l.counted;
-    small = small r.answer refl;
-  }
+module _ (c : Ceilings) (file : List ℕ) (o : Outcome Loaded) (places lengths heads chain : List ℕ) where
+  answers : (r : Result Counts Refusal) → Loads c file o r places lengths heads chain → Answers o r
+  answers (Ok n) l =
+      let ready = (l.ready n refl).tabled in record {
+        tables = tables_in n places lengths;
+        said = sym l.means;
+        counted = l.counted n refl;
+        small = counted ready.allowed ready.few;
+      }
+  answers (Err e) l = sym l.means
 
 -- the same answer, under the ceilings' name
-pub answers_main : {c : Ceilings} {file : List ℕ} {r : FileAnswer} {places lengths heads chain : List ℕ} → c ≡ main_ceilings
+pub answers_main : {c : Ceilings} {file : List ℕ} {r : Result Counts Refusal} {places lengths heads chain : List ℕ} → c ≡ main_ceilings
     → Loads c file (load_of c file) r places lengths heads chain → Answers (load_of main_ceilings file) r
 answers_main {c} {file} {r} {places} {lengths} {heads} {chain} e l =
-    subst (λ (d : Ceilings). Answers (load_of d file) r) e (answers c file (load_of c file) r places lengths heads chain l)
+    subst (λ (d : Ceilings). Answers (load_of d file) r) e (answers c file (load_of c file) places lengths heads chain r l)
 
 -- ---- the counts
 
-pub stored : (counts : List ℕ) (n : Counts) {c₀ c₁ c₂ c₃ c₄ c₅ c₆ : List ℕ} → c₀ ≡ clear_from 0 0 counts → c₁ ≡ store_count 0 n.names c₀
+pub stored : (n : Counts) (c₀ : List ℕ) {c₁ c₂ c₃ c₄ c₅ c₆ : List ℕ} → c₁ ≡ store_count 0 n.names c₀
     → c₂ ≡ store_count 1 n.sections c₁ → c₃ ≡ store_count 2 n.symbols c₂ → c₄ ≡ store_count 3 n.relocations c₃
-    → c₅ ≡ store_count 4 n.splits c₄ → c₆ ≡ store_count 5 n.units c₅ → c₆ ≡ counts_of (length counts) (listed n)
+    → c₅ ≡ store_count 4 n.splits c₄ → c₆ ≡ store_count 5 n.units c₅ → c₆ ≡ store_counts 0 (listed n) c₀
 unfolding store_counts
-stored counts n e₀ e₁ e₂ e₃ e₄ e₅ e₆ =
-    let all = counts_stored (length counts) (listed n) in
-    rw (e₆, e₅, e₄, e₃, e₂, e₁, e₀, clear_all 0 counts) all
-
--- ---- the entry
-
-pub leaves : {o : Outcome Loaded} {r : FileAnswer} {size answer : ℕ} {counts : List ℕ} → Answers o r → answer ≡ word r.answer
-    → counts ≡ counts_of size (listed r.counts) → Leaves o size answer counts
-leaves {o} {r} {size} a w e = record {
-  said = w ∙ a.said;
-  counted = e ∙ ap (λ (n : Counts). counts_of size (listed n)) a.counted;
-}
+stored n c₀ e₁ e₂ e₃ e₄ e₅ e₆ = rw (e₆, e₅, e₄, e₃, e₂, e₁) refl
 
 -- ---- after a refusal the counts are zeros throughout
 
@@ -131,3 +98,19 @@ refused_zeros size =
 pub leaves_zeros : (number section address size answer : ℕ) (counts : List ℕ) → Leaves (refused number section address) size answer counts
     → counts ≡ zeros size
 leaves_zeros number section address size answer counts l = l.counted ∙ refused_zeros size
+
+-- ---- the entry
+
+-- the counts of what was loaded
+pub leaves_counts : {o : Outcome Loaded} {n : Counts} (old : List ℕ) {cleared new : List ℕ} → Accepted o n → cleared ≡ clear_from 0 0 old
+    → new ≡ store_counts 0 (listed n) cleared → Leaves o (length old) 0 new
+leaves_counts {o} {n} old {cleared} {new} a e f = record {
+  said = sym (ap outcome_word a.said);
+  counted = f ∙ ap (store_counts 0 (listed n)) (e ∙ clear_all 0 old) ∙ counts_stored (length old) (listed n) ∙ ap (λ (m : Counts). counts_of (length old) (listed m)) a.counted;
+}
+
+-- a refusal
+pub leaves_none : {o : Outcome Loaded} {r : Refusal} (old : List ℕ) {cleared : List ℕ} {answer : ℕ} → o ≡ refused r.number r.section r.address
+    → answer ≡ word (Err r) → cleared ≡ clear_from 0 0 old → Leaves o (length old) answer cleared
+leaves_none {o} {r} old {cleared} {answer} e w f =
+    rw e (record { said = w; counted = f ∙ clear_all 0 old ∙ sym (refused_zeros (length old)) })

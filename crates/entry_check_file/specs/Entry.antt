@@ -1,14 +1,14 @@
 -- The entry `check_file` on its lent bytes: the loader's answer for a record file under document 01's ceilings, `load_of main_ceilings file`,
 -- and the counts of what it loaded, for every input.
 -- What an accepted file is: `loaded_good` of load's laws.
-use Rattle.std.specs.Prelude.{ℕ, ◌≡◌, List, [], ◌∷◌, length}
-use Rattle.lists.specs.Outcome.{Outcome}
-use Rattle.obj.specs.Answers.{word, outcome_word}
+use Rattle.std.specs.Prelude.{ℕ, ◌≡◌, List, [], ◌∷◌, length, Result, Ok, Err}
+use Rattle.lists.specs.Outcome.{Outcome, accepted, refused}
+use Rattle.obj.specs.declared.Refusal.{Refusal}
+use Rattle.obj.specs.Answers.{outcome_word}
 use Rattle.outputs.specs.Outputs.{counts_of}
 use Rattle.load.specs.Load.{Loaded}
 use Rattle.load.specs.Columns.{Counted, counts_in}
 use Rattle.load.specs.declared.Counts.{Counts}
-use Rattle.load.specs.declared.FileAnswer.{FileAnswer}
 
 -- names, sections, symbols, relocations, splits, units
 abbrev pub listed : Counts → List ℕ
@@ -28,8 +28,14 @@ pub record Lent (places lengths heads chain : List ℕ) : Type 0 where
   pub long_heads : length heads ≡ 8192
   pub long_chain : length chain ≡ 4096
 
+-- so many records were loaded
+pub record Accepted (o : Outcome Loaded) (n : Counts) : Type 0 where
+  pub tables : Loaded
+  pub said : o ≡ accepted tables
+  pub counted : n ≡ counts_in o
+  pub small : Counted n
+
 -- the loader's answer, before it is written
-pub record Answers (o : Outcome Loaded) (r : FileAnswer) : Type 0 where
-  pub said : word r.answer ≡ outcome_word o
-  pub counted : r.counts ≡ counts_in o
-  pub small : Counted r.counts
+abbrev pub Answers : Outcome Loaded → Result Counts Refusal → Type 0
+Answers o (Ok n) = Accepted o n
+Answers o (Err r) = o ≡ refused r.number r.section r.address

@@ -3,13 +3,13 @@
 
 ghost use Rattle.std.specs.Prelude.{◌≡◌, length};
 ghost use Rattle.tables.specs.Tables.{main_ceilings};
-ghost use Rattle.outputs.specs.Outputs.{counts_of};
+ghost use Rattle.outputs.specs.Outputs.{store_counts};
 ghost use Rattle.load.specs.Load.{load_of};
 ghost use Rattle.load.specs.Columns.{Counted};
 ghost use Rattle.entry_check_file.specs.Entry.{listed, Lent, Answers, Leaves};
 
-use load::{Counts, FileAnswer, load_file};
-use obj::word_of;
+use load::{Counts, load_file};
+use obj::{Refusal, word_of};
 use outputs::{clear_from, put_count};
 use tables::main_ceilings;
 
@@ -20,14 +20,14 @@ fn load_in(
     lengths: &mut [u8],
     heads: &mut [u16],
     chain: &mut [u16],
-) -> FileAnswer
+) -> Result<Counts, Refusal>
     requires { Lent places.old lengths.old heads.old chain.old }
     ensures { Answers (load_of main_ceilings file.now) result }
 {
     load_file(file, main_ceilings(), places, lengths, heads, chain)
 }
 
-fn answer_of(file: &[u8]) -> FileAnswer
+fn answer_of(file: &[u8]) -> Result<Counts, Refusal>
     ensures { Answers (load_of main_ceilings file.now) result }
 {
     let mut places = [0u32; 14464];
@@ -37,12 +37,11 @@ fn answer_of(file: &[u8]) -> FileAnswer
     load_in(file, &mut places, &mut lengths, &mut heads, &mut chain)
 }
 
-// The six counts, as many as fit, and zeros after them.
+// The six counts, as many as fit.
 fn put_counts(counts: &mut [u8], n: Counts)
     requires { Counted n }
-    ensures { counts.new ≡ counts_of (length counts.old) (listed n) }
+    ensures { counts.new ≡ store_counts 0 (listed n) counts.old }
 {
-    clear_from(counts, 0);
     put_count(counts, 0, n.names as u16);
     put_count(counts, 1, n.sections as u16);
     put_count(counts, 2, n.symbols as u16);
@@ -51,13 +50,16 @@ fn put_counts(counts: &mut [u8], n: Counts)
     put_count(counts, 5, n.units as u16);
 }
 
-// The entry: 0 or a refusal, and every byte of the counts.
+// The entry: 0 or a refusal, and every byte of the counts, zeros after them.
 pub fn check_file(file: &[u8], counts: &mut [u8]) -> u64
     ensures { Leaves (load_of main_ceilings file.now) (length counts.old) result counts.new }
 {
-    let r = answer_of(file);
-    let n = r.counts;
-    let answer = r.answer;
-    put_counts(counts, n);
-    word_of(answer)
+    clear_from(counts, 0);
+    match answer_of(file) {
+        Ok(n) => {
+            put_counts(counts, n);
+            0
+        }
+        Err(r) => word_of(Err(r)),
+    }
 }

@@ -7,8 +7,8 @@ use native.Mathlib.Omega.{arith}
 use lib.ListN.{length}
 use Rattle.lists.specs.Outcome.{Outcome}
 use Rattle.obj.specs.Answers.{word, outcome_word, meaning}
-use Rattle.obj.specs.declared.Answer.{Answer}
-use Rattle.obj.specs.declared.Answer.TheVariants.{Accepted, Refused}
+use Rattle.obj.specs.Answers.{Answer}
+use Rattle.std.specs.Prelude.{Ok, Err}
 use Rattle.tables.specs.Tables.{main_ceilings}
 use Rattle.tables.specs.Records.{sections_in}
 use Rattle.tables.specs.declared.Ceilings.{Ceilings}
@@ -62,5 +62,5 @@ lengths_as names sections places image symbols relocations splits units n e =
 
 -- the word of an answer is that of its meaning
 pub word_means : (a : Answer) → word a ≡ outcome_word (meaning a)
-word_means Accepted = refl
-word_means (Refused number section address) = refl
+word_means (Ok u) = refl
+word_means (Err r) = refl

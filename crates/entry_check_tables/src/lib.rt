@@ -10,7 +10,7 @@ ghost use Rattle.name_table.specs.Stored.{Room};
 ghost use Rattle.entry_check_tables.specs.Entry.{tables_of, from_sections, from_symbols, Scratch};
 
 use name_table::check_names;
-use obj::{Answer, word_of};
+use obj::{Refusal, word_of};
 use stage_tables::{take_image, take_relocs, take_splits, take_symbols, take_units};
 use tables::main_ceilings;
 
@@ -25,18 +25,15 @@ fn from_symbols(
     units: &[u8],
     places: &mut [u32],
     floors: &mut [u32],
-) -> Answer
+) -> Result<(), Refusal>
     requires { AllHeld 15 heads.now head_places.now × (length places.old ≡ 4096) × (length head_places.now ≤ length floors.old) }
     ensures { meaning result ≡ from_symbols (length lengths.now) lengths.now (sections_in heads.now head_places.now) symbols.now relocations.now splits.now units.now }
 {
     let most = main_ceilings();
     let names = lengths.len();
-    let a = take_symbols(names, heads, head_places, symbols, most.symbols, places);
-    if let Answer::Refused { .. } = a {
-        return a;
-    }
+    take_symbols(names, heads, head_places, symbols, most.symbols, places)?;
     let count = symbols.len() / 20;
-    let b = take_relocs(
+    take_relocs(
         heads,
         head_places,
         count,
@@ -44,14 +41,8 @@ fn from_symbols(
         most.relocations,
         places,
         floors,
-    );
-    if let Answer::Refused { .. } = b {
-        return b;
-    }
-    let c = take_splits(lengths, heads, head_places, splits, most.splits, places);
-    if let Answer::Refused { .. } = c {
-        return c;
-    }
+    )?;
+    take_splits(lengths, heads, head_places, splits, most.splits, places)?;
     take_units(lengths, units, most.units, places)
 }
 
@@ -68,15 +59,12 @@ fn from_sections(
     heads: &mut [u32],
     places: &mut [u32],
     floors: &mut [u32],
-) -> Answer
+) -> Result<(), Refusal>
     requires { Scratch heads.old places.old floors.old }
     ensures { meaning result ≡ from_sections (length lengths.now) lengths.now sections.now image_places.now image symbols.now relocations.now splits.now units.now }
 {
     let most = main_ceilings();
-    let a = take_image(lengths, image_places, image, sections, most.sections, heads);
-    if let Answer::Refused { .. } = a {
-        return a;
-    }
+    take_image(lengths, image_places, image, sections, most.sections, heads)?;
     let n = sections.len() / 15;
     from_symbols(
         lengths,
@@ -101,7 +89,7 @@ fn named_tables(
     relocations: &[u8],
     splits: &[u8],
     units: &[u8],
-) -> Answer
+) -> Result<(), Refusal>
     ensures { meaning result ≡ from_sections (length lengths.now) lengths.now sections.now section_places.now image symbols.now relocations.now splits.now units.now }
 {
     let mut heads = [0u32; 64];
@@ -137,15 +125,12 @@ fn all_tables(
     lengths: &mut [u8],
     heads: &mut [u16],
     chain: &mut [u16],
-) -> Answer
+) -> Result<(), Refusal>
     requires { Room 4096 places.old lengths.old heads.old chain.old }
     ensures { meaning result ≡ tables_of ends.now bytes.now sections.now section_places.now image.now symbols.now relocations.now splits.now units.now }
 {
     let most = main_ceilings();
-    let a = check_names(ends, bytes, most.names, places, lengths, heads, chain);
-    if let Answer::Refused { .. } = a {
-        return a;
-    }
+    check_names(ends, bytes, most.names, places, lengths, heads, chain)?;
     let n = ends.len() / 2;
     let size = image.len();
     named_tables(
@@ -171,7 +156,7 @@ fn checked(
     relocations: &[u8],
     splits: &[u8],
     units: &[u8],
-) -> Answer
+) -> Result<(), Refusal>
     ensures { meaning result ≡ tables_of name_ends.now name_bytes.now sections.now section_places.now image.now symbols.now relocations.now splits.now units.now }
 {
     let mut places = [0u32; 4096];

@@ -1,6 +1,6 @@
 -- From a line of the entry's definition to the next, and the ends of the entry. Assumes nothing.
 use mathlib.Core.Path.{◌≡◌, refl, sym, ap, ◌∙◌}
-use mathlib.Core.List.{List, [], ◌∷◌, ◌++◌}
+use mathlib.Core.List.{List, [], ◌∷◌}
 use Prim.Native.Nat.{ℕ, zero, suc, ◌-◌, ◌/◌, ◌≤◌}
 use native.Mathlib.Omega.{arith}
 use lib.ListN.{length, take, replicate}
@@ -11,8 +11,9 @@ use Rattle.lists.proofs.Clear.{clear_all}
 use Rattle.lists.proofs.Outcomes.{not_both, same_accepted}
 use Rattle.lists.proofs.Binds.{after_goes, after-stops}
 use Rattle.obj.specs.Answers.{meaning, word, outcome_word}
-use Rattle.obj.specs.declared.Answer.{Answer}
-use Rattle.obj.specs.declared.Answer.TheVariants.{Accepted, Refused}
+use Rattle.obj.specs.Answers.{Answer}
+use Rattle.std.specs.Prelude.{Ok, Err, true, false}
+use Rattle.std.specs.Result.{is_err}
 use Rattle.outputs.specs.Outputs.{halves, counts_of, store_count, store_counts}
 use Rattle.outputs.proofs.Laws.{counts_stored}
 use Rattle.splits.specs.Bytes.{table_bytes}
@@ -90,7 +91,7 @@ no_counts size = go (size / 2) refl
 
 module _ (o : Outcome Filled) (ends bytes out counts : List ℕ) where
   -- an accepted outcome has its tables in the outputs
-  pub leaves_accepted : {a : Answer} {answer : ℕ} → a ≡ Accepted → answer ≡ word a → Gives o a (length ends) (length bytes) (length out) (length counts) ends bytes out counts
+  pub leaves_accepted : {a : Answer} {answer : ℕ} → a ≡ Ok tt → answer ≡ word a → Gives o a (length ends) (length bytes) (length out) (length counts) ends bytes out counts
       → Leaves o (length ends) (length bytes) (length out) (length counts) answer ends bytes out counts
   leaves_accepted {a} {answer} q e w = go o (sym (ap meaning q) ∙ w.answered) w.given_back
     where
@@ -100,7 +101,7 @@ module _ (o : Outcome Filled) (ends bytes out counts : List ℕ) where
       go (refused number section address) v f = absurd (not_both (sym v))
 
   -- a refused one has none
-  pub leaves_refused : {a : Answer} {number section address answer : ℕ} {ends' bytes' out' counts' : List ℕ} → a ≡ Refused number section address → answer ≡ word a
+  pub leaves_refused : {a : Answer} {number section address answer : ℕ} {ends' bytes' out' counts' : List ℕ} → a ≡ Err (record { number = number; section = section; address = address }) → answer ≡ word a
       → Gives o a (length ends) (length bytes) (length out) (length counts) ends bytes out counts
       → ends' ≡ clear_from 0 0 ends → bytes' ≡ clear_from 0 0 bytes → out' ≡ clear_from 0 0 out → counts' ≡ clear_from 0 0 counts
       → Leaves o (length ends) (length bytes) (length out) (length counts) answer ends' bytes' out' counts'
@@ -118,6 +119,14 @@ module _ (o : Outcome Filled) (ends bytes out counts : List ℕ) where
           counted = i ∙ clear_all 0 counts ∙ no_counts (length counts);
         };
       }
+
+  -- the end of the entry: a refusal clears the outputs, an accepted answer leaves them
+  pub leaves_ended : (a : Answer) {answer : ℕ} {ends' bytes' out' counts' : List ℕ} → answer ≡ word a → (is_err a ≡ true → (ends' ≡ clear_from 0 0 ends) × (bytes' ≡ clear_from 0 0 bytes) × (out' ≡ clear_from 0 0 out) × (counts' ≡ clear_from 0 0 counts))
+      → (is_err a ≡ false → (ends' ≡ ends) × (bytes' ≡ bytes) × (out' ≡ out) × (counts' ≡ counts))
+      → Gives o a (length ends) (length bytes) (length out) (length counts) ends bytes out counts
+      → Leaves o (length ends) (length bytes) (length out) (length counts) answer ends' bytes' out' counts'
+  leaves_ended (Ok u) e f g w = let q = g refl in rw (q.0, q.1, q.2, q.3) (leaves_accepted refl e w)
+  leaves_ended (Err r) e f g w = let q = f refl in leaves_refused refl e w q.0 q.1 q.2 q.3
 
 -- the outputs have the lengths that were lent
 pub leaves_at : (o : Outcome Filled) {a : Answer} {es bs size cs es' bs' size' cs' answer : ℕ} {ends bytes out counts ends' bytes' out' counts' : List ℕ} → es' ≡ es → bs' ≡ bs → size' ≡ size → cs' ≡ cs

@@ -4,12 +4,12 @@ use Prim.Native.Nat.{ℕ, zero, suc, ◌+◌, ◌*◌, ◌-◌, ◌/◌, ◌%◌
 use mathlib.Core.Path.{◌≡◌, refl, sym, ap, ap₂, ◌∙◌}
 use mathlib.Core.List.{List, [], ◌∷◌, ◌++◌}
 use mathlib.Core.Bool.{Bool, true, false, not, cond}
-use native.Mathlib.Nat.{zero-add, mul-div-le}
+use native.Mathlib.Nat.{zero-add}
 use native.Mathlib.Numerals.{add-one}
 use native.Mathlib.Omega.{arith}
 use borrow.Author.Tests.{ne_eqb, ltb-true, ltb-false}
 use lib.Dec.{eqb, leb, ltb}
-use lib.ListN.{length, get_or, take, drop, length-take, length-append}
+use lib.ListN.{length, get_or, take, length-take, length-append}
 use lib.Seq.{get_or-take, length-take-le}
 use Rattle.lists.specs.Outcome.{Outcome, accepted, refuse, ◌>>◌, ◌>>=◌}
 use Rattle.lists.specs.Rows.{tabulate, first_from}
@@ -23,7 +23,6 @@ use Rattle.obj.specs.declared.Section.{Section}
 use Rattle.obj.proofs.Laws.{length-stage_places}
 use Rattle.fields.specs.Fields.{le16}
 use Rattle.names.specs.Names.{name_at, names_of}
-use Rattle.names.specs.Index.{Indexed}
 use Rattle.tables.specs.Tables.{records_check}
 use Rattle.tables.specs.Records.{sections_in, image_places_of, section_fault, no_section}
 use Rattle.tables.proofs.Laws as tables
@@ -33,10 +32,10 @@ use Rattle.name_table.proofs.Laws.{length_name, passed_sound}
 use Rattle.stage_tables.specs.StageTables.{stage_sections, stage_splits, image_check, symbols_check, splits_check}
 use Rattle.stage_tables.proofs.Laws.{table_passed}
 use Rattle.stage_names.specs.StageNames.{names_room, bytes_room, beyond, first_beyond, fit_check, flat}
-use Rattle.stage_names.proofs.Fits.{not_beyond, flat-cons, flat_append}
+use Rattle.stage_names.proofs.Fits.{not_beyond, flat_append}
 use Rattle.sections.specs.Bytes as section_bytes_lem
 use Rattle.sections.specs.Image.{Image, image_of}
-use Rattle.sections.specs.Sections.{Sections, head_of, sections_of}
+use Rattle.sections.specs.Sections.{head_of, sections_of}
 use Rattle.obj.specs.declared.Split.{Split}
 use Rattle.stage_splits.specs.StageSplits.{room_of}
 use Rattle.merge.specs.Merge.{Given, given}

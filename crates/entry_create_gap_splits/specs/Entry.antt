@@ -1,28 +1,22 @@
 -- The entry `create_gap_splits` on its lent bytes: what it answers for every input, and the name table and the split table that it gives back. "stage tables by kind ..,
 -- each for 1, 2, then its kind's number", then the gaps (create_gap_splits/specs/Create.antt). "A shorter lent output table has its own length as ceiling; more input
 -- splits or names: 2" (DECISIONS.md, 39): of the names at the first that does not fit, by count or by bytes, before anything else but 1 of their length.
-use Rattle.std.specs.Prelude.{ℕ, ◌+◌, ◌*◌, ◌/◌, ◌≤◌, ◌<◌, ◌≡◌, List, [], ◌∷◌, length}
-use Rattle.lists.specs.Outcome.{Outcome, accepted, refused, ◌>>◌}
-use Rattle.lists.specs.Tables.{laid}
-use Rattle.obj.specs.Answers.{meaning, outcome_word}
+use Rattle.std.specs.Prelude.{ℕ, ◌/◌, ◌≡◌, List, length}
+use Rattle.lists.specs.Outcome.{Outcome, ◌>>◌}
+use Rattle.obj.specs.Answers.{outcome_word}
 use Rattle.obj.specs.Records.{stage_places}
-use Rattle.obj.specs.declared.Answer.{Answer}
 use Rattle.obj.specs.declared.Section.{Section}
-use Rattle.names.specs.Names.{names_of, Named}
-use Rattle.names.specs.Index.{Indexed}
-use Rattle.outputs.specs.Outputs.{halves, counts_of}
-use Rattle.tables.specs.Tables.{main_ceilings, AllHeld}
+use Rattle.names.specs.Names.{names_of}
+use Rattle.tables.specs.Tables.{main_ceilings}
 use Rattle.tables.specs.Records.{image_places_of}
 use Rattle.name_table.specs.NameTable.{names_check, stage_names}
 use Rattle.name_table.specs.Stored.{stage_lengths, name_starts}
 use Rattle.stage_tables.specs.StageTables.{stage_sections, stage_splits, image_check, symbols_check, splits_check}
-use Rattle.stage_names.specs.StageNames.{names_room, bytes_room, fit_check, ends_from, flat}
-use Rattle.sections.specs.Image.{Image, image_of}
-use Rattle.sections.specs.Sections.{Sections, sections_of, Kept}
-use Rattle.splits.specs.Bytes.{table_bytes}
-use Rattle.stage_splits.specs.StageSplits.{room_of, said}
+use Rattle.stage_names.specs.StageNames.{names_room, bytes_room, fit_check}
+use Rattle.sections.specs.Image.{image_of}
+use Rattle.sections.specs.Sections.{Sections, sections_of}
+use Rattle.stage_splits.specs.StageSplits.{room_of}
 use Rattle.merge.specs.Merge.{given}
-use Rattle.gaps.specs.Found.{Clean}
 use Rattle.gap_splits.specs.Entering.{Filled, Ceilings}
 use Rattle.create_gap_splits.specs.Create.{gaps_filled}
 use Rattle.stage_gaps.specs.StageGaps.{filled_of, Laid, from_splits}

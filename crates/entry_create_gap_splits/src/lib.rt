@@ -25,7 +25,7 @@ ghost use Rattle.stage_gaps.specs.StageGaps.{from_splits, Gives, Names, Headed, 
 
 use fields::get16;
 use name_table::check_names;
-use obj::{Answer, word_of};
+use obj::{Refusal, word_of};
 use outputs::clear_from;
 use stage_gaps::with_splits;
 use stage_names::{bytes_room, fit_names, names_room};
@@ -54,7 +54,7 @@ fn from_symbols(
     out_bytes: &mut [u8],
     out: &mut [u8],
     counts: &mut [u8],
-) -> Answer
+) -> Result<(), Refusal>
     requires { Names name_bytes.now name_places.now name_lengths.now buckets.now chain.now
         × Headed heads.now head_places.now image.now image_places.now name_bytes.now name_places.now name_lengths.now
         × Space (names_of name_bytes.now name_places.now name_lengths.now (length name_places.now)) most most_bytes (length out_ends.old) (length out_bytes.old)
@@ -63,7 +63,7 @@ fn from_symbols(
         (from_symbols name_bytes.now name_places.now name_lengths.now (sections_in heads.now head_places.now) (sections_of heads.now head_places.now image.now image_places.now) (ceilings (names_of name_bytes.now name_places.now name_lengths.now (length name_places.now)) most most_bytes) symbols.now splits.now (length out.old))
         result (length out_ends.old) (length out_bytes.old) (length out.old) (length counts.old) out_ends.new out_bytes.new out.new counts.new }
 {
-    let t = take_symbol_order(
+    let ordered = take_symbol_order(
         name_lengths.len(),
         heads,
         head_places,
@@ -72,13 +72,8 @@ fn from_symbols(
         places,
         order,
         scratch,
-    );
-    let a = t.answer;
-    if let Answer::Refused { .. } = a {
-        return a;
-    }
+    )?;
     let n = symbols.len() / 20;
-    let ordered = t.ordered;
     with_splits(
         symbols,
         &places[..n],
@@ -121,7 +116,7 @@ fn with_symbols(
     out_bytes: &mut [u8],
     out: &mut [u8],
     counts: &mut [u8],
-) -> Answer
+) -> Result<(), Refusal>
     requires { Names name_bytes.now name_places.now name_lengths.now buckets.now chain.now
         × Headed heads.now head_places.now image.now image_places.now name_bytes.now name_places.now name_lengths.now
         × Space (names_of name_bytes.now name_places.now name_lengths.now (length name_places.now)) most most_bytes (length out_ends.old) (length out_bytes.old) }
@@ -176,7 +171,7 @@ fn from_sections(
     out_bytes: &mut [u8],
     out: &mut [u8],
     counts: &mut [u8],
-) -> Answer
+) -> Result<(), Refusal>
     requires { Names name_bytes.now name_places.now name_lengths.now buckets.now chain.now
         × Space (names_of name_bytes.now name_places.now name_lengths.now (length name_places.now)) most most_bytes (length out_ends.old) (length out_bytes.old)
         × (length heads.old ≡ 64)
@@ -185,17 +180,14 @@ fn from_sections(
         (from_sections name_bytes.now name_places.now name_lengths.now sections.now section_places.now image.now symbols.now splits.now (ceilings (names_of name_bytes.now name_places.now name_lengths.now (length name_places.now)) most most_bytes) (length out.old))
         result (length out_ends.old) (length out_bytes.old) (length out.old) (length counts.old) out_ends.new out_bytes.new out.new counts.new }
 {
-    let a = take_image(
+    take_image(
         name_lengths,
         section_places,
         image.len(),
         sections,
         64,
         heads,
-    );
-    if let Answer::Refused { .. } = a {
-        return a;
-    }
+    )?;
     let n = sections.len() / 15;
     let p = take_image_places(section_places, images);
     with_symbols(
@@ -237,7 +229,7 @@ fn with_sections(
     out_bytes: &mut [u8],
     out: &mut [u8],
     counts: &mut [u8],
-) -> Answer
+) -> Result<(), Refusal>
     requires { Names name_bytes.now name_places.now name_lengths.now buckets.now chain.now
         × Space (names_of name_bytes.now name_places.now name_lengths.now (length name_places.now)) most most_bytes (length out_ends.old) (length out_bytes.old) }
     ensures { Gives
@@ -296,7 +288,7 @@ fn from_names(
     out_bytes: &mut [u8],
     out: &mut [u8],
     counts: &mut [u8],
-) -> Answer
+) -> Result<(), Refusal>
     requires { stored.Room 4096 places.old lengths.old buckets.old chain.old }
     ensures { Gives
         (gap_splits_of name_ends.now name_bytes.now sections.now section_places.now image.now symbols.now splits.now (length out_ends.old) (length out_bytes.old) (length out.old))
@@ -304,14 +296,8 @@ fn from_names(
 {
     let most = names_room(out_ends.len());
     let most_bytes = bytes_room(out_bytes.len());
-    let fit = fit_names(name_ends, most, most_bytes);
-    if let Answer::Refused { .. } = fit {
-        return fit;
-    }
-    let a = check_names(name_ends, name_bytes, 4096, places, lengths, buckets, chain);
-    if let Answer::Refused { .. } = a {
-        return a;
-    }
+    fit_names(name_ends, most, most_bytes)?;
+    check_names(name_ends, name_bytes, 4096, places, lengths, buckets, chain)?;
     let n = name_ends.len() / 2;
     let end = last_end(name_ends);
     with_sections(
@@ -347,7 +333,7 @@ fn checked(
     out_bytes: &mut [u8],
     out: &mut [u8],
     counts: &mut [u8],
-) -> Answer
+) -> Result<(), Refusal>
     ensures { Gives
         (gap_splits_of name_ends.now name_bytes.now sections.now section_places.now image.now symbols.now splits.now (length out_ends.old) (length out_bytes.old) (length out.old))
         result (length out_ends.old) (length out_bytes.old) (length out.old) (length counts.old) out_ends.new out_bytes.new out.new counts.new }
@@ -377,7 +363,7 @@ fn checked(
 
 // The end of the entry: its answer as a word, and all outputs zero after a refusal.
 fn finish(
-    a: Answer,
+    a: Result<(), Refusal>,
     out_ends: &mut [u8],
     out_bytes: &mut [u8],
     out: &mut [u8],
@@ -386,12 +372,11 @@ fn finish(
     ensures { (o : Outcome Filled) → Gives o a (length out_ends.old) (length out_bytes.old) (length out.old) (length counts.old) out_ends.old out_bytes.old out.old counts.old
         → Leaves o (length out_ends.old) (length out_bytes.old) (length out.old) (length counts.old) result out_ends.new out_bytes.new out.new counts.new }
 {
-    if let Answer::Refused { .. } = a {
+    if a.is_err() {
         clear_from(out_ends, 0);
         clear_from(out_bytes, 0);
         clear_from(out, 0);
         clear_from(counts, 0);
-        return word_of(a);
     }
     word_of(a)
 }

@@ -4,19 +4,20 @@ use mathlib.Core.List.{List, [], ◌∷◌, map}
 use Prim.Native.Nat.{ℕ, ◌*◌, ◌-◌, ◌/◌, ◌≤◌, ◌<◌}
 use native.Mathlib.Omega.{arith}
 use borrow.Author.Tests.{lt-ltb, le-ltb}
-use lib.ListN.{length, replicate, get_or, take, length-map}
+use lib.ListN.{length, replicate, get_or, take}
 use lib.Seq.{sets, length-sets}
 use Rattle.lists.specs.Outcome.{Outcome, accepted, refused, ◌>>◌}
-use Rattle.lists.proofs.Outcomes.{fails, passes, then_stops, then_goes, then_both, not_both, same_accepted}
+use Rattle.lists.proofs.Outcomes.{fails, passes, then_stops, then_goes}
 use Rattle.lists.proofs.Binds.{after_goes, after-stops, bind_goes, bind_stops}
 use Rattle.lists.proofs.Rows.{length-tabulate}
 use Rattle.lists.proofs.Stores.{take-sets}
-use Rattle.obj.specs.Answers.{meaning, word}
-use Rattle.obj.specs.declared.Answer.TheVariants.{Accepted, Refused}
+use Rattle.obj.specs.Answers.{word}
+use Rattle.std.specs.Prelude.{Result, Ok, Err}
 use Rattle.outputs.specs.Outputs.{store_count, store_counts}
-use Rattle.obj.specs.declared.Answer.{Answer}
+use Rattle.obj.specs.declared.Refusal.{Refusal}
+use Rattle.obj.specs.declared.Section.{Section}
 use Rattle.stage_names.specs.StageNames.{flat}
-use Rattle.elf_file.specs.File.{section_bytes, header_table, count, header_of, taken, section_strings, symbol_table, entries_of, symbol_entries, symbol_strings, file_check}
+use Rattle.elf_file.specs.File.{header_table, count, header_of, taken, section_strings, entries_of, symbol_entries, symbol_strings, file_check}
 use Rattle.stage_tables.specs.StageTables.{stage_sections, symbols_check, image_check}
 use Rattle.number_names.specs.Numbers.{name_ends, Laid, Known}
 use Rattle.name_table.specs.Stored.{stage_lengths, Stored}
@@ -24,15 +25,14 @@ use Rattle.name_table.specs.NameTable.{names_check}
 use Rattle.names.specs.Index.{Indexed}
 use Rattle.number_names.proofs.Laid.{names_back, count_back, length-name_ends}
 use Rattle.import.specs.Import.{Rooms, Tables, names_of, tables_of, tables_check, import_of}
-use Rattle.import_names.specs.Numbered.{Numbered}
+use Rattle.import_names.specs.Numbered.{NumberedAll}
 use Rattle.number_names.specs.declared.Count.{Count}
 use Rattle.import.proofs.Sections.{taken-below, symbol_bytes, sections_count, places_count}
 use Rattle.import_rows.specs.Taken.{Numbers}
 use Rattle.import_rows.specs.Rows.{head_of, place_of, symbol_of, sections_table, places_table, symbols_table}
-use Rattle.entry_import_elf.specs.Entry.{least, Leaves}
-use Rattle.entry_import_elf.specs.Stages.{symbols_stage, image_stage, sections_stage, SymbolsGiven, RowsGiven, told, Written, TablesGiven}
+use Rattle.entry_import_elf.specs.Entry.{Leaves}
+use Rattle.entry_import_elf.specs.Stages.{symbols_stage, image_stage, sections_stage, SymbolsGiven, RowsWritten, RowsGiven, Written, TablesWritten}
 use Rattle.entry_import_elf.specs.declared.Imported.{Imported}
-use Rattle.entry_import_elf.specs.declared.Given.{Given}
 use Rattle.entry_import_elf.specs.declared.Rows.{Rows}
 
 -- ---- outputs and counts
@@ -44,15 +44,6 @@ front out₀ want e q h = ap₂ take q e ∙ take-sets out₀ want (omega arith)
 pub count_entries : (table : List ℕ) → length (entries_of table) ≡ length table / 16 - 1
 unfolding entries_of
 count_entries table = length-tabulate _ 1 (length table / 16 - 1)
-
--- the smaller of two numbers
-pub least_first : (a b : ℕ) → a < b → a ≡ least a b
-unfolding least
-least_first a b h = rw (lt-ltb a b h)
-
-pub least_second : (a b : ℕ) → b ≤ a → b ≡ least a b
-unfolding least
-least_second a b h = rw (le-ltb a b h)
 
 -- ---- the symbols
 
@@ -74,18 +65,21 @@ module _ (room : ℕ) (t : Tables) where
   symbols_many e h = sym (fails 2 0 room _ _ (lt-ltb room (length t.symbols) (omega (arith, e))))
 
   -- they are asked
-  pub symbols_asked : {n : ℕ} → n ≡ length t.symbols → n ≤ room
-      → symbols_check 4096 (length (name_ends t.names) / 2) (stage_sections (sections_table t.sections)) (symbols_table t.symbols) ≡ symbols_stage room t
+  pub symbols_asked : {n : ℕ} {ends symbols : List ℕ} {sections : List Section} {w : Outcome (Unit {0})} → n ≡ length t.symbols → n ≤ room
+      → w ≡ symbols_check 4096 (length ends / 2) sections symbols
+      → ends ≡ name_ends t.names → sections ≡ stage_sections (sections_table t.sections) → symbols ≡ symbols_table t.symbols
+      → w ≡ symbols_stage room t
   unfolding symbols_stage
-  symbols_asked e h = sym (passes 2 0 room _ _ (le-ltb room (length t.symbols) (omega (arith, e))))
-
--- a refusal is no accepted outcome
-pub never : {A : Type 0} {o : Outcome (Unit {0})} {number section address : ℕ} → refused number section address ≡ o → o ≡ accepted tt → A
-never e q = absurd (not_both (e ∙ q))
+  symbols_asked e h said m s q =
+      said
+      ∙ (λ z. symbols_check 4096 (length (m z) / 2) (s z) (q z))
+      ∙ sym (passes 2 0 room _ _ (le-ltb room (length t.symbols) (omega (arith, e))))
 
 -- the same outcome, said otherwise
-pub given_as : {o want : Outcome (Unit {0})} {t : Tables} {symbols₀ symbols : List ℕ} {r : Given} → o ≡ want → SymbolsGiven o t symbols₀ symbols r → SymbolsGiven want t symbols₀ symbols r
-given_as q g = record { said = g.said ∙ q; written = λ e. g.written (q ∙ e); counted = λ e. g.counted (q ∙ e); few = g.few }
+pub given_as : {o want : Outcome (Unit {0})} (t : Tables) (symbols₀ symbols : List ℕ) (r : Result ℕ Refusal) → o ≡ want
+    → SymbolsGiven o t symbols₀ symbols r → SymbolsGiven want t symbols₀ symbols r
+given_as t symbols₀ symbols (Ok n) q g = record { said = sym q ∙ g.said; written = g.written; counted = g.counted; few = g.few }
+given_as t symbols₀ symbols (Err e) q g = sym q ∙ g
 
 -- ---- the sections
 
@@ -132,37 +126,32 @@ module _ (file room symbols : ℕ) (t : Tables) where
     unfolding image_stage
     image_goes e = then_goes said _ e
 
-pub rows_as : {o want : Outcome (Unit {0})} {t : Tables} {sections₀ places₀ symbols₀ sections places symbols : List ℕ} {r : Rows} → o ≡ want
+-- the image as the code asks it is the tables'
+pub image_said : (file : ℕ) (t : Tables) {lengths places sections : List ℕ} {w : Outcome (Unit {0})} → w ≡ image_check 64 lengths places file sections
+    → lengths ≡ stage_lengths (name_ends t.names) (flat t.names) → places ≡ places_table t.places → sections ≡ sections_table t.sections
+    → w ≡ image_check 64 (stage_lengths (name_ends t.names) (flat t.names)) (places_table t.places) file (sections_table t.sections)
+image_said file t said m p s = said ∙ (λ z. image_check 64 (m z) (p z) file (s z))
+
+pub rows_as : {o want : Outcome (Unit {0})} (t : Tables) (sections₀ places₀ symbols₀ sections places symbols : List ℕ) (r : Result Rows Refusal) → o ≡ want
     → RowsGiven o t sections₀ places₀ symbols₀ sections places symbols r → RowsGiven want t sections₀ places₀ symbols₀ sections places symbols r
-rows_as q g = record {
-  said = g.said ∙ q;
-  sections_written = λ e. g.sections_written (q ∙ e);
-  places_written = λ e. g.places_written (q ∙ e);
-  symbols_written = λ e. g.symbols_written (q ∙ e);
-  sections_counted = λ e. g.sections_counted (q ∙ e);
-  symbols_counted = λ e. g.symbols_counted (q ∙ e);
+rows_as t sections₀ places₀ symbols₀ sections places symbols (Ok r) q g = record {
+  said = sym q ∙ g.said;
+  sections_written = g.sections_written;
+  places_written = g.places_written;
+  symbols_written = g.symbols_written;
+  sections_counted = g.sections_counted;
+  symbols_counted = g.symbols_counted;
   few_sections = g.few_sections;
   few_symbols = g.few_symbols;
 }
-
--- a refusal: no records
-pub rows_refused : {o : Outcome (Unit {0})} {t : Tables} {sections₀ places₀ symbols₀ sections places symbols : List ℕ} {a : Answer} {r : Rows} {number section address : ℕ}
-    → meaning a ≡ o → meaning a ≡ refused number section address → r ≡ record { answer = a; sections = 0; symbols = 0 } → RowsGiven o t sections₀ places₀ symbols₀ sections places symbols r
-rows_refused {o} {t} {sections₀} {places₀} {symbols₀} {sections} {places} {symbols} said r e =
-    let none = sym r ∙ said in
-    subst (λ (x : Rows). RowsGiven o t sections₀ places₀ symbols₀ sections places symbols x) (sym e)
-    (record {
-      said = said;
-      sections_written = never none;
-      places_written = never none;
-      symbols_written = never none;
-      sections_counted = never none;
-      symbols_counted = never none;
-      few_sections = omega arith;
-      few_symbols = omega arith;
-    })
+rows_as t sections₀ places₀ symbols₀ sections places symbols (Err e) q g = sym q ∙ g
 
 -- ---- the names
+
+-- the names as the code asks them are the tables'
+pub names_said : (t : Tables) {ends bytes : List ℕ} {w : Outcome (Unit {0})} → w ≡ names_check 4096 ends bytes
+    → ends ≡ name_ends t.names → bytes ≡ flat t.names → w ≡ names_check 4096 (name_ends t.names) (flat t.names)
+names_said t said e b = said ∙ (λ z. names_check 4096 (e z) (b z))
 
 module _ (file : ℕ) (room : Rooms) (t : Tables) {w : Outcome (Unit {0})} (said : w ≡ names_check 4096 (name_ends t.names) (flat t.names)) where
   pub names_stop : {number section address : ℕ} → w ≡ refused number section address → w ≡ tables_check file room t
@@ -183,12 +172,6 @@ module _ {names : List (List ℕ)} {ends bytes places lengths heads chain : List
 
 -- ---- the whole import
 
--- a chain that ends in a value says what its checks say
-told_then : {A : Type 0} (m : Outcome (Unit {0})) (a : A) → told (m >> accepted a) ≡ m
-unfolding ◌>>◌
-told_then (accepted u) a = refl
-told_then (refused number section address) a = refl
-
 module _ (file : List ℕ) (room : Rooms) where
   -- the file is refused
   pub file_stops : {w : Outcome (Unit {0})} {number section address : ℕ} → w ≡ file_check file → w ≡ refused number section address → import_of file room ≡ refused number section address
@@ -207,29 +190,15 @@ module _ (file : List ℕ) (room : Rooms) where
       unfolding import_of
       import_is = after_goes (file_check file) _ (sym e ∙ q) ∙ bind_goes (names_of file room.names) _ names n
 
-      pub import_told : tables_check (length file) room (tables_of file names) ≡ told (import_of file room)
-      import_told = sym (ap told import_is ∙ told_then (tables_check (length file) room (tables_of file names)) (tables_of file names))
+      -- a table is refused, or all are accepted
+      pub import_refused : {number section address : ℕ} → tables_check (length file) room (tables_of file names) ≡ refused number section address → import_of file room ≡ refused number section address
+      import_refused r = import_is ∙ after-stops (tables_check (length file) room (tables_of file names)) _ _ _ _ r
 
-      pub import_gives : (t : Tables) → import_of file room ≡ accepted t → (tables_check (length file) room (tables_of file names) ≡ accepted tt) × (t ≡ tables_of file names)
-      import_gives t a =
-          let b = then_both (tables_check (length file) room (tables_of file names)) _ t (sym import_is ∙ a) in
-          (b.0, sym (same_accepted b.1))
-
--- what was refused has no tables
-pub nothing-given : {o : Outcome Tables} {number section address : ℕ} {ends₀ bytes₀ sections₀ places₀ symbols₀ ends bytes sections places symbols : List ℕ} (r : Imported)
-    → o ≡ refused number section address → meaning r.answer ≡ refused number section address → r.names ≡ 0 → r.used ≡ 0 → r.sections ≡ 0 → r.symbols ≡ 0
-    → TablesGiven o ends₀ bytes₀ sections₀ places₀ symbols₀ ends bytes sections places symbols r
-nothing-given r e m a b c d = record {
-  said = m ∙ sym (ap told e);
-  written = λ t q. absurd (not_both (sym e ∙ q));
-  few_names = omega (arith, a);
-  few_bytes = omega (arith, b);
-  few_sections = omega (arith, c);
-  few_symbols = omega (arith, d);
-}
+      pub import_accepted : tables_check (length file) room (tables_of file names) ≡ accepted tt → import_of file room ≡ accepted (tables_of file names)
+      import_accepted a = import_is ∙ after_goes (tables_check (length file) room (tables_of file names)) _ a
 
 -- names that were numbered lie in the table
-pub numbered-laid : {o : Outcome (List (List ℕ))} {ends₀ bytes₀ ends bytes : List ℕ} {r : Count} (n : Numbered o ends₀ bytes₀ ends bytes r) → Laid n.names (take (2 * r.names) ends) (take r.used bytes)
+pub numbered-laid : {o : Outcome (List (List ℕ))} {ends₀ bytes₀ ends bytes : List ℕ} {r : Count} (n : NumberedAll o ends₀ bytes₀ ends bytes r) → Laid n.names (take (2 * r.names) ends) (take r.used bytes)
 numbered-laid {o} {ends₀} {bytes₀} {ends} {bytes} {r} n =
     let long = length-name_ends n.names in record {
       ends_are = front ends₀ (name_ends n.names) n.ends_are (omega (arith, long, n.counted)) n.ends_fit;
@@ -237,37 +206,30 @@ numbered-laid {o} {ends₀} {bytes₀} {ends} {bytes} {r} n =
       small = omega (arith, n.sum, n.small);
     }
 
-pub numbered_ends : {o : Outcome (List (List ℕ))} {ends₀ bytes₀ ends bytes : List ℕ} {r : Count} → Numbered o ends₀ bytes₀ ends bytes r → length ends ≡ length ends₀
+pub numbered_ends : {o : Outcome (List (List ℕ))} {ends₀ bytes₀ ends bytes : List ℕ} {r : Count} → NumberedAll o ends₀ bytes₀ ends bytes r → length ends ≡ length ends₀
 numbered_ends {o} {ends₀} n = ap length n.ends_are ∙ length-sets ends₀ 0 (name_ends n.names)
 
-pub numbered_bytes : {o : Outcome (List (List ℕ))} {ends₀ bytes₀ ends bytes : List ℕ} {r : Count} → Numbered o ends₀ bytes₀ ends bytes r → length bytes ≡ length bytes₀
+pub numbered_bytes : {o : Outcome (List (List ℕ))} {ends₀ bytes₀ ends bytes : List ℕ} {r : Count} → NumberedAll o ends₀ bytes₀ ends bytes r → length bytes ≡ length bytes₀
 numbered_bytes {o} {ends₀} {bytes₀} n = ap length n.bytes_are ∙ length-sets bytes₀ 0 (flat n.names)
 
 -- the tables of an accepted import
-pub tables-written : (file : List ℕ) {o : Outcome (List (List ℕ))} {ends₀ bytes₀ sections₀ places₀ symbols₀ ends bytes sections places symbols : List ℕ} {k : Count} {g : Rows} {checks : Outcome (Unit {0})} (t : Tables) (r : Imported)
-    → (n : Numbered o ends₀ bytes₀ ends bytes k)
-    → RowsGiven checks (tables_of file n.names) sections₀ places₀ symbols₀ sections places symbols g
-    → checks ≡ accepted tt
-    → t ≡ tables_of file n.names
-    → r.names ≡ k.names
-    → r.used ≡ k.used
-    → r.sections ≡ g.sections
-    → r.symbols ≡ g.symbols
-    → Written t ends₀ bytes₀ sections₀ places₀ symbols₀ ends bytes sections places symbols r
-tables-written file {o} {ends₀} {bytes₀} {sections₀} {places₀} {symbols₀} {ends} {bytes} {sections} {places} {symbols} t r n g e q rn ru rs ry =
-    subst (λ (x : Tables). Written x ends₀ bytes₀ sections₀ places₀ symbols₀ ends bytes sections places symbols r) (sym q)
-    (record {
-      ends_written = n.ends_are ∙ ap (λ (x : List (List ℕ)). sets ends₀ 0 (name_ends x)) same;
-      bytes_written = n.bytes_are ∙ ap (λ (x : List (List ℕ)). sets bytes₀ 0 (flat x)) same;
-      sections_written = g.sections_written e;
-      places_written = g.places_written e;
-      symbols_written = g.symbols_written e;
-      names-counted = rn ∙ n.counted ∙ ap (λ (x : List (List ℕ)). length x) same;
-      used-counted = ru ∙ n.sum ∙ ap (λ (x : List (List ℕ)). length (flat x)) same;
-      sections_counted = rs ∙ g.sections_counted e;
-      places_counted = rs ∙ g.sections_counted e ∙ sections_count file n.names ∙ sym (places_count file n.names);
-      symbols_counted = ry ∙ g.symbols_counted e;
-    })
+pub tables-written : (file : List ℕ) {o : Outcome (List (List ℕ))} {ends₀ bytes₀ sections₀ places₀ symbols₀ ends bytes sections places symbols : List ℕ} {k : Count} {g : Rows} {checks : Outcome (Unit {0})}
+    → (n : NumberedAll o ends₀ bytes₀ ends bytes k)
+    → RowsWritten checks (tables_of file n.names) sections₀ places₀ symbols₀ sections places symbols g
+    → Written (tables_of file n.names) ends₀ bytes₀ sections₀ places₀ symbols₀ ends bytes sections places symbols
+    (record { names = k.names; used = k.used; sections = g.sections; symbols = g.symbols })
+tables-written file {ends₀ = ends₀} {bytes₀ = bytes₀} n g = record {
+  ends_written = n.ends_are ∙ ap (λ (x : List (List ℕ)). sets ends₀ 0 (name_ends x)) same;
+  bytes_written = n.bytes_are ∙ ap (λ (x : List (List ℕ)). sets bytes₀ 0 (flat x)) same;
+  sections_written = g.sections_written;
+  places_written = g.places_written;
+  symbols_written = g.symbols_written;
+  names-counted = n.counted ∙ ap (λ (x : List (List ℕ)). length x) same;
+  used-counted = n.sum ∙ ap (λ (x : List (List ℕ)). length (flat x)) same;
+  sections_counted = g.sections_counted;
+  places_counted = g.sections_counted ∙ sections_count file n.names ∙ sym (places_count file n.names);
+  symbols_counted = g.symbols_counted;
+}
   where
     same : n.names ≡ (tables_of file n.names).names
     same = sym (names_are file n.names)
@@ -281,40 +243,23 @@ unfolding store_counts
 five_counts b₀ v w x y z e₁ e₂ e₃ e₄ e₅ =
     e₅ ∙ ap (store_count 4 z) (e₄ ∙ ap (store_count 3 y) (e₃ ∙ ap (store_count 2 x) (e₂ ∙ ap (store_count 1 w) e₁)))
 
-told_refused : {A : Type 0} (o : Outcome A) {number section address : ℕ} → told o ≡ refused number section address → o ≡ refused number section address
-told_refused (accepted a) e = absurd (not_both (sym e))
-told_refused {A} (refused n s d) {number} {section} {address} e =
-    let a : n ≡ number = cc in
-    let b : s ≡ section = cc in
-    let c : d ≡ address = cc in
-    λ z. refused (a z) (b z) (c z)
-
-told_accepted : {A : Type 0} (o : Outcome A) → told o ≡ accepted tt → (a : A) × (o ≡ accepted a)
-told_accepted (accepted a) e = (a, refl)
-told_accepted (refused n s d) e = absurd (not_both e)
-
-module _ {ends₀ bytes₀ sections₀ places₀ symbols₀ ends bytes sections places symbols : List ℕ} {o : Outcome Tables} {r : Imported}
-    (g : TablesGiven o ends₀ bytes₀ sections₀ places₀ symbols₀ ends bytes sections places symbols r) (counts₀ counts : List ℕ) {answer : ℕ} (w : answer ≡ word r.answer) where
+module _ {o : Outcome Tables} (ends₀ bytes₀ sections₀ places₀ symbols₀ counts₀ : List ℕ) where
   -- a refusal: zeros
-  pub leaves_zeros : {number section address : ℕ} {ends' bytes' sections' places' symbols' : List ℕ} → r.answer ≡ Refused number section address
-      → ends' ≡ replicate (length ends₀) 0 → bytes' ≡ replicate (length bytes₀) 0 → sections' ≡ replicate (length sections₀) 0 → places' ≡ replicate (length places₀) 0
-      → symbols' ≡ replicate (length symbols₀) 0 → counts ≡ replicate (length counts₀) 0
-      → Leaves o answer ends₀ bytes₀ sections₀ places₀ symbols₀ counts₀ ends' bytes' sections' places' symbols' counts
-  leaves_zeros {number} {section} {address} {ends'} {bytes'} {sections'} {places'} {symbols'} q a b c d e f =
-      subst (λ (x : Outcome Tables). Leaves x answer ends₀ bytes₀ sections₀ places₀ symbols₀ counts₀ ends' bytes' sections' places' symbols' counts)
-      (sym (told_refused o (sym g.said ∙ ap meaning q)))
-      (record { answered = w ∙ ap word q; ends_left = a; bytes_left = b; sections_left = c; places_left = d; symbols_left = e; counts_left = f })
+  pub leaves_zeros : (e : Refusal) {answer : ℕ} {ends bytes sections places symbols counts : List ℕ} → o ≡ refused e.number e.section e.address → answer ≡ word (Err e)
+      → ends ≡ replicate (length ends₀) 0 → bytes ≡ replicate (length bytes₀) 0 → sections ≡ replicate (length sections₀) 0 → places ≡ replicate (length places₀) 0
+      → symbols ≡ replicate (length symbols₀) 0 → counts ≡ replicate (length counts₀) 0
+      → Leaves o answer ends₀ bytes₀ sections₀ places₀ symbols₀ counts₀ ends bytes sections places symbols counts
+  leaves_zeros e q w a b c d f g = rw q (record { answered = w; ends_left = a; bytes_left = b; sections_left = c; places_left = d; symbols_left = f; counts_left = g })
 
   -- an accepted import: its tables at the front
-  pub leaves_tables : r.answer ≡ Accepted → counts ≡ store_counts 0 (r.names ∷ r.used ∷ r.sections ∷ r.sections ∷ r.symbols ∷ []) counts₀
-      → Leaves o answer ends₀ bytes₀ sections₀ places₀ symbols₀ counts₀ ends bytes sections places symbols counts
-  leaves_tables q f =
-      let got = told_accepted o (sym g.said ∙ ap meaning q) in
-      let t = got.0 in
-      let v = g.written t got.1 in
-      subst (λ (x : Outcome Tables). Leaves x answer ends₀ bytes₀ sections₀ places₀ symbols₀ counts₀ ends bytes sections places symbols counts) (sym got.1)
-      (record {
-        answered = w ∙ ap word q;
+  pub leaves_tables : {r : Imported} {ends bytes sections places symbols counts : List ℕ} → TablesWritten o ends₀ bytes₀ sections₀ places₀ symbols₀ ends bytes sections places symbols r
+      → counts ≡ store_counts 0 (r.names ∷ r.used ∷ r.sections ∷ r.sections ∷ r.symbols ∷ []) counts₀
+      → Leaves o 0 ends₀ bytes₀ sections₀ places₀ symbols₀ counts₀ ends bytes sections places symbols counts
+  leaves_tables g f =
+      let v = g.written in
+      let said = g.said in
+      rw said (record {
+        answered = refl;
         ends_left = v.ends_written;
         bytes_left = v.bytes_written;
         sections_left = v.sections_written;

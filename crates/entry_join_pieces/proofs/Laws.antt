@@ -7,40 +7,43 @@ use lib.ListN.{length, replicate}
 use Rattle.lists.specs.Outcome.{Outcome, accepted, refused}
 use Rattle.lists.proofs.Binds.{bind_goes, bind_stops, after_goes, after-stops}
 use Rattle.lists.proofs.Outcomes.{then_both, not_both, same_accepted, then_inv}
-use Rattle.obj.specs.Answers.{meaning, word, outcome_word}
-use Rattle.obj.specs.declared.Answer.{Answer}
-use Rattle.obj.specs.declared.Answer.TheVariants.{Accepted, Refused}
+use Rattle.obj.specs.Answers.{outcome_word}
+use Rattle.obj.specs.Answers.{Answer}
+use Rattle.std.specs.Prelude.{Ok, Err}
 use Rattle.tables.specs.Records.{section_fault}
 use Rattle.name_table.specs.Stored.{stage_lengths}
 use Rattle.stage_tables.specs.StageTables.{stage_sections}
 use Rattle.stage_tables.proofs.Laws.{table_passed}
 use Rattle.join.specs.Join.{Part, held, join_of}
 use Rattle.join.proofs.Sizes.{length-joined}
-use Rattle.piece_records.specs.Records.{count_from, parts_at, parts_of, counted, count_of, Whole}
-use Rattle.piece_records.specs.declared.Counted.{Counted}
+use Rattle.piece_records.specs.Records.{count_from, parts_at, parts_of, Whole}
 use Rattle.piece_records.proofs.Laws.{counted_whole}
 use Rattle.join_pieces.specs.Joins.{Joins}
-use Rattle.join_pieces.proofs.Joining.{joins_refused}
 use Rattle.head_tables.specs.HeadTables.{head_tables}
-use Rattle.kept_output.specs.Kept.{Leaves, kept_of, sized_of, Settles}
-use Rattle.entry_join_pieces.specs.declared.Written.{Written}
+use Rattle.kept_output.specs.Kept.{Leaves, sized_of, Settles}
+use Rattle.obj.specs.declared.Refusal.{Refusal}
 use Rattle.entry_join_pieces.specs.Entry.{join_pieces, from_pieces, Writes}
 
 -- ---- the pieces
 
-module _ (b : List ℕ) (c : Counted) (is : counted c ≡ count_from 1024 b 0 0) where
-  pub parts_refused : {number section address : ℕ} → c.answer ≡ Refused number section address → parts_of b ≡ refused number section address
+module _ (b : List ℕ) where
+  pub parts_refused : {r : Refusal} → refused r.number r.section r.address ≡ count_from 1024 b 0 0 → parts_of b ≡ refused r.number r.section r.address
   unfolding parts_of
-  parts_refused e = bind_stops _ _ _ _ _ (sym is ∙ ap (count_of c.count) e)
+  parts_refused is = bind_stops _ _ _ _ _ (sym is)
 
-  pub parts_accepted : c.answer ≡ Accepted → parts_of b ≡ accepted (parts_at c.count b 0)
-  unfolding parts_of
-  parts_accepted e = bind_goes _ _ _ (sym is ∙ ap (count_of c.count) e)
+  module _ {n : ℕ} (is : accepted n ≡ count_from 1024 b 0 0) where
+    pub parts_accepted : parts_of b ≡ accepted (parts_at n b 0)
+    unfolding parts_of
+    parts_accepted = bind_goes _ _ _ (sym is)
 
-  pub parts_whole : c.answer ≡ Accepted → Whole c.count b 0
-  parts_whole e =
-      let w = counted_whole 1024 b 0 0 c.count (sym is ∙ ap (count_of c.count) e) in
-      subst (λ (k : ℕ). Whole k b 0) (let z : c.count - 0 ≡ c.count = omega arith in z) w.whole
+    pub parts_whole : Whole n b 0
+    parts_whole =
+        let w = counted_whole 1024 b 0 0 n (sym is) in
+        subst (λ (k : ℕ). Whole k b 0) (let z : n - 0 ≡ n = omega arith in z) w.whole
+
+    -- "up to 1,024 pieces"
+    pub parts_few : n ≤ 1024
+    parts_few = let w = (counted_whole 1024 b 0 0 n (sym is)).most in omega arith
 
 -- ---- the joiner's outcome
 
@@ -84,27 +87,48 @@ from_size sections pieces room bytes e =
 
 -- ---- what the entry leaves
 
-module _ {o : Outcome (List ℕ)} {before after : List ℕ} {w : Written} where
-  pub writes_refused : {number section address : ℕ} → w.answer ≡ Refused number section address → o ≡ refused number section address → length after ≡ length before
-      → Writes o before w after
-  writes_refused e r l = record { joins = joins_refused e r l; sized = λ bytes q. absurd (not_both (sym r ∙ q)) }
+-- the same refusal where a number of bytes would be answered
+abbrev counted_none : Outcome (Unit {0}) → Outcome ℕ
+counted_none (accepted u) = accepted 0
+counted_none (refused number section address) = refused number section address
 
--- an outcome that was joined, settled
-pub leaves : (o : Outcome (List ℕ)) {before after out size size' : List ℕ} {w : Written} {answer : ℕ} → Writes o before w after
-    → Settles w.size w.answer after size answer out size' → Leaves o before size answer out size'
-leaves o {before} {after} {out} {size} {size'} {w} {answer} j s = go o j w.answer refl
-  where
-    go : (p : Outcome (List ℕ)) → Writes p before w after → (a : Answer) → w.answer ≡ a → Leaves p before size answer out size'
-    go (accepted bytes) k Accepted e = record {
-      said = s.said ∙ ap word e;
-      output = s.output ∙ ap (kept_of after) e ∙ k.joins.laid bytes refl;
-      sized = s.sized ∙ ap (sized_of w.size size) e ∙ ap (λ (v : ℕ). sized_of v size Accepted) (k.sized bytes refl);
+module _ {before after : List ℕ} where
+  -- a refusal of the tables
+  pub writes_refused : {o : Outcome (List ℕ)} {r : Refusal} → o ≡ refused r.number r.section r.address → length after ≡ length before → Writes o before (Err r) after
+  writes_refused {o} {r} e l = record {
+    said = sym (bind_stops o _ _ _ _ e);
+    long = l;
+    laid = λ bytes q. absurd (not_both (sym e ∙ q));
+  }
+
+  -- a refusal of the pieces
+  pub writes_stopped : (o : Outcome (List ℕ)) {r : Refusal} → Joins o before (Err r) after → Writes o before (Err r) after
+  writes_stopped (accepted bytes) j = absurd (not_both (j.said ∙ bind_goes _ _ bytes refl))
+  writes_stopped (refused number section address) j =
+      record { said = ap counted_none (j.said ∙ bind_stops _ _ number section address refl) ∙ sym (bind_stops _ _ number section address refl); long = j.long; laid = j.laid }
+
+  -- the bytes that were written, and how many
+  pub writes_made : (o : Outcome (List ℕ)) {v : ℕ} → Joins o before (Ok tt) after → ((bytes : List ℕ) → o ≡ accepted bytes → v ≡ length bytes) → Writes o before (Ok v) after
+  writes_made (accepted bytes) {v} j s =
+      record { said = ap (λ (n : ℕ). accepted n) (s bytes refl) ∙ sym (bind_goes _ _ bytes refl); long = j.long; laid = j.laid }
+  writes_made (refused number section address) j s = absurd (not_both (sym (j.said ∙ bind_stops _ _ number section address refl)))
+
+  module _ {size : List ℕ} {answer : ℕ} {out size' : List ℕ} where
+    -- what was written, settled
+    pub leaves_made : (o : Outcome (List ℕ)) {v : ℕ} → Writes o before (Ok v) after → Settles v (Ok tt) after size answer out size' → Leaves o before size answer out size'
+    leaves_made (accepted bytes) w s = record {
+      said = s.said;
+      output = s.output ∙ w.laid bytes refl;
+      sized = s.sized ∙ ap (λ (n : ℕ). sized_of n size (Ok tt)) (same_accepted (w.said ∙ bind_goes _ _ bytes refl));
     }
-    go (accepted bytes) k (Refused number section address) e = absurd (not_both (sym (ap meaning e) ∙ k.joins.said ∙ bind_goes _ _ bytes refl))
-    go (refused number section address) k Accepted e = absurd (not_both (sym (sym (ap meaning e) ∙ k.joins.said ∙ bind_stops _ _ number section address refl)))
-    go (refused number section address) k (Refused n t x) e =
+    leaves_made (refused number section address) w s = absurd (not_both (sym (w.said ∙ bind_stops _ _ number section address refl)))
+
+    -- .. and a refusal
+    pub leaves_refused : (o : Outcome (List ℕ)) {r : Refusal} {v : ℕ} → Writes o before (Err r) after → Settles v (Err r) after size answer out size' → Leaves o before size answer out size'
+    leaves_refused (accepted bytes) w s = absurd (not_both (w.said ∙ bind_goes _ _ bytes refl))
+    leaves_refused (refused number section address) {r} w s =
         record {
-          said = s.said ∙ ap word e ∙ ap outcome_word (sym (ap meaning e) ∙ k.joins.said ∙ bind_stops _ _ number section address refl);
-          output = s.output ∙ ap (kept_of after) e ∙ ap (λ (n : ℕ). replicate n 0) k.joins.long;
-          sized = s.sized ∙ ap (sized_of w.size size) e;
+          said = s.said ∙ ap outcome_word (w.said ∙ bind_stops _ _ number section address refl);
+          output = s.output ∙ ap (λ (n : ℕ). replicate n 0) w.long;
+          sized = s.sized;
         }

@@ -9,49 +9,32 @@ ghost use Rattle.entry_join_pieces.specs.Entry.{join_pieces, from_pieces, Writes
 use head_tables::check_head_tables;
 use join_pieces::{base_of, join};
 use kept_output::settle;
-use obj::Answer;
+use obj::Refusal;
 use piece_records::count_pieces;
 
-// The answer, and how many bytes were joined if it was accepted.
-#[derive(Clone, Copy)]
-pub struct Written {
-    pub answer: Answer,
-    pub size: u64,
-}
-
 // The pieces, counted and joined.
-fn join_records(sections: &[u8], pieces: &[u8], joined: &mut [u8]) -> Answer
+fn join_records(sections: &[u8], pieces: &[u8], joined: &mut [u8]) -> Result<(), Refusal>
     requires { length sections.now / 15 ≤ 64 }
     ensures { Joins (from_pieces sections.now pieces.now (length joined.old)) joined.old result joined.new }
 {
-    let c = count_pieces(pieces);
-    let a = c.answer;
-    if let Answer::Refused { .. } = a {
-        return a;
-    }
-    join(sections, pieces, c.count, joined)
+    let n = count_pieces(pieces)?;
+    join(sections, pieces, n, joined)
 }
 
-// The same after the names and the section heads.
+// The same after the names and the section heads: how many bytes were joined.
 fn join_tables(
     name_ends: &[u8],
     name_bytes: &[u8],
     sections: &[u8],
     pieces: &[u8],
     joined: &mut [u8],
-) -> Written
+) -> Result<u64, Refusal>
     ensures { Writes (join_pieces name_ends.now name_bytes.now sections.now pieces.now (length joined.old)) joined.old result joined.new }
 {
-    let a = check_head_tables(name_ends, name_bytes, sections);
-    if let Answer::Refused { .. } = a {
-        return Written { answer: a, size: 0 };
-    }
+    check_head_tables(name_ends, name_bytes, sections)?;
     let total = base_of(sections, sections.len() / 15) as u64;
-    let b = join_records(sections, pieces, joined);
-    Written {
-        answer: b,
-        size: total,
-    }
+    join_records(sections, pieces, joined)?;
+    Ok(total)
 }
 
 // The entry: the joined bytes of the sections that hold bytes, one after another, and how many they are.
@@ -65,7 +48,8 @@ pub fn join_pieces(
 ) -> u64
     ensures { Leaves (join_pieces name_ends.now name_bytes.now sections.now pieces.now (length joined.old)) joined.old size.old result joined.new size.new }
 {
-    let w = join_tables(name_ends, name_bytes, sections, pieces, joined);
-    let a = w.answer;
-    settle(a, w.size, joined, size)
+    match join_tables(name_ends, name_bytes, sections, pieces, joined) {
+        Ok(n) => settle(Ok(()), n, joined, size),
+        Err(r) => settle(Err(r), 0, joined, size),
+    }
 }

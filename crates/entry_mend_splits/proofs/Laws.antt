@@ -5,11 +5,11 @@ use mathlib.Core.Path.{◌≡◌, sym, ap, ap₂, ◌∙◌}
 use mathlib.Core.List.{List}
 use native.Mathlib.Omega.{arith}
 use lib.ListN.{length, get_or, take}
-use Rattle.lists.specs.Outcome.{Outcome, accepted, refused, ◌>>◌}
+use Rattle.lists.specs.Outcome.{Outcome, accepted, refused}
 use Rattle.lists.proofs.Outcomes.{not_both, then_goes}
 use Rattle.lists.proofs.Rows.{get_d_map, length-tabulate}
 use Rattle.obj.specs.Records.{section_at, stage_places, split_width}
-use Rattle.obj.specs.declared.Answer.{Answer}
+use Rattle.obj.specs.Answers.{Answer}
 use Rattle.obj.specs.declared.Section.{Section}
 use Rattle.obj.specs.declared.Split.{Split}
 use Rattle.obj.proofs.Laws.{length-stage_places}
@@ -24,7 +24,8 @@ use Rattle.stage_tables.proofs.Laws.{table_passed, taken_few, taken_places, take
 use Rattle.splits.specs.Columns.{Columns, columns, row_at, rows, Long}
 use Rattle.mend.specs.Mend.{section_ends_of, mend}
 use Rattle.mend.specs.Steps.{LowHeads, Mends, line_bytes}
-use Rattle.mend.specs.declared.Mending.{Mending}
+use Rattle.std.specs.Prelude.{Result}
+use Rattle.obj.specs.declared.Refusal.{Refusal}
 use Rattle.mend_outputs.specs.Outputs.{Laid, Gives, Stores}
 use Rattle.mend_outputs.proofs.Laws.{stored_gives}
 use Rattle.entry_mend_splits.specs.Entry.{from_splits, from_sections, NamesTaken, HeadsTaken}
@@ -107,7 +108,7 @@ pub rows_long : {starts ends units rest : List ℕ} (n : ℕ) → n ≤ 1024 →
 rows_long n h p q r s = record { starts = omega arith; ends = omega arith; units = omega arith; rest = omega arith }
 
 -- it passed, the columns held its splits before they were mended, and what was mended is stored
-pub mended_gives : (lengths : List ℕ) (heads : List Section) (splits : List ℕ) (room : ℕ) {answer : Outcome (Unit {0})} {section_ends : List ℕ} (old c : Columns) (r : Mending) {a : Answer}
+pub mended_gives : (lengths : List ℕ) (heads : List Section) (splits : List ℕ) (room : ℕ) {answer : Outcome (Unit {0})} {section_ends : List ℕ} (old c : Columns) (r : Result ℕ Refusal) {a : Answer}
     {out lines counts out' lines' counts' : List ℕ} → answer ≡ splits_check room lengths heads splits → answer ≡ accepted tt → split_width * room ≤ length out
     → section_ends ≡ section_ends_of heads → rows old (length splits / split_width) ≡ stage_splits splits
     → Mends section_ends (rows old (length splits / split_width)) (rows c (length splits / split_width)) lines lines' r
@@ -119,6 +120,6 @@ mended_gives lengths heads splits room old c r {lines = lines} said told h s l w
     stored_gives r c (w.is ∙ ap₂ (λ (x : List ℕ) (y : List Split). mend x (length lines) y) s l ∙ then_goes said _ told) w.stays (omega (arith, n, h)) t
 
 -- the lines of at most 1,024 rows have at most 49,152 bytes
-pub lines_low : {section_ends : List ℕ} (old : Columns) (n : ℕ) {new : List Split} {before after : List ℕ} {r : Mending} → n ≤ 1024 → Mends section_ends (rows old n) new before after r
+pub lines_low : {section_ends : List ℕ} (old : Columns) (n : ℕ) {new : List Split} {before after : List ℕ} {r : Result ℕ Refusal} → n ≤ 1024 → Mends section_ends (rows old n) new before after r
     → line_bytes r ≤ 49152
 lines_low old n h w = omega (arith, h, w.few, length-tabulate (row_at old) 0 n)

@@ -2,7 +2,7 @@
 -- every input is `Leaves` of mend_outputs of this outcome.
 use Rattle.std.specs.Prelude.{ℕ, ◌/◌, ◌≤◌, ◌≡◌, List, length, take}
 use Rattle.lists.specs.Outcome.{Outcome, accepted, ◌>>◌}
-use Rattle.obj.specs.Records.{stage_places, split_width}
+use Rattle.obj.specs.Records.{stage_places}
 use Rattle.obj.specs.declared.Section.{Section}
 use Rattle.tables.specs.Tables.{main_ceilings, AllHeld}
 use Rattle.tables.specs.Records.{sections_in}

@@ -14,12 +14,12 @@ ghost use Rattle.entry_mend_splits.specs.Entry.{mend_splits_of, from_splits, Nam
 use mend::{fill_section_ends, mend_table};
 use mend_outputs::{finish, give_mended};
 use name_table::check_names;
-use obj::{Answer, SPLIT_BYTES};
+use obj::{Refusal, SPLIT_BYTES};
 use stage_splits::{room_of, take_split_columns};
 use stage_tables::take_sections;
 
 // Names, checked, and how many bytes each has at the front of the column.
-fn take_lengths(name_ends: &[u8], name_bytes: &[u8], lengths: &mut [u8]) -> Answer
+fn take_lengths(name_ends: &[u8], name_bytes: &[u8], lengths: &mut [u8]) -> Result<(), Refusal>
     requires { 4096 ≤ length lengths.old }
     ensures { NamesTaken (meaning result) name_ends.now name_bytes.now lengths.new }
 {
@@ -44,18 +44,15 @@ fn take_heads(
     sections: &[u8],
     places: &mut [u32],
     section_ends: &mut [u32],
-) -> Answer
+) -> Result<(), Refusal>
     requires { (length places.old ≡ 64) × (length section_ends.old ≡ 64) }
     ensures { HeadsTaken (meaning result) lengths.now sections.now places.new section_ends.new }
 {
     // "64 sections"
-    let a = take_sections(lengths, sections, 64, places);
-    if let Answer::Refused { .. } = a {
-        return a;
-    }
+    take_sections(lengths, sections, 64, places)?;
     let n = sections.len() / 15;
     fill_section_ends(sections, &places[..n], section_ends);
-    a
+    Ok(())
 }
 
 // The split table, its mending and the outputs. `section_ends` says where each section ends.
@@ -68,7 +65,7 @@ fn from_splits(
     out: &mut [u8],
     lines: &mut [u8],
     counts: &mut [u8],
-) -> Answer
+) -> Result<(), Refusal>
     requires { AllHeld 15 heads.now head_places.now × (section_ends.now ≡ section_ends_of (sections_in heads.now head_places.now)) }
     ensures { Gives (from_splits lengths.now (sections_in heads.now head_places.now) splits.now (room_of (length out.old)) (length lines.old))
         result (Laid out.old lines.old counts.old out.new lines.new counts.new) }
@@ -78,7 +75,7 @@ fn from_splits(
     let mut ends = [0u32; 1024];
     let mut units = [0u16; 1024];
     let mut rest = [0u64; 1024];
-    let a = take_split_columns(
+    take_split_columns(
         lengths,
         heads,
         head_places,
@@ -89,10 +86,7 @@ fn from_splits(
         &mut ends,
         &mut units,
         &mut rest,
-    );
-    if let Answer::Refused { .. } = a {
-        return a;
-    }
+    )?;
     let n = splits.len() / SPLIT_BYTES;
     let r = mend_table(&starts, &mut ends, &units, &rest, n, section_ends, lines);
     give_mended(r, &starts, &ends, &units, &rest, n, out, counts)
@@ -107,22 +101,16 @@ fn checked(
     out: &mut [u8],
     lines: &mut [u8],
     counts: &mut [u8],
-) -> Answer
+) -> Result<(), Refusal>
     ensures { Gives (mend_splits_of name_ends.now name_bytes.now sections.now splits.now (length out.old) (length lines.old))
         result (Laid out.old lines.old counts.old out.new lines.new counts.new) }
 {
     let mut lengths = [0u8; 4096];
-    let a = take_lengths(name_ends, name_bytes, &mut lengths);
-    if let Answer::Refused { .. } = a {
-        return a;
-    }
+    take_lengths(name_ends, name_bytes, &mut lengths)?;
     let named = &lengths[..name_ends.len() / 2];
     let mut places = [0u32; 64];
     let mut section_ends = [0u32; 64];
-    let b = take_heads(named, sections, &mut places, &mut section_ends);
-    if let Answer::Refused { .. } = b {
-        return b;
-    }
+    take_heads(named, sections, &mut places, &mut section_ends)?;
     let n = sections.len() / 15;
     from_splits(
         named,

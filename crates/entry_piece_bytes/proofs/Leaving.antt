@@ -1,28 +1,22 @@
 -- From the answer to the word and the eight bytes: what is left in the lent output, for every length of it. Assumes nothing.
 use Prim.Native.Nat.{ℕ, zero, suc, ◌-◌, ◌<◌, ◌≤◌}
-use mathlib.Core.Path.{◌≡◌, refl, sym, ap, subst, ◌∙◌}
+use mathlib.Core.Path.{◌≡◌, sym, ap, subst, ◌∙◌}
 use mathlib.Core.List.{List, [], ◌++◌}
 use native.Mathlib.Nat.{sub-zero, zero-add}
 use borrow.Author.Tests.{le-leb, lt-leb}
 use native.Mathlib.Omega.{arith}
 use lib.ListN.{length, replicate, drop, length-replicate}
 use lib.Seq.{sets, sets-eq}
-use Rattle.lists.specs.Outcome.{Outcome}
+use Rattle.lists.specs.Outcome.{Outcome, accepted}
 use Rattle.lists.specs.Rows.{clear_from}
 use Rattle.lists.specs.Tables.{laid}
 use Rattle.lists.proofs.Clear.{clear_all}
 use Rattle.fields.specs.Fields.{enc32}
-use Rattle.obj.specs.Answers.{word, outcome_word}
-use Rattle.obj.specs.declared.Answer.{Answer}
-use Rattle.obj.specs.declared.Answer.TheVariants.{Accepted, Refused}
+use Rattle.obj.specs.Answers.{word, outcome_word, meaning}
+use Rattle.obj.specs.declared.Refusal.{Refusal}
+use Rattle.std.specs.Prelude.{Result, Ok, Err}
 use Rattle.entry_piece_bytes.specs.declared.Place.{Place}
-use Rattle.entry_piece_bytes.specs.declared.Found.{Found}
-use Rattle.entry_piece_bytes.specs.Entry.{found, found_meaning, place_bytes, Leaves}
-
--- the word of an answer is that of its meaning
-word_means : (place : Place) (a : Answer) → word a ≡ outcome_word (found place a)
-word_means place Accepted = refl
-word_means place (Refused number section address) = refl
+use Rattle.entry_piece_bytes.specs.Entry.{place_bytes, Leaves}
 
 -- nothing stands in a cleared output
 cleared : (out : List ℕ) → clear_from 0 0 out ≡ laid (length out) []
@@ -43,44 +37,42 @@ front_laid n bytes h =
     fewer (suc k) zero = ap (λ (j : ℕ). replicate j 0) (let e : 0 ≡ 0 - suc k = omega arith in e)
     fewer (suc k) (suc m) = fewer k m ∙ ap (λ (j : ℕ). replicate j 0) (let e : m - k ≡ suc m - suc k = omega arith in e)
 
-module _ (r : Found) (answer : ℕ) (said : answer ≡ word r.answer) (out after : List ℕ) where
+module _ (r : Result Place Refusal) (out after : List ℕ) where
   -- a refusal leaves zeros
-  pub refused_leaves : {number section address : ℕ} → r.answer ≡ Refused number section address → after ≡ clear_from 0 0 out
-      → Leaves (found_meaning r) (length out) answer after
-  refused_leaves e q =
+  pub refused_leaves : {answer : ℕ} {e : Refusal} → r ≡ Err e → answer ≡ word (Err e) → after ≡ clear_from 0 0 out → Leaves (meaning r) (length out) answer after
+  refused_leaves is said q =
       record {
-        said = said ∙ word_means r.place r.answer;
-        place = q ∙ cleared out ∙ sym (ap (λ (a : Answer). place_bytes (length out) (found r.place a)) e);
+        said = said ∙ sym (ap (λ (x : Result Place Refusal). outcome_word (meaning x)) is);
+        place = q ∙ cleared out ∙ sym (ap (λ (x : Result Place Refusal). place_bytes (length out) (meaning x)) is);
       }
 
-  -- a place that fits is left
-  pub put_leaves : r.answer ≡ Accepted → 8 ≤ length out → after ≡ sets (clear_from 0 0 out) 0 (both r.place)
-      → Leaves (found_meaning r) (length out) answer after
-  put_leaves e h q =
-      record {
-        said = said ∙ word_means r.place r.answer;
-        place =
-            q
-            ∙ ap (λ (l : List ℕ). sets l 0 (both r.place)) (clear_all 0 out)
-            ∙ front_laid (length out) (both r.place) h
-            ∙ sym (fits (length out) h)
-            ∙ sym (ap (λ (a : Answer). place_bytes (length out) (found r.place a)) e);
-      }
-    where
-      fits : (size : ℕ) → 8 ≤ size → place_bytes size (found r.place Accepted) ≡ laid size (both r.place)
-      fits size k = rw (le-leb 8 size k)
+  module _ {answer : ℕ} {p : Place} (is : r ≡ Ok p) (said : answer ≡ 0) where
+    -- a place that fits is left
+    pub put_leaves : 8 ≤ length out → after ≡ sets (clear_from 0 0 out) 0 (both p) → Leaves (meaning r) (length out) answer after
+    put_leaves h q =
+        record {
+          said = said ∙ sym (ap (λ (x : Result Place Refusal). outcome_word (meaning x)) is);
+          place =
+              q
+              ∙ ap (λ (l : List ℕ). sets l 0 (both p)) (clear_all 0 out)
+              ∙ front_laid (length out) (both p) h
+              ∙ sym (fits (length out) h)
+              ∙ sym (ap (λ (x : Result Place Refusal). place_bytes (length out) (meaning x)) is);
+        }
+      where
+        fits : (size : ℕ) → 8 ≤ size → place_bytes size (accepted p) ≡ laid size (both p)
+        fits size k = rw (le-leb 8 size k)
 
-  -- one that does not fit is not
-  pub none_leaves : r.answer ≡ Accepted → length out < 8 → after ≡ clear_from 0 0 out → Leaves (found_meaning r) (length out) answer after
-  none_leaves e h q =
-      record {
-        said = said ∙ word_means r.place r.answer;
-        place =
-            q ∙ cleared out ∙ sym (short (length out) h) ∙ sym (ap (λ (a : Answer). place_bytes (length out) (found r.place a)) e);
-      }
-    where
-      short : (size : ℕ) → size < 8 → place_bytes size (found r.place Accepted) ≡ laid size []
-      short size k = rw (lt-leb 8 size k)
+    -- one that does not fit is not
+    pub none_leaves : length out < 8 → after ≡ clear_from 0 0 out → Leaves (meaning r) (length out) answer after
+    none_leaves h q =
+        record {
+          said = said ∙ sym (ap (λ (x : Result Place Refusal). outcome_word (meaning x)) is);
+          place = q ∙ cleared out ∙ sym (short (length out) h) ∙ sym (ap (λ (x : Result Place Refusal). place_bytes (length out) (meaning x)) is);
+        }
+      where
+        short : (size : ℕ) → size < 8 → place_bytes size (accepted p) ≡ laid size []
+        short size k = rw (lt-leb 8 size k)
 
 -- what an equal outcome leaves
 pub leaves_as : {o p : Outcome Place} {size answer : ℕ} {out : List ℕ} → o ≡ p → Leaves o size answer out → Leaves p size answer out

@@ -1,6 +1,6 @@
 -- What the definition answers at each of the code's returns, and what is known of a piece where no rule refuses it. Assumes nothing.
 use Prim.Native.Nat.{ℕ, ◌+◌, ◌*◌, ◌-◌, ◌/◌, ◌<◌, ◌≤◌}
-use mathlib.Core.Path.{◌≡◌, sym, ap, ◌∙◌}
+use mathlib.Core.Path.{◌≡◌, ap, ◌∙◌}
 use mathlib.Core.List.{List}
 use mathlib.Core.Bool.{true, false, not}
 use mathlib.Core.Logic.{◌≢◌}
@@ -11,16 +11,14 @@ use lib.ListN.{length, get_or, take, drop, length-take, length-drop}
 use Rattle.lists.specs.Outcome.{Outcome, accepted, refused, ◌>>◌}
 use Rattle.lists.proofs.Outcomes.{fails, passes}
 use Rattle.lists.proofs.Tests.{or_false, and_false, none_of}
-use Rattle.obj.specs.Answers.{meaning}
 use Rattle.obj.specs.Records.{section_at}
-use Rattle.obj.specs.declared.Answer.{Answer}
-use Rattle.obj.specs.declared.Answer.TheVariants.{Refused}
+use Rattle.obj.specs.declared.Refusal.{Refusal}
 use Rattle.obj.specs.declared.Section.{Section}
 use Rattle.tables.specs.Records.{bytes_cut}
 use Rattle.pieces.specs.Pieces.{piece_at, piece_width}
 use Rattle.pieces.specs.declared.Piece.{Piece}
 use Rattle.entry_piece_bytes.specs.declared.Place.{Place}
-use Rattle.entry_piece_bytes.specs.Entry.{within, in_section, of_piece, outside, placed, reach, found}
+use Rattle.entry_piece_bytes.specs.Entry.{within, in_section, of_piece, outside, placed, reach}
 
 -- ---- a piece whose section has this head
 module _ (places : List ℕ) (image : ℕ) (head : Section) (p : Piece) where
@@ -84,7 +82,6 @@ module _ (sections places : List ℕ) (image : ℕ) (pieces : List ℕ) (which :
   piece_there h = passes 20 0 which _ _ (lt-leb _ _ h)
 
 -- ---- the tables: a refusal of one stands
-pub found-stops : {a : Answer} {m : Outcome (Unit {0})} {number section address : ℕ} (none : Place) (rest : Outcome Place) → meaning a ≡ m → a ≡ Refused number section address
-    → found none a ≡ (m >> rest)
+pub table-stops : {r : Refusal} {m : Outcome (Unit {0})} (rest : Outcome Place) → refused r.number r.section r.address ≡ m → refused r.number r.section r.address ≡ (m >> rest)
 unfolding ◌>>◌
-found-stops none rest said e = ap (found none) e ∙ (let q = sym said ∙ ap meaning e in rw q)
+table-stops rest said = ap (λ (x : Outcome (Unit {0})). x >> rest) said

@@ -6,15 +6,12 @@ use Rattle.lists.specs.Tables.{laid}
 use Rattle.fields.specs.Fields.{enc32}
 use Rattle.obj.specs.Answers.{outcome_word}
 use Rattle.obj.specs.Records.{section_at}
-use Rattle.obj.specs.declared.Answer.{Answer}
-use Rattle.obj.specs.declared.Answer.TheVariants.{Accepted, Refused}
 use Rattle.obj.specs.declared.Section.{Section}
 use Rattle.tables.specs.Tables.{size_check}
 use Rattle.tables.specs.Records.{image_places_of, bytes_cut}
 use Rattle.pieces.specs.Pieces.{piece_at, piece_width}
 use Rattle.pieces.specs.declared.Piece.{Piece}
 use Rattle.entry_piece_bytes.specs.declared.Place.{Place}
-use Rattle.entry_piece_bytes.specs.declared.Found.{Found}
 
 -- ---- a piece in its section
 
@@ -73,13 +70,3 @@ place_bytes size (refused number section address) = laid size []
 pub record Leaves (o : Outcome Place) (size answer : ℕ) (out : List ℕ) : Type 0 where
   pub said : answer ≡ outcome_word o
   pub place : out ≡ place_bytes size o
-
--- ---- inside the entry
-
--- what an answer of the code means
-abbrev pub found : (place : Place) → Answer → Outcome Place
-found place Accepted = accepted place
-found place (Refused number section address) = refused number section address
-
-abbrev pub found_meaning : Found → Outcome Place
-found_meaning r = found r.place r.answer

@@ -24,10 +24,9 @@ use Rattle.sections.specs.Image.{Image, image_of}
 use Rattle.sections.specs.Bytes.{bytes_of}
 use Rattle.sections.specs.Sections.{Sections, sections_of, head_of}
 use Rattle.sections.specs.Ends.{splitting_end, end_meaning}
-use Rattle.sections.specs.Alignment.{Chosen, default_alignment, alignment_of, alignment_meaning}
-use Rattle.sections.specs.declared.End.{End}
-use Rattle.sections.specs.declared.Alignment.{Alignment}
-use Rattle.sections.specs.declared.Alignment.TheVariants.{Given, FromSymbol, Default, Backwards}
+use Rattle.sections.specs.Alignment.{Chosen, default_alignment, alignment_of}
+use Rattle.std.specs.Prelude.{Result}
+use Rattle.sections.specs.declared.Short.{Short}
 use Rattle.entry_questions.specs.declared.Question.{Question}
 use Rattle.entry_questions.specs.declared.Question.TheVariants as questions
 use Rattle.entry_questions.specs.Entry.{end_of, alignment_at, question_of, image_in, sections_in, split_in, split_of, answer_of, end_answer}
@@ -43,7 +42,7 @@ module _ (g : Image) (sections : Sections) (section : ℕ) where
   end_there h = passes 20 section 0 _ _ (lt-leb _ _ h)
 
   -- the code's answer, for the head and the bytes that it read
-  pub end_found : section < sections.count → {head : Section} {bytes : List ℕ} (r : End) → head ≡ sections.head section → bytes ≡ sections.bytes section
+  pub end_found : section < sections.count → {head : Section} {bytes : List ℕ} (r : Result ℕ Short) → head ≡ sections.head section → bytes ≡ sections.bytes section
       → end_meaning section head.address r ≡ splitting_end g section head bytes → end_meaning section head.address r ≡ end_of g sections section
   end_found h r e q said = said ∙ ap₂ (splitting_end g section) e q ∙ sym (end_there h)
 
@@ -68,45 +67,38 @@ end_as g heads head_places image I J section same = go (leb (length head_places)
 
 -- ---- the alignment of a split
 
--- the number of the code's answer, to a range asked of section n from `start` on
-abbrev pub value_meaning : (n start : ℕ) → Alignment → Outcome ℕ
-value_meaning n start (Given a) = accepted a
-value_meaning n start (FromSymbol a) = accepted a
-value_meaning n start (Default a) = accepted a
-value_meaning n start Backwards = refused 11 n start
-
-value_is : (n start : ℕ) (r : Alignment) → value_meaning n start r ≡ (alignment_meaning n start r >>= λ chosen. accepted chosen.value)
-unfolding ◌>>=◌
-value_is n start (Given a) = refl
-value_is n start (FromSymbol a) = refl
-value_is n start (Default a) = refl
-value_is n start Backwards = refl
-
 module _ (g : Image) (head : ℕ → Section) (count : ℕ) (split : ℕ → Split) (which : ℕ) where
   pub no_split : count ≤ which → alignment_at g head count split which ≡ refused 20 0 which
   unfolding alignment_at
   no_split h = fails 20 0 which _ _ (le-leb _ _ h)
 
   -- the code's answer, for the split, the head, the name and the default that it read
-  pub alignment_found : which < count → {s : Split} {home : Section} {name : List ℕ} {least : ℕ} (r : Alignment)
-      → s ≡ split which → home ≡ head s.section → name ≡ g.name home.name → least ≡ default_alignment home name
-      → alignment_meaning s.section s.start r ≡ alignment_of g.symbol g.count s.section least s.alignment s.start s.end
-      → value_meaning s.section s.start r ≡ alignment_at g head count split which
-  unfolding alignment_at
-  alignment_found h {s} {home} {name} {least} r is at named e said =
-      value_is s.section s.start r
-      ∙ ap (λ (m : Outcome Chosen). m >>= λ chosen. accepted chosen.value)
-      (said ∙ ap (λ (k : ℕ). alignment_of g.symbol g.count s.section k s.alignment s.start s.end) (default ∙ ap (λ (x : Section). default_alignment x (g.name x.name)) at))
-      ∙ ap asked is
-      ∙ sym (passes 20 0 which _ _ (lt-leb _ _ h))
-    where
-      default : least ≡ default_alignment home (g.name home.name)
-      default = e ∙ ap (default_alignment home) named
+  module _ (h : which < count) {s : Split} {home : Section} {name : List ℕ} {least : ℕ}
+      (is : s ≡ split which) (at : home ≡ head s.section) (named : name ≡ g.name home.name) (e : least ≡ default_alignment home name) where
+    abbrev asked : Split → Outcome ℕ
+    asked x =
+        alignment_of g.symbol g.count x.section (default_alignment (head x.section) (g.name (head x.section).name)) x.alignment x.start x.end
+        >>= λ c. accepted c.value
 
-      asked : Split → Outcome ℕ
-      asked x =
-          alignment_of g.symbol g.count x.section (default_alignment (head x.section) (g.name (head x.section).name)) x.alignment x.start x.end
-          >>= λ chosen. accepted chosen.value
+    alignment_found : (m : Outcome Chosen) → m ≡ alignment_of g.symbol g.count s.section least s.alignment s.start s.end
+        → (m >>= λ c. accepted c.value) ≡ alignment_at g head count split which
+    unfolding alignment_at
+    alignment_found m said =
+        ap (λ (m : Outcome Chosen). m >>= λ c. accepted c.value)
+        (said ∙ ap (λ (k : ℕ). alignment_of g.symbol g.count s.section k s.alignment s.start s.end)
+        (e ∙ ap (default_alignment home) named ∙ ap (λ (x : Section). default_alignment x (g.name x.name)) at))
+        ∙ ap asked is
+        ∙ sym (passes 20 0 which _ _ (lt-leb _ _ h))
+
+    pub alignment_given : (c : Chosen) → accepted c ≡ alignment_of g.symbol g.count s.section least s.alignment s.start s.end
+        → accepted c.value ≡ alignment_at g head count split which
+    unfolding ◌>>=◌
+    alignment_given c said = alignment_found (accepted c) said
+
+    pub alignment_refused : refused 11 s.section s.start ≡ alignment_of g.symbol g.count s.section least s.alignment s.start s.end
+        → refused 11 s.section s.start ≡ alignment_at g head count split which
+    unfolding ◌>>=◌
+    alignment_refused said = alignment_found (refused 11 s.section s.start) said
 
 -- ---- the question over the columns is that over the lent tables
 pub question_as : (b heads image splits places name_bytes name_places name_lengths P H I S : List ℕ) (question : Question)

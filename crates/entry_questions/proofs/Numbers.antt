@@ -1,27 +1,21 @@
 -- From the question's answer to the word and the four bytes: what is left in the lent output, for every length of it. Assumes nothing.
 use Prim.Native.Nat.{ℕ, zero, suc, ◌-◌, ◌<◌, ◌≤◌}
-use mathlib.Core.Path.{◌≡◌, refl, sym, ap, subst, ◌∙◌}
+use mathlib.Core.Path.{◌≡◌, sym, ap, subst, ◌∙◌}
 use mathlib.Core.List.{List, [], ◌∷◌}
 use native.Mathlib.Nat.{sub-zero}
 use native.Mathlib.Omega.{arith}
 use borrow.Author.Tests.{le-leb, lt-leb}
 use lib.ListN.{length, replicate}
 use lib.Seq.{sets}
-use Rattle.lists.specs.Outcome.{Outcome}
+use Rattle.lists.specs.Outcome.{Outcome, accepted}
 use Rattle.lists.specs.Rows.{clear_from}
 use Rattle.lists.specs.Tables.{laid}
 use Rattle.lists.proofs.Clear.{clear_all}
 use Rattle.fields.specs.Fields.{enc32}
-use Rattle.obj.specs.Answers.{word, outcome_word}
-use Rattle.obj.specs.declared.Answer.{Answer}
-use Rattle.obj.specs.declared.Answer.TheVariants.{Accepted, Refused}
-use Rattle.entry_questions.specs.declared.Asked.{Asked}
-use Rattle.entry_questions.specs.Entry.{valued, asked_meaning, number_bytes, Leaves}
-
--- the word of an answer is that of its meaning
-word_means : (value : ℕ) (a : Answer) → word a ≡ outcome_word (valued value a)
-word_means value Accepted = refl
-word_means value (Refused number section address) = refl
+use Rattle.obj.specs.Answers.{word, outcome_word, meaning}
+use Rattle.obj.specs.declared.Refusal.{Refusal}
+use Rattle.std.specs.Prelude.{Result, Ok, Err}
+use Rattle.entry_questions.specs.Entry.{number_bytes, Leaves}
 
 -- nothing stands in a cleared output
 cleared : (out : List ℕ) → clear_from 0 0 out ≡ laid (length out) []
@@ -36,44 +30,42 @@ four_laid (suc (suc (suc zero))) a b c d h = absurd (omega (arith, h))
 four_laid (suc (suc (suc (suc n)))) a b c d h =
     ap (λ (k : ℕ). a ∷ b ∷ c ∷ d ∷ replicate k 0) (let e : n ≡ suc (suc (suc (suc n))) - 4 = omega arith in e)
 
-module _ (r : Asked) (answer : ℕ) (said : answer ≡ word r.answer) (out after : List ℕ) where
+module _ (r : Result ℕ Refusal) (out after : List ℕ) where
   -- a refusal leaves zeros
-  pub refused_leaves : {number section address : ℕ} → r.answer ≡ Refused number section address → after ≡ clear_from 0 0 out
-      → Leaves (asked_meaning r) (length out) answer after
-  refused_leaves e q =
+  pub refused_leaves : {answer : ℕ} {e : Refusal} → r ≡ Err e → answer ≡ word (Err e) → after ≡ clear_from 0 0 out → Leaves (meaning r) (length out) answer after
+  refused_leaves is said q =
       record {
-        said = said ∙ word_means r.value r.answer;
-        number = q ∙ cleared out ∙ sym (ap (λ (a : Answer). number_bytes (length out) (valued r.value a)) e);
+        said = said ∙ sym (ap (λ (x : Result ℕ Refusal). outcome_word (meaning x)) is);
+        number = q ∙ cleared out ∙ sym (ap (λ (x : Result ℕ Refusal). number_bytes (length out) (meaning x)) is);
       }
 
-  -- a number that fits is left
-  pub put_leaves : r.answer ≡ Accepted → 4 ≤ length out → after ≡ sets (clear_from 0 0 out) 0 (enc32 r.value)
-      → Leaves (asked_meaning r) (length out) answer after
-  put_leaves e h q =
-      record {
-        said = said ∙ word_means r.value r.answer;
-        number =
-            q
-            ∙ ap (λ (l : List ℕ). sets l 0 (enc32 r.value)) (clear_all 0 out)
-            ∙ four_laid (length out) _ _ _ _ h
-            ∙ sym (fits (length out) h)
-            ∙ sym (ap (λ (a : Answer). number_bytes (length out) (valued r.value a)) e);
-      }
-    where
-      fits : (size : ℕ) → 4 ≤ size → number_bytes size (valued r.value Accepted) ≡ laid size (enc32 r.value)
-      fits size k = rw (le-leb 4 size k)
+  module _ {answer n : ℕ} (is : r ≡ Ok n) (said : answer ≡ 0) where
+    -- a number that fits is left
+    pub put_leaves : 4 ≤ length out → after ≡ sets (clear_from 0 0 out) 0 (enc32 n) → Leaves (meaning r) (length out) answer after
+    put_leaves h q =
+        record {
+          said = said ∙ sym (ap (λ (x : Result ℕ Refusal). outcome_word (meaning x)) is);
+          number =
+              q
+              ∙ ap (λ (l : List ℕ). sets l 0 (enc32 n)) (clear_all 0 out)
+              ∙ four_laid (length out) _ _ _ _ h
+              ∙ sym (fits (length out) h)
+              ∙ sym (ap (λ (x : Result ℕ Refusal). number_bytes (length out) (meaning x)) is);
+        }
+      where
+        fits : (size : ℕ) → 4 ≤ size → number_bytes size (accepted n) ≡ laid size (enc32 n)
+        fits size k = rw (le-leb 4 size k)
 
-  -- one that does not fit is not
-  pub none_leaves : r.answer ≡ Accepted → length out < 4 → after ≡ clear_from 0 0 out → Leaves (asked_meaning r) (length out) answer after
-  none_leaves e h q =
-      record {
-        said = said ∙ word_means r.value r.answer;
-        number =
-            q ∙ cleared out ∙ sym (short (length out) h) ∙ sym (ap (λ (a : Answer). number_bytes (length out) (valued r.value a)) e);
-      }
-    where
-      short : (size : ℕ) → size < 4 → number_bytes size (valued r.value Accepted) ≡ laid size []
-      short size k = rw (lt-leb 4 size k)
+    -- one that does not fit is not
+    pub none_leaves : length out < 4 → after ≡ clear_from 0 0 out → Leaves (meaning r) (length out) answer after
+    none_leaves h q =
+        record {
+          said = said ∙ sym (ap (λ (x : Result ℕ Refusal). outcome_word (meaning x)) is);
+          number = q ∙ cleared out ∙ sym (short (length out) h) ∙ sym (ap (λ (x : Result ℕ Refusal). number_bytes (length out) (meaning x)) is);
+        }
+      where
+        short : (size : ℕ) → size < 4 → number_bytes size (accepted n) ≡ laid size []
+        short size k = rw (lt-leb 4 size k)
 
 -- what an equal outcome leaves
 pub leaves_as : {o p : Outcome ℕ} {size answer : ℕ} {out : List ℕ} → o ≡ p → Leaves o size answer out → Leaves p size answer out

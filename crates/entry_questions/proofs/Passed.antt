@@ -6,12 +6,10 @@ use mathlib.Core.List.{List}
 use native.Mathlib.Omega.{arith}
 use lib.ListN.{length, get_or, take}
 use lib.Seq.{length-take-le, get_or-take}
-use Rattle.lists.specs.Outcome.{Outcome, accepted, ◌>>◌}
+use Rattle.lists.specs.Outcome.{Outcome, accepted, refused, ◌>>◌}
 use Rattle.lists.proofs.Rows.{get_d_map}
-use Rattle.obj.specs.Answers.{meaning}
 use Rattle.obj.specs.Records.{split_at, stage_places, split_width}
-use Rattle.obj.specs.declared.Answer.{Answer}
-use Rattle.obj.specs.declared.Answer.TheVariants.{Refused}
+use Rattle.obj.specs.declared.Refusal.{Refusal}
 use Rattle.obj.specs.declared.Section.{Section}
 use Rattle.obj.proofs.Laws.{length-stage_places}
 use Rattle.tables.specs.Tables.{main_ceilings, records_check}
@@ -25,7 +23,7 @@ use Rattle.stage_tables.proofs.Laws.{table_passed}
 use Rattle.sections.specs.Image.{image_of}
 use Rattle.sections.specs.Sections.{Kept}
 use Rattle.entry_questions.specs.declared.Question.{Question}
-use Rattle.entry_questions.specs.Entry.{question_of, image_in, sections_in, split_in, split_of, valued, from_sections, Names, Headed, Homes}
+use Rattle.entry_questions.specs.Entry.{question_of, image_in, sections_in, split_in, split_of, from_sections, Names, Headed, Homes}
 
 -- the ceilings of the tables that are taken
 pub record Few (most : Ceilings) : Type 0 where
@@ -48,10 +46,9 @@ pub names_room_lem : {most : Ceilings} {places lengths heads chain : List ℕ} �
 names_room_lem e r = rw (ap (λ (m : Ceilings). m.names) e) r
 
 -- a refused table is the answer, whatever would follow
-pub asked_stops : {a : Answer} {m : Outcome (Unit {0})} {number section address : ℕ} (rest : Outcome ℕ) → meaning a ≡ m → a ≡ Refused number section address
-    → valued 0 a ≡ (m >> rest)
+pub asked_stops : {r : Refusal} {m : Outcome (Unit {0})} (rest : Outcome ℕ) → refused r.number r.section r.address ≡ m → refused r.number r.section r.address ≡ (m >> rest)
 unfolding ◌>>◌
-asked_stops rest said e = ap (valued 0) e ∙ (let q = sym said ∙ ap meaning e in rw q)
+asked_stops rest said = ap (λ (x : Outcome (Unit {0})). x >> rest) said
 
 -- sections that are kept are there with their names
 pub headed : {heads head_places image image_places name_places : List ℕ} → Kept heads head_places image image_places name_places

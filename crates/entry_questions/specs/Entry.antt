@@ -6,8 +6,6 @@ use Rattle.lists.specs.Tables.{laid}
 use Rattle.fields.specs.Fields.{enc32}
 use Rattle.obj.specs.Answers.{outcome_word}
 use Rattle.obj.specs.Records.{split_at, stage_places, Held, split_width}
-use Rattle.obj.specs.declared.Answer.{Answer}
-use Rattle.obj.specs.declared.Answer.TheVariants.{Accepted, Refused}
 use Rattle.obj.specs.declared.Section.{Section}
 use Rattle.obj.specs.declared.Split.{Split}
 use Rattle.names.specs.Names.{Named}
@@ -20,7 +18,6 @@ use Rattle.sections.specs.Image.{Image, image_of}
 use Rattle.sections.specs.Sections.{Sections, sections_of, head_of}
 use Rattle.sections.specs.Ends.{splitting_end}
 use Rattle.sections.specs.Alignment.{default_alignment, alignment_of}
-use Rattle.entry_questions.specs.declared.Asked.{Asked}
 use Rattle.entry_questions.specs.declared.Question.{Question}
 use Rattle.entry_questions.specs.declared.Question.TheVariants.{End, Alignment}
 
@@ -91,14 +88,6 @@ pub record Leaves (o : Outcome ℕ) (size answer : ℕ) (out : List ℕ) : Type 
   pub number : out ≡ number_bytes size o
 
 -- ---- inside the entries
-
--- what an answer of the code means
-abbrev pub valued : (value : ℕ) → Answer → Outcome ℕ
-valued value Accepted = accepted value
-valued value (Refused number section address) = refused number section address
-
-abbrev pub asked_meaning : Asked → Outcome ℕ
-asked_meaning r = valued r.value r.answer
 
 -- split k of a table at places
 abbrev pub split_of : (b places : List ℕ) → ℕ → Split

@@ -3,18 +3,18 @@
 #![tactic(auto)]
 
 ghost use Rattle.std.specs.Prelude.{◌≡◌, length};
-ghost use Rattle.lists.specs.Outcome as outcome;
+ghost use Rattle.obj.specs.Answers.{meaning};
 ghost use Rattle.sections.specs.Image.{image_of, Tables};
 ghost use Rattle.sections.specs.Sections.{sections_of, head_of, Kept};
 ghost use Rattle.name_table.specs.Stored as stored;
-ghost use Rattle.entry_questions.specs.Entry.{end_of, alignment_at, question_of, answer_of, end_answer, alignment_answer, from_sections, split_of, asked_meaning, Names, Headed, Homes, Scratch, Leaves};
+ghost use Rattle.entry_questions.specs.Entry.{end_of, alignment_at, question_of, answer_of, end_answer, alignment_answer, from_sections, split_of, Names, Headed, Homes, Scratch, Leaves};
 
 use fields::put32;
 use name_table::check_names;
 use names::name_at;
-use obj::{Answer, SPLIT_BYTES, refusal, section_at, split_at, word_of};
+use obj::{Refusal, SPLIT_BYTES, refuse, section_at, split_at, word_of};
 use outputs::clear_from;
-use sections::{Alignment, End, alignment_of, default_alignment, section_bytes};
+use sections::{Alignment, alignment_of, default_alignment, section_bytes};
 use stage_symbols::{take_image_places, take_symbol_order};
 use stage_tables::{take_image, take_splits};
 use tables::main_ceilings;
@@ -24,31 +24,6 @@ use tables::main_ceilings;
 pub enum Question {
     End { section: u16 },
     Alignment { split: u16 },
-}
-
-// The answer, and the number that was asked for if it was accepted.
-#[derive(Clone, Copy)]
-pub struct Asked {
-    pub answer: Answer,
-    pub value: u32,
-}
-
-fn refused(number: u16, section: u16, address: u32) -> Asked
-    ensures { asked_meaning result ≡ outcome.refused number section address }
-{
-    Asked {
-        answer: refusal(number, section, address),
-        value: 0,
-    }
-}
-
-fn value(n: u32) -> Asked
-    ensures { asked_meaning result ≡ outcome.accepted n }
-{
-    Asked {
-        answer: Answer::Accepted,
-        value: n,
-    }
 }
 
 // The splitting end of a section: "10 `.ctors` or `.dtors` with 1 to 3 bytes"; 20 where the section is not there.
@@ -64,13 +39,13 @@ fn splitting_end(
     image: &[u8],
     image_places: &[u32],
     section: u16,
-) -> Asked
+) -> Result<u32, Refusal>
     requires { Tables symbols.now symbol_places.now order.now name_bytes.now name_places.now name_lengths.now × Kept heads.now head_places.now image.now image_places.now name_places.now }
-    ensures { asked_meaning result ≡ end_of (image_of symbols.now symbol_places.now name_bytes.now name_places.now name_lengths.now) (sections_of heads.now head_places.now image.now image_places.now) section }
+    ensures { meaning result ≡ end_of (image_of symbols.now symbol_places.now name_bytes.now name_places.now name_lengths.now) (sections_of heads.now head_places.now image.now image_places.now) section }
 {
     let n = section as usize;
     if head_places.len() <= n {
-        return refused(20, section, 0);
+        return refuse(20, section, 0);
     }
     let head = section_at(heads, head_places, n);
     let bytes = section_bytes(image, image_places, n, head);
@@ -86,8 +61,8 @@ fn splitting_end(
         bytes,
     );
     match end {
-        End::Is(e) => value(e),
-        End::Short => refused(10, section, head.address),
+        Ok(e) => Ok(e),
+        Err(_) => refuse(10, section, head.address),
     }
 }
 
@@ -104,13 +79,13 @@ fn alignment(
     splits: &[u8],
     split_places: &[u32],
     which: u16,
-) -> Asked
+) -> Result<u32, Refusal>
     requires { Tables symbols.now symbol_places.now order.now name_bytes.now name_places.now name_lengths.now × Headed heads.now head_places.now name_places.now × Homes splits.now split_places.now head_places.now }
-    ensures { asked_meaning result ≡ alignment_at (image_of symbols.now symbol_places.now name_bytes.now name_places.now name_lengths.now) (head_of heads.now head_places.now) (length split_places.now) (split_of splits.now split_places.now) which }
+    ensures { meaning result ≡ alignment_at (image_of symbols.now symbol_places.now name_bytes.now name_places.now name_lengths.now) (head_of heads.now head_places.now) (length split_places.now) (split_of splits.now split_places.now) which }
 {
     let k = which as usize;
     if split_places.len() <= k {
-        return refused(20, 0, which as u32);
+        return refuse(20, 0, which as u32);
     }
     let s = split_at(splits, split_places, k);
     let head = section_at(heads, head_places, s.section as usize);
@@ -126,11 +101,13 @@ fn alignment(
         s.start,
         s.end,
     );
-    match found {
-        Alignment::Given(a) => value(a),
-        Alignment::FromSymbol(a) => value(a),
-        Alignment::Default(a) => value(a),
-        Alignment::Backwards => refused(11, s.section, s.start),
+    let Ok(chosen) = found else {
+        return refuse(11, s.section, s.start);
+    };
+    match chosen {
+        Alignment::Given(a) => Ok(a),
+        Alignment::FromSymbol(a) => Ok(a),
+        Alignment::Default(a) => Ok(a),
     }
 }
 
@@ -149,9 +126,9 @@ fn ask(
     splits: &[u8],
     split_places: &[u32],
     question: Question,
-) -> Asked
+) -> Result<u32, Refusal>
     requires { Tables symbols.now symbol_places.now order.now name_bytes.now name_places.now name_lengths.now × Kept heads.now head_places.now image.now image_places.now name_places.now × Homes splits.now split_places.now head_places.now }
-    ensures { asked_meaning result ≡ question_of (image_of symbols.now symbol_places.now name_bytes.now name_places.now name_lengths.now) (sections_of heads.now head_places.now image.now image_places.now) (length split_places.now) (split_of splits.now split_places.now) question }
+    ensures { meaning result ≡ question_of (image_of symbols.now symbol_places.now name_bytes.now name_places.now name_lengths.now) (sections_of heads.now head_places.now image.now image_places.now) (length split_places.now) (split_of splits.now split_places.now) question }
 {
     match question {
         Question::End { section } => splitting_end(
@@ -200,27 +177,21 @@ fn from_sections(
     order: &mut [u16],
     scratch: &mut [u16],
     split_places: &mut [u32],
-) -> Asked
+) -> Result<u32, Refusal>
     requires { Names name_bytes.now name_places.now name_lengths.now × Scratch heads.old images.old places.old order.old scratch.old split_places.old }
-    ensures { asked_meaning result ≡ from_sections name_bytes.now name_places.now name_lengths.now sections.now section_places.now image.now symbols.now splits.now question }
+    ensures { meaning result ≡ from_sections name_bytes.now name_places.now name_lengths.now sections.now section_places.now image.now symbols.now splits.now question }
 {
     let most = main_ceilings();
-    let a = take_image(
+    take_image(
         name_lengths,
         section_places,
         image.len(),
         sections,
         most.sections,
         heads,
-    );
-    if let Answer::Refused { .. } = a {
-        return Asked {
-            answer: a,
-            value: 0,
-        };
-    }
+    )?;
     let n = sections.len() / 15;
-    let t = take_symbol_order(
+    let ordered = take_symbol_order(
         name_lengths.len(),
         sections,
         &heads[..n],
@@ -229,30 +200,16 @@ fn from_sections(
         places,
         order,
         scratch,
-    );
-    let b = t.answer;
-    if let Answer::Refused { .. } = b {
-        return Asked {
-            answer: b,
-            value: 0,
-        };
-    }
-    let c = take_splits(
+    )?;
+    take_splits(
         name_lengths,
         sections,
         &heads[..n],
         splits,
         most.splits,
         split_places,
-    );
-    if let Answer::Refused { .. } = c {
-        return Asked {
-            answer: c,
-            value: 0,
-        };
-    }
+    )?;
     let p = take_image_places(section_places, images);
-    let ordered = t.ordered;
     ask(
         symbols,
         &places[..symbols.len() / 20],
@@ -281,9 +238,9 @@ fn with_columns(
     symbols: &[u8],
     splits: &[u8],
     question: Question,
-) -> Asked
+) -> Result<u32, Refusal>
     requires { Names name_bytes.now name_places.now name_lengths.now }
-    ensures { asked_meaning result ≡ from_sections name_bytes.now name_places.now name_lengths.now sections.now section_places.now image.now symbols.now splits.now question }
+    ensures { meaning result ≡ from_sections name_bytes.now name_places.now name_lengths.now sections.now section_places.now image.now symbols.now splits.now question }
 {
     let mut heads = [0u32; 64];
     let mut images = [0u32; 64];
@@ -324,18 +281,12 @@ fn from_names(
     lengths: &mut [u8],
     heads: &mut [u16],
     chain: &mut [u16],
-) -> Asked
+) -> Result<u32, Refusal>
     requires { stored.Room 4096 places.old lengths.old heads.old chain.old }
-    ensures { asked_meaning result ≡ answer_of ends.now bytes.now sections.now section_places.now image.now symbols.now splits.now question }
+    ensures { meaning result ≡ answer_of ends.now bytes.now sections.now section_places.now image.now symbols.now splits.now question }
 {
     let most = main_ceilings();
-    let a = check_names(ends, bytes, most.names, places, lengths, heads, chain);
-    if let Answer::Refused { .. } = a {
-        return Asked {
-            answer: a,
-            value: 0,
-        };
-    }
+    check_names(ends, bytes, most.names, places, lengths, heads, chain)?;
     let n = ends.len() / 2;
     with_columns(
         bytes,
@@ -360,8 +311,8 @@ fn answered(
     symbols: &[u8],
     splits: &[u8],
     question: Question,
-) -> Asked
-    ensures { asked_meaning result ≡ answer_of name_ends.now name_bytes.now sections.now section_places.now image.now symbols.now splits.now question }
+) -> Result<u32, Refusal>
+    ensures { meaning result ≡ answer_of name_ends.now name_bytes.now sections.now section_places.now image.now symbols.now splits.now question }
 {
     let mut places = [0u32; 4096];
     let mut lengths = [0u8; 4096];
@@ -384,18 +335,18 @@ fn answered(
 }
 
 // The number into the lent output, where it was given and fits whole; zeros else.
-fn put_number(out: &mut [u8], r: Asked) -> u64
-    ensures { Leaves (asked_meaning r) (length out.old) result out.new }
+fn put_number(out: &mut [u8], r: Result<u32, Refusal>) -> u64
+    ensures { Leaves (meaning r) (length out.old) result out.new }
 {
     clear_from(out, 0);
-    let answer = r.answer;
-    if let Answer::Refused { .. } = answer {
-        return word_of(answer);
-    }
+    let n = match r {
+        Ok(n) => n,
+        Err(e) => return word_of(Err(e)),
+    };
     if 4 <= out.len() {
-        put32(out, 0, r.value);
+        put32(out, 0, n);
     }
-    word_of(answer)
+    word_of(Ok(()))
 }
 
 // The entry: the splitting end of a section, in four bytes of `end`.

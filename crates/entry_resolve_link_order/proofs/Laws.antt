@@ -16,8 +16,10 @@ use Rattle.lists.proofs.Outcomes.{then_goes, then_both}
 use Rattle.lists.proofs.Clear.{clear_all}
 use Rattle.obj.specs.Answers.{word, outcome_word, meaning}
 use Rattle.obj.specs.Records.{section_at, split_at, unit_at, stage_places, split_width}
-use Rattle.obj.specs.declared.Answer.{Answer}
-use Rattle.obj.specs.declared.Answer.TheVariants.{Accepted, Refused}
+use Rattle.obj.specs.Answers.{Answer}
+use Rattle.std.specs.Prelude.{Result, Ok, Err}
+use Rattle.std.specs.Result.{IsErrAnd}
+use Rattle.obj.specs.declared.Refusal.{Refusal}
 use Rattle.obj.specs.declared.Split.{Split}
 use Rattle.obj.specs.declared.Section.{Section}
 use Rattle.obj.specs.declared.Unit as units
@@ -35,28 +37,32 @@ use Rattle.name_table.specs.Stored.{Stored, stage_lengths}
 use Rattle.stage_tables.specs.StageTables.{stage_sections, stage_splits, stage_units, sections_check, splits_check, units_check, Filled}
 use Rattle.stage_tables.proofs.Laws.{table_passed, taken_places, taken-count, taken-held}
 use Rattle.stage_splits.specs.StageSplits.{Taken}
-use Rattle.splits.specs.Columns.{Columns, columns, rows, row_at, Long}
+use Rattle.splits.specs.Columns.{Columns, rows, row_at, Long}
 use Rattle.toposort.specs.Search.{End}
 use Rattle.link_graph.specs.Columns.{pointers_in}
 use Rattle.link_graph.proofs.Rows.{row_at_lem}
-use Rattle.order.specs.declared.Resolved.{Resolved}
+use Rattle.order.specs.declared.Unlinked.{Unlinked}
+use Rattle.order.specs.declared.Unlinked.TheVariants.{Refused}
 use Rattle.order.specs.LinkOrder.{link_order, nodes_left, records_of}
 use Rattle.order.specs.Bytes.{units_bytes}
-use Rattle.order.specs.Columns.{Resolves, SplitsTaken, UnitsTaken}
+use Rattle.order.specs.Columns.{kept, answer_of, Resolves, SplitsTaken, UnitsTaken}
+use Rattle.order.proofs.Errors.{refused_as}
 use Rattle.order.proofs.Bytes.{length-units_bytes}
 use Rattle.order.proofs.Stage.{same_pointers, resolves_as, length_records}
+use Rattle.entry_resolve_link_order.proofs.Refusals.{Low}
 use Rattle.entry_resolve_link_order.specs.Entry.{given_in, resolve_of, from_units, from_splits, from_sections, NamesTaken, SectionsTaken, Leaves}
 
 -- ---- one table after another
 
 -- a refused table is the answer
-pub refused_table : {check : Outcome (Unit {0})} {a : Answer} {number section address : ℕ} (splits : List Split) (us : List units.Unit) (rest : Outcome End) (before : List ℕ)
-    (r : Resolved) → meaning a ≡ check → a ≡ Refused number section address → r ≡ record { answer = a; kept = 0 }
-    → Resolves splits us (check >> rest) r before before
+pub refused_table : {check : Outcome (Unit {0})} {e : Refusal} (splits : List Split) (us : List units.Unit) (rest : Outcome End) (before : List ℕ) (a : Answer)
+    (r : Result ℕ Unlinked) → meaning a ≡ check → a ≡ Err e → IsErrAnd r (λ d. d ≡ Refused e) → Low check → Resolves splits us (check >> rest) r before before
 unfolding ◌>>◌ units_bytes records_of
-refused_table splits us rest before r said e q =
-    let stop = sym said ∙ ap meaning e in
-    rw (q, e, stop) record { said = refl; counted = refl; front = refl; room = omega arith; few = omega arith }
+refused_table {check} {e} splits us rest before a r said told given low =
+    let q = refused_as r a given told told in
+    let stop = sym said ∙ ap meaning told in
+    let small : Low {A = Unit {0}} (refused e.number e.section e.address) = subst (λ (x : Outcome (Unit {0})). Low x) stop low in
+    rw (q, stop) record { said = refl; counted = refl; front = refl; room = omega arith; few = omega arith; other = λ z. omega (arith, small.1, z) }
 
 -- ---- a name that has bytes is there
 pub known : (l : List ℕ) (v : ℕ) → 0 < get_or l v 0 → v < length l
@@ -197,7 +203,7 @@ stops number section address m n = refl
 -- ---- each table that passed, and then the rest of the entry
 
 -- the units at their places are those of the table
-pub from_units_as : {r : Resolved} {before after : List ℕ} (S : List Split) (P : ℕ → Bool) (lengths ub : List ℕ) (size : ℕ) (places : List ℕ)
+pub from_units_as : {r : Result ℕ Unlinked} {before after : List ℕ} (S : List Split) (P : ℕ → Bool) (lengths ub : List ℕ) (size : ℕ) (places : List ℕ)
     → places ≡ stage_places 8 (length ub / 8) → units_check 1024 lengths ub ≡ accepted tt
     → Resolves S (units_in ub places) (link_order (record { splits = S; units = units_in ub places; pointers = P }) (size / 8)) r before after
     → Resolves S (stage_units ub) (from_units lengths S P ub size) r before after
@@ -207,7 +213,7 @@ from_units_as {r} {before} {after} S P lengths ub size places e passed w =
     (subst (λ (l : List ℕ). Resolves S (units_in ub l) (link_order (record { splits = S; units = units_in ub l; pointers = P }) (size / 8)) r before after) e w)
 
 -- the rows in the columns are those of the table
-pub from_splits_as : {r : Resolved} {before after : List ℕ} (S : List Split) (P : ℕ → Bool) (lengths : List ℕ) (heads : List Section) (sb ub : List ℕ) (size : ℕ)
+pub from_splits_as : {r : Result ℕ Unlinked} {before after : List ℕ} (S : List Split) (P : ℕ → Bool) (lengths : List ℕ) (heads : List Section) (sb ub : List ℕ) (size : ℕ)
     → S ≡ stage_splits sb → splits_check 1024 lengths heads sb ≡ accepted tt → Resolves S (stage_units ub) (from_units lengths S P ub size) r before after
     → Resolves (stage_splits sb) (stage_units ub) (from_splits lengths heads P sb ub size) r before after
 unfolding from_splits
@@ -215,7 +221,7 @@ from_splits_as {r} {before} {after} S P lengths heads sb ub size e passed w =
     resolves_as (then_goes refl _ passed) (subst (λ (l : List Split). Resolves l (stage_units ub) (from_units lengths l P ub size) r before after) e w)
 
 -- the heads at their places are those of the table
-pub from_sections_as : {S : List Split} {us : List units.Unit} {r : Resolved} {before after : List ℕ} (lengths sections name_bytes name_places sb ub : List ℕ) (size : ℕ)
+pub from_sections_as : {S : List Split} {us : List units.Unit} {r : Result ℕ Unlinked} {before after : List ℕ} (lengths sections name_bytes name_places sb ub : List ℕ) (size : ℕ)
     (places : List ℕ) → places ≡ stage_places 15 (length sections / 15) → sections_check 64 lengths sections ≡ accepted tt
     → Resolves S us (from_splits lengths (sections_in sections places) (pointers_in sections places name_bytes name_places lengths) sb ub size) r before after
     → Resolves S us (from_sections lengths sections (pointers_in sections (stage_places 15 (length sections / 15)) name_bytes name_places lengths) sb ub size) r before after
@@ -278,7 +284,7 @@ pointers_named ends bytes places lengths heads chain sections splits us s l e ch
     ∙ ap (λ (x : Section). is_pointer_list (name_in ends bytes x.name)) (sym (head_at l sections check k h))
 
 -- the names in the columns are those of the table, and so the rest is that of the entry
-pub from_names_as : {S : List Split} {us : List units.Unit} {r : Resolved} {before after : List ℕ} (ends bytes places lengths heads chain sections sb ub : List ℕ) (size : ℕ)
+pub from_names_as : {S : List Split} {us : List units.Unit} {r : Result ℕ Unlinked} {before after : List ℕ} (ends bytes places lengths heads chain sections sb ub : List ℕ) (size : ℕ)
     → Stored ends bytes places lengths heads chain (length ends / 2) → names_check 4096 ends bytes ≡ accepted tt
     → Resolves S us
     (from_sections (take (length ends / 2) lengths) sections
@@ -299,20 +305,21 @@ from_names_as {S} {us} {r} {before} {after} ends bytes places lengths heads chai
 
 -- the word of an answer is that of its meaning
 word_means : (a : Answer) → word a ≡ outcome_word (meaning a)
-word_means Accepted = refl
-word_means (Refused number section address) = refl
+word_means (Ok u) = refl
+word_means (Err r) = refl
 
-pub leaves : (splits : List Split) (us : List units.Unit) (o : Outcome End) (r : Resolved) (before after counts : List ℕ) (answer : ℕ) (out counted : List ℕ)
-    → Resolves splits us o r before after → answer ≡ word r.answer → out ≡ clear_from 0 (8 * r.kept) after
-    → counted ≡ store_count 0 r.kept (clear_from 0 0 counts) → Leaves splits us o (length before) (length counts) answer out counted
+pub leaves : (splits : List Split) (us : List units.Unit) (o : Outcome End) (r : Result ℕ Unlinked) (before after counts : List ℕ) (k answer : ℕ) (a : Answer) (out counted : List ℕ)
+    → Resolves splits us o r before after → k ≡ kept r → a ≡ answer_of r → answer ≡ word a → out ≡ clear_from 0 (8 * k) after
+    → counted ≡ store_count 0 k (clear_from 0 0 counts) → Leaves splits us o (length before) (length counts) answer out counted
 unfolding store_counts
-leaves splits us o r before after counts answer out counted w a b c =
+leaves splits us o r before after counts k answer a out counted w kept-is answer-is said cleared stored =
     let bytes = units_bytes (records_of splits us (nodes_left o)) in
-    let long : 8 * r.kept ≡ length bytes = omega (arith, length-units_bytes (records_of splits us (nodes_left o)), length_records splits us (nodes_left o), w.counted) in
+    let number : k ≡ length (nodes_left o) = kept-is ∙ w.counted in
+    let long : 8 * k ≡ length bytes = omega (arith, length-units_bytes (records_of splits us (nodes_left o)), length_records splits us (nodes_left o), number) in
     record {
-      said = a ∙ word_means r.answer ∙ ap outcome_word w.said;
-      units = b ∙ ap (clear_from 0 (8 * r.kept)) w.front ∙ laid-after before bytes (8 * r.kept) long (omega (arith, w.room));
+      said = said ∙ word_means a ∙ ap outcome_word (ap meaning answer-is ∙ w.said);
+      units = cleared ∙ ap (clear_from 0 (8 * k)) w.front ∙ laid-after before bytes (8 * k) long (omega (arith, w.room, kept-is));
       counted =
-          c ∙ ap₂ (λ (k : ℕ) (l : List ℕ). store_count 0 k l) w.counted (clear_all 0 counts)
+          stored ∙ ap₂ (λ (i : ℕ) (l : List ℕ). store_count 0 i l) number (clear_all 0 counts)
           ∙ counts_stored (length counts) (length (nodes_left o) ∷ []);
     }

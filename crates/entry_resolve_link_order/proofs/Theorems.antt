@@ -40,7 +40,7 @@ use Rattle.toposort.specs.Search.{End, all, cyclic}
 use Rattle.order_numbers.specs.Numbers.{has_order, twice, order_twice}
 use Rattle.symbol_order.specs.Keys.{rank_of}
 use Rattle.symbol_order.proofs.Ranks.{unit_fits, rank_same}
-use Rattle.link_graph.specs.Graph.{Given, units_of, counted, nodes}
+use Rattle.link_graph.specs.Graph.{Given, units_of, nodes}
 use Rattle.link_graph.specs.Joined.{InOrder, HasCycle, IsCycle}
 use Rattle.link_graph.proofs.Nodes.{in_counted}
 use Rattle.link_graph.proofs.Graph.{in_at}

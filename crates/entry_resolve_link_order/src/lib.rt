@@ -13,18 +13,11 @@ ghost use Rattle.order.specs.Columns.{Resolves, SplitsTaken};
 ghost use Rattle.entry_resolve_link_order.specs.Entry.{resolve_of, from_units, from_splits, from_sections, NamesTaken, SectionsTaken, SplitRoom, Leaves};
 
 use name_table::check_names;
-use obj::{Answer, SPLIT_BYTES, word_of};
-use order::{Resolved, ordered};
+use obj::{SPLIT_BYTES, word_of};
+use order::{Unlinked, answer_of, kept, ordered};
 use outputs::{clear_from, put_count};
 use stage_splits::take_split_columns;
 use stage_tables::{take_sections, take_units};
-
-// A refusal: no record is left in the unit table.
-fn refused(a: Answer) -> Resolved
-    ensures { result ≡ record { answer = a; kept = 0 } }
-{
-    Resolved { answer: a, kept: 0 }
-}
 
 // The units, and then the stage.
 fn from_units(
@@ -41,7 +34,7 @@ fn from_units(
     unit_bytes: &[u8],
     unit_places: &mut [u32],
     out: &mut [u8],
-) -> Resolved
+) -> Result<usize, Unlinked>
     requires { SplitsTaken (columns starts.now ends.now units.now rest.now) n heads.now head_places.now name_bytes.now name_places.now lengths.now
         × (length unit_places.old ≡ 1024) }
     ensures { Resolves (rows (columns starts.now ends.now units.now rest.now) n) (stage_units unit_bytes.now)
@@ -49,10 +42,7 @@ fn from_units(
         result out.old out.new }
 {
     // "1,024 units"
-    let a = take_units(lengths, unit_bytes, 1024, unit_places);
-    if let Answer::Refused { .. } = a {
-        return refused(a);
-    }
+    take_units(lengths, unit_bytes, 1024, unit_places)?;
     let k = unit_bytes.len() / 8;
     ordered(
         starts,
@@ -86,7 +76,7 @@ fn from_splits(
     units: &mut [u16],
     rest: &mut [u64],
     out: &mut [u8],
-) -> Resolved
+) -> Result<usize, Unlinked>
     requires { SectionsTaken heads.now head_places.now name_bytes.now name_places.now lengths.now
         × SplitRoom places.old starts.old ends.old units.old rest.old }
     ensures { Resolves (stage_splits split_bytes.now) (stage_units unit_bytes.now)
@@ -95,7 +85,7 @@ fn from_splits(
         result out.old out.new }
 {
     // "1,024 splits"
-    let a = take_split_columns(
+    take_split_columns(
         lengths,
         heads,
         head_places,
@@ -106,10 +96,7 @@ fn from_splits(
         ends,
         units,
         rest,
-    );
-    if let Answer::Refused { .. } = a {
-        return refused(a);
-    }
+    )?;
     from_units(
         starts,
         ends,
@@ -137,7 +124,7 @@ fn split_tables(
     split_bytes: &[u8],
     unit_bytes: &[u8],
     out: &mut [u8],
-) -> Resolved
+) -> Result<usize, Unlinked>
     requires { SectionsTaken heads.now head_places.now name_bytes.now name_places.now lengths.now }
     ensures { Resolves (stage_splits split_bytes.now) (stage_units unit_bytes.now)
         (from_splits lengths.now (sections_in heads.now head_places.now) (pointers_in heads.now head_places.now name_bytes.now name_places.now lengths.now)
@@ -176,7 +163,7 @@ fn from_sections(
     unit_bytes: &[u8],
     head_places: &mut [u32],
     out: &mut [u8],
-) -> Resolved
+) -> Result<usize, Unlinked>
     requires { NamesTaken name_bytes.now name_places.now lengths.now × (length head_places.old ≡ 64) }
     ensures { Resolves (stage_splits split_bytes.now) (stage_units unit_bytes.now)
         (from_sections lengths.now sections.now (pointers_in sections.now (stage_places 15 (length sections.now / 15)) name_bytes.now name_places.now lengths.now)
@@ -184,10 +171,7 @@ fn from_sections(
         result out.old out.new }
 {
     // "64 sections"
-    let a = take_sections(lengths, sections, 64, head_places);
-    if let Answer::Refused { .. } = a {
-        return refused(a);
-    }
+    take_sections(lengths, sections, 64, head_places)?;
     let n = sections.len() / 15;
     split_tables(
         sections,
@@ -210,7 +194,7 @@ fn section_tables(
     split_bytes: &[u8],
     unit_bytes: &[u8],
     out: &mut [u8],
-) -> Resolved
+) -> Result<usize, Unlinked>
     requires { NamesTaken name_bytes.now name_places.now lengths.now }
     ensures { Resolves (stage_splits split_bytes.now) (stage_units unit_bytes.now)
         (from_sections lengths.now sections.now (pointers_in sections.now (stage_places 15 (length sections.now / 15)) name_bytes.now name_places.now lengths.now)
@@ -242,17 +226,14 @@ fn from_names(
     heads: &mut [u16],
     chain: &mut [u16],
     out: &mut [u8],
-) -> Resolved
+) -> Result<usize, Unlinked>
     requires { Room 4096 places.old lengths.old heads.old chain.old }
     ensures { Resolves (stage_splits split_bytes.now) (stage_units unit_bytes.now)
         (resolve_of name_ends.now name_bytes.now sections.now split_bytes.now unit_bytes.now (length out.old))
         result out.old out.new }
 {
     // "4,096 names"
-    let a = check_names(name_ends, name_bytes, 4096, places, lengths, heads, chain);
-    if let Answer::Refused { .. } = a {
-        return refused(a);
-    }
+    check_names(name_ends, name_bytes, 4096, places, lengths, heads, chain)?;
     let n = name_ends.len() / 2;
     section_tables(
         name_bytes,
@@ -273,7 +254,7 @@ fn checked(
     split_bytes: &[u8],
     unit_bytes: &[u8],
     out: &mut [u8],
-) -> Resolved
+) -> Result<usize, Unlinked>
     ensures { Resolves (stage_splits split_bytes.now) (stage_units unit_bytes.now)
         (resolve_of name_ends.now name_bytes.now sections.now split_bytes.now unit_bytes.now (length out.old))
         result out.old out.new }
@@ -311,10 +292,9 @@ pub fn resolve_link_order(
         (length out.old) (length counts.old) result out.new counts.new }
 {
     let r = checked(name_ends, name_bytes, sections, splits, units, out);
-    let kept = r.kept;
-    let answer = r.answer;
-    clear_from(out, 8 * kept);
+    let k = kept(r);
+    clear_from(out, 8 * k);
     clear_from(counts, 0);
-    put_count(counts, 0, kept as u16);
-    word_of(answer)
+    put_count(counts, 0, k as u16);
+    word_of(answer_of(r))
 }

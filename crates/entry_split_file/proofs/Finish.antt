@@ -1,18 +1,16 @@
 -- The entry's end: what an answer keeps fits into the outputs, and what is left of it is what its outcome leaves.
 -- Assumes nothing.
-use Prim.Native.Nat.{ℕ, ◌+◌, ◌*◌, ◌/◌, ◌≤◌, ◌<◌}
+use Prim.Native.Nat.{ℕ, ◌*◌, ◌/◌, ◌≤◌}
 use mathlib.Core.Path.{◌≡◌, refl, sym, ap, subst, ◌∙◌}
-use mathlib.Core.List.{List, []}
+use mathlib.Core.List.{List}
 use native.Mathlib.Nat.{mul-div-le, not-suc-le-zero}
 use native.Mathlib.Omega.{arith}
-use lib.ListN.{length, take}
-use Rattle.lists.specs.Outcome.{Outcome, accepted, refused}
+use Rattle.lists.specs.Outcome.{Outcome}
 use Rattle.lists.specs.Rows.{tabulate}
 use Rattle.obj.specs.Records.{stage_places, split_width}
 use Rattle.names.specs.Names.{names_of}
-use Rattle.names.specs.Append.{Packed, Columns as Beside}
-use Rattle.splits.specs.Columns.{Columns, rows, Long}
-use Rattle.stage_splits.specs.StageSplits.{room_of}
+use Rattle.names.specs.Append.{Columns as Beside}
+use Rattle.splits.specs.Columns.{Columns, Long}
 use Rattle.order.specs.Bytes.{units_bytes}
 use Rattle.gap_splits.specs.Entering.{bytes_of}
 use Rattle.pieces.specs.Pieces.{pieces_in, symbols_in, relocs_in, piece_width}
@@ -20,9 +18,12 @@ use Rattle.walk.specs.declared.Counts.{Counts}
 use Rattle.stage_walk.specs.Room.{room_in}
 use Rattle.stage_walk.proofs.Room.{room_low, room_pieces, room_12, room_8}
 use Rattle.run.specs.Run.{Result, Ended}
-use Rattle.run.specs.Answers.{units_at, ran_in, Names, Units, Within}
+use Rattle.run.specs.Answers.{ran_in, Names, Units, Within}
 use Rattle.run.specs.declared.Ran.{Ran}
-use Rattle.run.specs.declared.Ran.TheVariants.{Done, Cycle, Refused}
+use Rattle.std.specs.Prelude.{Ok, Err}
+use Rattle.std.specs.Prelude as std
+use Rattle.order.specs.declared.Unlinked.{Unlinked}
+use Rattle.order.specs.declared.Unlinked.TheVariants.{Refused, Cycle}
 use Rattle.run_file.specs.RunFile.{Holds}
 use Rattle.run_outputs.specs.declared.Kept.{Kept}
 use Rattle.run_outputs.specs.Laid.{Sizes, Laid}
@@ -68,8 +69,8 @@ module _ (c : Beside) (table : Columns) (units : List ℕ) (sizes : Sizes) (cap 
   long_less : (n : ℕ) → n ≤ cap → Long table n
   long_less n h = record { starts = omega (arith, h, long.starts); ends = omega (arith, h, long.ends); units = omega (arith, h, long.units); rest = omega (arith, h, long.rest) }
 
-  pub kept-fits : (r : Ran) → Holds (sizes.ends / 2) sizes.bytes cap (room_in sizes.pieces sizes.symbols sizes.relocs) c units r → Fits c table units sizes (kept_by r)
-  kept-fits (Done names used splits count made) h = record {
+  pub kept-fits : (r : std.Result Ran Unlinked) → Holds (sizes.ends / 2) sizes.bytes cap (room_in sizes.pieces sizes.symbols sizes.relocs) c units r → Fits c table units sizes (kept_by r)
+  kept-fits (Ok r) h = record {
     names = record {
       packed = h.0.packed;
       sum = h.0.sum;
@@ -79,13 +80,13 @@ module _ (c : Beside) (table : Columns) (units : List ℕ) (sizes : Sizes) (cap 
       low = h.0.low;
     };
     ends = omega (arith, h.0.few, mul-div-le sizes.ends 2);
-    long = long_less splits h.1;
+    long = long_less r.splits h.1;
     splits = omega (arith, h.1, fit);
     few_splits = omega (arith, h.1, few);
     units_there = h.2;
-    output = output_fits sizes.pieces sizes.symbols sizes.relocs made h.3;
+    output = output_fits sizes.pieces sizes.symbols sizes.relocs r.made h.3;
   }
-  kept-fits (Cycle count) h = record {
+  kept-fits (Err (Cycle count)) h = record {
     names = no_names c sizes.ends sizes.bytes;
     ends = omega arith;
     long = long_less 0 (omega arith);
@@ -94,7 +95,7 @@ module _ (c : Beside) (table : Columns) (units : List ℕ) (sizes : Sizes) (cap 
     units_there = h;
     output = no_output sizes.pieces sizes.symbols sizes.relocs;
   }
-  kept-fits (Refused number section address) h = record {
+  kept-fits (Err (Refused r)) h = record {
     names = no_names c sizes.ends sizes.bytes;
     ends = omega arith;
     long = long_less 0 (omega arith);
@@ -106,18 +107,18 @@ module _ (c : Beside) (table : Columns) (units : List ℕ) (sizes : Sizes) (cap 
 
 -- ---- what is left
 module _ (c : Beside) (table : Columns) (units pieces entries offsets : List ℕ) where
-  left_is : (r : Ran) → left_in c table units pieces entries offsets (kept_by r) ≡ left_by (ran_in c table units pieces entries offsets r)
+  left_is : (r : std.Result Ran Unlinked) → left_in c table units pieces entries offsets (kept_by r) ≡ left_by (ran_in c table units pieces entries offsets r)
   unfolding names_of tabulate stage_places pieces_in symbols_in relocs_in
-  left_is (Done names used splits count made) = refl
-  left_is (Cycle count) = refl
-  left_is (Refused number section address) = refl
+  left_is (Ok r) = refl
+  left_is (Err (Cycle count)) = refl
+  left_is (Err (Refused r)) = refl
 
-  word_is : (r : Ran) → word_of r ≡ word_by (ran_in c table units pieces entries offsets r)
-  word_is (Done names used splits count made) = refl
-  word_is (Cycle count) = refl
-  word_is (Refused number section address) = refl
+  word_is : (r : std.Result Ran Unlinked) → word_of r ≡ word_by (ran_in c table units pieces entries offsets r)
+  word_is (Ok r) = refl
+  word_is (Err (Cycle count)) = refl
+  word_is (Err (Refused r)) = refl
 
-  pub leaves : (r : Ran) {o : Outcome Ended} {k : Kept} {sizes lent : Sizes} {answer : ℕ} (ends' bytes' splits' units' pieces' symbols' relocs' counts' : List ℕ) → ran_in c table units pieces entries offsets r ≡ o
+  pub leaves : (r : std.Result Ran Unlinked) {o : Outcome Ended} {k : Kept} {sizes lent : Sizes} {answer : ℕ} (ends' bytes' splits' units' pieces' symbols' relocs' counts' : List ℕ) → ran_in c table units pieces entries offsets r ≡ o
       → k ≡ kept_by r → lent ≡ sizes → answer ≡ word_of r → Laid (left_in c table units pieces entries offsets k) lent ends' bytes' splits' units' pieces' symbols' relocs' counts'
       → Leaves o sizes answer ends' bytes' splits' units' pieces' symbols' relocs' counts'
   leaves r {o} {k} {sizes} {lent} {answer} ends' bytes' splits' units' pieces' symbols' relocs' counts' is m z w d = record {

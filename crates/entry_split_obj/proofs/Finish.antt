@@ -13,8 +13,8 @@ use Rattle.outputs.proofs.Laws.{counts_stored}
 use Rattle.walk.specs.declared.Counts.{Counts}
 use Rattle.walk.specs.Walk.{Output}
 use Rattle.walk.specs.Giving.{output_in}
-use Rattle.split_obj.specs.declared.Walked.{Walked}
-use Rattle.split_obj.specs.declared.Walked.TheVariants.{Accepted, Refused}
+use Rattle.std.specs.Prelude.{Result, Ok, Err}
+use Rattle.obj.specs.declared.Refusal.{Refusal}
 use Rattle.split_obj.specs.Loop.{seen}
 use Rattle.stage_walk.specs.Room.{room_in}
 use Rattle.stage_walk.specs.Lines.{Within}
@@ -32,8 +32,8 @@ three_counts size a b c before e =
     ap (λ (l : List ℕ). store_count 2 c (store_count 1 b (store_count 0 a l))) (clear_all 0 before ∙ ap (λ (k : ℕ). replicate k 0) e) ∙ counts_stored size (a ∷ b ∷ c ∷ [])
 
 -- ---- the entry's end
-pub made_fits : (pieces entries offsets : ℕ) (r : Walked) → Within (room_in pieces entries offsets) r → Fits (made_by r) pieces entries offsets
-made_fits pieces entries offsets (Accepted made) w =
+pub made_fits : (pieces entries offsets : ℕ) (r : Result Counts Refusal) → Within (room_in pieces entries offsets) r → Fits (made_by r) pieces entries offsets
+made_fits pieces entries offsets (Ok made) w =
     record {
       pieces_fit = omega (arith, w.0, room_pieces 1024 pieces);
       entries_fit = omega (arith, w.1, room_12 4096 entries);
@@ -42,19 +42,19 @@ made_fits pieces entries offsets (Accepted made) w =
       few_symbols = omega (arith, w.1, room_low 4096 entries 12);
       few_relocs = omega (arith, w.2, room_low 4096 offsets 8);
     }
-made_fits pieces entries offsets (Refused number section address) w =
+made_fits pieces entries offsets (Err r) w =
     record { pieces_fit = omega arith; entries_fit = omega arith; offsets_fit = omega arith; few_pieces = omega arith; few_symbols = omega arith; few_relocs = omega arith }
 
-pub left_is : (pieces entries offsets : List ℕ) (r : Walked) → output_in pieces entries offsets (made_by r) ≡ output_of (seen pieces entries offsets r)
-left_is pieces entries offsets (Accepted made) = refl
-left_is pieces entries offsets (Refused number section address) = none_read pieces entries offsets
+pub left_is : (pieces entries offsets : List ℕ) (r : Result Counts Refusal) → output_in pieces entries offsets (made_by r) ≡ output_of (seen pieces entries offsets r)
+left_is pieces entries offsets (Ok made) = refl
+left_is pieces entries offsets (Err r) = none_read pieces entries offsets
 
-pub word_is : (pieces entries offsets : List ℕ) (r : Walked) → word_by r ≡ outcome_word (seen pieces entries offsets r)
-word_is pieces entries offsets (Accepted made) = refl
-word_is pieces entries offsets (Refused number section address) = refl
+pub word_is : (pieces entries offsets : List ℕ) (r : Result Counts Refusal) → word_by r ≡ outcome_word (seen pieces entries offsets r)
+word_is pieces entries offsets (Ok made) = refl
+word_is pieces entries offsets (Err r) = refl
 
 -- the sizes are those of the lent tables, and what is left is what the outcome leaves
-pub leaves_at : (o : Outcome Output) (made : Counts) (sizes lent : Sizes) (answer : ℕ) (r : Walked) (before-pieces before-entries before-offsets pieces symbols relocs counts : List ℕ)
+pub leaves_at : (o : Outcome Output) (made : Counts) (sizes lent : Sizes) (answer : ℕ) (r : Result Counts Refusal) (before-pieces before-entries before-offsets pieces symbols relocs counts : List ℕ)
     → made ≡ made_by r → lent ≡ sizes → seen before-pieces before-entries before-offsets r ≡ o → answer ≡ word_by r
     → Laid (output_in before-pieces before-entries before-offsets made) lent pieces symbols relocs counts
     → Leaves o sizes answer pieces symbols relocs counts

@@ -12,7 +12,6 @@ use Rattle.lists.proofs.Rows.{get_d_map}
 use Rattle.obj.specs.Records.{reloc_at, stage_places}
 use Rattle.obj.specs.declared.Section.{Section}
 use Rattle.obj.specs.declared.Reloc.{Reloc}
-use Rattle.obj.specs.declared.Unit as unit_records
 use Rattle.obj.proofs.Laws.{length-stage_places}
 use Rattle.tables.specs.Records.{no_reloc}
 use Rattle.tables.proofs.Laws as tables

@@ -1,9 +1,10 @@
 -- Inside the entry `split_obj`: its definition from one table on, over what the tables before it leave; what the functions of the entry are given, and what
 -- they answer.
-use Rattle.std.specs.Prelude.{ℕ, ◌*◌, ◌/◌, ◌≤◌, ◌≡◌, List, length}
+use Rattle.std.specs.Prelude.{ℕ, ◌*◌, ◌/◌, ◌≤◌, ◌≡◌, List, length, Result, Ok, Err}
 use Rattle.lists.specs.Outcome.{Outcome, ◌>>◌}
 use Rattle.obj.specs.Answers.{refusal_word}
 use Rattle.obj.specs.Records.{stage_places}
+use Rattle.obj.specs.declared.Refusal.{Refusal}
 use Rattle.obj.specs.declared.Section.{Section}
 use Rattle.names.specs.Names.{Named}
 use Rattle.tables.specs.Tables.{main_ceilings}
@@ -13,8 +14,6 @@ use Rattle.sections.specs.Sections.{Sections}
 use Rattle.relocs.specs.Relocs.{reloc_of}
 use Rattle.walk.specs.declared.Counts.{Counts}
 use Rattle.walk.specs.Walk.{Output}
-use Rattle.split_obj.specs.declared.Walked.{Walked}
-use Rattle.split_obj.specs.declared.Walked.TheVariants.{Accepted, Refused}
 use Rattle.stage_walk.specs.Lines.{from_splits, none}
 use Rattle.pieces.specs.Pieces.{piece_width}
 use Rattle.entry_split_obj.specs.Entry.{Sizes, sections_in}
@@ -42,14 +41,14 @@ from_sections name_bytes name_places name_lengths sections places image symbols 
 -- ---- what is answered
 
 -- how many records an answer leaves
-abbrev pub made_by : Walked → Counts
-made_by (Accepted made) = made
-made_by (Refused number section address) = none
+abbrev pub made_by : Result Counts Refusal → Counts
+made_by (Ok made) = made
+made_by (Err r) = none
 
 -- an answer's word
-abbrev pub word_by : Walked → ℕ
-word_by (Accepted made) = 0
-word_by (Refused number section address) = refusal_word number section address
+abbrev pub word_by : Result Counts Refusal → ℕ
+word_by (Ok made) = 0
+word_by (Err r) = refusal_word r.number r.section r.address
 
 -- so many records are whole in tables of these sizes
 pub record Fits (made : Counts) (pieces entries offsets : ℕ) : Type 0 where

@@ -16,13 +16,12 @@ ghost use Rattle.entry_split_obj.specs.Entry.{split_obj_of, Laid, Leaves};
 ghost use Rattle.entry_split_obj.specs.Lines.{from_relocs, from_symbols, from_sections, made_by, word_by, Fits, Names, sizes_of};
 
 use name_table::check_names;
-use obj::{Answer, word_of};
+use obj::{Refusal, word_of};
 use outputs::{clear_from, put_count};
 use pieces::PIECE_BYTES;
-use split_obj::Walked;
 use stage_symbols::{take_image_places, take_symbol_order};
 use stage_tables::{take_image, take_relocs};
-use stage_walk::{stopped, with_splits};
+use stage_walk::with_splits;
 use walk::Counts;
 
 // The relocations in a lent column, and the tables after them.
@@ -45,7 +44,7 @@ fn from_relocs(
     pieces: &mut [u8],
     entries: &mut [u8],
     offsets: &mut [u8],
-) -> Walked
+) -> Result<Counts, Refusal>
     requires { Asked symbols.now symbol_places.now order.now name_bytes.now name_places.now name_lengths.now
         × Headed heads.now head_places.now image.now image_places.now name_places.now
         × (length name_lengths.now ≤ 4096)
@@ -56,7 +55,7 @@ fn from_relocs(
         (from_relocs name_lengths.now (sections_in heads.now head_places.now) (image_of symbols.now symbol_places.now name_bytes.now name_places.now name_lengths.now) (sections_of heads.now head_places.now image.now image_places.now) relocs.now splits.now unit_table.now (room_in (length pieces.old) (length entries.old) (length offsets.old)))
         (room_in (length pieces.old) (length entries.old) (length offsets.old)) result pieces.new entries.new offsets.new }
 {
-    let a = take_relocs(
+    take_relocs(
         heads,
         head_places,
         symbol_places.len(),
@@ -64,10 +63,7 @@ fn from_relocs(
         4096,
         places,
         floors,
-    );
-    if let Answer::Refused { .. } = a {
-        return stopped(a);
-    }
+    )?;
     let n = relocs.len() / 23;
     with_splits(
         symbols,
@@ -108,7 +104,7 @@ fn with_relocs(
     pieces: &mut [u8],
     entries: &mut [u8],
     offsets: &mut [u8],
-) -> Walked
+) -> Result<Counts, Refusal>
     requires { Asked symbols.now symbol_places.now order.now name_bytes.now name_places.now name_lengths.now
         × Headed heads.now head_places.now image.now image_places.now name_places.now
         × (length name_lengths.now ≤ 4096)
@@ -160,7 +156,7 @@ fn from_symbols(
     pieces: &mut [u8],
     entries: &mut [u8],
     offsets: &mut [u8],
-) -> Walked
+) -> Result<Counts, Refusal>
     requires { Names name_bytes.now name_places.now name_lengths.now
         × Headed heads.now head_places.now image.now image_places.now name_places.now
         × (length name_lengths.now ≤ 4096)
@@ -169,7 +165,7 @@ fn from_symbols(
         (from_symbols name_bytes.now name_places.now name_lengths.now (sections_in heads.now head_places.now) (sections_of heads.now head_places.now image.now image_places.now) symbols.now relocs.now splits.now unit_table.now (room_in (length pieces.old) (length entries.old) (length offsets.old)))
         (room_in (length pieces.old) (length entries.old) (length offsets.old)) result pieces.new entries.new offsets.new }
 {
-    let t = take_symbol_order(
+    let ordered = take_symbol_order(
         name_lengths.len(),
         heads,
         head_places,
@@ -178,13 +174,8 @@ fn from_symbols(
         places,
         order,
         scratch,
-    );
-    let a = t.answer;
-    if let Answer::Refused { .. } = a {
-        return stopped(a);
-    }
+    )?;
     let n = symbols.len() / 20;
-    let ordered = t.ordered;
     with_relocs(
         symbols,
         &places[..n],
@@ -221,7 +212,7 @@ fn with_symbols(
     pieces: &mut [u8],
     entries: &mut [u8],
     offsets: &mut [u8],
-) -> Walked
+) -> Result<Counts, Refusal>
     requires { Names name_bytes.now name_places.now name_lengths.now
         × Headed heads.now head_places.now image.now image_places.now name_places.now
         × (length name_lengths.now ≤ 4096) }
@@ -270,7 +261,7 @@ fn from_sections(
     pieces: &mut [u8],
     entries: &mut [u8],
     offsets: &mut [u8],
-) -> Walked
+) -> Result<Counts, Refusal>
     requires { Names name_bytes.now name_places.now name_lengths.now
         × (length name_lengths.now ≤ 4096)
         × (length heads.old ≡ 64)
@@ -279,17 +270,14 @@ fn from_sections(
         (from_sections name_bytes.now name_places.now name_lengths.now sections.now section_places.now image.now symbols.now relocs.now splits.now unit_table.now (room_in (length pieces.old) (length entries.old) (length offsets.old)))
         (room_in (length pieces.old) (length entries.old) (length offsets.old)) result pieces.new entries.new offsets.new }
 {
-    let a = take_image(
+    take_image(
         name_lengths,
         section_places,
         image.len(),
         sections,
         64,
         heads,
-    );
-    if let Answer::Refused { .. } = a {
-        return stopped(a);
-    }
+    )?;
     let n = sections.len() / 15;
     let p = take_image_places(section_places, images);
     with_symbols(
@@ -325,7 +313,7 @@ fn with_sections(
     pieces: &mut [u8],
     entries: &mut [u8],
     offsets: &mut [u8],
-) -> Walked
+) -> Result<Counts, Refusal>
     requires { Names name_bytes.now name_places.now name_lengths.now
         × (length name_lengths.now ≤ 4096) }
     ensures { Gives
@@ -371,16 +359,13 @@ fn from_names(
     pieces: &mut [u8],
     entries: &mut [u8],
     offsets: &mut [u8],
-) -> Walked
+) -> Result<Counts, Refusal>
     requires { stored.Room 4096 places.old lengths.old index.old chain.old }
     ensures { Gives
         (split_obj_of name_ends.now name_bytes.now sections.now section_places.now image.now symbols.now relocs.now splits.now unit_table.now (room_in (length pieces.old) (length entries.old) (length offsets.old)))
         (room_in (length pieces.old) (length entries.old) (length offsets.old)) result pieces.new entries.new offsets.new }
 {
-    let a = check_names(name_ends, name_bytes, 4096, places, lengths, index, chain);
-    if let Answer::Refused { .. } = a {
-        return stopped(a);
-    }
+    check_names(name_ends, name_bytes, 4096, places, lengths, index, chain)?;
     let n = name_ends.len() / 2;
     with_sections(
         name_bytes,
@@ -413,7 +398,7 @@ fn with_names(
     pieces: &mut [u8],
     entries: &mut [u8],
     offsets: &mut [u8],
-) -> Walked
+) -> Result<Counts, Refusal>
     ensures { Gives
         (split_obj_of name_ends.now name_bytes.now sections.now section_places.now image.now symbols.now relocs.now splits.now unit_table.now (room_in (length pieces.old) (length entries.old) (length offsets.old)))
         (room_in (length pieces.old) (length entries.old) (length offsets.old)) result pieces.new entries.new offsets.new }
@@ -443,12 +428,12 @@ fn with_names(
 }
 
 // How many records are left of each: none after a refusal.
-pub fn made_of(r: Walked) -> Counts
+pub fn made_of(r: Result<Counts, Refusal>) -> Counts
     ensures { result ≡ made_by r }
 {
     match r {
-        Walked::Accepted(made) => made,
-        Walked::Refused { .. } => Counts {
+        Ok(made) => made,
+        Err(_) => Counts {
             pieces: 0,
             symbols: 0,
             relocs: 0,
@@ -456,20 +441,12 @@ pub fn made_of(r: Walked) -> Counts
     }
 }
 
-fn word_for(r: Walked) -> u64
+fn word_for(r: Result<Counts, Refusal>) -> u64
     ensures { result ≡ word_by r }
 {
     match r {
-        Walked::Accepted(made) => 0,
-        Walked::Refused {
-            number,
-            section,
-            address,
-        } => word_of(Answer::Refused {
-            number,
-            section,
-            address,
-        }),
+        Ok(_) => 0,
+        Err(e) => word_of(Err(e)),
     }
 }
 

@@ -3,44 +3,39 @@
 use Prim.Native.Nat.{ℕ, ◌+◌, ◌*◌, ◌/◌, ◌%◌, ◌≤◌, ◌<◌}
 use mathlib.Core.Path.{◌≡◌, refl, sym, ap, ap₂, subst, ◌∙◌}
 use mathlib.Core.List.{List, [], ◌∷◌, ◌++◌}
-use mathlib.Core.Bool.{Bool, true, false}
 use native.Mathlib.Nat.{add-zero}
 use native.Mathlib.Omega.{arith}
 use borrow.Author.Tests.{lt-ltb, le-ltb, eq-eqb, ne_eqb}
 use lib.Dec.{ltb}
-use lib.ListN.{length, take, replicate, length-append}
-use lib.Seq.{sets, length-sets, length-take-le, take-append-le}
+use lib.ListN.{length, take, length-append}
+use lib.Seq.{sets, length-take-le, take-append-le}
 use Rattle.lists.specs.Rows.{clear_from, tabulate}
-use Rattle.lists.proofs.Rows.{length-tabulate}
 use Rattle.lists.proofs.Outcomes.{fails, passes}
 use Rattle.fields.specs.Fields.{le16}
-use Rattle.lists.specs.Outcome.{Outcome, accepted, refused, refuse, ◌>>◌}
-use Rattle.lists.specs.Tables.{laid}
+use Rattle.lists.specs.Outcome.{Outcome, refused, refuse, ◌>>◌}
 use Rattle.lists.proofs.Clear.{clear_all}
-use Rattle.obj.specs.Answers.{word, place}
-use Rattle.obj.specs.declared.Answer.{Answer}
-use Rattle.obj.specs.declared.Answer.TheVariants.{Accepted, Refused}
-use Rattle.outputs.specs.Outputs.{halves, counts_of, store_count, store_counts}
+use Rattle.obj.specs.Answers.{word, refusal_word, place}
+use Rattle.std.specs.Prelude.{Result, Ok, Err}
+use Rattle.outputs.specs.Outputs.{halves, store_count, store_counts}
 use Rattle.outputs.proofs.Laws.{length-halves, laid-after, counts_stored}
 use Rattle.toposort.specs.Search.{Graph, End}
-use Rattle.toposort.specs.Sorting.{sort_of, meaning, kept, Sorts, Within, answer_of}
-use Rattle.toposort.specs.declared.Sorted.{Sorted}
-use Rattle.toposort.specs.declared.Sorted.TheVariants.{Ordered, Cycle, NoNode, Short}
-use Rattle.entry_toposort.specs.declared.Ended.{Ended}
+use Rattle.toposort.specs.Sorting.{sort_of, meaning, kept, Sorts, answer_of}
+use Rattle.toposort.specs.declared.Unsorted.{Unsorted}
+use Rattle.toposort.specs.declared.Unsorted.TheVariants.{Cycle, NoNode, Short}
 use Rattle.entry_toposort.specs.Entry.{starts_of, goals_of, graph_of, toposort_of, word_of, nodes_of, Room, Ends, Leaves}
 
 -- what an answer leaves is what its outcome says
-said : (r : Sorted) (t : List ℕ) (o : Outcome End) → meaning r t ≡ o → word (answer_of r) ≡ word_of o
-said (Ordered n) t o e = ap word_of e
-said (Cycle k) t o e = ap word_of e
-said (NoNode i) t o e = ap word_of e
-said Short t o e = ap word_of e
+said : (r : Result ℕ Unsorted) (t : List ℕ) (o : Outcome End) → meaning r t ≡ o → word (answer_of r) ≡ word_of o
+said (Ok n) t o e = ap word_of e
+said (Err (Cycle k)) t o e = ap word_of e
+said (Err (NoNode i)) t o e = ap word_of e
+said (Err Short) t o e = ap word_of e
 
-left : (r : Sorted) (t : List ℕ) (o : Outcome End) → meaning r t ≡ o → take (kept r) t ≡ nodes_of o
-left (Ordered n) t o e = ap nodes_of e
-left (Cycle k) t o e = ap nodes_of e
-left (NoNode i) t o e = ap nodes_of e
-left Short t o e = ap nodes_of e
+left : (r : Result ℕ Unsorted) (t : List ℕ) (o : Outcome End) → meaning r t ≡ o → take (kept r) t ≡ nodes_of o
+left (Ok n) t o e = ap nodes_of e
+left (Err (Cycle k)) t o e = ap nodes_of e
+left (Err (NoNode i)) t o e = ap nodes_of e
+left (Err Short) t o e = ap nodes_of e
 
 -- a table of more bytes than 1,024 nodes take is as good as one of 1,024
 same_room : (g : Graph) (size room : ℕ) → g.count ≤ 1024 → Room size room → sort_of g room ≡ sort_of g (size / 2)
@@ -59,66 +54,65 @@ module _ (part rest : List ℕ) (room m : ℕ) (long : length part ≡ room) (h 
   front_is = take-append-le m part rest (omega arith)
 
 -- before the clearing: the sort's answer, and its nodes at the front
-pub sorted_ends : (g : Graph) (size room : ℕ) (r : Sorted) (part rest before after : List ℕ) (a : Answer) (k : ℕ)
-    → g.count ≤ 1024 → Room size room → length before ≡ size → Sorts (sort_of g room) room r part → k ≡ kept r → a ≡ answer_of r
-    → after ≡ sets before 0 (halves (take k (part ++ rest))) → Ends (sort_of g (size / 2)) (record { answer = a; kept = k }) before after
-sorted_ends g size room r part rest before after a k few w long s e q f =
+pub sorted_ends : (g : Graph) (size room : ℕ) (r : Result ℕ Unsorted) (part rest before after : List ℕ) (k : ℕ)
+    → g.count ≤ 1024 → Room size room → length before ≡ size → Sorts (sort_of g room) room r part → k ≡ kept r
+    → after ≡ sets before 0 (halves (take k (part ++ rest))) → Ends (sort_of g (size / 2)) r before after
+sorted_ends g size room r part rest before after k few w long s e f =
     let means : meaning r part ≡ sort_of g (size / 2) = s.means ∙ same_room g size room few w in
     let nodes : take k (part ++ rest) ≡ nodes_of (sort_of g (size / 2)) =
     front_is part rest room k s.long (omega (arith, s.room)) ∙ ap (λ (i : ℕ). take i part) e ∙ left r part _ means in
     record {
-      said = ap word q ∙ said r part _ means;
-      counted = sym (front_long part rest room k s.long (omega (arith, s.room))) ∙ ap length nodes;
+      said = said r part _ means;
+      counted = sym e ∙ sym (front_long part rest room k s.long (omega (arith, s.room))) ∙ ap length nodes;
       front = f ∙ ap (λ (l : List ℕ). sets before 0 (halves l)) nodes;
       room = omega (arith, s.room, w.fits);
       few = omega (arith, s.room, w.low);
+      small = s.small;
     }
 
 -- the same outcome, said otherwise
-pub ends_as : {o p : Outcome End} {r : Ended} {before after : List ℕ} → o ≡ p → Ends o r before after → Ends p r before after
+pub ends_as : {o p : Outcome End} {r : Result ℕ Unsorted} {before after : List ℕ} → o ≡ p → Ends o r before after → Ends p r before after
 ends_as {o} {p} {r} {before} {after} e w = subst (λ (x : Outcome End). Ends x r before after) e w
 
-pub ends_of : {g h : Graph} {r : Ended} {before after : List ℕ} (room : ℕ) → g ≡ h → Ends (sort_of g room) r before after
+pub ends_of : {g h : Graph} {r : Result ℕ Unsorted} {before after : List ℕ} (room : ℕ) → g ≡ h → Ends (sort_of g room) r before after
     → Ends (sort_of h room) r before after
 ends_of room e w = ends_as (ap (λ (x : Graph). sort_of x room) e) w
 
 -- the table is the first `room` places of a longer one
-pub sorts_in : {r : Sorted} {part : List ℕ} (g : Graph) (room : ℕ) (table : List ℕ) → room ≤ length table
+pub sorts_in : {r : Result ℕ Unsorted} {part : List ℕ} (g : Graph) (room : ℕ) (table : List ℕ) → room ≤ length table
     → Sorts (sort_of g (length (take room table))) (length (take room table)) r part → Sorts (sort_of g room) room r part
 sorts_in {r} {part} g room table h s = subst (λ (k : ℕ). Sorts (sort_of g k) k r part) (length-take-le room table h) s
 
--- a refusal leaves nothing
-pub refused_ends : (number address : ℕ) (o : Outcome End) (before : List ℕ) → o ≡ refused number 0 address → (r : Ended)
-    → r ≡ record { answer = Refused number 0 address; kept = 0 } → Ends o r before before
-unfolding halves
-refused_ends number address o before e r q =
-    rw (q, e) record { said = refl; counted = refl; front = refl; room = omega arith; few = omega arith }
-
 -- the outputs after the clearing
-pub leaves : (o : Outcome End) (r : Ended) (before after counts : List ℕ) (answer : ℕ) (out counted : List ℕ) → Ends o r before after
-    → answer ≡ word r.answer → out ≡ clear_from 0 (2 * r.kept) after → counted ≡ store_count 0 r.kept (clear_from 0 0 counts)
+pub leaves : (o : Outcome End) (r : Result ℕ Unsorted) (k : ℕ) (before after counts : List ℕ) (answer : ℕ) (out counted : List ℕ) → Ends o r before after
+    → k ≡ kept r → answer ≡ word (answer_of r) → out ≡ clear_from 0 (2 * k) after → counted ≡ store_count 0 k (clear_from 0 0 counts)
     → Leaves o (length before) (length counts) answer out counted
 unfolding store_counts
-leaves o r before after counts answer out counted w a b c =
-    let long : 2 * r.kept ≡ length (halves (nodes_of o)) = omega (arith, length-halves (nodes_of o), w.counted) in
+leaves o r k before after counts answer out counted w is a b c =
+    let long : 2 * k ≡ length (halves (nodes_of o)) = omega (arith, length-halves (nodes_of o), w.counted) in
     record {
       said = a ∙ w.said;
       nodes =
-          b ∙ ap (clear_from 0 (2 * r.kept)) w.front
-          ∙ laid-after before (halves (nodes_of o)) (2 * r.kept) long (omega (arith, w.room));
+          b ∙ ap (clear_from 0 (2 * k)) w.front
+          ∙ laid-after before (halves (nodes_of o)) (2 * k) long (omega (arith, w.room));
       counted =
-          c ∙ ap₂ (λ (k : ℕ) (l : List ℕ). store_count 0 k l) w.counted (clear_all 0 counts)
+          c ∙ ap₂ (λ (k : ℕ) (l : List ℕ). store_count 0 k l) (is ∙ w.counted) (clear_all 0 counts)
           ∙ counts_stored (length counts) (length (nodes_of o) ∷ []);
     }
 
--- ---- the edge table in columns
+-- the outputs after a refusal: nothing is left
+pub refused_leaves : (o : Outcome End) (number section address : ℕ) (before counts : List ℕ) (out counted : List ℕ) → o ≡ refused number section address
+    → out ≡ clear_from 0 0 before → counted ≡ store_count 0 0 (clear_from 0 0 counts)
+    → Leaves o (length before) (length counts) (refusal_word number section address) out counted
+unfolding store_counts halves
+refused_leaves o number section address before counts out counted e b c =
+    rw e record {
+      said = refl;
+      nodes = b ∙ laid-after before [] 0 refl (omega arith);
+      counted = c ∙ ap (store_count 0 0) (clear_all 0 counts) ∙ counts_stored (length counts) (0 ∷ []);
+    }
 
-pub within-columns : (n k : ℕ) (from to : List ℕ) (f g : ℕ → ℕ) → n ≤ 1024 → k ≤ 2048 → from ≡ tabulate f 0 k → to ≡ tabulate g 0 k
-    → Within (record { count = n; from = from; to = to })
-within-columns n k from to f g h few e q =
-    let a : length from ≡ k = ap length e ∙ length-tabulate f 0 k in
-    let b : length to ≡ k = ap length q ∙ length-tabulate g 0 k in
-    record { nodes = h; edges = omega arith; paired = b ∙ sym a }
+-- ---- the edge table in columns
 
 pub graph_made : (n : ℕ) (edges from to : List ℕ) → from ≡ tabulate (λ i. le16 edges (4 * i + 0)) 0 (length edges / 4)
     → to ≡ tabulate (λ i. le16 edges (4 * i + 2)) 0 (length edges / 4) → record { count = n; from = from; to = to } ≡ graph_of n edges

@@ -20,7 +20,7 @@ use Rattle.lists.proofs.Rows.{length-tabulate, get_d_tabulate}
 use Rattle.fields.specs.Fields.{le16, enc16}
 use Rattle.obj.specs.Answers.{refusal_word, place}
 use Rattle.outputs.specs.Outputs.{halves, counts_of}
-use Rattle.toposort.specs.Search.{Graph, End, all, cyclic, lost, searched, bad_edge}
+use Rattle.toposort.specs.Search.{Graph, End, all, cyclic, lost, searched}
 use Rattle.toposort.specs.Answers.{Edge, Path, Closes, IsCycle, IsOrder, HasCycle, Right}
 use Rattle.toposort.specs.Sorting.{Within, Sound, sort_of}
 use Rattle.toposort.proofs.Theorems.{Gives, no_node, too_short, answer, sorted_right, searched_right, cycle_iff}

@@ -10,8 +10,9 @@ use Rattle.fields.specs.Fields.{le16}
 use Rattle.obj.specs.Answers.{refusal_word, word, place}
 use Rattle.outputs.specs.Outputs.{halves, counts_of}
 use Rattle.toposort.specs.Search.{Graph, End, all, cyclic, lost}
-use Rattle.toposort.specs.Sorting.{sort_of}
-use Rattle.entry_toposort.specs.declared.Ended.{Ended}
+use Rattle.toposort.specs.Sorting.{sort_of, kept, carried, answer_of}
+use Rattle.toposort.specs.declared.Unsorted.{Unsorted}
+use Rattle.std.specs.Prelude.{Result}
 
 -- an edge is four bytes, "from 2, to 2": the two columns
 unfoldable pub starts_of : List ℕ → List ℕ
@@ -83,10 +84,17 @@ pub record Scratch (n : ℕ) (edges from to table : List ℕ) : Type 0 where
   pub to_long : length to ≡ 2048
   pub table_long : length table ≡ 1024
 
+-- no check of the tables refuses: within the ceilings, so what is left is the sort
+pub record Checked (nodes : ℕ) (edges : List ℕ) : Type 0 where
+  pub few_nodes : nodes ≤ 1024
+  pub few_edges : length edges / 4 ≤ 2048
+  pub sorted : (size : ℕ) → toposort_of nodes edges size ≡ sort_of (graph_of nodes edges) (size / 2)
+
 -- before the clearing: the word, the number of nodes, and the nodes at the front
-pub record Ends (o : Outcome End) (r : Ended) (before after : List ℕ) : Type 0 where
-  pub said : word r.answer ≡ word_of o
-  pub counted : r.kept ≡ length (nodes_of o)
+pub record Ends (o : Outcome End) (r : Result ℕ Unsorted) (before after : List ℕ) : Type 0 where
+  pub said : word (answer_of r) ≡ word_of o
+  pub counted : kept r ≡ length (nodes_of o)
   pub front : after ≡ sets before 0 (halves (nodes_of o))
-  pub room : 2 * r.kept ≤ length before
-  pub few : r.kept ≤ 1024
+  pub room : 2 * kept r ≤ length before
+  pub few : kept r ≤ 1024
+  pub small : carried r ≤ 2048

@@ -1,35 +1,27 @@
 // The entry `toposort` behind its C name: the checks of its tables, the sort, and what is left in the lent outputs.
 #![tactic(auto)]
 
-ghost use Rattle.std.specs.Prelude.{◌≡◌, ◌+◌, ◌*◌, ◌/◌, ◌≤◌, ◌<◌, length, take};
-ghost use Rattle.lists.specs.Rows.{tabulate};
+ghost use Rattle.std.specs.Prelude.{◌≡◌, ◌+◌, ◌*◌, ◌/◌, ◌≤◌, ◌<◌, ℕ, length, take, MatchResult};
+ghost use Rattle.lists.specs.Outcome.{refused};
+ghost use Rattle.lists.specs.Rows.{clear_from, tabulate};
+ghost use Rattle.outputs.specs.Outputs.{store_count};
 ghost use Rattle.fields.specs.Fields.{le16};
-ghost use Rattle.obj.specs.declared.Answer.TheVariants.{Refused};
 ghost use Rattle.toposort.specs.Sorting.{Within, sort_of};
 ghost use Rattle.toposort.specs.Search.{Graph};
-ghost use Rattle.entry_toposort.specs.Entry.{graph_of, toposort_of, Room, Scratch, Ends, Leaves};
+ghost use Rattle.entry_toposort.specs.Entry.{graph_of, toposort_of, Checked, Room, Scratch, Ends, Leaves};
 
 use fields::get16;
-use obj::{Answer, place_of, refusal, word_of};
+use obj::{Refusal, place_of, refuse, word_of};
 use outputs::{clear_from, put_count, put_halves};
-use toposort::{answer_of, kept};
-
-// The answer, and how many nodes stand at the front of the node table.
-#[derive(Clone, Copy)]
-pub struct Ended {
-    pub answer: Answer,
-    pub kept: usize,
-}
+use toposort::{Unsorted, answer_of, kept};
 
 // One column of the edge table, at the front of `out`: the number at byte `at` of each of the first k edges.
 fn column(edges: &[u8], at: usize, k: usize, out: &mut [u16])
     requires { (at ≤ 2) × (4 * k ≤ length edges.now) × (k ≤ length out.old) }
     ensures { (take k out.new ≡ tabulate (λ i. le16 edges.now (4 * i + at)) 0 k) × (length out.new ≡ length out.old) }
 {
-    let mut i = 0;
-    while i < k {
+    for i in 0..k {
         out[i] = get16(edges, 4 * i + at);
-        i += 1;
     }
 }
 
@@ -37,14 +29,17 @@ fn column(edges: &[u8], at: usize, k: usize, out: &mut [u16])
 fn room_of(size: usize) -> usize
     ensures { Room size result }
 {
-    if size / 2 < 1024 {
-        return size / 2;
-    }
-    1024
+    (size / 2).min(1024)
 }
 
 // The sort of edges in columns, in the lent `table`; the nodes that it leaves are written to the front of `out`.
-fn sort_columns(n: usize, from: &[u16], to: &[u16], table: &mut [u16], out: &mut [u8]) -> Ended
+fn sort_columns(
+    n: usize,
+    from: &[u16],
+    to: &[u16],
+    table: &mut [u16],
+    out: &mut [u8],
+) -> Result<usize, Unsorted>
     requires { Within (record { count = n; from = from.now; to = to.now }) × (length table.old ≡ 1024) }
     ensures { Ends (sort_of (record { count = n; from = from.now; to = to.now }) (length out.old / 2)) result out.old out.new }
 {
@@ -52,10 +47,7 @@ fn sort_columns(n: usize, from: &[u16], to: &[u16], table: &mut [u16], out: &mut
     let r = toposort::toposort(n, from, to, &mut table[..room]);
     let m = kept(r);
     put_halves(out, &table[..m]);
-    Ended {
-        answer: answer_of(r),
-        kept: m,
-    }
+    r
 }
 
 // The sort of an edge table within the ceilings, in lent columns.
@@ -66,7 +58,7 @@ fn sort_in(
     to: &mut [u16],
     table: &mut [u16],
     out: &mut [u8],
-) -> Ended
+) -> Result<usize, Unsorted>
     requires { Scratch n edges.now from.old to.old table.old }
     ensures { Ends (sort_of (graph_of n edges.now) (length out.old / 2)) result out.old out.new }
 {
@@ -76,7 +68,7 @@ fn sort_in(
     sort_columns(n, &from[..k], &to[..k], table, out)
 }
 
-fn sort_table(n: usize, edges: &[u8], out: &mut [u8]) -> Ended
+fn sort_table(n: usize, edges: &[u8], out: &mut [u8]) -> Result<usize, Unsorted>
     requires { (n ≤ 1024) × (length edges.now / 4 ≤ 2048) }
     ensures { Ends (sort_of (graph_of n edges.now) (length out.old / 2)) result out.old out.new }
 {
@@ -86,41 +78,41 @@ fn sort_table(n: usize, edges: &[u8], out: &mut [u8]) -> Ended
     sort_in(n, edges, &mut from, &mut to, &mut table, out)
 }
 
-// A refusal: no node is left in the table.
-fn refused(number: u16, address: u32) -> Ended
-    ensures { result ≡ record { answer = Refused number 0 address; kept = 0 } }
-{
-    Ended {
-        answer: refusal(number, 0, address),
-        kept: 0,
-    }
-}
-
-// The checks of the tables, in document 01's order, and then the sort.
-fn checked(nodes: u32, edges: &[u8], out: &mut [u8]) -> Ended
-    ensures { Ends (toposort_of nodes edges.now (length out.old)) result out.old out.new }
+// The checks of the tables, in document 01's order.
+fn check_tables(nodes: u32, edges: &[u8]) -> Result<(), Refusal>
+    ensures { MatchResult result (λ _. Checked nodes edges.now) (λ r. (size : ℕ) → toposort_of nodes edges.now size ≡ refused r.number r.section r.address) }
 {
     if 1024 < nodes {
-        return refused(2, 1024);
+        return refuse(2, 0, 1024);
     }
     if edges.len() % 4 != 0 {
-        return refused(1, place_of(edges.len() / 4));
+        return refuse(1, 0, place_of(edges.len() / 4));
     }
     if 2048 < edges.len() / 4 {
-        return refused(2, 2048);
+        return refuse(2, 0, 2048);
     }
-    sort_table(nodes as usize, edges, out)
+    Ok(())
+}
+
+// The outputs once the nodes stand at the front of the node table: zeros after them, and their number.
+fn leave(kept: usize, out: &mut [u8], counts: &mut [u8])
+    requires { kept ≤ 1024 }
+    ensures { (out.new ≡ clear_from 0 (2 * kept) out.old) × (counts.new ≡ store_count 0 kept (clear_from 0 0 counts.old)) }
+{
+    clear_from(out, 2 * kept);
+    clear_from(counts, 0);
+    put_count(counts, 0, kept as u16);
 }
 
 // The entry: an order, a cycle or a refusal, and every byte of the outputs.
 pub fn toposort(nodes: u32, edges: &[u8], out: &mut [u8], counts: &mut [u8]) -> u64
     ensures { Leaves (toposort_of nodes edges.now (length out.old)) (length out.old) (length counts.old) result out.new counts.new }
 {
-    let r = checked(nodes, edges, out);
-    let kept = r.kept;
-    let answer = r.answer;
-    clear_from(out, 2 * kept);
-    clear_from(counts, 0);
-    put_count(counts, 0, kept as u16);
-    word_of(answer)
+    if let Err(r) = check_tables(nodes, edges) {
+        leave(0, out, counts);
+        return word_of(Err(r));
+    }
+    let sorted = sort_table(nodes as usize, edges, out);
+    leave(kept(sorted), out, counts);
+    word_of(answer_of(sorted))
 }

@@ -5,18 +5,17 @@ use mathlib.Core.Path.{◌≡◌, sym, ap, ap₂, ◌∙◌}
 use mathlib.Core.List.{List}
 use native.Mathlib.Nat.{zero-add}
 use native.Mathlib.Omega.{arith}
-use lib.ListN.{length, get_or, take, length-map}
+use lib.ListN.{length, get_or, take}
 use lib.Seq.{get_or-take, length-take-le}
-use Rattle.lists.specs.Outcome.{Outcome, accepted, refused, ◌>>◌}
+use Rattle.lists.specs.Outcome.{Outcome, accepted, ◌>>◌}
 use Rattle.lists.proofs.Rows.{get_d_tabulate}
 use Rattle.obj.specs.Answers.{meaning}
-use Rattle.obj.specs.Records.{section_at, stage_places, split_width}
-use Rattle.obj.specs.declared.Answer.{Answer}
-use Rattle.obj.specs.declared.Answer.TheVariants.{Accepted, Refused}
+use Rattle.obj.specs.Records.{stage_places, split_width}
+use Rattle.obj.specs.Answers.{Answer}
+use Rattle.std.specs.Prelude.{Result, Ok, Err}
 use Rattle.obj.specs.declared.Section.{Section}
 use Rattle.obj.specs.declared.Split.{Split}
 use Rattle.obj.proofs.Laws.{length-stage_places}
-use Rattle.names.specs.Names.{Named}
 use Rattle.tables.specs.Tables.{records_check}
 use Rattle.tables.specs.Records.{sections_in, image_places_of, split_fault, no_split}
 use Rattle.tables.proofs.Laws.{splits_section, splits_partials, partials_end}
@@ -28,8 +27,8 @@ use Rattle.symbols.specs.Sound.{Sound}
 use Rattle.sections.specs.Image.{Image, image_of}
 use Rattle.sections.specs.Sections.{Sections, sections_of}
 use Rattle.splits.specs.Columns.{Columns, row_at, rows, Long}
-use Rattle.stage_symbols.specs.StageSymbols.{Ordered}
-use Rattle.stage_symbols.specs.declared.Taken.{Taken}
+use Rattle.stage_symbols.specs.StageSymbols.{answered, Ordered}
+use Rattle.obj.specs.declared.Refusal.{Refusal}
 use Rattle.stage_symbols.proofs.Laws.{symbols_sound}
 use Rattle.stage_splits.specs.StageSplits.{room_of, Laid, Gives}
 use Rattle.stage_splits.proofs.Laws.{gives_refused, gives_laid, gives_said}
@@ -40,10 +39,10 @@ use Rattle.entry_trim_splits.specs.Entry.{from_splits, from_symbols, from_sectio
 
 -- ---- the stage's answer
 module _ {size counts_size : ℕ} {out counts : List ℕ} (a : Answer) (o : Outcome (List Split)) (l : List Split) (q : seen a l ≡ o) where
-  pub seen_refused : {number section address : ℕ} → a ≡ Refused number section address → Gives o a size counts_size out counts
+  pub seen_refused : {d : Refusal} → a ≡ Err d → Gives o a size counts_size out counts
   seen_refused e = gives_said o (sym e) (gives_refused (sym (ap (λ (x : Answer). seen x l) e) ∙ q))
 
-  pub seen-laid : a ≡ Accepted → Laid l size counts_size out counts → Gives o a size counts_size out counts
+  pub seen-laid : a ≡ Ok tt → Laid l size counts_size out counts → Gives o a size counts_size out counts
   seen-laid e w = gives_said o (sym e) (gives_laid (sym (ap (λ (x : Answer). seen x l) e) ∙ q) w)
 
 -- ---- splits that passed: each has a section, and ends at or below 0xF0000000
@@ -69,8 +68,8 @@ rows-placed ceiling lengths heads b c passed taken long count e =
     row_is k h = sym (get_d_tabulate (row_at c) 0 n k no_split h ∙ ap (row_at c) (zero-add k)) ∙ ap (λ (l : List Split). get_or l k no_split) taken
 
 -- ---- symbols that passed
-module _ (names : ℕ) (heads : List Section) (b places order : List ℕ) (r : Taken) (o : Ordered (symbols_check 4096 names heads b) b places order r)
-    (e : meaning r.answer ≡ accepted tt) where
+module _ (names : ℕ) (heads : List Section) (b places order : List ℕ) (r : Result ℕ Refusal) (o : Ordered (symbols_check 4096 names heads b) b places order r)
+    (e : meaning (answered r) ≡ accepted tt) where
   pub symbols_passed : symbols_check 4096 names heads b ≡ accepted tt
   symbols_passed = sym o.said ∙ e
 

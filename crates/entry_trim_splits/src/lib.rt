@@ -18,7 +18,7 @@ ghost use Rattle.obj.specs.Records.{split_width};
 ghost use Rattle.entry_trim_splits.specs.Entry.{trim_of, from_splits, from_symbols, from_sections, Names, Headed, Scratch};
 
 use name_table::check_names;
-use obj::{Answer, SPLIT_BYTES};
+use obj::{Refusal, SPLIT_BYTES};
 use stage_splits::{finish, give_splits, room_of, take_split_columns};
 use stage_symbols::{take_image_places, take_symbol_order};
 use stage_tables::take_image;
@@ -44,7 +44,7 @@ fn trim_rows(
     falls: &mut [u32],
     out: &mut [u8],
     counts: &mut [u8],
-) -> Answer
+) -> Result<(), Refusal>
     requires { Tables symbols.now symbol_places.now order.now name_bytes.now name_places.now name_lengths.now
         × Sound (symbol_of symbols.now symbol_places.now) (length symbol_places.now)
         × Kept heads.now head_places.now image.now image_places.now name_places.now
@@ -58,7 +58,7 @@ fn trim_rows(
         (rows (columns starts.now ends.old units.now rest.now) n))
         result (length out.old) (length counts.old) out.new counts.new }
 {
-    let a = trim(
+    trim(
         symbols,
         symbol_places,
         order,
@@ -75,12 +75,9 @@ fn trim_rows(
         rest,
         n,
         falls,
-    );
-    if let Answer::Refused { .. } = a {
-        return a;
-    }
+    )?;
     give_splits(starts, ends, units, rest, n, out, counts);
-    a
+    Ok(())
 }
 
 // The splits in lent columns, and the trim.
@@ -104,7 +101,7 @@ fn from_splits(
     falls: &mut [u32],
     out: &mut [u8],
     counts: &mut [u8],
-) -> Answer
+) -> Result<(), Refusal>
     requires { Tables symbols.now symbol_places.now order.now name_bytes.now name_places.now name_lengths.now
         × Sound (symbol_of symbols.now symbol_places.now) (length symbol_places.now)
         × Headed heads.now head_places.now image.now image_places.now name_places.now
@@ -117,7 +114,7 @@ fn from_splits(
         result (length out.old) (length counts.old) out.new counts.new }
 {
     let room = room_of(out.len());
-    let a = take_split_columns(
+    take_split_columns(
         name_lengths,
         heads,
         head_places,
@@ -128,10 +125,7 @@ fn from_splits(
         ends,
         units,
         rest,
-    );
-    if let Answer::Refused { .. } = a {
-        return a;
-    }
+    )?;
     let n = splits.len() / SPLIT_BYTES;
     trim_rows(
         symbols,
@@ -170,7 +164,7 @@ fn with_splits(
     splits: &[u8],
     out: &mut [u8],
     counts: &mut [u8],
-) -> Answer
+) -> Result<(), Refusal>
     requires { Tables symbols.now symbol_places.now order.now name_bytes.now name_places.now name_lengths.now
         × Sound (symbol_of symbols.now symbol_places.now) (length symbol_places.now)
         × Headed heads.now head_places.now image.now image_places.now name_places.now }
@@ -226,7 +220,7 @@ fn from_symbols(
     scratch: &mut [u16],
     out: &mut [u8],
     counts: &mut [u8],
-) -> Answer
+) -> Result<(), Refusal>
     requires { Names name_bytes.now name_places.now name_lengths.now
         × Headed heads.now head_places.now image.now image_places.now name_places.now
         × symbol_columns.Room 4096 places.old order.old scratch.old }
@@ -236,7 +230,7 @@ fn from_symbols(
         symbols.now splits.now (length out.old))
         result (length out.old) (length counts.old) out.new counts.new }
 {
-    let t = take_symbol_order(
+    let ordered = take_symbol_order(
         name_lengths.len(),
         heads,
         head_places,
@@ -245,13 +239,8 @@ fn from_symbols(
         places,
         order,
         scratch,
-    );
-    let a = t.answer;
-    if let Answer::Refused { .. } = a {
-        return a;
-    }
+    )?;
     let n = symbols.len() / 20;
-    let ordered = t.ordered;
     with_splits(
         symbols,
         &places[..n],
@@ -282,7 +271,7 @@ fn with_symbols(
     splits: &[u8],
     out: &mut [u8],
     counts: &mut [u8],
-) -> Answer
+) -> Result<(), Refusal>
     requires { Names name_bytes.now name_places.now name_lengths.now
         × Headed heads.now head_places.now image.now image_places.now name_places.now }
     ensures { Gives
@@ -326,7 +315,7 @@ fn from_sections(
     images: &mut [u32],
     out: &mut [u8],
     counts: &mut [u8],
-) -> Answer
+) -> Result<(), Refusal>
     requires { Names name_bytes.now name_places.now name_lengths.now
         × (length heads.old ≡ 64)
         × (length images.old ≡ 64) }
@@ -334,17 +323,14 @@ fn from_sections(
         (from_sections name_bytes.now name_places.now name_lengths.now sections.now section_places.now image.now symbols.now splits.now (length out.old))
         result (length out.old) (length counts.old) out.new counts.new }
 {
-    let a = take_image(
+    take_image(
         name_lengths,
         section_places,
         image.len(),
         sections,
         64,
         heads,
-    );
-    if let Answer::Refused { .. } = a {
-        return a;
-    }
+    )?;
     let n = sections.len() / 15;
     let p = take_image_places(section_places, images);
     with_symbols(
@@ -374,7 +360,7 @@ fn with_sections(
     splits: &[u8],
     out: &mut [u8],
     counts: &mut [u8],
-) -> Answer
+) -> Result<(), Refusal>
     requires { Names name_bytes.now name_places.now name_lengths.now }
     ensures { Gives
         (from_sections name_bytes.now name_places.now name_lengths.now sections.now section_places.now image.now symbols.now splits.now (length out.old))
@@ -413,16 +399,13 @@ fn from_names(
     chain: &mut [u16],
     out: &mut [u8],
     counts: &mut [u8],
-) -> Answer
+) -> Result<(), Refusal>
     requires { stored.Room 4096 places.old lengths.old heads.old chain.old }
     ensures { Gives
         (trim_of name_ends.now name_bytes.now sections.now section_places.now image.now symbols.now splits.now (length out.old))
         result (length out.old) (length counts.old) out.new counts.new }
 {
-    let a = check_names(name_ends, name_bytes, 4096, places, lengths, heads, chain);
-    if let Answer::Refused { .. } = a {
-        return a;
-    }
+    check_names(name_ends, name_bytes, 4096, places, lengths, heads, chain)?;
     let n = name_ends.len() / 2;
     with_sections(
         name_bytes,
@@ -449,7 +432,7 @@ fn checked(
     splits: &[u8],
     out: &mut [u8],
     counts: &mut [u8],
-) -> Answer
+) -> Result<(), Refusal>
     ensures { Gives
         (trim_of name_ends.now name_bytes.now sections.now section_places.now image.now symbols.now splits.now (length out.old))
         result (length out.old) (length counts.old) out.new counts.new }

@@ -17,8 +17,9 @@ use Rattle.lists.proofs.Outcomes.{not_both, same_accepted}
 use Rattle.lists.proofs.Rows.{get_d_map}
 use Rattle.obj.specs.Answers.{meaning}
 use Rattle.obj.specs.Records.{section_at, stage_places}
-use Rattle.obj.specs.declared.Answer.{Answer}
-use Rattle.obj.specs.declared.Answer.TheVariants.{Accepted, Refused}
+use Rattle.obj.specs.Answers.{Answer}
+use Rattle.std.specs.Prelude.{Ok, Err}
+use Rattle.obj.specs.declared.Refusal.{Refusal}
 use Rattle.obj.specs.declared.Section.{Section}
 use Rattle.obj.specs.declared.Split.{Split}
 use Rattle.obj.proofs.Laws.{length-stage_places}
@@ -41,10 +42,10 @@ use Rattle.entry_update_common_splits.specs.Entry.{stage_bss, from_splits, from_
 
 -- ---- the stage's answer
 module _ {size counts_size : ℕ} {out counts : List ℕ} {a : Answer} (o : Outcome (List Split)) (l : List Split) (q : answered a l ≡ o) where
-  pub gives_refused : {number section address : ℕ} → a ≡ Refused number section address → Gives o a size counts_size out counts
+  pub gives_refused : {d : Refusal} → a ≡ Err d → Gives o a size counts_size out counts
   gives_refused e = gives_as (sym (ap (λ (x : Answer). answered x l) e) ∙ q) (record { answered = ap meaning e; given = λ r z. absurd (not_both z) })
 
-  pub gives_laid : a ≡ Accepted → Laid l size counts_size out counts → Gives o a size counts_size out counts
+  pub gives_laid : a ≡ Ok tt → Laid l size counts_size out counts → Gives o a size counts_size out counts
   gives_laid e w =
       gives_as (sym (ap (λ (x : Answer). answered x l) e) ∙ q)
       (record { answered = ap meaning e; given = λ r z. subst (λ (x : List Split). Laid x size counts_size out counts) (same_accepted z) w })

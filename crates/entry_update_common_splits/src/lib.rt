@@ -15,7 +15,7 @@ ghost use Rattle.entry_update_common_splits.specs.Entry.{update_of, from_splits,
 
 use common::update_common_records;
 use name_table::check_names;
-use obj::{Answer, SPLIT_BYTES};
+use obj::{Refusal, SPLIT_BYTES};
 use stage_splits::{finish, give_splits, room_of, take_split_columns};
 use stage_tables::take_sections;
 
@@ -35,7 +35,7 @@ fn update(
     start: u32,
     out: &mut [u8],
     counts: &mut [u8],
-) -> Answer
+) -> Result<(), Refusal>
     requires { Sections name_bytes.now name_places.now name_lengths.now heads.now head_places.now
         × Long (columns starts.now ends.now units.now rest.old) n
         × (n ≤ 1024)
@@ -45,7 +45,7 @@ fn update(
         (rows (columns starts.now ends.now units.now rest.old) n))
         result (length out.old) (length counts.old) out.new counts.new }
 {
-    let a = update_common_records(
+    update_common_records(
         name_bytes,
         name_places,
         name_lengths,
@@ -58,12 +58,9 @@ fn update(
         n,
         has_start,
         start,
-    );
-    if let Answer::Refused { .. } = a {
-        return a;
-    }
+    )?;
     give_splits(starts, ends, units, rest, n, out, counts);
-    a
+    Ok(())
 }
 
 // The tables from the splits on, in lent columns.
@@ -83,7 +80,7 @@ fn from_splits(
     rest: &mut [u64],
     out: &mut [u8],
     counts: &mut [u8],
-) -> Answer
+) -> Result<(), Refusal>
     requires { Sections name_bytes.now name_places.now name_lengths.now heads.now head_places.now
         × AllHeld 15 heads.now head_places.now
         × Scratch places.old starts.old ends.old units.old rest.old }
@@ -94,7 +91,7 @@ fn from_splits(
         result (length out.old) (length counts.old) out.new counts.new }
 {
     let room = room_of(out.len());
-    let a = take_split_columns(
+    take_split_columns(
         name_lengths,
         heads,
         head_places,
@@ -105,10 +102,7 @@ fn from_splits(
         ends,
         units,
         rest,
-    );
-    if let Answer::Refused { .. } = a {
-        return a;
-    }
+    )?;
     let n = splits.len() / SPLIT_BYTES;
     update(
         name_bytes,
@@ -140,7 +134,7 @@ fn with_columns(
     start: u32,
     out: &mut [u8],
     counts: &mut [u8],
-) -> Answer
+) -> Result<(), Refusal>
     requires { Sections name_bytes.now name_places.now name_lengths.now heads.now head_places.now
         × AllHeld 15 heads.now head_places.now }
     ensures { Gives
@@ -185,16 +179,13 @@ fn from_sections(
     places: &mut [u32],
     out: &mut [u8],
     counts: &mut [u8],
-) -> Answer
+) -> Result<(), Refusal>
     requires { Names name_bytes.now name_places.now name_lengths.now × (length places.old ≡ 64) }
     ensures { Gives
         (from_sections name_bytes.now name_places.now name_lengths.now sections.now splits.now has_start start (length out.old))
         result (length out.old) (length counts.old) out.new counts.new }
 {
-    let a = take_sections(name_lengths, sections, 64, places);
-    if let Answer::Refused { .. } = a {
-        return a;
-    }
+    take_sections(name_lengths, sections, 64, places)?;
     let n = sections.len() / 15;
     with_columns(
         name_bytes,
@@ -221,7 +212,7 @@ fn named_tables(
     start: u32,
     out: &mut [u8],
     counts: &mut [u8],
-) -> Answer
+) -> Result<(), Refusal>
     requires { Names name_bytes.now name_places.now name_lengths.now }
     ensures { Gives
         (from_sections name_bytes.now name_places.now name_lengths.now sections.now splits.now has_start start (length out.old))
@@ -256,15 +247,12 @@ fn all_tables(
     chain: &mut [u16],
     out: &mut [u8],
     counts: &mut [u8],
-) -> Answer
+) -> Result<(), Refusal>
     requires { Room 4096 places.old lengths.old heads.old chain.old }
     ensures { Gives (update_of name_ends.now name_bytes.now sections.now splits.now has_start start (length out.old))
         result (length out.old) (length counts.old) out.new counts.new }
 {
-    let a = check_names(name_ends, name_bytes, 4096, places, lengths, heads, chain);
-    if let Answer::Refused { .. } = a {
-        return a;
-    }
+    check_names(name_ends, name_bytes, 4096, places, lengths, heads, chain)?;
     let n = name_ends.len() / 2;
     named_tables(
         name_bytes,
@@ -289,7 +277,7 @@ fn checked(
     start: u32,
     out: &mut [u8],
     counts: &mut [u8],
-) -> Answer
+) -> Result<(), Refusal>
     ensures { Gives (update_of name_ends.now name_bytes.now sections.now splits.now has_start start (length out.old))
         result (length out.old) (length counts.old) out.new counts.new }
 {

@@ -6,26 +6,26 @@ use mathlib.Core.List.{List}
 use native.Mathlib.Omega.{arith}
 use lib.ListN.{length, take}
 use lib.Seq.{length-take-le}
-use Rattle.lists.specs.Outcome.{Outcome, accepted, ◌>>◌}
+use Rattle.lists.specs.Outcome.{accepted, ◌>>◌}
 use Rattle.obj.specs.Answers.{word, outcome_word, meaning}
 use Rattle.obj.specs.Records.{stage_places}
-use Rattle.obj.specs.declared.Answer.{Answer}
-use Rattle.obj.specs.declared.Answer.TheVariants.{Accepted, Refused}
+use Rattle.obj.specs.Answers.{Answer}
+use Rattle.std.specs.Prelude.{Result, Ok, Err}
 use Rattle.obj.specs.declared.Section.{Section}
 use Rattle.obj.proofs.Laws.{length-stage_places}
 use Rattle.name_table.specs.Stored.{stage_lengths, Stored}
-use Rattle.stage_tables.specs.StageTables.{stage_sections, sections_check, symbols_check, splits_check}
+use Rattle.stage_tables.specs.StageTables.{stage_sections, sections_check, symbols_check}
 use Rattle.stage_tables.proofs.Laws.{table_passed}
 use Rattle.symbol_order.specs.Order.{symbol_of, order_of, Order}
 use Rattle.symbols.specs.Sound.{Sound}
-use Rattle.stage_symbols.specs.StageSymbols.{Ordered}
-use Rattle.stage_symbols.specs.declared.Taken.{Taken}
+use Rattle.stage_symbols.specs.StageSymbols.{answered, ordered, Ordered}
+use Rattle.obj.specs.declared.Refusal.{Refusal}
 use Rattle.stage_symbols.proofs.Laws.{symbol_whole, symbols_sound}
 use Rattle.entry_validate_splits.specs.Entry.{from_splits, from_symbols, from_sections}
 
 -- ---- symbols that passed
-module _ (names : ℕ) (sections : List Section) (b places order : List ℕ) (r : Taken) (o : Ordered (symbols_check 4096 names sections b) b places order r)
-    (e : meaning r.answer ≡ accepted tt) where
+module _ (names : ℕ) (sections : List Section) (b places order : List ℕ) (r : Result ℕ Refusal) (o : Ordered (symbols_check 4096 names sections b) b places order r)
+    (e : meaning (answered r) ≡ accepted tt) where
   passed : symbols_check 4096 names sections b ≡ accepted tt
   passed = sym o.said ∙ e
 
@@ -36,7 +36,7 @@ module _ (names : ℕ) (sections : List Section) (b places order : List ℕ) (r 
   places_are = o.placed passed
 
   -- the column of numbers is the symbol order
-  pub order_taken : Order b (take (length b / 20) places) (take r.ordered order)
+  pub order_taken : Order b (take (length b / 20) places) (take (ordered r) order)
   order_taken =
       rw places_are
       (record {
@@ -70,5 +70,5 @@ names_as ends bytes places lengths heads chain sections symbols splits s =
 
 -- the word of an answer is that of its meaning
 pub word_means : (a : Answer) → word a ≡ outcome_word (meaning a)
-word_means Accepted = refl
-word_means (Refused number section address) = refl
+word_means (Ok u) = refl
+word_means (Err r) = refl

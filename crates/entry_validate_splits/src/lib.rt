@@ -13,7 +13,7 @@ ghost use Rattle.stage_symbols.specs.StageSymbols as symbol_columns;
 ghost use Rattle.entry_validate_splits.specs.Entry.{validate_of, from_splits, from_symbols, from_sections, Scratch};
 
 use name_table::check_names;
-use obj::{Answer, SPLIT_BYTES, word_of};
+use obj::{Refusal, SPLIT_BYTES, word_of};
 use stage_splits::take_split_columns;
 use stage_symbols::take_symbol_order;
 use stage_tables::take_sections;
@@ -33,7 +33,7 @@ fn from_splits(
     ends: &mut [u32],
     units: &mut [u16],
     rest: &mut [u64],
-) -> Answer
+) -> Result<(), Refusal>
     requires { AllHeld 15 heads.now head_places.now
         × Order symbols.now symbol_places.now order.now
         × Sound (symbol_of symbols.now symbol_places.now) (length symbol_places.now)
@@ -42,7 +42,7 @@ fn from_splits(
         ≡ from_splits name_lengths.now (sections_in heads.now head_places.now)
         (symbol_of symbols.now symbol_places.now) (length symbol_places.now) splits.now }
 {
-    let a = take_split_columns(
+    take_split_columns(
         name_lengths,
         heads,
         head_places,
@@ -53,10 +53,7 @@ fn from_splits(
         ends,
         units,
         rest,
-    );
-    if let Answer::Refused { .. } = a {
-        return a;
-    }
+    )?;
     let n = splits.len() / SPLIT_BYTES;
     validate(symbols, symbol_places, order, starts, ends, units, rest, n)
 }
@@ -70,7 +67,7 @@ fn with_splits(
     symbol_places: &[u32],
     order: &[u16],
     splits: &[u8],
-) -> Answer
+) -> Result<(), Refusal>
     requires { AllHeld 15 heads.now head_places.now
         × Order symbols.now symbol_places.now order.now
         × Sound (symbol_of symbols.now symbol_places.now) (length symbol_places.now) }
@@ -109,11 +106,11 @@ fn from_symbols(
     places: &mut [u32],
     order: &mut [u16],
     scratch: &mut [u16],
-) -> Answer
+) -> Result<(), Refusal>
     requires { AllHeld 15 heads.now head_places.now × symbol_columns.Room 4096 places.old order.old scratch.old }
     ensures { meaning result ≡ from_symbols name_lengths.now (sections_in heads.now head_places.now) symbols.now splits.now }
 {
-    let t = take_symbol_order(
+    let ordered = take_symbol_order(
         name_lengths.len(),
         heads,
         head_places,
@@ -122,13 +119,8 @@ fn from_symbols(
         places,
         order,
         scratch,
-    );
-    let a = t.answer;
-    if let Answer::Refused { .. } = a {
-        return a;
-    }
+    )?;
     let n = symbols.len() / 20;
-    let ordered = t.ordered;
     with_splits(
         name_lengths,
         heads,
@@ -147,7 +139,7 @@ fn with_symbols(
     head_places: &[u32],
     symbols: &[u8],
     splits: &[u8],
-) -> Answer
+) -> Result<(), Refusal>
     requires { AllHeld 15 heads.now head_places.now }
     ensures { meaning result ≡ from_symbols name_lengths.now (sections_in heads.now head_places.now) symbols.now splits.now }
 {
@@ -173,20 +165,22 @@ fn from_sections(
     symbols: &[u8],
     splits: &[u8],
     places: &mut [u32],
-) -> Answer
+) -> Result<(), Refusal>
     requires { length places.old ≡ 64 }
     ensures { meaning result ≡ from_sections name_lengths.now sections.now symbols.now splits.now }
 {
-    let a = take_sections(name_lengths, sections, 64, places);
-    if let Answer::Refused { .. } = a {
-        return a;
-    }
+    take_sections(name_lengths, sections, 64, places)?;
     let n = sections.len() / 15;
     with_symbols(name_lengths, sections, &places[..n], symbols, splits)
 }
 
 // The same, with a column of its own for the sections.
-fn with_sections(name_lengths: &[u8], sections: &[u8], symbols: &[u8], splits: &[u8]) -> Answer
+fn with_sections(
+    name_lengths: &[u8],
+    sections: &[u8],
+    symbols: &[u8],
+    splits: &[u8],
+) -> Result<(), Refusal>
     ensures { meaning result ≡ from_sections name_lengths.now sections.now symbols.now splits.now }
 {
     let mut places = [0u32; 64];
@@ -204,14 +198,11 @@ fn from_names(
     lengths: &mut [u8],
     heads: &mut [u16],
     chain: &mut [u16],
-) -> Answer
+) -> Result<(), Refusal>
     requires { stored.Room 4096 places.old lengths.old heads.old chain.old }
     ensures { meaning result ≡ validate_of name_ends.now name_bytes.now sections.now symbols.now splits.now }
 {
-    let a = check_names(name_ends, name_bytes, 4096, places, lengths, heads, chain);
-    if let Answer::Refused { .. } = a {
-        return a;
-    }
+    check_names(name_ends, name_bytes, 4096, places, lengths, heads, chain)?;
     let n = name_ends.len() / 2;
     with_sections(&lengths[..n], sections, symbols, splits)
 }
@@ -223,7 +214,7 @@ fn checked(
     sections: &[u8],
     symbols: &[u8],
     splits: &[u8],
-) -> Answer
+) -> Result<(), Refusal>
     ensures { meaning result ≡ validate_of name_ends.now name_bytes.now sections.now symbols.now splits.now }
 {
     let mut places = [0u32; 4096];

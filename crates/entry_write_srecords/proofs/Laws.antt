@@ -1,34 +1,26 @@
 -- From the answers of the entry's steps to its outcome. Assumes nothing.
-use Prim.Native.Nat.{ℕ, ◌+◌, ◌/◌, ◌≤◌, ◌<◌}
-use mathlib.Core.Path.{◌≡◌, refl, sym, ap, ◌∙◌}
+use Prim.Native.Nat.{ℕ, ◌+◌, ◌/◌}
+use mathlib.Core.Path.{◌≡◌, sym, ap, ◌∙◌}
 use mathlib.Core.List.{List}
 use native.Mathlib.Omega.{arith}
-use lib.ListN.{length, get_or}
-use Rattle.lists.specs.Outcome.{Outcome, accepted, refused, ◌>>=◌, ◌>>◌}
+use lib.ListN.{length}
+use Rattle.lists.specs.Outcome.{accepted, refused}
 use Rattle.lists.proofs.Binds.{bind_goes, bind_stops, after_goes, after-stops}
 use Rattle.lists.proofs.Each.{all_placed}
 use Rattle.lists.proofs.Outcomes.{then_both, then_inv, bind_inv, same_accepted}
-use Rattle.obj.specs.declared.Section.{Section}
 use Rattle.tables.specs.Records.{section_fault, no_section}
 use Rattle.tables.proofs.Laws.{sections_end}
 use Rattle.name_table.specs.Stored.{stage_lengths}
 use Rattle.stage_tables.specs.StageTables.{stage_sections}
 use Rattle.stage_tables.proofs.Laws.{table_passed}
 use Rattle.join.specs.Join.{Part}
-use Rattle.obj.specs.declared.Answer.TheVariants.{Accepted}
-use Rattle.piece_records.specs.Records.{count_from, parts_of, counted, count_of}
-use Rattle.piece_records.specs.declared.Counted.{Counted}
-use Rattle.piece_records.proofs.Laws.{counted_whole}
+use Rattle.piece_records.specs.Records.{parts_of}
 use Rattle.join_pieces.proofs.Laws.{heads_length}
-use Rattle.srecords.specs.Lines.{lines_of, write_of}
+use Rattle.srecords.specs.Lines.{write_of}
 use Rattle.head_tables.specs.HeadTables.{head_tables}
 use Rattle.write_srecords.specs.Along.{room_along, Ended}
 use Rattle.write_srecords.proofs.Laws.{room_is}
 use Rattle.entry_write_srecords.specs.Entry.{write_srecords, from_pieces}
-
--- "up to 1,024 pieces"
-pub parts_few : (b : List ℕ) (c : Counted) → counted c ≡ count_from 1024 b 0 0 → c.answer ≡ Accepted → c.count ≤ 1024
-parts_few b c is e = let w = (counted_whole 1024 b 0 0 c.count (sym is ∙ ap (count_of c.count) e)).most in omega arith
 
 pub from_stops : (sections pieces : List ℕ) (room : ℕ) {number section address : ℕ} → parts_of pieces ≡ refused number section address
     → from_pieces sections pieces room ≡ refused number section address

@@ -8,46 +8,35 @@ ghost use Rattle.write_srecords.specs.Along.{Ended};
 ghost use Rattle.entry_join_pieces.specs.Entry.{Writes};
 ghost use Rattle.entry_write_srecords.specs.Entry.{write_srecords, from_pieces, Called};
 
-use entry_join_pieces::Written;
 use head_tables::check_head_tables;
 use kept_output::settle;
-use obj::Answer;
+use obj::Refusal;
 use piece_records::count_pieces;
 use write_srecords::{lines_room, write};
 
 // The pieces, counted and written as lines.
-fn write_records(sections: &[u8], pieces: &[u8], lines: &mut [u8]) -> Answer
+fn write_records(sections: &[u8], pieces: &[u8], lines: &mut [u8]) -> Result<(), Refusal>
     requires { (length sections.now / 15 ≤ 64) × Ended (stage_sections sections.now) }
     ensures { Joins (from_pieces sections.now pieces.now (length lines.old)) lines.old result lines.new }
 {
-    let c = count_pieces(pieces);
-    let a = c.answer;
-    if let Answer::Refused { .. } = a {
-        return a;
-    }
-    write(sections, pieces, c.count, lines)
+    let n = count_pieces(pieces)?;
+    write(sections, pieces, n, lines)
 }
 
-// The same after the names and the section heads.
+// The same after the names and the section heads: how many bytes the lines are.
 fn write_tables(
     name_ends: &[u8],
     name_bytes: &[u8],
     sections: &[u8],
     pieces: &[u8],
     lines: &mut [u8],
-) -> Written
+) -> Result<u64, Refusal>
     ensures { Writes (write_srecords name_ends.now name_bytes.now sections.now pieces.now (length lines.old)) lines.old result lines.new }
 {
-    let a = check_head_tables(name_ends, name_bytes, sections);
-    if let Answer::Refused { .. } = a {
-        return Written { answer: a, size: 0 };
-    }
+    check_head_tables(name_ends, name_bytes, sections)?;
     let total = lines_room(sections) as u64;
-    let b = write_records(sections, pieces, lines);
-    Written {
-        answer: b,
-        size: total,
-    }
+    write_records(sections, pieces, lines)?;
+    Ok(total)
 }
 
 // The entry: the S3 lines of the sections that hold bytes and the S7 line, and how many bytes they are.
@@ -61,7 +50,8 @@ pub fn write_srecords(
 ) -> u64
     ensures { Called name_ends.now name_bytes.now sections.now pieces.now lines.old size.old result lines.new size.new }
 {
-    let w = write_tables(name_ends, name_bytes, sections, pieces, lines);
-    let a = w.answer;
-    settle(a, w.size, lines, size)
+    match write_tables(name_ends, name_bytes, sections, pieces, lines) {
+        Ok(n) => settle(Ok(()), n, lines, size),
+        Err(r) => settle(Err(r), 0, lines, size),
+    }
 }

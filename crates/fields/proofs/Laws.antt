@@ -1,7 +1,7 @@
 -- What is read after a store: the number stored, and beside the store what was there before. A field is its bytes, so both follow from what is known of
 -- one byte after a run of stores; the widths 16, 32 and 64 are cases of one law over the width and the byte order. Assumes nothing.
 use mathlib.Core.Path.{◌≡◌, refl, sym, ap, ap₂, ◌∙◌}
-use mathlib.Core.List.{List, ◌∷◌}
+use mathlib.Core.List.{List, [], ◌∷◌}
 use mathlib.Core.Logic.{◌≢◌}
 use Prim.Native.Nat.{ℕ, zero, suc, ◌+◌, ◌*◌, ◌/◌, ◌%◌, ◌^◌, ◌≤◌, ◌<◌, suc-le-suc}
 use native.Mathlib.Nat.{add-zero, add-suc, suc-add, zero-lt-suc, pow-suc, pow-succ', one-le-pow, mod-one, mod-eq_of_lt, div-div-eq-div-mul}
@@ -95,14 +95,21 @@ pub enc32_is : (v : ℕ) → enc32 v ≡ bytes_of little 4 v
 unfolding bytes_of
 enc32_is v = simp div-div-eq-div-mul
 
-pub enc64_is : (v : ℕ) → enc64 v ≡ bytes_of little 8 v
-unfolding bytes_of
-enc64_is v =
+-- the bytes of both halves are the bytes of the whole
+pub enc64_bytes : (v : ℕ)
+    → v % 256 ∷ v / 256 % 256 ∷ v / 65536 % 256 ∷ v / 16777216 % 256 ∷ v / 4294967296 % 256 ∷ v / 1099511627776 % 256 ∷ v / 281474976710656 % 256
+    ∷ v / 72057594037927936 % 256 ∷ []
+    ≡ enc64 v
+enc64_bytes v =
     let byte0 : v % 4294967296 % 256 ≡ v % 256 = omega arith in
     let byte1 : v % 4294967296 / 256 % 256 ≡ v / 256 % 256 = rw (field v 24 8) (omega arith) in
     let byte2 : v % 4294967296 / 65536 % 256 ≡ v / 65536 % 256 = rw (field v 16 16) (omega arith) in
     let byte3 : v % 4294967296 / 16777216 % 256 ≡ v / 16777216 % 256 = rw (field v 8 24) (omega arith) in
     simp (byte0, byte1, byte2, byte3, div-div-eq-div-mul)
+
+pub enc64_is : (v : ℕ) → enc64 v ≡ bytes_of little 8 v
+unfolding bytes_of
+enc64_is v = sym (enc64_bytes v) ∙ simp div-div-eq-div-mul
 
 -- a number's bytes give it back
 pub round16 : (v : ℕ) → v < 65536 → le16 (enc16 v) 0 ≡ v

@@ -1,8 +1,8 @@
--- A signed number as a word, in two's complement. Below zero both ways go by how far the number is below -1, which is `mag z` of `lib.Signed`: its word is that far
--- below the largest word. Stated over the width. Assumes nothing.
+-- A signed number as a word, in two's complement: how far a number that is below zero is below -1, which is `mag z` of `lib.Signed`, and that a number which was stored
+-- is read back. Stated over the width. Assumes nothing.
 use mathlib.Core.Path.{◌≡◌, refl, sym, ap, ◌∙◌}
 use mathlib.Core.Bool.{Bool, true, false, cond}
-use Prim.Native.Nat.{ℕ, zero, suc, ◌+◌, ◌-◌, ◌^◌, ◌≤◌, ◌<◌}
+use Prim.Native.Nat.{ℕ, zero, suc, ◌+◌, ◌-◌, ◌≤◌}
 use native.Mathlib.Nat.{zero-add}
 use native.Mathlib.Omega.{arith}
 use borrow.Author.Tests.{ltb-true, le-ltb}
@@ -12,9 +12,8 @@ use lib.Seq.{sets}
 use lib.IntN.{ℤ, pos, negsuc, ◌-ℤ◌}
 use lib.Signed.{mag, lt_z}
 use mir.Syntax.{Width, w32}
-use mir.Val.{bits, hbits, SFits, to_z, of_z}
+use mir.Val.{SFits, to_z, of_z}
 use mir.Facts.{to_z-of_z, Fits-of_z}
-use mir.ValLaws.{to_z_pos, to_z-neg}
 use Rattle.fields.specs.Fields.{le32, enc32, signed32, word32}
 use Rattle.fields.proofs.Laws.{le32_back}
 
@@ -39,14 +38,6 @@ not_negative : (z : ℤ) → lt_z z (pos 0) ≡ false → z ≡ pos (mag z)
 not_negative (pos n) e = refl
 not_negative (negsuc n) e = absurd (let z : ◌≡◌ {A = ℕ} 0 1 = cc in omega arith)
 
--- ---- from a word
-
--- the number of a word that is k below the largest one, where k is below half of all words
-pub number_below : (w : Width) (v k : ℕ) → k < 2 ^ hbits w → k + suc v ≡ 2 ^ bits w → negsuc 0 -ℤ to_z w k ≡ to_z w v
-number_below w v k h e =
-    let word : 2 ^ bits w - suc k ≡ v = omega arith in
-    ap (λ (z : ℤ). negsuc 0 -ℤ z) (to_z_pos w k h) ∙ minus_pos k ∙ sym (to_z-neg w k h) ∙ ap (to_z w) word
-
 -- ---- to a word
 
 module _ (w : Width) (z : ℤ) (fits : SFits w z) where
@@ -58,16 +49,10 @@ module _ (w : Width) (z : ℤ) (fits : SFits w z) where
     pub distance : negsuc 0 -ℤ to_z w (of_z w z) ≡ pos (mag z)
     distance = ap (λ (y : ℤ). negsuc 0 -ℤ y) (to_z-of_z fits ∙ below) ∙ minus_negsuc (mag z)
 
-    pub word_below : of_z w z ≡ 2 ^ bits w - suc (mag z)
-    word_below = ap (of_z w) below
-
   -- from zero on
   module _ (rest : lt_z (to_z w (of_z w z)) (pos 0) ≡ false) where
     pub number : to_z w (of_z w z) ≡ pos (mag z)
     number = to_z-of_z fits ∙ not_negative z (sym (ap (λ (y : ℤ). lt_z y (pos 0)) (to_z-of_z fits)) ∙ rest)
-
-    pub word : of_z w z ≡ mag z
-    word = ap (of_z w) (sym (to_z-of_z fits) ∙ number)
 
 -- ---- what was stored is read back
 

@@ -5,7 +5,7 @@
 -- Callers use the laws of proofs/Laws.antt: `read_back` (what was stored is read), `read_in` (a field within a longer run of stores), `read_beside` (a store beside
 -- a field leaves it), these at each width, as `le16_back`, `le16_in` and `le16-beside`, and `round16`, that a number's bytes give it back; and `signed32_back` of
 -- proofs/Signed.antt.
-use Rattle.std.specs.Prelude.{ℕ, zero, suc, ◌+◌, ◌*◌, ◌/◌, ◌%◌, ◌^◌, ◌<◌, ◌≡◌, List, [], ◌∷◌, ◌++◌, get_or, ℤ}
+use Rattle.std.specs.Prelude.{ℕ, zero, suc, ◌+◌, ◌*◌, ◌/◌, ◌%◌, ◌^◌, List, [], ◌∷◌, ◌++◌, get_or, ℤ}
 use Rattle.std.specs.Int.{w32, w64}
 use Rattle.std.proofs.Common.{to_z, of_z}
 
@@ -67,10 +67,3 @@ unfoldable pub bytes_of : Order → ℕ → ℕ → List ℕ
 bytes_of o zero v = []
 bytes_of little (suc n) v = v % 256 ∷ bytes_of little n (v / 256)
 bytes_of big (suc n) v = v / 256 ^ n % 256 ∷ bytes_of big n v
-
--- ---- a byte that was read
-
--- r is the byte at `at`, and below 256
-pub record Byte (s : List ℕ) (at r : ℕ) : Type 0 where
-  pub is : r ≡ get_or s at 0
-  pub small : r < 256

@@ -2,7 +2,7 @@
 -- Assumes nothing.
 use Prim.Native.Nat.{ℕ, zero, suc, ◌+◌, ◌-◌, ◌*◌, ◌/◌, ◌≤◌, ◌<◌}
 use mathlib.Core.Path.{◌≡◌, refl, sym, ap, ap₂, ◌∙◌}
-use mathlib.Core.Bool.{Bool, false}
+use mathlib.Core.Bool.{false}
 use mathlib.Core.List.{List, [], ◌∷◌, ◌++◌, append_assoc, append-nil, map, Memᴰ}
 use native.Mathlib.Nat.{zero-add, le_of_suc-le-suc, not-suc-le-zero}
 use native.Mathlib.Omega.{arith}
@@ -10,7 +10,7 @@ use borrow.Author.Tests.{le-ltb, lt-leb, ne_eqb}
 use lib.ListN.{length, get_or, take, drop, length-append}
 use lib.Seq.{take-append_seam, drop-append-add, ext_get_or, get_or-take, length-take-le, take-length}
 use Rattle.lists.specs.Outcome.{accepted}
-use Rattle.lists.specs.Rows.{first_from, any_of, any_from}
+use Rattle.lists.specs.Rows.{any_of, any_from}
 use Rattle.lists.proofs.Binds.{after_goes}
 use Rattle.lists.proofs.Rows.{get_d_map, get_d_tabulate}
 use Rattle.fields.specs.Fields.{le16, enc16}
@@ -24,8 +24,9 @@ use Rattle.tables.proofs.Laws.{records_pass}
 use Rattle.name_table.specs.NameTable.{start_of, end_of, name_in, stage_names, name_cut, name_wrong, name_fault, names_check}
 use Rattle.name_table.specs.Stored.{name_starts, name_lengths, stage_lengths}
 use Rattle.name_table.proofs.Laws.{length-stage_names, stage_name}
-use Rattle.stage_names.specs.StageNames.{beyond, first_beyond, fit_check, ends_from, flat}
-use Rattle.stage_names.proofs.Fits.{fit_all}
+use Rattle.stage_names.specs.StageNames.{beyond, fit_check, ends_from, flat}
+use native.Mathlib.Numerals.{add-one}
+use Rattle.stage_names.proofs.Fits.{Fitting, fitting, fits_on, fit_all}
 use Rattle.stage_gaps.proofs.Laws.{flat_bytes}
 use Rattle.gap_splits.specs.Entering.{bytes_of}
 use Rattle.file_tables.specs.Tables.{ends_of, Clean}
@@ -101,20 +102,20 @@ module _ (names : List (List ℕ)) (short : bytes_of names ≤ 65535) where
   start_is (suc k) h = rw (ne_eqb (suc k) 0 (λ e. omega arith)) (ap (λ (m : ℕ). le16 (ends_of names) m) (let e : 2 * suc k - 2 ≡ 2 * k = omega arith in e) ∙ end_is k h)
 
   -- ---- they fit
-  first_all : (bad : ℕ → Bool) (i n : ℕ) → ((k : ℕ) → i ≤ k → k < i + n → bad k ≡ false) → first_from bad i n ≡ i + n
-  unfolding first_from
-  first_all bad i zero h = omega arith
-  first_all bad i (suc n) h = rw (h i (omega arith) (omega arith)) (first_all bad (suc i) n (λ k p q. h k (omega arith) (omega arith)) ∙ omega arith)
+  module _ (most most_bytes : ℕ) (few : length names ≤ most) (small : bytes_of names ≤ most_bytes) where
+    not_beyond : (k : ℕ) → k < length names → beyond most most_bytes (ends_of names) k ≡ false
+    not_beyond k q = rw (lt-leb most k (omega arith), le-ltb most_bytes (end_of (ends_of names) k) (omega (arith, end_is k q, before_le names (suc k))))
 
-  -- THEOREM: names within the ceilings fit
-  pub fits_pass : (most most_bytes : ℕ) → length names ≤ most → bytes_of names ≤ most_bytes → fit_check most most_bytes (ends_of names) ≡ accepted tt
-  unfolding first_beyond
-  fits_pass most most_bytes h l =
-      sym (fit_all most most_bytes (ends_of names) {k = first_beyond most most_bytes (ends_of names)} (omega (arith, length-ends_of names)) refl
-      (omega (arith, first_all (beyond most most_bytes (ends_of names)) 0 (length (ends_of names) / 2) (λ k p q. not_beyond k (omega (arith, q, name_count names))))))
-    where
-      not_beyond : (k : ℕ) → k < length names → beyond most most_bytes (ends_of names) k ≡ false
-      not_beyond k q = rw (lt-leb most k (omega arith), le-ltb most_bytes (end_of (ends_of names) k) (omega (arith, end_is k q, before_le names (suc k))))
+    all_fit : (i : ℕ) → i ≤ length (ends_of names) / 2 → Fitting most most_bytes (ends_of names) i
+    all_fit zero h = fitting most most_bytes (ends_of names)
+    all_fit (suc i) h =
+        let q : i < length (ends_of names) / 2 = omega arith in
+        rw add-one at (fits_on most most_bytes (ends_of names) (all_fit i (omega arith)) q (not_beyond i (omega (arith, q, name_count names))))
+
+    -- THEOREM: names within the ceilings fit
+    pub fits_pass : fit_check most most_bytes (ends_of names) ≡ accepted tt
+    fits_pass =
+        sym (fit_all most most_bytes (ends_of names) {i = length (ends_of names) / 2} (omega (arith, length-ends_of names)) (all_fit (length (ends_of names) / 2) (omega arith)) (omega arith))
 
 -- ---- the names, with any bytes behind theirs
 module _ (names : List (List ℕ)) (short : bytes_of names ≤ 65535) (extra : List ℕ) where

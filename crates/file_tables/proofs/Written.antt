@@ -1,6 +1,6 @@
 -- A split table or a unit table that one stage wrote and the next takes: its records are read as they were written, and where none has a fault the table passes.
 -- A split without a fault has fields within their widths. Assumes nothing.
-use Prim.Native.Nat.{ℕ, ◌+◌, ◌*◌, ◌/◌, ◌≤◌, ◌<◌}
+use Prim.Native.Nat.{ℕ, ◌*◌, ◌/◌, ◌≤◌, ◌<◌}
 use mathlib.Core.Path.{◌≡◌, refl, sym, ap, ◌∙◌}
 use mathlib.Core.Bool.{Bool, true, false}
 use mathlib.Core.List.{List, [], ◌++◌, append-nil, map, map-id, map-map}

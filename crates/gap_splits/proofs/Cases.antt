@@ -4,7 +4,7 @@ use Prim.Native.Nat.{ℕ}
 use Prim.Native.String.{String}
 use mathlib.Core.Path.{◌≡◌, refl}
 use mathlib.Core.Bool.{cond}
-use mathlib.Core.List.{List, [], ◌∷◌, ◌++◌, map}
+use mathlib.Core.List.{List, [], ◌∷◌, map}
 use lib.Dec.{eqb}
 use Rattle.lists.specs.Rows.{keep_if, some, first_in}
 use Rattle.lists.specs.InsertBy.{insert_by}
@@ -14,7 +14,7 @@ use Rattle.names.specs.Names.{same_name, number_of}
 use Rattle.names.specs.Fixed.{codes}
 use Rattle.names.specs.GapName.{decimal2, hex8, without_dots, gap_name}
 use Rattle.split_edits.specs.Edits.{grouped, pushed, renamed, joined}
-use Rattle.merge.specs.Merge.{Given, unchanged_if, joint_of, on_joint, on_old, on_own, decide, rounds, merge_one}
+use Rattle.merge.specs.Merge.{unchanged_if, joint_of, on_joint, on_old, on_own, decide, rounds, merge_one}
 use Rattle.gap_columns.specs.Columns.{Gap, gap}
 use Rattle.gap_splits.specs.Entering.{Filled, Ceilings, bytes_of, named, entered, filled}
 

@@ -1,24 +1,24 @@
 -- A name among those of the tables and those that were added: where it stands, and the number and the names that `named` gives. Assumes nothing.
 use mathlib.Core.Path.{◌≡◌, refl, sym, ap, ap₂, ◌∙◌}
 use mathlib.Core.List.{List, [], ◌∷◌, ◌++◌, append_assoc}
-use mathlib.Core.Bool.{Bool, true, false, cond, not, ◌||◌}
+use mathlib.Core.Bool.{Bool, true, false, cond, not}
 use Prim.Native.Nat.{ℕ, zero, suc, ◌+◌, ◌≤◌, ◌<◌, zero-le}
 use native.Mathlib.Nat.{not-suc-le-zero}
 use native.Mathlib.Omega.{arith}
-use borrow.Author.Tests.{lt-ltb, le-ltb, le-leb, lt-leb, leb-false, ltb-false}
+use borrow.Author.Tests.{lt-ltb, le-ltb, lt-leb, leb-false, ltb-false}
 use lib.Dec.{leb, ltb}
-use lib.ListN.{length, length-append, get_or}
+use lib.ListN.{length, length-append}
 use Rattle.lists.specs.Outcome.{Outcome, accepted, refused}
 use Rattle.lists.specs.Rows.{tabulate, first_in, any_of, any_from}
 use Rattle.lists.proofs.Outcomes.{fails, passes}
 use Rattle.lists.proofs.Tests.{or_false}
 use Rattle.names.specs.Names.{names_of, same_name, number_of}
-use Rattle.names.specs.Append.{Columns as Beside, Packed, table_full, Appended}
+use Rattle.names.specs.Append.{Columns as Beside, table_full, Appended}
 use Rattle.names.specs.Index.{Found}
-use Rattle.names.proofs.Laws.{number_le, length-names}
+use Rattle.names.proofs.Laws.{length-names}
 use Rattle.gap_splits.specs.Entering.{Ceilings, Named, bytes_of, full, named}
 use Rattle.gap_splits.specs.Answers.{added, Room, Stand, ceilings, Absent, Numbered}
-use Rattle.gap_splits.specs.declared.UnitName.TheVariants.{Number, Full}
+use Rattle.std.specs.Prelude.{None, Some}
 
 -- ---- the number of a name among two lists of names
 
@@ -115,7 +115,7 @@ module _ (base before : List (List ℕ)) (x : List ℕ) (most most_bytes : ℕ) 
 
 -- x is one of the tables' names: nothing is added
 pub numbered_there : (base : List (List ℕ)) (x : List ℕ) (c : Beside) (names used most most_bytes : ℕ) {k : ℕ} → Stand c names used most most_bytes → k ≡ number_of base x → k < length base
-    → Numbered base (added c names) x c most most_bytes (Number k names used)
+    → Numbered base (added c names) x c most most_bytes (Some (record { unit = k; names = names; used = used }))
 numbered_there base x c names used most most_bytes {k} s e h = record {
   is = λ section start. sym (named_there _ section start (base ++ added c names) x (omega (arith, there, length-append base (added c names))) ∙ ap (λ (m : ℕ). accepted (record { names = base ++ added c names; number = m })) (there ∙ sym e));
   stand = s;
@@ -160,7 +160,7 @@ module _ (base : List (List ℕ)) (x : List ℕ) (c c' : Beside) (names used mos
 
   -- it was added
   pub numbered_new : {unit : ℕ} {r : Bool} → Appended c c' used names x most most_bytes r → r ≡ true → unit ≡ length base + names
-      → Numbered base (added c names) x c' most most_bytes (Number unit (names + 1) (used + length x))
+      → Numbered base (added c names) x c' most most_bytes (Some (record { unit = unit; names = names + 1; used = used + length x }))
   numbered_new {unit} a t e = record {
     is = λ section start. sym (named_new _ section start (base ++ added c names) x absent free ∙ same);
     stand = record {
@@ -201,7 +201,7 @@ module _ (base : List (List ℕ)) (x : List ℕ) (c c' : Beside) (names used mos
       )
 
   -- the table is full
-  pub numbered-full : {r : Bool} → Appended c c' used names x most most_bytes r → r ≡ false → Numbered base (added c names) x c' most most_bytes Full
+  pub numbered-full : {r : Bool} → Appended c c' used names x most most_bytes r → r ≡ false → Numbered base (added c names) x c' most most_bytes None
   numbered-full a t = record {
     is = λ section start. sym (named-full _ section start (base ++ added c names) x absent (none (full (ceilings base most most_bytes) (base ++ added c names) x) refl));
     stand = stand_none c' most most_bytes (room_kept c c' most most_bytes a.long_bytes a.long_places a.long_lengths s.room);

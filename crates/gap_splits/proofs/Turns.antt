@@ -3,17 +3,15 @@
 use mathlib.Core.Path.{◌≡◌, refl, sym, ap, ap₂, ◌∙◌}
 use mathlib.Core.List.{List, [], ◌∷◌, ◌++◌, append-nil}
 use mathlib.Core.Bool.{false}
-use Prim.Native.Nat.{ℕ, ◌+◌, ◌-◌, ◌*◌, ◌/◌, ◌%◌, ◌≤◌, ◌<◌, zero-le}
+use Prim.Native.Nat.{ℕ, ◌+◌, ◌-◌, ◌/◌, ◌%◌, ◌≤◌, ◌<◌, zero-le}
 use native.Mathlib.Nat.{zero-add}
 use native.Mathlib.Omega.{arith}
 use lib.ListN.{length, get_or}
-use Rattle.lists.specs.Outcome.{Outcome, accepted, refused, ◌>>=◌}
+use Rattle.lists.specs.Outcome.{Outcome, accepted, refused}
 use Rattle.lists.specs.Rows.{tabulate}
-use Rattle.lists.specs.Sort.{All, Rising}
 use Rattle.lists.proofs.All.{all_at}
 use Rattle.lists.proofs.Binds.{bind_goes, bind_stops}
 use Rattle.lists.proofs.Rows.{rest-cons, rest-none, get_d_tabulate, length-tabulate}
-use Rattle.obj.specs.declared.Split.{Split}
 use Rattle.names.specs.Names.{names_of, same_name}
 use Rattle.names.specs.Append.{Columns as Beside}
 use Rattle.names.specs.GapName.{gap_name}
@@ -23,9 +21,10 @@ use Rattle.merge.specs.Merge.{Given}
 use Rattle.gap_columns.specs.Columns.{Gap, gap, key_of, gap_of, gap_at, gaps_in}
 use Rattle.gap_columns.proofs.Placed.{rising_at, key_at, key_of_lem}
 use Rattle.gap_splits.specs.Entering.{Filled, Ceilings, unit_name, entered, filled}
-use Rattle.gap_splits.specs.Answers.{added, Room, Stand, ceilings, Absent, meant, names, used, splits, Gaps, Enters}
+use Rattle.gap_splits.specs.Answers.{added, Room, Stand, ceilings, Absent, meant, Gaps, Enters}
 use Rattle.gap_splits.specs.declared.Entered.{Entered}
-use Rattle.gap_splits.specs.declared.Entered.TheVariants.{Accepted, Refused}
+use Rattle.std.specs.Prelude.{Result, Ok, Err}
+use Rattle.obj.specs.declared.Refusal.{Refusal}
 use Rattle.gap_splits.proofs.GapNames.{other_names}
 use Rattle.gap_splits.proofs.Naming.{stand_none, absent_of}
 
@@ -102,18 +101,18 @@ module _ (section_name : ℕ → List ℕ) (g : Given) (base : List (List ℕ)) 
   abbrev standing : Beside → ℕ → Columns → ℕ → Filled
   standing c k table n = record { names = base ++ added c k; rows = rows table n }
 
-  pub record Going (c₀ : Beside) (table₀ : Columns) (n₀ : ℕ) (c : Beside) (table : Columns) (n k bytes i : ℕ) : Type 0 where
+  pub record Going (c₀ : Beside) (table₀ : Columns) (n₀ : ℕ) (c : Beside) (table : Columns) (d : Entered) (i : ℕ) : Type 0 where
     pub small : i ≤ count
-    pub fits : n ≤ cap
+    pub fits : d.splits ≤ cap
     pub same_table : Same table table₀
     pub same_bytes : length c.bytes ≡ length c₀.bytes
     pub same_places : length c.places ≡ length c₀.places
     pub same_lengths : length c.lengths ≡ length c₀.lengths
-    pub stand : Stand c k bytes most most_bytes
-    pub fresh : (j : ℕ) → i ≤ j → j < count → Absent (added c k) (unit_name section_name g room (gap_at keys ends j))
-    pub is : filled section_name g room (standing c k table n) (left i) ≡ filled section_name g room (record { names = base; rows = rows table₀ n₀ }) (gaps_in keys ends count)
+    pub stand : Stand c d.names d.used most most_bytes
+    pub fresh : (j : ℕ) → i ≤ j → j < count → Absent (added c d.names) (unit_name section_name g room (gap_at keys ends j))
+    pub is : filled section_name g room (standing c d.names table d.splits) (left i) ≡ filled section_name g room (record { names = base; rows = rows table₀ n₀ }) (gaps_in keys ends count)
 
-  pub starts : (c : Beside) (table : Columns) (n : ℕ) → n ≤ cap → Room c most most_bytes → Going c table n c table n 0 0 0
+  pub starts : (c : Beside) (table : Columns) (n : ℕ) → n ≤ cap → Room c most most_bytes → Going c table n c table (record { names = 0; used = 0; splits = n }) 0
   starts c table n h r = record {
     small = zero-le;
     fits = h;
@@ -126,17 +125,20 @@ module _ (section_name : ℕ → List ℕ) (g : Given) (base : List (List ℕ)) 
     is = ap₂ (λ (l : List (List ℕ)) (m : ℕ). filled section_name g room (record { names = l; rows = rows table n }) (tabulate (gap_at keys ends) 0 m)) (none-added c) (let e : count - 0 ≡ count = omega arith in e);
   }
 
-  module _ (c₀ : Beside) (table₀ : Columns) (n₀ : ℕ) (c : Beside) (table : Columns) (n k bytes i : ℕ) (t : Going c₀ table₀ n₀ c table n k bytes i) (h : i < count) where
+  module _ (c₀ : Beside) (table₀ : Columns) (n₀ : ℕ) (c : Beside) (table : Columns) (e₀ : Entered) (i : ℕ) (t : Going c₀ table₀ n₀ c table e₀ i) (h : i < count) where
+    abbrev now : Filled
+    now = standing c e₀.names table e₀.splits
+
     next : left i ≡ gap_at keys ends i ∷ left (i + 1)
     next = rest-cons (gap_at keys ends) i count h
 
     -- gap i entered: the next turn
-    pub goes_on : (sections : ℕ) → Gaps keys ends count sections → sections ≤ 64 → (c' : Beside) (table' : Columns) {r : Entered} (k' bytes' n' : ℕ) {x : Gap} → x ≡ gap_at keys ends i
-        → Enters (entered section_name g room (standing c k table n) x) base (added c k) (unit_name section_name g room x) c' table' most most_bytes cap r → r ≡ Accepted k' bytes' n'
+    pub goes_on : (sections : ℕ) → Gaps keys ends count sections → sections ≤ 64 → (c' : Beside) (table' : Columns) {r : Result Entered Refusal} (d : Entered) {x : Gap} → x ≡ gap_at keys ends i
+        → Enters (entered section_name g room now x) base (added c e₀.names) (unit_name section_name g room x) c' table' most most_bytes cap r → r ≡ Ok d
         → Same table' table₀ → length c'.bytes ≡ length c₀.bytes → length c'.places ≡ length c₀.places → length c'.lengths ≡ length c₀.lengths
-        → Going c₀ table₀ n₀ c' table' n' k' bytes' (i + 1)
-    goes_on sections gaps few c' table' {r} k' bytes' n' {x} here e f st sb sp sl =
-        let w = enters_when f (enters_here (standing c k table n) here e) in record {
+        → Going c₀ table₀ n₀ c' table' d (i + 1)
+    goes_on sections gaps few c' table' {r} d {x} here e f st sb sp sl =
+        let w = enters_when f (enters_here now here e) in record {
           small = omega arith;
           fits = w.few;
           same_table = st;
@@ -145,32 +147,32 @@ module _ (section_name : ℕ → List ℕ) (g : Given) (base : List (List ℕ)) 
           same_lengths = sl;
           stand = w.stand;
           fresh = λ j q l. w.later (unit_name section_name g room (gap_at keys ends j)) (other_name keys ends count sections gaps section_name g room i j few (omega arith) l) (t.fresh j (omega arith) l);
-          is = sym (ap (filled section_name g room (standing c k table n)) next ∙ filled_on section_name g room (standing c k table n) (gap_at keys ends i) (left (i + 1)) (standing c' k' table' n') (sym w.is)) ∙ t.is;
+          is = sym (ap (filled section_name g room now) next ∙ filled_on section_name g room now (gap_at keys ends i) (left (i + 1)) (standing c' d.names table' d.splits) (sym w.is)) ∙ t.is;
         }
       where
-        enters_here : (t : Filled) {x y : Gap} {c : Beside} {table : Columns} {before : List (List ℕ)} {r : Entered} → x ≡ y
+        enters_here : (t : Filled) {x y : Gap} {c : Beside} {table : Columns} {before : List (List ℕ)} {r : Result Entered Refusal} → x ≡ y
             → Enters (entered section_name g room t x) base before (unit_name section_name g room x) c table most most_bytes cap r → Enters (entered section_name g room t y) base before (unit_name section_name g room y) c table most most_bytes cap r
         enters_here t e n = rw (sym e) n
 
-        enters_when : {want : Outcome Filled} {before : List (List ℕ)} {x : List ℕ} {c : Beside} {table : Columns} {r s : Entered} → r ≡ s
+        enters_when : {want : Outcome Filled} {before : List (List ℕ)} {x : List ℕ} {c : Beside} {table : Columns} {r s : Result Entered Refusal} → r ≡ s
             → Enters want base before x c table most most_bytes cap r → Enters want base before x c table most most_bytes cap s
         enters_when e n = rw (sym e) n
 
     -- gap i was refused: so is all
-    pub refused_here : (c' : Beside) (table' : Columns) {r : Entered} (number section address : ℕ) {x : Gap} → x ≡ gap_at keys ends i
-        → meant base c' table' r ≡ entered section_name g room (standing c k table n) x → r ≡ Refused number section address
-        → refused number section address ≡ filled section_name g room (record { names = base; rows = rows table₀ n₀ }) (gaps_in keys ends count)
-    refused_here c' table' {r} number section address {x} here e f =
-        sym (ap (filled section_name g room (standing c k table n)) next
-        ∙ filled_stops section_name g room (standing c k table n) (gap_at keys ends i) (left (i + 1)) number section address
-        (ap (entered section_name g room (standing c k table n)) (sym here) ∙ sym e ∙ ap (meant base c' table') f))
+    pub refused_here : (c' : Beside) (table' : Columns) {r : Result Entered Refusal} (d : Refusal) {x : Gap} → x ≡ gap_at keys ends i
+        → meant base c' table' r ≡ entered section_name g room now x → r ≡ Err d
+        → refused d.number d.section d.address ≡ filled section_name g room (record { names = base; rows = rows table₀ n₀ }) (gaps_in keys ends count)
+    refused_here c' table' {r} d {x} here e f =
+        sym (ap (filled section_name g room now) next
+        ∙ filled_stops section_name g room now (gap_at keys ends i) (left (i + 1)) d.number d.section d.address
+        (ap (entered section_name g room now) (sym here) ∙ sym e ∙ ap (meant base c' table') f))
         ∙ t.is
 
   -- all entered
-  pub all_entered : (c₀ : Beside) (table₀ : Columns) (n₀ : ℕ) (c : Beside) (table : Columns) (n k bytes i : ℕ) → Going c₀ table₀ n₀ c table n k bytes i → count ≤ i
-      → meant base c table (Accepted k bytes n) ≡ filled section_name g room (record { names = base; rows = rows table₀ n₀ }) (gaps_in keys ends count)
-  all_entered c₀ table₀ n₀ c table n k bytes i t h =
-      sym (ap (filled section_name g room (standing c k table n)) (rest-none (gap_at keys ends) i count h) ∙ filled_done section_name g room (standing c k table n)) ∙ t.is
+  pub all_entered : (c₀ : Beside) (table₀ : Columns) (n₀ : ℕ) (c : Beside) (table : Columns) (d : Entered) (i : ℕ) → Going c₀ table₀ n₀ c table d i → count ≤ i
+      → meant base c table (Ok d) ≡ filled section_name g room (record { names = base; rows = rows table₀ n₀ }) (gaps_in keys ends count)
+  all_entered c₀ table₀ n₀ c table d i t h =
+      sym (ap (filled section_name g room (standing c d.names table d.splits)) (rest-none (gap_at keys ends) i count h) ∙ filled_done section_name g room (standing c d.names table d.splits)) ∙ t.is
 
 -- what the code asks before gap i enters
 pub section_here : (keys ends : List ℕ) (count sections : ℕ) → Gaps keys ends count sections → (i : ℕ) → i < count → get_or keys i 0 / 4294967296 < sections

@@ -1,22 +1,19 @@
 -- What the answers of the entering mean, and what it is lent. The names that are added stand beside those of the tables, which stay where they lie: in three lent
 -- columns, `names` of them with `used` bytes in all.
-use Rattle.std.specs.Prelude.{ℕ, ◌+◌, ◌≤◌, ◌<◌, ◌≡◌, false, List, ◌++◌, length}
+use Rattle.std.specs.Prelude.{ℕ, ◌+◌, ◌≤◌, ◌<◌, ◌≡◌, false, List, ◌++◌, length, Option, None, Some, Result, Ok, Err}
 use Rattle.lists.specs.Outcome.{Outcome, accepted, refused, ◌>>=◌}
 use Rattle.lists.specs.Sort.{All, Rising}
+use Rattle.obj.specs.declared.Refusal.{Refusal}
 use Rattle.obj.specs.declared.Split.{Split}
 use Rattle.names.specs.Names.{name_at, names_of, Named as NamedColumns, same_name, number_of}
 use Rattle.names.specs.Index.{Indexed}
 use Rattle.names.specs.Append.{Packed, Columns as Beside}
 use Rattle.sections.specs.Sections.{head_of, Heads}
 use Rattle.splits.specs.Columns.{Columns, rows}
-use Rattle.gap_columns.specs.Columns.{Gap, key_of, gaps_in}
-use Rattle.merge.specs.declared.Merged.{Merged}
-use Rattle.merge.specs.declared.Merged.TheVariants.{Accepted as Kept, Refused as Rejected}
-use Rattle.gap_splits.specs.Entering.{Filled, Ceilings, Named, bytes_of, named, gap_split, unit_name}
+use Rattle.gap_columns.specs.Columns.{key_of, gaps_in}
+use Rattle.gap_splits.specs.Entering.{Filled, Ceilings, Named, bytes_of, named}
 use Rattle.gap_splits.specs.declared.UnitName.{UnitName}
-use Rattle.gap_splits.specs.declared.UnitName.TheVariants.{Number, Full}
 use Rattle.gap_splits.specs.declared.Entered.{Entered}
-use Rattle.gap_splits.specs.declared.Entered.TheVariants.{Accepted, Refused}
 
 -- the name of section n
 abbrev pub section_names : (heads head_places name_bytes name_places name_lengths : List ℕ) → ℕ → List ℕ
@@ -59,21 +56,21 @@ Absent names x = number_of names x ≡ length names
 -- ---- the unit of a gap
 
 -- how many names are added then, with how many bytes; none where the table is full
-abbrev pub unit_names : UnitName → ℕ
-unit_names (Number unit names used) = names
-unit_names Full = 0
+abbrev pub unit_names : Option UnitName → ℕ
+unit_names (Some u) = u.names
+unit_names None = 0
 
-abbrev pub unit_used : UnitName → ℕ
-unit_used (Number unit names used) = used
-unit_used Full = 0
+abbrev pub unit_used : Option UnitName → ℕ
+unit_used (Some u) = u.used
+unit_used None = 0
 
 -- what is named then, or "28 name table full"
-abbrev pub unit_meaning : (base : List (List ℕ)) → Beside → (section start : ℕ) → UnitName → Outcome Named
-unit_meaning base c section start (Number unit names used) = accepted (record { names = base ++ added c names; number = unit })
-unit_meaning base c section start Full = refused 28 section start
+abbrev pub unit_meaning : (base : List (List ℕ)) → Beside → (section start : ℕ) → Option UnitName → Outcome Named
+unit_meaning base c section start (Some u) = accepted (record { names = base ++ added c u.names; number = u.unit })
+unit_meaning base c section start None = refused 28 section start
 
 -- x has its number: `before` were added before it, and none but x was added
-pub record Numbered (base before : List (List ℕ)) (x : List ℕ) (c : Beside) (most most_bytes : ℕ) (r : UnitName) : Type 0 where
+pub record Numbered (base before : List (List ℕ)) (x : List ℕ) (c : Beside) (most most_bytes : ℕ) (r : Option UnitName) : Type 0 where
   pub is : (section start : ℕ) → unit_meaning base c section start r ≡ named (ceilings base most most_bytes) section start (base ++ before) x
   pub stand : Stand c (unit_names r) (unit_used r) most most_bytes
   pub later : (y : List ℕ) → same_name y x ≡ false → Absent before y → Absent (added c (unit_names r)) y
@@ -81,27 +78,22 @@ pub record Numbered (base before : List (List ℕ)) (x : List ℕ) (c : Beside) 
 -- ---- a gap that entered
 
 -- how many names are added then, with how many bytes, and how many splits there are; none after a refusal
-abbrev pub names : Entered → ℕ
-names (Accepted k used n) = k
-names (Refused number section address) = 0
+abbrev pub names : Result Entered Refusal → ℕ
+names (Ok e) = e.names
+names (Err r) = 0
 
-abbrev pub used : Entered → ℕ
-used (Accepted k bytes n) = bytes
-used (Refused number section address) = 0
+abbrev pub used : Result Entered Refusal → ℕ
+used (Ok e) = e.used
+used (Err r) = 0
 
-abbrev pub splits : Entered → ℕ
-splits (Accepted k bytes n) = n
-splits (Refused number section address) = 0
+abbrev pub splits : Result Entered Refusal → ℕ
+splits (Ok e) = e.splits
+splits (Err r) = 0
 
 -- the tables that an answer leaves, or its refusal
-abbrev pub meant : (base : List (List ℕ)) → Beside → Columns → Entered → Outcome Filled
-meant base c table (Accepted k bytes n) = accepted (record { names = base ++ added c k; rows = rows table n })
-meant base c table (Refused number section address) = refused number section address
-
--- the answer of a merge, with the names that are added
-abbrev pub as_entered : (names used : ℕ) → Merged → Entered
-as_entered names used (Kept n) = Accepted names used n
-as_entered names used (Rejected number section address) = Refused number section address
+abbrev pub meant : (base : List (List ℕ)) → Beside → Columns → Result Entered Refusal → Outcome Filled
+meant base c table (Ok e) = accepted (record { names = base ++ added c e.names; rows = rows table e.splits })
+meant base c table (Err r) = refused r.number r.section r.address
 
 -- what is left of a gap's entering once it is named
 abbrev pub merged_as : (names : List (List ℕ)) → Outcome (List Split) → Outcome Filled
@@ -127,7 +119,7 @@ pub record Gaps (keys gap_ends : List ℕ) (count sections : ℕ) : Type 0 where
 -- ---- steps of the code
 
 -- a gap entered: what it left, and none but its name x was added
-pub record Enters (want : Outcome Filled) (base before : List (List ℕ)) (x : List ℕ) (c : Beside) (table : Columns) (most most_bytes cap : ℕ) (r : Entered) : Type 0 where
+pub record Enters (want : Outcome Filled) (base before : List (List ℕ)) (x : List ℕ) (c : Beside) (table : Columns) (most most_bytes cap : ℕ) (r : Result Entered Refusal) : Type 0 where
   pub is : meant base c table r ≡ want
   pub stand : Stand c (names r) (used r) most most_bytes
   pub few : splits r ≤ cap

@@ -12,43 +12,26 @@ ghost use Rattle.splits.specs.Columns.{columns, rows, Long};
 ghost use Rattle.merge.specs.Merge.{given};
 ghost use Rattle.gap_columns.specs.Columns.{gap, gap_of, gaps_in};
 ghost use Rattle.gap_splits.specs.Entering.{gap_split, entered, filled, unit_name};
-ghost use Rattle.gap_splits.specs.Answers.{section_names, beside, added, Room, Stand, ceilings, Absent, Numbered, meant, names, used, splits, as_entered, Tables, Gaps, Enters};
+ghost use Rattle.gap_splits.specs.Answers.{section_names, beside, added, Room, Stand, ceilings, Absent, Numbered, meant, names, used, splits, Tables, Gaps, Enters};
 
-use merge::{Merged, add_split};
+use merge::add_split;
 use names::{append, find, name_at, write_gap_name};
-use obj::{Split, section_at};
+use obj::{Refusal, Split, refuse, section_at};
 
-// The unit of a gap: its number, with the names that are added then and their bytes.
+// The unit of a gap: its number, with the names that are added then and their bytes. None is "28 name table full".
 #[derive(Clone, Copy)]
-pub enum UnitName {
-    Number {
-        unit: u16,
-        names: usize,
-        used: usize,
-    },
-    // 28
-    Full,
+pub struct UnitName {
+    pub unit: u16,
+    pub names: usize,
+    pub used: usize,
 }
 
-// What gaps leave that entered: so many names are added, with so many bytes, and so many splits are there; or the first refusal.
+// What gaps leave that entered: so many names are added, with so many bytes, and so many splits are there.
 #[derive(Clone, Copy)]
-pub enum Entered {
-    Accepted {
-        names: usize,
-        used: usize,
-        splits: usize,
-    },
-    Refused {
-        number: u16,
-        section: u16,
-        address: u32,
-    },
-}
-
-fn index(k: u16) -> usize
-    ensures { result ≡ k }
-{
-    k as usize
+pub struct Entered {
+    pub names: usize,
+    pub used: usize,
+    pub splits: usize,
 }
 
 // ---- the name
@@ -69,7 +52,7 @@ fn number_of_name(
     most: usize,
     most_bytes: usize,
     x: &[u8],
-) -> UnitName
+) -> Option<UnitName>
     requires { NamedColumns name_bytes.now name_places.now name_lengths.now (length name_places.now)
         × Indexed (names_of name_bytes.now name_places.now name_lengths.now (length name_places.now)) buckets.now chain.now
         × Stand (beside added_bytes.old added_places.old added_lengths.old) names used most most_bytes
@@ -82,11 +65,11 @@ fn number_of_name(
     let n = name_places.len();
     let k = find(name_bytes, name_places, name_lengths, n, buckets, chain, x);
     if k < n {
-        return UnitName::Number {
+        return Some(UnitName {
             unit: k as u16,
             names,
             used,
-        };
+        });
     }
     let done = append(
         added_bytes,
@@ -99,13 +82,13 @@ fn number_of_name(
         most_bytes,
     );
     if done {
-        return UnitName::Number {
+        return Some(UnitName {
             unit: (n + names) as u16,
             names: names + 1,
             used: used + x.len(),
-        };
+        });
     }
-    UnitName::Full
+    None
 }
 
 // The unit of the gap of a section that starts at `start`. `text` is room for its name.
@@ -127,7 +110,7 @@ fn unit_in(
     section: u16,
     start: u32,
     text: &mut [u8],
-) -> UnitName
+) -> Option<UnitName>
     requires { Tables heads.now head_places.now name_bytes.now name_places.now name_lengths.now buckets.now chain.now
         × Stand (beside added_bytes.old added_places.old added_lengths.old) names used most most_bytes
         × (section < length head_places.now)
@@ -139,8 +122,8 @@ fn unit_in(
         (gap_name section start (section_names heads.now head_places.now name_bytes.now name_places.now name_lengths.now section))
         (beside added_bytes.new added_places.new added_lengths.new) most most_bytes result }
 {
-    let head = section_at(heads, head_places, index(section));
-    let name = name_at(name_bytes, name_places, name_lengths, index(head.name));
+    let head = section_at(heads, head_places, section as usize);
+    let name = name_at(name_bytes, name_places, name_lengths, head.name as usize);
     let size = write_gap_name(text, section, start, name);
     number_of_name(
         name_bytes,
@@ -177,7 +160,7 @@ fn unit_of(
     most_bytes: usize,
     section: u16,
     start: u32,
-) -> UnitName
+) -> Option<UnitName>
     requires { Tables heads.now head_places.now name_bytes.now name_places.now name_lengths.now buckets.now chain.now
         × Stand (beside added_bytes.old added_places.old added_lengths.old) names used most most_bytes
         × (section < length head_places.now)
@@ -211,28 +194,6 @@ fn unit_of(
 }
 
 // ---- the split
-
-// The answer of a merge, with the names that are added.
-fn as_entered(r: Merged, names: usize, used: usize) -> Entered
-    ensures { result ≡ as_entered names used r }
-{
-    match r {
-        Merged::Accepted { n } => Entered::Accepted {
-            names,
-            used,
-            splits: n,
-        },
-        Merged::Refused {
-            number,
-            section,
-            address,
-        } => Entered::Refused {
-            number,
-            section,
-            address,
-        },
-    }
-}
 
 // A gap's split: autogenerated, without an alignment, a rename and an origin.
 fn gap_split(section: u16, start: u32, end: u32, unit: u16) -> Split
@@ -275,7 +236,7 @@ fn enter_gap(
     section: u16,
     start: u32,
     end: u32,
-) -> Entered
+) -> Result<Entered, Refusal>
     requires { Long (columns starts.old ends.old units.old rest.old) cap × (n ≤ cap)
         × AllHeld 15 heads.now head_places.now
         × Tables heads.now head_places.now name_bytes.now name_places.now name_lengths.now buckets.now chain.now
@@ -298,7 +259,7 @@ fn enter_gap(
         (beside added_bytes.new added_places.new added_lengths.new)
         (columns starts.new ends.new units.new rest.new) most most_bytes cap result }
 {
-    let named = unit_of(
+    let Some(named) = unit_of(
         heads,
         head_places,
         name_bytes,
@@ -315,23 +276,16 @@ fn enter_gap(
         most_bytes,
         section,
         start,
-    );
-    match named {
-        UnitName::Full => Entered::Refused {
-            number: 28,
-            section,
-            address: start,
-        },
-        UnitName::Number {
-            unit,
-            names: more,
-            used: bytes,
-        } => {
-            let new = gap_split(section, start, end, unit);
-            let r = add_split(starts, ends, units, rest, n, cap, heads, head_places, new);
-            as_entered(r, more, bytes)
-        }
-    }
+    ) else {
+        return refuse(28, section, start);
+    };
+    let new = gap_split(section, start, end, named.unit);
+    let splits = add_split(starts, ends, units, rest, n, cap, heads, head_places, new)?;
+    Ok(Entered {
+        names: named.names,
+        used: named.used,
+        splits,
+    })
 }
 
 // The section and the start of gap i: its key is section * 2 ^ 32 + start.
@@ -372,7 +326,7 @@ pub fn enter_gaps(
     keys: &[u64],
     gap_ends: &[u32],
     count: usize,
-) -> Entered
+) -> Result<Entered, Refusal>
     requires { Long (columns starts.old ends.old units.old rest.old) cap × (n ≤ cap)
         × AllHeld 15 heads.now head_places.now
         × Tables heads.now head_places.now name_bytes.now name_places.now name_lengths.now buckets.now chain.now
@@ -392,20 +346,20 @@ pub fn enter_gaps(
         × Stand (beside added_bytes.new added_places.new added_lengths.new) (names result) (used result) most most_bytes
         × (splits result ≤ cap) }
 {
-    let mut k = n;
-    let mut names: usize = 0;
-    let mut used: usize = 0;
-    let mut i: usize = 0;
-    while i < count {
+    let mut done = Entered {
+        names: 0,
+        used: 0,
+        splits: n,
+    };
+    for i in 0..count {
         let section = section_of(keys, i);
         let start = start_of(keys, i);
-        let end = gap_ends[i];
-        let r = enter_gap(
+        done = enter_gap(
             starts,
             ends,
             units,
             rest,
-            k,
+            done.splits,
             cap,
             heads,
             head_places,
@@ -417,41 +371,14 @@ pub fn enter_gaps(
             added_bytes,
             added_places,
             added_lengths,
-            names,
-            used,
+            done.names,
+            done.used,
             most,
             most_bytes,
             section,
             start,
-            end,
-        );
-        match r {
-            Entered::Refused {
-                number,
-                section: place,
-                address,
-            } => {
-                return Entered::Refused {
-                    number,
-                    section: place,
-                    address,
-                };
-            }
-            Entered::Accepted {
-                names: more,
-                used: bytes,
-                splits,
-            } => {
-                names = more;
-                used = bytes;
-                k = splits;
-            }
-        }
-        i += 1;
+            gap_ends[i],
+        )?;
     }
-    Entered::Accepted {
-        names,
-        used,
-        splits: k,
-    }
+    Ok(done)
 }

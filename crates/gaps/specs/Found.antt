@@ -2,11 +2,12 @@
 -- before and after, which says whether the name already occurred in the gap.
 -- How many gaps there can be: each starts at a section's start, at a start or end of a split, or at a symbol, and no two at one address
 -- (DECISIONS.md, 52a). So columns of that length never overflow, and the search has no refusal of its own for that.
-use Rattle.std.specs.Prelude.{ℕ, ◌+◌, ◌*◌, ◌≤◌, ◌<◌, ◌≡◌, List, [], ◌++◌, map, true, false, cond, not, ◌||◌, length, get_or, take, drop, eqb, leb}
+use Rattle.std.specs.Prelude.{ℕ, ◌+◌, ◌*◌, ◌≤◌, ◌<◌, ◌≡◌, List, [], ◌++◌, map, true, false, cond, not, ◌||◌, length, get_or, take, drop, eqb, leb, Result, Ok, Err}
 use Rattle.lists.specs.Outcome.{Outcome, accepted, refused, refuse, ◌>>◌, ◌>>=◌}
 use Rattle.lists.specs.Rows.{some}
 use Rattle.lists.specs.Sort.{All, Rising}
 use Rattle.lists.specs.Members.{In}
+use Rattle.obj.specs.declared.Refusal.{Refusal}
 use Rattle.obj.specs.declared.Symbol.{Symbol}
 use Rattle.obj.specs.declared.Split.{Split}
 use Rattle.symbol_order.specs.Order.{key, numbers, symbol_of, Order}
@@ -14,27 +15,28 @@ use Rattle.symbols.specs.Ranges.{stripped}
 use Rattle.sections.specs.Image.{Image}
 use Rattle.sections.specs.Sections.{Sections}
 use Rattle.sections.specs.Alignment.{alignment_of}
-use Rattle.gaps.specs.declared.GapEnd.{GapEnd}
-use Rattle.gaps.specs.declared.GapEnd.TheVariants as gap_end
-use Rattle.gaps.specs.declared.NextAlignment.{NextAlignment}
-use Rattle.gaps.specs.declared.NextAlignment.TheVariants as next_alignment
-use Rattle.gaps.specs.declared.Search.{Search}
-use Rattle.gaps.specs.declared.Search.TheVariants.{Found, Refused}
+use Rattle.symbols.specs.declared.Backwards.{Backwards}
+use Rattle.gaps.specs.declared.NoEnd.{NoEnd}
+use Rattle.gaps.specs.declared.NoEnd.TheVariants.{Unaligned, Nowhere}
 use Rattle.gap_columns.specs.Columns.{Gap, key_of, gaps_in}
 use Rattle.gaps.specs.Gaps.{misses, end_from}
 
 -- ---- what the answers mean
 
+-- "41 repeated name not at a multiple of 4", "42 gap would end where it starts"
+abbrev pub end_number : NoEnd → ℕ
+end_number Unaligned = 41
+end_number Nowhere = 42
+
 -- of a gap of section n from `current` on
-abbrev pub end_meaning : (n current : ℕ) → GapEnd → Outcome ℕ
-end_meaning n current (gap_end.Is end) = accepted end
-end_meaning n current gap_end.Unaligned = refused 41 n current
-end_meaning n current gap_end.Nowhere = refused 42 n current
+abbrev pub end_meaning : (n current : ℕ) → Result ℕ NoEnd → Outcome ℕ
+end_meaning n current (Ok end) = accepted end
+end_meaning n current (Err why) = refused (end_number why) n current
 
 -- of a search that left these columns
-abbrev pub searched : (keys ends : List ℕ) → Search → Outcome (List Gap)
-searched keys ends (Found count) = accepted (gaps_in keys ends count)
-searched keys ends (Refused number section address) = refused number section address
+abbrev pub searched : (keys ends : List ℕ) → Result ℕ Refusal → Outcome (List Gap)
+searched keys ends (Ok count) = accepted (gaps_in keys ends count)
+searched keys ends (Err r) = refused r.number r.section r.address
 
 -- ---- where gaps may start
 
@@ -119,6 +121,6 @@ abbrev pub alignment_of_next : (symbol : ℕ → Symbol) → (count n least : �
 alignment_of_next symbol count n least s = alignment_of symbol count n least s.alignment s.start s.end >>= λ chosen. accepted chosen.value
 
 -- .. as an answer says it, of a split of section n that starts at `start`
-abbrev pub next_meaning : (n start : ℕ) → NextAlignment → Outcome ℕ
-next_meaning n start (next_alignment.Is a) = accepted a
-next_meaning n start next_alignment.Backwards = refused 11 n start
+abbrev pub next_meaning : (n start : ℕ) → Result ℕ Backwards → Outcome ℕ
+next_meaning n start (Ok a) = accepted a
+next_meaning n start (Err e) = refused 11 n start

@@ -14,50 +14,31 @@ ghost use Rattle.splits.specs.Columns.{columns, rows, Long};
 ghost use Rattle.splits.specs.Questions.{Hit};
 ghost use Rattle.gap_columns.specs.Columns.{gaps_in};
 ghost use Rattle.gaps.specs.Gaps.{gap_end, gaps_to, gaps_before, gaps_from, below, section_gaps, into, found_gaps};
-ghost use Rattle.gaps.specs.Found.{end_meaning, alignment_of_next, next_meaning, searched, Roomy, Clean, Markable, Lent, Space, SectionSpace, Stopped, Unmarked, end_in};
+ghost use Rattle.gaps.specs.Found.{end_meaning, end_number, alignment_of_next, next_meaning, searched, Roomy, Clean, Markable, Lent, Space, SectionSpace, Stopped, Unmarked, end_in};
 
 use align::align_up;
 use gap_columns::place_gap;
 use names::name_at;
-use obj::{Section, Split, Symbol, section_at, symbol_at};
-use sections::{Alignment, End, alignment_of, default_alignment, end_for_section, section_bytes};
+use obj::{Refusal, Section, Split, Symbol, refuse, section_at, symbol_at};
+use sections::{Alignment, alignment_of, default_alignment, end_for_section, section_bytes};
 use splits::row;
 use symbol_order::{key_of, number};
-use symbols::for_section_range;
+use symbols::{Backwards, for_section_range};
 
-// Where a gap ends.
-#[derive(Clone, Copy)]
-pub enum GapEnd {
-    Is(u32),
-    // 41
+// Why a gap ends nowhere: "41 repeated name not at a multiple of 4", "42 gap would end where it starts".
+#[derive(Clone, Copy, Debug, PartialEq, Eq)]
+pub enum NoEnd {
     Unaligned,
-    // 42
     Nowhere,
 }
 
-// "the next split's alignment"
-#[derive(Clone, Copy)]
-pub enum NextAlignment {
-    Is(u32),
-    // 11
-    Backwards,
-}
-
-// What a search leaves: so many gaps in the columns, or the first refusal.
-#[derive(Clone, Copy)]
-pub enum Search {
-    Found(usize),
-    Refused {
-        number: u16,
-        section: u16,
-        address: u32,
-    },
-}
-
-fn index(k: u16) -> usize
-    ensures { result ≡ k }
+fn end_number(why: NoEnd) -> u16
+    ensures { result ≡ end_number why }
 {
-    k as usize
+    match why {
+        NoEnd::Unaligned => 41,
+        NoEnd::Nowhere => 42,
+    }
 }
 
 // ---- where a gap ends
@@ -85,21 +66,18 @@ fn stop_of(b: &[u8], places: &[u32], part: &[u16], current: u32, marks: &mut [u8
     requires { Readable b.now places.now part.now × Markable (symbol_of b.now places.now) (length places.now) marks.old × Clean marks.old }
     ensures { Stopped (symbol_of b.now places.now) current part.now marks.new result }
 {
-    let mut j: usize = 0;
-    while j < part.len() {
+    for j in 0..part.len() {
         let y = symbol_at(b, places, number(part, j));
         if is_stripped(y) {
-            j += 1;
-        } else {
-            let k = index(y.name);
-            if (marks[k] != 0) | misses(current, y.alignment) {
-                return j;
-            }
-            marks[k] = 1;
-            j += 1;
+            continue;
         }
+        let k = y.name as usize;
+        if (marks[k] != 0) | misses(current, y.alignment) {
+            return j;
+        }
+        marks[k] = 1;
     }
-    j
+    part.len()
 }
 
 // The marks of the part's names go.
@@ -107,12 +85,10 @@ fn clear_marks(b: &[u8], places: &[u32], part: &[u16], marks: &mut [u8])
     requires { Readable b.now places.now part.now × Markable (symbol_of b.now places.now) (length places.now) marks.old }
     ensures { Unmarked (symbol_of b.now places.now) part.now marks.old marks.new }
 {
-    let mut j: usize = 0;
-    while j < part.len() {
+    for j in 0..part.len() {
         let y = symbol_at(b, places, number(part, j));
-        let k = index(y.name);
+        let k = y.name as usize;
         marks[k] = 0;
-        j += 1;
     }
 }
 
@@ -126,22 +102,22 @@ fn end_at(
     section: u16,
     current: u32,
     next: u32,
-) -> GapEnd
+) -> Result<u32, NoEnd>
     requires { Readable b.now places.now part.now × Markable (symbol_of b.now places.now) (length places.now) marks.now × Stopped (symbol_of b.now places.now) current part.now marks.now j × (current < next) }
     ensures { end_meaning section current result ≡ end_in (symbol_of b.now places.now) section current next part.now }
 {
     if part.len() <= j {
-        return GapEnd::Is(next);
+        return Ok(next);
     }
     let y = symbol_at(b, places, number(part, j));
-    let k = index(y.name);
+    let k = y.name as usize;
     if (marks[k] != 0) & (y.address % 4 != 0) {
-        return GapEnd::Unaligned;
+        return Err(NoEnd::Unaligned);
     }
     if y.address <= current {
-        return GapEnd::Nowhere;
+        return Err(NoEnd::Nowhere);
     }
-    GapEnd::Is(y.address)
+    Ok(y.address)
 }
 
 // Where a gap from `current` on ends, before or at the next start.
@@ -153,7 +129,7 @@ fn gap_end(
     section: u16,
     current: u32,
     next: u32,
-) -> GapEnd
+) -> Result<u32, NoEnd>
     requires { Order b.now places.now order.now × Markable (symbol_of b.now places.now) (length places.now) marks.old × Clean marks.old × (current < next) }
     ensures { (end_meaning section current result ≡ gap_end (symbol_of b.now places.now) (length places.now) section current next) × Clean marks.new }
 {
@@ -166,7 +142,7 @@ fn gap_end(
 
 // ---- the gaps of a section
 
-// The gaps from `current` up to the next start.
+// The gaps from `current` up to the next start: so many are then in the columns.
 fn gaps_to(
     b: &[u8],
     places: &[u32],
@@ -179,7 +155,7 @@ fn gaps_to(
     current: u32,
     next: u32,
     alignment: u32,
-) -> Search
+) -> Result<usize, Refusal>
     requires { Lent b.now places.now order.now marks.old
         × Space (symbol_of b.now places.now) (length places.now) section current next [] keys.old gap_ends.old count
         × (current ≤ next) × (next ≤ 4026531840) × (good_align alignment ≡ true) }
@@ -191,28 +167,16 @@ fn gaps_to(
     let mut found = count;
     loop {
         if next <= align_up(at, alignment) {
-            return Search::Found(found);
+            return Ok(found);
         }
-        let end = gap_end(b, places, order, marks, section, at, next);
-        match end {
-            GapEnd::Is(e) => {
+        match gap_end(b, places, order, marks, section, at, next) {
+            Ok(e) => {
                 let key = key_of(section, at);
                 found = place_gap(keys, gap_ends, found, key, e);
                 at = e;
             }
-            GapEnd::Unaligned => {
-                return Search::Refused {
-                    number: 41,
-                    section,
-                    address: at,
-                };
-            }
-            GapEnd::Nowhere => {
-                return Search::Refused {
-                    number: 42,
-                    section,
-                    address: at,
-                };
+            Err(why) => {
+                return refuse(end_number(why), section, at);
             }
         }
     }
@@ -226,7 +190,7 @@ fn next_alignment(
     section: u16,
     least: u32,
     s: Split,
-) -> NextAlignment
+) -> Result<u32, Backwards>
     requires { Order b.now places.now order.now }
     ensures { next_meaning section s.start result ≡ alignment_of_next (symbol_of b.now places.now) (length places.now) section least s }
 {
@@ -239,12 +203,11 @@ fn next_alignment(
         s.alignment,
         s.start,
         s.end,
-    );
+    )?;
     match chosen {
-        Alignment::Given(a) => NextAlignment::Is(a),
-        Alignment::FromSymbol(a) => NextAlignment::Is(a),
-        Alignment::Default(a) => NextAlignment::Is(a),
-        Alignment::Backwards => NextAlignment::Backwards,
+        Alignment::Given(a) => Ok(a),
+        Alignment::FromSymbol(a) => Ok(a),
+        Alignment::Default(a) => Ok(a),
     }
 }
 
@@ -261,7 +224,7 @@ fn gaps_before(
     least: u32,
     current: u32,
     s: Split,
-) -> Search
+) -> Result<usize, Refusal>
     requires { Lent b.now places.now order.now marks.old
         × Space (symbol_of b.now places.now) (length places.now) section current s.start [] keys.old gap_ends.old count
         × Sound (symbol_of b.now places.now) (length places.now)
@@ -270,27 +233,15 @@ fn gaps_before(
         ≡ into (gaps_in keys.old gap_ends.old count) (gaps_before (symbol_of b.now places.now) (length places.now) section least current s))
         × Clean marks.new }
 {
-    let next = next_alignment(b, places, order, section, least, s);
-    match next {
-        NextAlignment::Is(alignment) => {
-            if s.start < current {
-                return Search::Refused {
-                    number: 40,
-                    section,
-                    address: current,
-                };
-            }
-            gaps_to(
-                b, places, order, marks, keys, gap_ends, count, section, current, s.start,
-                alignment,
-            )
-        }
-        NextAlignment::Backwards => Search::Refused {
-            number: 11,
-            section,
-            address: s.start,
-        },
+    let Ok(alignment) = next_alignment(b, places, order, section, least, s) else {
+        return refuse(11, section, s.start);
+    };
+    if s.start < current {
+        return refuse(40, section, current);
     }
+    gaps_to(
+        b, places, order, marks, keys, gap_ends, count, section, current, s.start, alignment,
+    )
 }
 
 // The first row from `at` on that is a split of the section below its splitting end, or n.
@@ -307,14 +258,12 @@ fn next_below(
     requires { Long (columns starts.now ends.now units.now rest.now) n × (at ≤ n) }
     ensures { Hit (below section end) (columns starts.now ends.now units.now rest.now) n at result }
 {
-    let mut i = at;
-    while i < n {
+    for i in at..n {
         if (rest[i] % 65536 == section as u64) & (starts[i] < end) {
             return i;
         }
-        i += 1;
     }
-    i
+    n
 }
 
 // The address after a split: "An open split runs to the next start or the splitting end". `i` is the place of the next split, or n.
@@ -349,7 +298,7 @@ fn section_gaps(
     least: u32,
     start: u32,
     end: u32,
-) -> Search
+) -> Result<usize, Refusal>
     requires { Lent b.now places.now order.now marks.old
         × Space (symbol_of b.now places.now) (length places.now) section start end (rows (columns starts.now ends.now units.now rest.now) n) keys.old gap_ends.old count
         × Sound (symbol_of b.now places.now) (length places.now)
@@ -364,24 +313,17 @@ fn section_gaps(
     let mut current = start;
     let mut found = count;
     let mut i = next_below(starts, ends, units, rest, n, section, end, 0);
+    // no count: the walk goes from a split of the section to the next
     while (i < n) & (current < end) {
         let s = row(starts, ends, units, rest, i);
-        let search = gaps_before(
+        found = gaps_before(
             b, places, order, marks, keys, gap_ends, found, section, least, current, s,
-        );
-        match search {
-            Search::Found(more) => {
-                found = more;
-                i = next_below(starts, ends, units, rest, n, section, end, i + 1);
-                current = end_after(starts, n, i, end, s.end);
-            }
-            Search::Refused { .. } => {
-                return search;
-            }
-        }
+        )?;
+        i = next_below(starts, ends, units, rest, n, section, end, i + 1);
+        current = end_after(starts, n, i, end, s.end);
     }
     if end <= current {
-        return Search::Found(found);
+        return Ok(found);
     }
     gaps_to(
         b, places, order, marks, keys, gap_ends, found, section, current, end, least,
@@ -410,7 +352,7 @@ fn gaps_of(
     gap_ends: &mut [u32],
     count: usize,
     k: usize,
-) -> Search
+) -> Result<usize, Refusal>
     requires { Tables b.now places.now order.now name_bytes.now name_places.now name_lengths.now
         × Kept heads.now head_places.now image.now image_places.now name_places.now
         × Lent b.now places.now order.now marks.old
@@ -429,7 +371,7 @@ fn gaps_of(
     let section = k as u16;
     let head = section_at(heads, head_places, k);
     let bytes = section_bytes(image, image_places, k, head);
-    let last = end_for_section(
+    let Ok(end) = end_for_section(
         b,
         places,
         order,
@@ -439,39 +381,32 @@ fn gaps_of(
         section,
         head,
         bytes,
-    );
-    match last {
-        End::Is(end) => {
-            let name = name_at(name_bytes, name_places, name_lengths, index(head.name));
-            let least = default_alignment(head, name);
-            section_gaps(
-                b,
-                places,
-                order,
-                marks,
-                keys,
-                gap_ends,
-                count,
-                starts,
-                ends,
-                units,
-                rest,
-                n,
-                section,
-                least,
-                head.address,
-                end,
-            )
-        }
-        End::Short => Search::Refused {
-            number: 10,
-            section,
-            address: head.address,
-        },
-    }
+    ) else {
+        return refuse(10, section, head.address);
+    };
+    let name = name_at(name_bytes, name_places, name_lengths, head.name as usize);
+    let least = default_alignment(head, name);
+    section_gaps(
+        b,
+        places,
+        order,
+        marks,
+        keys,
+        gap_ends,
+        count,
+        starts,
+        ends,
+        units,
+        rest,
+        n,
+        section,
+        least,
+        head.address,
+        end,
+    )
 }
 
-// All gaps of all sections, in the order in which they enter, or the first refusal: 10, 11, 40, 41, 42.
+// All gaps of all sections, in the order in which they enter: how many there are, or the first refusal: 10, 11, 40, 41, 42.
 pub fn find_gaps(
     b: &[u8],
     places: &[u32],
@@ -491,7 +426,7 @@ pub fn find_gaps(
     marks: &mut [u8],
     keys: &mut [u64],
     gap_ends: &mut [u32],
-) -> Search
+) -> Result<usize, Refusal>
     requires { Tables b.now places.now order.now name_bytes.now name_places.now name_lengths.now
         × Kept heads.now head_places.now image.now image_places.now name_places.now
         × Sound (symbol_of b.now places.now) (length places.now)
@@ -506,9 +441,8 @@ pub fn find_gaps(
         × Clean marks.new }
 {
     let mut found: usize = 0;
-    let mut k: usize = 0;
-    while k < head_places.len() {
-        let search = gaps_of(
+    for k in 0..head_places.len() {
+        found = gaps_of(
             b,
             places,
             order,
@@ -529,16 +463,7 @@ pub fn find_gaps(
             gap_ends,
             found,
             k,
-        );
-        match search {
-            Search::Found(more) => {
-                found = more;
-                k += 1;
-            }
-            Search::Refused { .. } => {
-                return search;
-            }
-        }
+        )?;
     }
-    Search::Found(found)
+    Ok(found)
 }

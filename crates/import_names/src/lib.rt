@@ -10,6 +10,7 @@ use elf_file::{bytes_in, header_table, section_strings, symbol_strings, symbol_t
 use elf_names::{enter_sections, enter_symbols};
 use names::clear_heads;
 use number_names::Count;
+use obj::Refusal;
 use stage_names::{bytes_room, names_room};
 
 // All names of a file, with a lent index that has no name yet.
@@ -19,25 +20,18 @@ fn number_in(
     name_bytes: &mut [u8],
     heads: &mut [u16],
     chain: &mut [u16],
-) -> Count
+) -> Result<Count, Refusal>
     requires { (52 ≤ length file.now) × Indexed [] heads.old chain.old }
     ensures { Numbered (names_of file.now (name_room (length name_ends.old) (length name_bytes.old))) name_ends.old name_bytes.old name_ends.new name_bytes.new result }
 {
     let most = names_room(name_ends.len());
     let most_bytes = bytes_room(name_bytes.len());
-    let none = Count {
-        names: 0,
-        used: 0,
-        full: false,
-    };
+    let none = Count { names: 0, used: 0 };
     let headers = header_table(file);
     let strings = section_strings(file);
     let first = enter_sections(
         headers, strings, name_ends, name_bytes, heads, chain, none, most, most_bytes,
-    );
-    if first.full {
-        return first;
-    }
+    )?;
     let t = symbol_table(headers);
     let table = bytes_in(file, t.offset, t.size);
     let strings2 = symbol_strings(file);
@@ -53,7 +47,7 @@ fn number_cleared(
     name_bytes: &mut [u8],
     heads: &mut [u16],
     chain: &mut [u16],
-) -> Count
+) -> Result<Count, Refusal>
     requires { (52 ≤ length file.now) × (length heads.old ≡ 8192) × (4096 ≤ length chain.old) }
     ensures { Numbered (names_of file.now (name_room (length name_ends.old) (length name_bytes.old))) name_ends.old name_bytes.old name_ends.new name_bytes.new result }
 {
@@ -62,7 +56,11 @@ fn number_cleared(
 }
 
 // All names of a file, with an index of its own.
-pub fn number_all(file: &[u8], name_ends: &mut [u8], name_bytes: &mut [u8]) -> Count
+pub fn number_all(
+    file: &[u8],
+    name_ends: &mut [u8],
+    name_bytes: &mut [u8],
+) -> Result<Count, Refusal>
     requires { 52 ≤ length file.now }
     ensures { Numbered (names_of file.now (name_room (length name_ends.old) (length name_bytes.old))) name_ends.old name_bytes.old name_ends.new name_bytes.new result }
 {

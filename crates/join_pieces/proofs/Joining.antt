@@ -12,8 +12,8 @@ use Rattle.lists.specs.Rows.{some}
 use Rattle.lists.proofs.Binds.{bind_goes, bind_stops}
 use Rattle.lists.proofs.Outcomes.{fails, passes, not_both, same_accepted}
 use Rattle.obj.specs.Answers.{meaning}
-use Rattle.obj.specs.declared.Answer.{Answer}
-use Rattle.obj.specs.declared.Answer.TheVariants.{Accepted, Refused}
+use Rattle.obj.specs.Answers.{Answer}
+use Rattle.std.specs.Prelude.{Ok, Err}
 use Rattle.obj.specs.declared.Section.{Section}
 use Rattle.join.specs.Join.{Part, outside, differ, joined, held, join_of}
 use Rattle.join.specs.Laying.{laid_over, some_unlike}
@@ -76,7 +76,7 @@ module _ (heads : List Section) (parts : List Part) (out : List ℕ) (total : �
 -- ---- what the joiner leaves
 
 module _ {o : Outcome (List ℕ)} {before after : List ℕ} {answer : Answer} where
-  pub joins_refused : {number section address : ℕ} → answer ≡ Refused number section address → o ≡ refused number section address → length after ≡ length before
+  pub joins_refused : {number section address : ℕ} → answer ≡ Err (record { number = number; section = section; address = address }) → o ≡ refused number section address → length after ≡ length before
       → Joins o before answer after
   joins_refused e r l = record {
     said = ap meaning e ∙ sym (bind_stops o _ _ _ _ r);
@@ -84,7 +84,7 @@ module _ {o : Outcome (List ℕ)} {before after : List ℕ} {answer : Answer} wh
     laid = λ bytes q. absurd (not_both (sym r ∙ q));
   }
 
-  pub joins_accepted : (bytes : List ℕ) → answer ≡ Accepted → o ≡ accepted bytes → length after ≡ length before → after ≡ bytes ++ drop (length bytes) before
+  pub joins_accepted : (bytes : List ℕ) → answer ≡ Ok tt → o ≡ accepted bytes → length after ≡ length before → after ≡ bytes ++ drop (length bytes) before
       → Joins o before answer after
   joins_accepted bytes e r l is = record {
     said = ap meaning e ∙ sym (bind_goes o _ bytes r);

@@ -1,16 +1,22 @@
 -- What the joiner's functions ask of the lent bytes, and what they leave. The definition is that of crate join, over the pieces of crate piece_records.
-use Rattle.std.specs.Prelude.{ℕ, ◌*◌, ◌≤◌, ◌/◌, ◌≡◌, List, ◌++◌, false, length, take, drop, replicate}
+use Rattle.std.specs.Prelude.{ℕ, ◌*◌, ◌≤◌, ◌/◌, ◌≡◌, List, ◌++◌, Bool, false, length, take, drop, replicate}
 use Rattle.lists.specs.Outcome.{Outcome, accepted, ◌>>=◌}
 use Rattle.obj.specs.Answers.{meaning}
-use Rattle.obj.specs.declared.Answer.{Answer}
-use Rattle.join.specs.Join.{outside, held}
+use Rattle.obj.specs.Answers.{Answer}
+use Rattle.lists.specs.Rows.{some}
+use Rattle.join.specs.Join.{Part, outside, held}
 use Rattle.stage_tables.specs.StageTables.{stage_sections}
-use Rattle.piece_records.specs.Records.{part_at, Lying}
+use Rattle.piece_records.specs.Records.{part_at, parts_at, Lying}
 
 -- r is how many bytes the sections before section k hold: each fewer than 2 ^ 32
 pub record Base (sections : List ℕ) (k r : ℕ) : Type 0 where
   pub is : r ≡ held (take k (stage_sections sections))
   pub small : r ≤ 4294967295 * k
+
+-- the record at `at` is whole, and its piece is one of the first n: what none of them passes, it doesn't pass
+pub record Among (n : ℕ) (b : List ℕ) (at : ℕ) : Type 0 where
+  pub lying : Lying b at
+  pub one : (p : Part → Bool) → some p (parts_at n b 0) ≡ false → p (part_at b at) ≡ false
 
 -- the piece at `at` is whole, and no 82; "64 sections"
 pub record Good (sections b : List ℕ) (at : ℕ) : Type 0 where

@@ -2,18 +2,18 @@
 // there: that finds 83 in time proportional to the bytes.
 #![tactic(auto)]
 
-ghost use Rattle.std.specs.Prelude.{◌≡◌, false, not, ◌≤◌, ◌<◌, ◌/◌, length, get_or};
+ghost use Rattle.std.specs.Prelude.{ℕ, Bool, ◌≡◌, false, not, ◌≤◌, ◌<◌, ◌/◌, length, get_or};
 ghost use Rattle.std.proofs.lemmas.List.Edits.{sets};
 ghost use Rattle.lists.specs.Rows.{some};
 ghost use Rattle.names.specs.Names.{same_name};
-ghost use Rattle.join.specs.Join.{nowhere, outside, held_by, held, join_of};
+ghost use Rattle.join.specs.Join.{Part, nowhere, outside, held_by, held, join_of};
 ghost use Rattle.join.specs.Laying.{spot_of, laid_over, unlike, some_unlike};
 ghost use Rattle.stage_tables.specs.StageTables.{stage_sections};
 ghost use Rattle.piece_records.specs.Records.{part_at, parts_at, Lying, Whole};
-ghost use Rattle.join_pieces.specs.Joins.{Base, Good, Joins, zeroed};
+ghost use Rattle.join_pieces.specs.Joins.{Base, Among, Good, Joins, zeroed};
 
 use names::put_bytes;
-use obj::{Answer, read_section, refusal};
+use obj::{Refusal, read_section, refuse};
 use outputs::clear_from;
 use piece_records::{bytes_at, head_at, next_at};
 
@@ -37,12 +37,26 @@ pub fn base_of(sections: &[u8], k: usize) -> usize
     ensures { Base sections.now k result }
 {
     let mut sum: usize = 0;
-    let mut i: usize = 0;
-    while i < k {
+    for i in 0..k {
         sum += held_by(sections, i) as usize;
-        i += 1;
     }
     sum
+}
+
+// Some of the n pieces passes the test, which is asked where each starts, one after another.
+fn any_piece<F: Fn(usize) -> bool>(b: &[u8], n: u32, test: F) -> bool
+    requires whole { Whole n b.now 0 }
+    requires asked { (at : ℕ) → Among n b.now at → F.pre test at }
+    ensures { (p : Part → Bool) → ((at : ℕ) (r : Bool) → Among n b.now at → F.post test at r → r ≡ p (part_at b.now at)) → result ≡ some p (parts_at n b.now 0) }
+{
+    let mut at: usize = 0;
+    for _i in 0..n {
+        if test(at) {
+            return true;
+        }
+        at = next_at(b, at);
+    }
+    false
 }
 
 // ---- 82
@@ -68,16 +82,7 @@ pub fn any_outside(sections: &[u8], b: &[u8], n: u32) -> bool
     requires { Whole n b.now 0 }
     ensures { result ≡ some (outside (stage_sections sections.now)) (parts_at n b.now 0) }
 {
-    let mut at: usize = 0;
-    let mut i: u32 = 0;
-    while i < n {
-        if is_outside(sections, b, at) {
-            return true;
-        }
-        at = next_at(b, at);
-        i += 1;
-    }
-    false
+    any_piece(b, n, |at| is_outside(sections, b, at))
 }
 
 // ---- laying
@@ -111,11 +116,9 @@ fn lay_pieces(sections: &[u8], b: &[u8], n: u32, out: &mut [u8])
     ensures { out.new ≡ laid_over (stage_sections sections.now) (parts_at n b.now 0) out.old }
 {
     let mut at: usize = 0;
-    let mut i: u32 = 0;
-    while i < n {
+    for _i in 0..n {
         lay_piece(sections, b, at, out);
         at = next_at(b, at);
-        i += 1;
     }
 }
 
@@ -129,10 +132,8 @@ pub fn unequal(x: &[u8], y: &[u8]) -> bool
         return true;
     }
     let mut any = false;
-    let mut i = 0;
-    while i < x.len() {
+    for i in 0..x.len() {
         any = any | (x[i] != y[i]);
-        i += 1;
     }
     any
 }
@@ -156,16 +157,7 @@ fn any_unlike(sections: &[u8], b: &[u8], n: u32, out: &[u8]) -> bool
         × (held (stage_sections sections.now) ≤ length out.now) }
     ensures { result ≡ some_unlike (stage_sections sections.now) out.now (parts_at n b.now 0) }
 {
-    let mut at: usize = 0;
-    let mut i: u32 = 0;
-    while i < n {
-        if is_unlike(sections, b, at, out) {
-            return true;
-        }
-        at = next_at(b, at);
-        i += 1;
-    }
-    false
+    any_piece(b, n, |at| is_unlike(sections, b, at, out))
 }
 
 // ---- the joiner
@@ -184,20 +176,20 @@ pub fn lay_over_zeros(sections: &[u8], b: &[u8], n: u32, total: usize, out: &mut
 }
 
 // 80, 82, 83, and the joined bytes in the first bytes of the output; those past them stay.
-pub fn join(sections: &[u8], b: &[u8], n: u32, out: &mut [u8]) -> Answer
+pub fn join(sections: &[u8], b: &[u8], n: u32, out: &mut [u8]) -> Result<(), Refusal>
     requires { (length sections.now / 15 ≤ 64) × Whole n b.now 0 }
     ensures { Joins (join_of (stage_sections sections.now) (length out.old) (parts_at n b.now 0)) out.old result out.new }
 {
     let total = base_of(sections, sections.len() / 15);
     if out.len() < total {
-        return refusal(80, 0, 0);
+        return refuse(80, 0, 0);
     }
     if any_outside(sections, b, n) {
-        return refusal(82, 0, 0);
+        return refuse(82, 0, 0);
     }
     lay_over_zeros(sections, b, n, total, out);
     if any_unlike(sections, b, n, out) {
-        return refusal(83, 0, 0);
+        return refuse(83, 0, 0);
     }
-    Answer::Accepted
+    Ok(())
 }

@@ -5,8 +5,8 @@ use Rattle.std.specs.Prelude.{ℕ, ◌≡◌, List, ◌++◌, cond, leb, length,
 use Rattle.lists.specs.Outcome.{Outcome, accepted, refused}
 use Rattle.fields.specs.Fields.{enc64}
 use Rattle.obj.specs.Answers.{word, outcome_word}
-use Rattle.obj.specs.declared.Answer.{Answer}
-use Rattle.obj.specs.declared.Answer.TheVariants.{Accepted, Refused}
+use Rattle.obj.specs.Answers.{Answer}
+use Rattle.std.specs.Prelude.{Ok, Err}
 
 -- every byte of the output
 abbrev pub output_of : (before : List ℕ) → Outcome (List ℕ) → List ℕ
@@ -28,13 +28,13 @@ pub record Leaves (o : Outcome (List ℕ)) (out size : List ℕ) (answer : ℕ) 
 
 -- the output: zeros after a refusal
 abbrev pub kept_of : (out : List ℕ) → Answer → List ℕ
-kept_of out Accepted = out
-kept_of out (Refused number section address) = replicate (length out) 0
+kept_of out (Ok u) = out
+kept_of out (Err r) = replicate (length out) 0
 
 -- .. and `size`, where `value` bytes were written
 abbrev pub sized_of : (value : ℕ) → (size : List ℕ) → Answer → List ℕ
-sized_of value size Accepted = cond (leb 8 (length size)) (enc64 value ++ drop 8 size) size
-sized_of value size (Refused number section address) = replicate (length size) 0
+sized_of value size (Ok u) = cond (leb 8 (length size)) (enc64 value ++ drop 8 size) size
+sized_of value size (Err r) = replicate (length size) 0
 
 -- the answer's word, and both outputs
 pub record Settles (value : ℕ) (a : Answer) (out size : List ℕ) (answer : ℕ) (out' size' : List ℕ) : Type 0 where

@@ -4,10 +4,10 @@ use mathlib.Core.Path.{◌≡◌, refl}
 use mathlib.Core.List.{List, [], ◌∷◌, ◌++◌, map}
 use Prim.Native.Nat.{ℕ}
 use Prim.Native.String.{String}
-use lib.IntN.{ℤ, pos, negsuc}
+use lib.IntN.{negsuc}
 use Rattle.names.specs.Fixed.{codes}
 use Rattle.names.specs.GapName.{hex8}
-use Rattle.lines.specs.Lines.{digits, decimal, signed_decimal, shown, line, unit_line, piece_line, sym_line, reloc_line, total_line, refused_line}
+use Rattle.lines.specs.Lines.{digits, signed_decimal, shown, line, unit_line, piece_line, sym_line, reloc_line, total_line, refused_line}
 use Rattle.lines.specs.declared.Owner.TheVariants.{Common, Piece}
 
 -- a line and the text that it is, without the newline

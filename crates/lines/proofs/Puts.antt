@@ -10,7 +10,7 @@ use Rattle.lists.proofs.Stores.{sets-sets}
 use lib.IntN.{ℤ, pos, negsuc}
 use Rattle.names.specs.Fixed.{codes}
 use Rattle.names.specs.GapName.{hex8}
-use Rattle.lines.specs.Lines.{digits, decimal, signed_decimal, shown, owner_of, Put, Written}
+use Rattle.lines.specs.Lines.{decimal, signed_decimal, shown, owner_of, Put, Written}
 use Rattle.lines.specs.declared.Owner.{Owner}
 use Rattle.lines.specs.declared.Owner.TheVariants.{Common, Piece}
 use Rattle.lines.proofs.Digits.{pow10, digits_few, digits-below}

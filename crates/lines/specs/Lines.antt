@@ -1,7 +1,7 @@
 -- The lines of the listing: document 01, "Addresses and offsets have eight upper-case hexadecimal digits; the rest is decimal; one space parts fields. Unit:
 -- number, name, sum of its piece sizes. Piece: number in its unit, name, address, size, alignment. Total: units, pieces, bytes. After a unit's pieces come `sym`
 -- name (`-` if empty), piece or `common`, address, size; then `reloc` piece, offset, kind, target, addend. A refusal prints only `refused`, number, section, address."
-use Rattle.std.specs.Prelude.{ℕ, zero, suc, ◌+◌, ◌/◌, ◌%◌, ◌≤◌, ◌<◌, ◌≡◌, List, [], ◌∷◌, ◌++◌, cond, length, take, drop, eqb, ltb, ℤ, pos, negsuc}
+use Rattle.std.specs.Prelude.{ℕ, zero, suc, ◌+◌, ◌/◌, ◌%◌, ◌≤◌, ◌<◌, ◌≡◌, List, [], ◌∷◌, ◌++◌, cond, length, take, drop, ltb, ℤ, pos, negsuc}
 use Rattle.names.specs.Fixed.{codes}
 use Rattle.names.specs.GapName.{digit, hex8}
 use Rattle.lines.specs.declared.Owner.{Owner}

@@ -38,7 +38,7 @@ fn put_shown(out: &mut [u8], at: usize, name: &[u8]) -> usize
     requires { at + length name.now + 2 ≤ length out.old }
     ensures { Put out.old out.new at (shown name.now ++ (32 ∷ [])) result }
 {
-    if name.len() == 0 {
+    if name.is_empty() {
         return put_field(out, at, b"-");
     }
     put_field(out, at, name)

@@ -12,6 +12,7 @@ fn digits_of(column: &mut [u8], n: u64) -> usize
 {
     let mut at: usize = 19;
     let mut left = n;
+    // no count: as long as more than one digit is left
     while 10 <= left {
         column[at] = digit_of(left % 10);
         left = left / 10;

@@ -1,8 +1,9 @@
 -- The next record that passes: a record that does not is passed over, one that does is the first of those that are kept. Assumes nothing.
-use mathlib.Core.Path.{◌≡◌, refl, sym, ap, ◌∙◌}
+use mathlib.Core.Path.{◌≡◌, refl, sym, ap, subst, ◌∙◌}
+use mathlib.Core.Logic.{◌⊎◌, inl, inr}
 use mathlib.Core.List.{List, [], ◌∷◌}
-use mathlib.Core.Bool.{Bool, true, false, cond}
-use Prim.Native.Nat.{ℕ, suc, ◌+◌, ◌≤◌, ◌<◌}
+use mathlib.Core.Bool.{Bool, true, false}
+use Prim.Native.Nat.{ℕ, zero, suc, ◌+◌, ◌-◌, ◌≤◌, ◌<◌}
 use native.Mathlib.Nat.{zero-add}
 use native.Mathlib.Numerals.{add-one}
 use native.Mathlib.Omega.{arith}
@@ -10,7 +11,7 @@ use lib.ListN.{length, get_or, drop, drop_of_length-le}
 use lib.Seq.{drop-cons}
 use Rattle.lists.specs.Rows.{tabulate, keep_if}
 use Rattle.lists.proofs.Rows.{length-tabulate, get_d_tabulate}
-use Rattle.listing.specs.Cursor.{First}
+use Rattle.lists.proofs.Compare.{lt_or_ge}
 
 module _ {A : Type 0} (p : A → Bool) (l : List A) (k : ℕ) where
   -- kept: it is the first
@@ -29,23 +30,47 @@ module _ {A : Type 0} (p : A → Bool) (l : List A) (k : ℕ) where
 
 module _ {A : Type 0} (p : A → Bool) (f : ℕ → A) (count at : ℕ) where
   -- so far none passed
-  abbrev pub None : ℕ → Type 0
-  None k = keep_if p (drop k (tabulate f 0 count)) ≡ keep_if p (drop at (tabulate f 0 count))
+  abbrev Kept : ℕ → Type 0
+  Kept k = keep_if p (drop k (tabulate f 0 count)) ≡ keep_if p (drop at (tabulate f 0 count))
 
   pub listed : (k : ℕ) (d : A) → k < count → get_or (tabulate f 0 count) k d ≡ f k
   listed k d h = get_d_tabulate f 0 count k d h ∙ ap f (zero-add k)
 
-  pub none_turn : (k : ℕ) {r : Bool} → k < count → r ≡ p (f k) → r ≡ false → None k → None (k + 1)
-  none_turn k {r} h e q n =
+  none_turn : (k : ℕ) → k < count → p (f k) ≡ false → Kept k → Kept (k + 1)
+  none_turn k h e n =
       rw (add-one)
-      (sym (keep_later p (tabulate f 0 count) k (f k) (rw (length-tabulate f 0 count) h) (ap p (listed k (f k) h) ∙ sym e ∙ q)) ∙ n)
+      (sym (keep_later p (tabulate f 0 count) k (f k) (rw (length-tabulate f 0 count) h) (ap p (listed k (f k) h) ∙ e)) ∙ n)
 
-  pub first_at : (k : ℕ) {r : Bool} → r ≡ p (f k) → r ≡ true → None k → First p f count at k
-  first_at k e q n = record { same = n; passes = λ h. sym e ∙ q }
+  passed : (n : ℕ) → at + n ≤ count → ((j : ℕ) → at ≤ j → j < at + n → p (f j) ≡ false) → Kept (at + n)
+  passed zero h g = let z : at ≡ at + 0 = omega arith in subst Kept z refl
+  passed (suc n) h g =
+      let z : at + n + 1 ≡ at + suc n = omega arith in
+      subst Kept z (none_turn (at + n) (omega arith) (g (at + n) (omega arith) (omega arith)) (passed n (omega arith) (λ j a b. g j a (omega arith))))
 
-  pub first-none : (k : ℕ) → count ≤ k → None k → First p f count at k
-  first-none k h n = record { same = n; passes = λ q. absurd (omega arith) }
+  -- what is kept from `at` on is kept from k on, where none before k passes
+  pub kept_from : (k : ℕ) → at ≤ k → k ≤ count → ((j : ℕ) → at ≤ j → j < k → p (f j) ≡ false) → Kept k
+  kept_from k a h g =
+      let z : at + (k - at) ≡ k = omega arith in
+      subst Kept z (passed (k - at) (omega arith) (λ j x y. g j x (omega arith)))
+
+  -- none passes from `at` on
+  pub none_left : ((j : ℕ) → at ≤ j → j < count → p (f j) ≡ false) → keep_if p (drop at (tabulate f 0 count)) ≡ []
+  none_left g = go (lt_or_ge at count)
+    where
+      go : (at < count) ⊎ (count ≤ at) → keep_if p (drop at (tabulate f 0 count)) ≡ []
+      go (inl h) =
+          sym (kept_from count (omega arith) (omega arith) g)
+          ∙ keep_none p (tabulate f 0 count) count (omega (arith, length-tabulate f 0 count))
+      go (inr h) = keep_none p (tabulate f 0 count) at (omega (arith, length-tabulate f 0 count, h))
 
   -- a record that is read through the list
-  pub first_there : {r : ℕ} → First p f count at r → r < count → (d : A) → p (get_or (tabulate f 0 count) r d) ≡ true
-  first_there {r} s h d = ap p (listed r d h) ∙ s.passes h
+  pub first_there : (k : ℕ) → k < count → p (f k) ≡ true → (d : A) → p (get_or (tabulate f 0 count) k d) ≡ true
+  first_there k h e d = ap p (listed k d h) ∙ e
+
+-- one more that does not pass
+pub none_more : {p : ℕ → Bool} {at k : ℕ} → ((j : ℕ) → at ≤ j → j < k → p j ≡ false) → p k ≡ false → (j : ℕ) → at ≤ j → j < k + 1 → p j ≡ false
+none_more {p} {at} {k} g e j a b = go (lt_or_ge j k)
+  where
+    go : (j < k) ⊎ (k ≤ j) → p j ≡ false
+    go (inl h) = g j a h
+    go (inr h) = let z : k ≡ j = omega (arith, h, b) in subst (λ (i : ℕ). p i ≡ false) z e

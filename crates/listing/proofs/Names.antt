@@ -6,7 +6,7 @@ use mathlib.Core.Logic.{◌⊎◌, inl, inr}
 use Prim.Native.Nat.{ℕ, ◌+◌, ◌-◌, ◌≤◌, ◌<◌}
 use native.Mathlib.Omega.{arith}
 use borrow.Author.Tests.{lt-ltb, le-ltb}
-use lib.ListN.{length, get_or, take, drop, length-take, get_or-append}
+use lib.ListN.{length, get_or, drop, length-take, get_or-append}
 use lib.Seq.{get_or-append-add}
 use Rattle.lists.proofs.Compare.{lt_or_ge}
 use Rattle.names.specs.Names.{name_at, names_of, Named}

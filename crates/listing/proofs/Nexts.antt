@@ -2,13 +2,11 @@
 -- falls with each line, and a loop over the lines ends. Assumes nothing.
 use mathlib.Core.Path.{◌≡◌, refl, sym, ap, ap₂, subst, ◌∙◌}
 use mathlib.Core.List.{List, [], ◌∷◌, ◌++◌, map, append-nil}
-use mathlib.Core.Bool.{Bool, true, false}
+use mathlib.Core.Bool.{true}
 use Prim.Native.Nat.{ℕ, zero, suc, ◌+◌, ◌*◌, ◌≤◌, ◌<◌}
 use native.Mathlib.Omega.{arith}
 use borrow.Author.Tests.{lt-ltb, ltb-true}
-use lib.Dec.{ltb}
 use lib.ListN.{length, get_or, take, length-append, length-map, length-take}
-use Rattle.lists.specs.Rows.{tabulate}
 use Rattle.lists.proofs.Rows.{length-tabulate}
 use Rattle.obj.specs.Records.{unit_at}
 use Rattle.units.specs.Units.{unit_names}
@@ -18,7 +16,7 @@ use Rattle.listing.specs.declared.Cursor.{Cursor}
 use Rattle.listing.specs.declared.Cursor.TheVariants.{Units, Pieces, Symbols, Relocs, Total, Done}
 use Rattle.listing.specs.declared.Line.{Line}
 use Rattle.listing.specs.Listing.{Run, figure}
-use Rattle.listing.specs.Cursor.{rest, most, Valid, Before, Within, goes_on, piece_is, symbol_is, reloc_is, Sought, piece_text, symbol_text, reloc_text, Wrote, Next}
+use Rattle.listing.specs.Cursor.{rest, most, Valid, Before, goes_on, piece_is, symbol_is, reloc_is, Sought, piece_text, symbol_text, reloc_text, Wrote, Next}
 use Rattle.listing.specs.Tables.{Tables, run_of}
 use Rattle.listing.proofs.First.{listed}
 use Rattle.listing.proofs.Rest.{unit_step, piece_step, symbol_step, reloc_step}

@@ -1,5 +1,5 @@
 -- What of the listing is left at a cursor: at the first one all of it, and each line stands at the front of what is left. Readers use `rest-first`. Assumes nothing.
-use mathlib.Core.Path.{◌≡◌, refl, sym, ap, ap₂, ◌∙◌}
+use mathlib.Core.Path.{◌≡◌, sym, ap, ◌∙◌}
 use mathlib.Core.List.{List, [], ◌∷◌, ◌++◌, append_assoc}
 use mathlib.Core.Bool.{true}
 use Prim.Native.Nat.{ℕ, suc, ◌+◌, ◌≤◌, ◌<◌}
@@ -16,7 +16,7 @@ use Rattle.lines.specs.Lines.{unit_line}
 use Rattle.listing.specs.declared.Cursor.TheVariants.{Units}
 use Rattle.listing.specs.Listing.{Run, figure, figures, pieces_of, symbols_of, relocs_of, piece_lines, sym_lines, reloc_lines, unit_lines, units_lines, listing}
 use Rattle.listing.specs.Cursor.{from_total, from_unit, from_relocs, from_symbols, from_pieces, rest, piece_is, symbol_is, reloc_is, piece_text, symbol_text, reloc_text}
-use Rattle.listing.proofs.First.{keep_first, keep_none}
+use Rattle.listing.proofs.First.{keep_first}
 
 module _ (t : Run) where
   -- at the first cursor the whole listing is left

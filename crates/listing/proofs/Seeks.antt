@@ -1,27 +1,20 @@
 -- The cursor moved to the next record of its unit has the same left; where a kind of record has none, the next kind begins. Assumes nothing.
-use mathlib.Core.Path.{◌≡◌, refl, sym, ap, ◌∙◌}
-use mathlib.Core.List.{List, [], ◌++◌}
-use mathlib.Core.Bool.{Bool}
+use mathlib.Core.Path.{refl, sym, ap, ◌∙◌}
+use mathlib.Core.List.{List, ◌++◌}
 use Prim.Native.Nat.{ℕ, ◌+◌, ◌≤◌, ◌<◌}
 use native.Mathlib.Omega.{arith}
-use lib.ListN.{length, get_or, drop}
-use Rattle.lists.specs.Rows.{tabulate, keep_if}
+use Rattle.lists.specs.Rows.{tabulate}
 use Rattle.lists.proofs.Rows.{length-tabulate}
-use Rattle.obj.specs.declared.Symbol.{Symbol}
-use Rattle.obj.specs.declared.Reloc.{Reloc}
 use Rattle.pieces.specs.declared.Piece.{Piece}
 use Rattle.pieces.specs.declared.PieceSymbol.{PieceSymbol}
 use Rattle.pieces.specs.declared.PieceReloc.{PieceReloc}
 use Rattle.listing.specs.declared.Cursor.{Cursor}
 use Rattle.listing.specs.declared.Cursor.TheVariants.{Units, Pieces, Symbols, Relocs, Total, Done}
-use Rattle.listing.specs.Listing.{Run, piece_lines, sym_lines, reloc_lines}
-use Rattle.listing.specs.Cursor.{from_unit, from_relocs, from_symbols, from_pieces, rest, piece_is, symbol_is, reloc_is, First, Before, Within, Sought}
-use Rattle.listing.proofs.First.{keep_none, first_there}
+use Rattle.listing.specs.Listing.{piece_lines, sym_lines, reloc_lines}
+use Rattle.listing.specs.Cursor.{from_unit, from_relocs, from_symbols, from_pieces, piece_is, symbol_is, reloc_is, First, Before, Within, Sought}
+use Rattle.std.specs.Prelude.{Some, None}
+use Rattle.listing.proofs.First.{kept_from, none_left, first_there}
 use Rattle.listing.proofs.Rest.{units_ended, pieces_ended, symbols_ended, relocs_ended}
-
--- none passes from `at` on
-none_left : {A : Type 0} (p : A → Bool) (f : ℕ → A) (count at : ℕ) {r : ℕ} → First p f count at r → count ≤ r → keep_if p (drop at (tabulate f 0 count)) ≡ []
-none_left p f count at {r} s h = sym s.same ∙ keep_none p (tabulate f 0 count) r (rw (length-tabulate f 0 count) h)
 
 -- ---- a unit
 
@@ -43,10 +36,10 @@ sought_total units unit bytes h pieces symbols relocs = record {
 
 -- ---- a relocation
 
-module _ (units unit at bytes : ℕ) (pieces : List Piece) (f : ℕ → PieceReloc) (count : ℕ) (symbols : List PieceSymbol) {k : ℕ} (s : First (reloc_is pieces unit) f count at k) where
-  pub sought_reloc : k < count → Within units unit bytes → Sought units pieces symbols (tabulate f 0 count) (Relocs unit at bytes) (Relocs unit k bytes)
+module _ (units unit at bytes : ℕ) (pieces : List Piece) (f : ℕ → PieceReloc) (count : ℕ) (symbols : List PieceSymbol) where
+  pub sought_reloc : {k : ℕ} → First (λ i. reloc_is pieces unit (f i)) at count (Some k) → Within units unit bytes → Sought units pieces symbols (tabulate f 0 count) (Relocs unit at bytes) (Relocs unit k bytes)
   unfolding from_relocs
-  sought_reloc h w = record {
+  sought_reloc {k} s w = record {
     same =
         λ name symbol reloc names e.
         ap
@@ -54,20 +47,20 @@ module _ (units unit at bytes : ℕ) (pieces : List Piece) (f : ℕ → PieceRel
         reloc_lines (record { name = name; symbol = symbol; reloc = reloc; units = names; pieces = pieces; symbols = symbols; relocs = tabulate f 0 count }) l
         ++ from_unit (record { name = name; symbol = symbol; reloc = reloc; units = names; pieces = pieces; symbols = symbols; relocs = tabulate f 0 count })
         (unit + 1) bytes)
-        (sym s.same);
+        (sym (kept_from (reloc_is pieces unit) f count at k s.0 (let h = s.1 in omega arith) s.3));
     valid = w;
-    ready = (rw (length-tabulate f 0 count) h, first_there (reloc_is pieces unit) f count at s h);
+    ready = (rw (length-tabulate f 0 count) s.1, first_there (reloc_is pieces unit) f count at k s.1 s.2);
     goes = refl;
   }
 
-  pub relocs_passed : {r : Cursor} → count ≤ k → Sought units pieces symbols (tabulate f 0 count) (Units (unit + 1) bytes) r
+  pub relocs_passed : {r : Cursor} → First (λ i. reloc_is pieces unit (f i)) at count None → Sought units pieces symbols (tabulate f 0 count) (Units (unit + 1) bytes) r
       → Sought units pieces symbols (tabulate f 0 count) (Relocs unit at bytes) r
-  relocs_passed h n = record {
+  relocs_passed s n = record {
     same =
         λ name symbol reloc names e.
         relocs_ended
         (record { name = name; symbol = symbol; reloc = reloc; units = names; pieces = pieces; symbols = symbols; relocs = tabulate f 0 count })
-        unit at bytes (none_left (reloc_is pieces unit) f count at s h)
+        unit at bytes (none_left (reloc_is pieces unit) f count at s)
         ∙ n.same name symbol reloc names e;
     valid = n.valid;
     ready = n.ready;
@@ -76,10 +69,10 @@ module _ (units unit at bytes : ℕ) (pieces : List Piece) (f : ℕ → PieceRel
 
 -- ---- a symbol
 
-module _ (units unit at bytes : ℕ) (pieces : List Piece) (f : ℕ → PieceSymbol) (count : ℕ) (relocs : List PieceReloc) {k : ℕ} (s : First (symbol_is unit) f count at k) where
-  pub sought_symbol : k < count → Within units unit bytes → Sought units pieces (tabulate f 0 count) relocs (Symbols unit at bytes) (Symbols unit k bytes)
+module _ (units unit at bytes : ℕ) (pieces : List Piece) (f : ℕ → PieceSymbol) (count : ℕ) (relocs : List PieceReloc) where
+  pub sought_symbol : {k : ℕ} → First (λ i. symbol_is unit (f i)) at count (Some k) → Within units unit bytes → Sought units pieces (tabulate f 0 count) relocs (Symbols unit at bytes) (Symbols unit k bytes)
   unfolding from_symbols
-  sought_symbol h w = record {
+  sought_symbol {k} s w = record {
     same =
         λ name symbol reloc names e.
         ap
@@ -87,20 +80,20 @@ module _ (units unit at bytes : ℕ) (pieces : List Piece) (f : ℕ → PieceSym
         sym_lines (record { name = name; symbol = symbol; reloc = reloc; units = names; pieces = pieces; symbols = tabulate f 0 count; relocs = relocs }) l
         ++ from_relocs (record { name = name; symbol = symbol; reloc = reloc; units = names; pieces = pieces; symbols = tabulate f 0 count; relocs = relocs })
         unit 0 bytes)
-        (sym s.same);
+        (sym (kept_from (symbol_is unit) f count at k s.0 (let h = s.1 in omega arith) s.3));
     valid = w;
-    ready = (rw (length-tabulate f 0 count) h, first_there (symbol_is unit) f count at s h);
+    ready = (rw (length-tabulate f 0 count) s.1, first_there (symbol_is unit) f count at k s.1 s.2);
     goes = refl;
   }
 
-  pub symbols_passed : {r : Cursor} → count ≤ k → Sought units pieces (tabulate f 0 count) relocs (Relocs unit 0 bytes) r
+  pub symbols_passed : {r : Cursor} → First (λ i. symbol_is unit (f i)) at count None → Sought units pieces (tabulate f 0 count) relocs (Relocs unit 0 bytes) r
       → Sought units pieces (tabulate f 0 count) relocs (Symbols unit at bytes) r
-  symbols_passed h n = record {
+  symbols_passed s n = record {
     same =
         λ name symbol reloc names e.
         symbols_ended
         (record { name = name; symbol = symbol; reloc = reloc; units = names; pieces = pieces; symbols = tabulate f 0 count; relocs = relocs })
-        unit at bytes (none_left (symbol_is unit) f count at s h)
+        unit at bytes (none_left (symbol_is unit) f count at s)
         ∙ n.same name symbol reloc names e;
     valid = n.valid;
     ready = n.ready;
@@ -109,10 +102,10 @@ module _ (units unit at bytes : ℕ) (pieces : List Piece) (f : ℕ → PieceSym
 
 -- ---- a piece
 
-module _ (units unit at bytes : ℕ) (f : ℕ → Piece) (count : ℕ) (symbols : List PieceSymbol) (relocs : List PieceReloc) {k : ℕ} (s : First (piece_is unit) f count at k) where
-  pub sought_piece : k < count → Within units unit bytes → Sought units (tabulate f 0 count) symbols relocs (Pieces unit at bytes) (Pieces unit k bytes)
+module _ (units unit at bytes : ℕ) (f : ℕ → Piece) (count : ℕ) (symbols : List PieceSymbol) (relocs : List PieceReloc) where
+  pub sought_piece : {k : ℕ} → First (λ i. piece_is unit (f i)) at count (Some k) → Within units unit bytes → Sought units (tabulate f 0 count) symbols relocs (Pieces unit at bytes) (Pieces unit k bytes)
   unfolding from_pieces
-  sought_piece h w = record {
+  sought_piece {k} s w = record {
     same =
         λ name symbol reloc names e.
         ap
@@ -120,20 +113,20 @@ module _ (units unit at bytes : ℕ) (f : ℕ → Piece) (count : ℕ) (symbols 
         piece_lines (record { name = name; symbol = symbol; reloc = reloc; units = names; pieces = tabulate f 0 count; symbols = symbols; relocs = relocs }) l
         ++ from_symbols (record { name = name; symbol = symbol; reloc = reloc; units = names; pieces = tabulate f 0 count; symbols = symbols; relocs = relocs })
         unit 0 bytes)
-        (sym s.same);
+        (sym (kept_from (piece_is unit) f count at k s.0 (let h = s.1 in omega arith) s.3));
     valid = w;
-    ready = (rw (length-tabulate f 0 count) h, first_there (piece_is unit) f count at s h);
+    ready = (rw (length-tabulate f 0 count) s.1, first_there (piece_is unit) f count at k s.1 s.2);
     goes = refl;
   }
 
-  pub pieces_passed : {r : Cursor} → count ≤ k → Sought units (tabulate f 0 count) symbols relocs (Symbols unit 0 bytes) r
+  pub pieces_passed : {r : Cursor} → First (λ i. piece_is unit (f i)) at count None → Sought units (tabulate f 0 count) symbols relocs (Symbols unit 0 bytes) r
       → Sought units (tabulate f 0 count) symbols relocs (Pieces unit at bytes) r
-  pieces_passed h n = record {
+  pieces_passed s n = record {
     same =
         λ name symbol reloc names e.
         pieces_ended
         (record { name = name; symbol = symbol; reloc = reloc; units = names; pieces = tabulate f 0 count; symbols = symbols; relocs = relocs })
-        unit at bytes (none_left (piece_is unit) f count at s h)
+        unit at bytes (none_left (piece_is unit) f count at s)
         ∙ n.same name symbol reloc names e;
     valid = n.valid;
     ready = n.ready;

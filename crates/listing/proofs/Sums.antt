@@ -17,8 +17,7 @@ use Rattle.lists.proofs.Rows.{length-tabulate, get_d_tabulate}
 use Rattle.obj.specs.declared.Symbol.{Symbol}
 use Rattle.pieces.specs.declared.Piece.{Piece}
 use Rattle.pieces.specs.declared.PieceSymbol.{PieceSymbol}
-use Rattle.listing.specs.Listing.{Run, sum_by, sizes, pieces_of, symbols_of, common_size, commons, figure_of, figure, figures}
-use Rattle.listing.specs.Cursor.{most}
+use Rattle.listing.specs.Listing.{Run, sum_by, sizes, pieces_of, symbols_of, common_size, commons, figures}
 use Rattle.listing.specs.Tables.{Adds, Summed, Figure}
 use Rattle.listing.proofs.First.{keep_first, keep_later, keep_none}
 

@@ -1,7 +1,6 @@
 -- The listing line by line: a cursor is where the next line begins, and `rest` what of the listing is left there. The first cursor is unit 0 with 0 bytes, where
 -- the rest is the listing (`rest-first` of proofs/Rest.antt); each line takes its text off the front of it. `bytes` is the sum of the figures so far.
-use Rattle.std.specs.Prelude.{ℕ, ◌+◌, ◌*◌, ◌≤◌, ◌<◌, ◌≡◌, List, [], ◌∷◌, ◌++◌, Bool, true, false, cond, length, get_or, take, drop, eqb, ltb}
-use Rattle.lists.specs.Rows.{tabulate, keep_if}
+use Rattle.std.specs.Prelude.{ℕ, ◌+◌, ◌*◌, ◌≤◌, ◌<◌, ◌≡◌, List, [], ◌++◌, Option, Some, None, Bool, true, false, cond, length, get_or, take, drop, eqb, ltb}
 use Rattle.obj.specs.declared.Symbol.{Symbol}
 use Rattle.obj.specs.declared.Reloc.{Reloc}
 use Rattle.pieces.specs.declared.Piece.{Piece}
@@ -13,7 +12,7 @@ use Rattle.lines.specs.Lines.{Written, piece_line, sym_line, reloc_line, total_l
 use Rattle.listing.specs.declared.Cursor.{Cursor}
 use Rattle.listing.specs.declared.Cursor.TheVariants.{Units, Pieces, Symbols, Relocs, Total, Done}
 use Rattle.listing.specs.declared.Line.{Line}
-use Rattle.listing.specs.Listing.{Run, figures, pieces_of, symbols_of, relocs_of, piece_in, piece_lines, sym_lines, reloc_lines, units_lines}
+use Rattle.listing.specs.Listing.{Run, figures, pieces_of, symbols_of, relocs_of, piece_lines, sym_lines, reloc_lines, units_lines}
 
 -- ---- what is left
 
@@ -90,10 +89,10 @@ symbol_is unit y = eqb y.unit unit
 abbrev pub reloc_is : List Piece → (unit : ℕ) → PieceReloc → Bool
 reloc_is pieces unit r = eqb (piece_of pieces r.piece).unit unit
 
--- r is the first of `count` records from `at` on that passes; none does if it is not below the count
-pub record First {A : Type 0} (p : A → Bool) (f : ℕ → A) (count at r : ℕ) : Type 0 where
-  pub same : keep_if p (drop r (tabulate f 0 count)) ≡ keep_if p (drop at (tabulate f 0 count))
-  pub passes : r < count → p (f r) ≡ true
+-- the first number from `at` on, below the count, that passes; or none does
+abbrev pub First : (p : ℕ → Bool) (at count : ℕ) → Option ℕ → Type 0
+First p at count (Some k) = (at ≤ k) × (k < count) × (p k ≡ true) × ((j : ℕ) → at ≤ j → j < k → p j ≡ false)
+First p at count None = (j : ℕ) → at ≤ j → j < count → p j ≡ false
 
 -- a cursor at a record of its unit
 abbrev pub Ready : (units : ℕ) → List Piece → List PieceSymbol → List PieceReloc → Cursor → Type 0

@@ -2,7 +2,7 @@
 -- bytes. After a unit's pieces come `sym` ..; then `reloc` ..". Pieces, symbols and relocations lie in the walk's order; the listing groups them by unit and keeps
 -- that order (DECISIONS.md, 71). Document 02, (c), adds the common symbols of known size to the unit's figure (DECISIONS.md, 135 and 136). Each figure is summed from
 -- the pieces and the piece symbols, in 64 bits.
-use Rattle.std.specs.Prelude.{ℕ, suc, ◌+◌, List, [], ◌∷◌, ◌++◌, Bool, cond, length, get_or, drop, eqb}
+use Rattle.std.specs.Prelude.{ℕ, suc, ◌+◌, List, [], ◌∷◌, ◌++◌, cond, length, get_or, eqb}
 use Rattle.lists.specs.Rows.{keep_if}
 use Rattle.obj.specs.declared.Symbol.{Symbol}
 use Rattle.obj.specs.declared.Reloc.{Reloc}

@@ -94,10 +94,8 @@ fn pieces_size(pieces: &[u8], count: usize, unit: u16) -> u64
     ensures { Summed count (sizes (pieces_of unit (pieces_in pieces.now count))) result }
 {
     let mut sum: u64 = 0;
-    let mut k: usize = 0;
-    while k < count {
-        sum = sum + size_in(pieces, k, unit);
-        k += 1;
+    for k in 0..count {
+        sum += size_in(pieces, k, unit);
     }
     sum
 }
@@ -144,10 +142,8 @@ fn commons_size(
         (commons (symbol_of symbols.now symbol_places.now) (symbols_of unit (symbols_in piece_symbols.now count))) result }
 {
     let mut sum: u64 = 0;
-    let mut k: usize = 0;
-    while k < count {
-        sum = sum + common_in(symbols, symbol_places, piece_symbols, k, unit);
-        k += 1;
+    for k in 0..count {
+        sum += common_in(symbols, symbol_places, piece_symbols, k, unit);
     }
     sum
 }

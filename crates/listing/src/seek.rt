@@ -1,5 +1,5 @@
 // The next record of the unit, from a cursor on: the cursor itself moves there, or to the next kind of record, or to the next unit, or to the total.
-ghost use Rattle.std.specs.Prelude.{◌≡◌, ◌+◌, ◌*◌, ◌≤◌, ◌<◌, length};
+ghost use Rattle.std.specs.Prelude.{◌≡◌, ℕ, Bool, ◌+◌, ◌*◌, ◌≤◌, ◌<◌, length};
 ghost use Rattle.pieces.specs.Pieces.{piece_at, symbol_at, reloc_at, pieces_in, symbols_in, relocs_in, piece_width};
 ghost use Rattle.listing.specs.declared.Cursor.TheVariants.{Units, Pieces, Symbols, Relocs};
 ghost use Rattle.listing.specs.Cursor.{piece_is, symbol_is, reloc_is, First, Before, Within, Valid, Sought, SoughtRelocs, SoughtUnits};
@@ -34,37 +34,36 @@ fn reloc_is(pieces: &[u8], count: usize, piece_relocs: &[u8], k: usize, unit: u1
     p.unit == unit
 }
 
-// The first piece of the unit from `at` on, or how many there are.
-fn next_piece(pieces: &[u8], count: usize, unit: u16, at: usize) -> usize
+// The first number from `at` on, below `count`, that passes the test.
+fn first_from<F: Fn(usize) -> bool>(at: usize, count: usize, test: F) -> Option<usize>
+    requires { (k : ℕ) → k < count → F.pre test k }
+    ensures { (p : ℕ → Bool) → ((k : ℕ) (r : _) → k < count → F.post test k r → r ≡ p k) → First p at count result }
+{
+    for k in at..count {
+        if test(k) {
+            return Some(k);
+        }
+    }
+    None
+}
+
+// The first piece of the unit from `at` on.
+fn next_piece(pieces: &[u8], count: usize, unit: u16, at: usize) -> Option<usize>
     requires { piece_width * count ≤ length pieces.now }
-    ensures { First (piece_is unit) (λ k. piece_at pieces.now (piece_width * k)) count at result }
+    ensures { First (λ k. piece_is unit (piece_at pieces.now (piece_width * k))) at count result }
 {
-    let mut k = at;
-    while k < count {
-        if piece_is(pieces, k, unit) {
-            return k;
-        }
-        k += 1;
-    }
-    k
+    first_from(at, count, |k| piece_is(pieces, k, unit))
 }
 
-// The first symbol of the unit from `at` on, or how many there are.
-fn next_symbol(piece_symbols: &[u8], count: usize, unit: u16, at: usize) -> usize
+// The first symbol of the unit from `at` on.
+fn next_symbol(piece_symbols: &[u8], count: usize, unit: u16, at: usize) -> Option<usize>
     requires { 12 * count ≤ length piece_symbols.now }
-    ensures { First (symbol_is unit) (λ k. symbol_at piece_symbols.now (12 * k)) count at result }
+    ensures { First (λ k. symbol_is unit (symbol_at piece_symbols.now (12 * k))) at count result }
 {
-    let mut k = at;
-    while k < count {
-        if symbol_is(piece_symbols, k, unit) {
-            return k;
-        }
-        k += 1;
-    }
-    k
+    first_from(at, count, |k| symbol_is(piece_symbols, k, unit))
 }
 
-// The first relocation of the unit from `at` on, or how many there are.
+// The first relocation of the unit from `at` on.
 fn next_reloc(
     pieces: &[u8],
     piece_count: usize,
@@ -72,18 +71,15 @@ fn next_reloc(
     count: usize,
     unit: u16,
     at: usize,
-) -> usize
+) -> Option<usize>
     requires { (piece_width * piece_count ≤ length pieces.now) × (8 * count ≤ length piece_relocs.now) }
-    ensures { First (reloc_is (pieces_in pieces.now piece_count) unit) (λ k. reloc_at piece_relocs.now (8 * k)) count at result }
+    ensures { First (λ k. reloc_is (pieces_in pieces.now piece_count) unit (reloc_at piece_relocs.now (8 * k))) at count result }
 {
-    let mut k = at;
-    while k < count {
-        if reloc_is(pieces, piece_count, piece_relocs, k, unit) {
-            return k;
-        }
-        k += 1;
-    }
-    k
+    first_from(
+        at,
+        count,
+        |k| reloc_is(pieces, piece_count, piece_relocs, k, unit),
+    )
 }
 
 // The unit, or the total behind the last.
@@ -114,15 +110,14 @@ fn seek_reloc(
         × Within units unit bytes }
     ensures { SoughtRelocs units (pieces_in pieces.now piece_count) (relocs_in piece_relocs.now piece_reloc_count) (Relocs unit at bytes) result }
 {
-    let k = next_reloc(
+    if let Some(k) = next_reloc(
         pieces,
         piece_count,
         piece_relocs,
         piece_reloc_count,
         unit,
         at,
-    );
-    if k < piece_reloc_count {
+    ) {
         return Cursor::Relocs { unit, at: k, bytes };
     }
     seek_unit(units, unit + 1, bytes)
@@ -149,8 +144,7 @@ fn seek_symbol(
     ensures { Sought units (pieces_in pieces.now piece_count) (symbols_in piece_symbols.now piece_symbol_count)
         (relocs_in piece_relocs.now piece_reloc_count) (Symbols unit at bytes) result }
 {
-    let k = next_symbol(piece_symbols, piece_symbol_count, unit, at);
-    if k < piece_symbol_count {
+    if let Some(k) = next_symbol(piece_symbols, piece_symbol_count, unit, at) {
         return Cursor::Symbols { unit, at: k, bytes };
     }
     seek_reloc(
@@ -186,8 +180,7 @@ fn seek_piece(
     ensures { Sought units (pieces_in pieces.now piece_count) (symbols_in piece_symbols.now piece_symbol_count)
         (relocs_in piece_relocs.now piece_reloc_count) (Pieces unit at bytes) result }
 {
-    let k = next_piece(pieces, piece_count, unit, at);
-    if k < piece_count {
+    if let Some(k) = next_piece(pieces, piece_count, unit, at) {
         return Cursor::Pieces { unit, at: k, bytes };
     }
     seek_symbol(

@@ -2,7 +2,7 @@
 -- are left is enough, since each record takes six bytes at least. Assumes nothing.
 use Prim.Native.Nat.{ℕ, zero, suc, ◌+◌, ◌-◌, ◌<◌, ◌≤◌}
 use mathlib.Core.Path.{◌≡◌, refl, sym, ap, subst, ◌∙◌}
-use mathlib.Core.Bool.{Bool, true, false}
+use mathlib.Core.Bool.{Bool, true, false, cond}
 use mathlib.Core.List.{List, []}
 use native.Mathlib.Omega.{arith}
 use native.Mathlib.Numerals.{add-one}
@@ -13,7 +13,7 @@ use lib.Seq.{length-take-le, drop_at}
 use Rattle.lists.specs.Outcome.{Outcome, accepted, refused}
 use Rattle.lists.proofs.Outcomes.{fails, passes}
 use Rattle.fields.specs.Fields.{le32}
-use Rattle.obj.specs.declared.Answer.TheVariants.{Accepted, Refused}
+use Rattle.std.specs.Prelude.{Result, Ok, Err}
 use Rattle.lists.specs.Rows.{tabulate, clear_from}
 use Rattle.lists.proofs.Clear.{clear_is}
 use Rattle.names.specs.Names.{names_of}
@@ -21,9 +21,9 @@ use Rattle.names.proofs.Indexes.{indexed_cleared}
 use Rattle.tables.specs.declared.Ceilings.{Ceilings}
 use Rattle.tables.specs.Records.{floor_from}
 use Rattle.load.specs.declared.Counts.{Counts}
-use Rattle.load.specs.declared.FileAnswer.{FileAnswer}
+use Rattle.obj.specs.declared.Refusal.{Refusal}
 use Rattle.load.specs.Load.{Loaded, nothing, names_in, record_number, load_from, load_of}
-use Rattle.load.specs.Columns.{part, tables_in, floors_in, no_counts, Room, Ready, Loads}
+use Rattle.load.specs.Columns.{part, tables_in, floors_in, no_counts, fault_as, counts_in, Room, Ready, Loads}
 use Rattle.load.proofs.Numbers.{record_passed}
 use Rattle.load.proofs.Laws.{next_loaded, good_nothing}
 use Rattle.load.proofs.Keeping.{counted, names-count, sections_count, symbols_count, relocations_count, splits-count, units_count}
@@ -99,10 +99,9 @@ module _ {c : Ceilings} {file : List ℕ} {at r : ℕ} {t : Loaded} (g : Going c
       → refused number 0 r ≡ load_from (length file) c file 0 0 nothing
   going_stops h e p = rw e (sym (load_stop c file at r t g.fuel h g.enough (omega arith)) ∙ g.same)
 
-  pub going_on : {number next : ℕ} {u : Loaded} → at < length file → number ≡ record_number c file at t → number ≤ 0
+  pub going_on : {next : ℕ} {u : Loaded} → at < length file → record_number c file at t ≡ 0
       → next ≡ at + 6 + le32 file at → u ≡ next_loaded c file at t → Going c file next (r + 1) u
-  going_on h e p q v =
-      let none : record_number c file at t ≡ 0 = omega arith in
+  going_on h none q v =
       let whole = (record_passed c file at t none).whole in
       rw (q, v) (record {
         within = whole;
@@ -173,60 +172,65 @@ ready_none c file places lengths heads chain {cleared} {zeros} room small e z =
 
 -- ---- the loop's steps
 
--- the columns keep their lengths
-pub record Same (p₀ l₀ h₀ c₀ p l h c : List ℕ) : Type 0 where
-  pub places : length p ≡ length p₀
-  pub lengths : length l ≡ length l₀
-  pub heads : length h ≡ length h₀
-  pub chain : length c ≡ length c₀
-
-pub same_on : {p₀ l₀ h₀ c₀ p l h c p' l' h' c' : List ℕ} → Same p₀ l₀ h₀ c₀ p l h c → length p' ≡ length p → length l' ≡ length l
-    → length h' ≡ length h → length c' ≡ length c → Same p₀ l₀ h₀ c₀ p' l' h' c'
-same_on s a b d e = record { places = a ∙ s.places; lengths = b ∙ s.lengths; heads = d ∙ s.heads; chain = e ∙ s.chain }
-
 pub starts : (c : Ceilings) (file places lengths heads chain : List ℕ) {n : Counts} → n ≡ no_counts → Ready c file no_counts places lengths heads chain
-    → Ready c file n places lengths heads chain
-    × Going c file 0 0 (tables_in n places lengths)
-    × Same places lengths heads chain places lengths heads chain
-starts c file places lengths heads chain e ready =
-    rw e (ready, going_starts c file (tables-none places lengths), record { places = refl; lengths = refl; heads = refl; chain = refl })
-
--- a number that is not above 0
-pub is_zero : {n m : ℕ} → n ≡ m → n ≤ 0 → m ≡ 0
-is_zero e h = omega arith
+    → Ready c file n places lengths heads chain × Going c file 0 0 (tables_in n places lengths)
+starts c file places lengths heads chain e ready = rw e (ready, going_starts c file (tables-none places lengths))
 
 -- ---- what the loader gives
 
-not_accepted : {number section address : ℕ} → Refused number section address ≡ Accepted → ⊥
-not_accepted e = let z : ◌≡◌ {A = ℕ} 0 1 = cc in omega arith
+err_same : {T E : Type 0} {a b : E} → ◌≡◌ {A = Result T E} (Err a) (Err b) → a ≡ b
+err_same e = cc
+
+ok_same : {T E : Type 0} {a b : T} → ◌≡◌ {A = Result T E} (Ok a) (Ok b) → a ≡ b
+ok_same e = cc
+
+not_ok : {T E : Type 0} {a : T} {b : E} → ◌≡◌ {A = Result T E} (Err b) (Ok a) → ⊥
+not_ok e = let z : ◌≡◌ {A = ℕ} 0 1 = cc in omega arith
+
+-- a fault's number, and none
+pub fault_is : {n m : ℕ} → ◌≡◌ {A = Result (Unit {0}) ℕ} (Err n) (fault_as m) → (n ≡ m) × (0 < n)
+fault_is {n} {m} e = decide (ltb 0 m) refl e
+  where
+    decide : (b : Bool) → ltb 0 m ≡ b → ◌≡◌ {A = Result (Unit {0}) ℕ} (Err n) (cond b (Err m) (Ok tt)) → (n ≡ m) × (0 < n)
+    decide true t e = let q = err_same e in (q, omega (arith, q, ltb-true 0 m t))
+    decide false t e = absurd (not_ok e)
+
+pub none_is : {m : ℕ} → ◌≡◌ {A = Result (Unit {0}) ℕ} (Ok tt) (fault_as m) → m ≡ 0
+none_is {m} e = decide (ltb 0 m) refl e
+  where
+    decide : (b : Bool) → ltb 0 m ≡ b → ◌≡◌ {A = Result (Unit {0}) ℕ} (Ok tt) (cond b (Err m) (Ok tt)) → m ≡ 0
+    decide true t e = absurd (not_ok (sym e))
+    decide false t e = omega (arith, ltb-false 0 m t)
 
 module _ (c : Ceilings) (file places lengths heads chain : List ℕ) where
   -- a refusal
-  pub loads_refused : {o : Outcome Loaded} {a : FileAnswer} (number address : ℕ) → a ≡ record { answer = Refused number 0 address; counts = no_counts }
+  pub loads_refused : {o : Outcome Loaded} {a : Result Counts Refusal} (number address : ℕ) → a ≡ Err (record { number = number; section = 0; address = address })
       → refused number 0 address ≡ o → Loads c file o a places lengths heads chain
-  loads_refused number address e p = rw (e, ← p) (record { means = refl; counted = refl; ready = λ q. absurd (not_accepted q) })
+  loads_refused number address e p = rw (e, ← p) (record { means = refl; counted = λ n q. absurd (not_ok q); ready = λ n q. absurd (not_ok q) })
 
   -- all records are loaded
   pub loads_accepted : {o : Outcome Loaded} (n : Counts) → Ready c file n places lengths heads chain → accepted (tables_in n places lengths) ≡ o
-      → Loads c file o (record { answer = Accepted; counts = n }) places lengths heads chain
+      → Loads c file o (Ok n) places lengths heads chain
   loads_accepted n ready p =
       let old = ready.tabled in
       let few = counted old.allowed old.few in
+      let all : n ≡ counts_in (accepted (tables_in n places lengths)) =
+      λ z. record {
+        names = sym (names-count n places lengths old.long_places few) z;
+        sections = sym (sections_count n places lengths old.long_places few) z;
+        symbols = sym (symbols_count n places lengths old.long_places few) z;
+        relocations = sym (relocations_count n places lengths old.long_places few) z;
+        splits = sym (splits-count n places lengths old.long_places few) z;
+        units = sym (units_count n places lengths old.long_places few) z;
+      } in
       rw (← p) (record {
         means = refl;
-        counted = λ z. record {
-          names = sym (names-count n places lengths old.long_places few) z;
-          sections = sym (sections_count n places lengths old.long_places few) z;
-          symbols = sym (symbols_count n places lengths old.long_places few) z;
-          relocations = sym (relocations_count n places lengths old.long_places few) z;
-          splits = sym (splits-count n places lengths old.long_places few) z;
-          units = sym (units_count n places lengths old.long_places few) z;
-        };
-        ready = λ q. ready;
+        counted = λ m q. sym (ok_same q) ∙ all;
+        ready = λ m q. subst (λ (i : Counts). Ready c file i places lengths heads chain) (ok_same q) ready;
       })
 
   -- the same outcome, of a file that is not too long
-  pub loads_small : {a : FileAnswer} → length file ≤ 65536 → Loads c file (load_from (length file) c file 0 0 nothing) a places lengths heads chain
+  pub loads_small : {a : Result Counts Refusal} → length file ≤ 65536 → Loads c file (load_from (length file) c file 0 0 nothing) a places lengths heads chain
       → Loads c file (load_of c file) a places lengths heads chain
   unfolding load_of
   loads_small {a} h l =

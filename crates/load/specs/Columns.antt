@@ -1,16 +1,14 @@
 -- The lent columns that hold what is loaded. One column has all places: a part for each kind, from a fixed base on, and a last part with one
 -- number for each section, one more than the address of its last relocation. Beside it stand the lengths of the names and their index.
 -- What the columns mean is `tables_in`; a later stage is lent the parts, `&places[SECTIONS..SECTIONS + n]`.
-use Rattle.std.specs.Prelude.{ℕ, ◌+◌, ◌≤◌, ◌<◌, ◌≡◌, Bool, cond, List, length, get_or, take, drop, eqb}
+use Rattle.std.specs.Prelude.{ℕ, ◌+◌, ◌≤◌, ◌<◌, ◌≡◌, Bool, cond, List, length, get_or, take, drop, eqb, ltb, Result, Ok, Err}
 use Rattle.lists.specs.Outcome.{Outcome, accepted, refused}
 use Rattle.obj.specs.Records.{reloc_at}
-use Rattle.obj.specs.declared.Answer.{Answer}
-use Rattle.obj.specs.declared.Answer.TheVariants.{Accepted, Refused}
+use Rattle.obj.specs.declared.Refusal.{Refusal}
 use Rattle.names.specs.Index.{Indexed}
 use Rattle.tables.specs.declared.Ceilings.{Ceilings}
 use Rattle.tables.specs.Records.{relocs_in, floor_from}
 use Rattle.load.specs.declared.Counts.{Counts}
-use Rattle.load.specs.declared.FileAnswer.{FileAnswer}
 use Rattle.load.specs.Load.{Loaded, names_in, with_record}
 use Rattle.load.specs.Good.{NamesGood, Good}
 
@@ -133,12 +131,16 @@ pub record Kept (c : Ceilings) (file : List ℕ) (at len kind : ℕ) (t : Loaded
   pub ready : Ready c file n places lengths heads chain
   pub tables : tables_in n places lengths ≡ with_record c file at len t kind
 
--- ---- what the loader gives
+-- ---- what the functions give
 
--- what an answer means of the tables beside it: after a refusal they mean nothing
-abbrev pub loaded_as : Answer → Loaded → Outcome Loaded
-loaded_as Accepted t = accepted t
-loaded_as (Refused number section address) t = refused number section address
+-- the number of a record's first fault as an error, nothing for a record without one
+abbrev pub fault_as : (number : ℕ) → Result (Unit {0}) ℕ
+fault_as number = cond (ltb 0 number) (Err number) (Ok tt)
+
+-- what an answer means: the tables that its counts say of the columns, or its refusal
+abbrev pub loaded_as : Result Counts Refusal → (places lengths : List ℕ) → Outcome Loaded
+loaded_as (Ok n) places lengths = accepted (tables_in n places lengths)
+loaded_as (Err r) places lengths = refused r.number r.section r.address
 
 -- how many records of each kind are loaded, none after a refusal
 abbrev pub counts_in : Outcome Loaded → Counts
@@ -152,8 +154,8 @@ counts_in (accepted t) = record {
 }
 counts_in (refused number section address) = no_counts
 
--- the answer, the counts and the columns are this outcome's; what is accepted is ready for the stages
-pub record Loads (c : Ceilings) (file : List ℕ) (o : Outcome Loaded) (r : FileAnswer) (places lengths heads chain : List ℕ) : Type 0 where
-  pub means : loaded_as r.answer (tables_in r.counts places lengths) ≡ o
-  pub counted : r.counts ≡ counts_in o
-  pub ready : r.answer ≡ Accepted → Ready c file r.counts places lengths heads chain
+-- the answer, its counts and the columns are this outcome's; what is accepted is ready for the stages
+pub record Loads (c : Ceilings) (file : List ℕ) (o : Outcome Loaded) (r : Result Counts Refusal) (places lengths heads chain : List ℕ) : Type 0 where
+  pub means : loaded_as r places lengths ≡ o
+  pub counted : (n : Counts) → r ≡ Ok n → n ≡ counts_in o
+  pub ready : (n : Counts) → r ≡ Ok n → Ready c file n places lengths heads chain

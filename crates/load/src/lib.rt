@@ -7,19 +7,18 @@ ghost use Rattle.std.specs.Prelude.{◌≡◌, ◌+◌, ◌≤◌, ◌<◌, leng
 ghost use Rattle.lists.specs.Rows.{clear_from};
 ghost use Rattle.fields.specs.Fields.{le16, le32};
 ghost use Rattle.obj.specs.Records.{reloc_at};
-ghost use Rattle.obj.specs.declared.Answer.TheVariants.{Refused};
 ghost use Rattle.names.specs.Index.{Found};
 ghost use Rattle.tables.specs.Tables.{AllHeld};
 ghost use Rattle.tables.specs.Records.{sections_in, no_section};
 ghost use Rattle.load.specs.Load.{nothing, names_in, name_number, section_length, section_number, symbol_number, reloc_number, split_number, unit_number, kind_number, record_number, load_from, load_of};
-ghost use Rattle.load.specs.Columns.{part, tables_in, floors_in, no_counts, one_if, one_more, slot_of, Room, Tabled, Ready, NamesReady, Counted, RelocFits, Kept, Loads};
+ghost use Rattle.load.specs.Columns.{part, tables_in, floors_in, no_counts, fault_as, one_more, slot_of, Room, Tabled, Ready, NamesReady, Counted, RelocFits, Kept, Loads};
 
 use faults::{reloc_bad, section_bad, split_bad, symbol_bad, unit_bad};
 use fields::{get16, get32};
 use names::{bad_name, bucket_of, clear_heads, enter, find};
 use obj::{
-    Answer, PARTIAL_BYTES, Section, read_partial, read_reloc, read_section, read_symbol, read_unit,
-    refusal,
+    PARTIAL_BYTES, Refusal, Section, read_partial, read_reloc, read_section, read_symbol,
+    read_unit, refuse,
 };
 use tables::{Ceilings, length_of, section_or_none};
 
@@ -32,13 +31,6 @@ pub struct Counts {
     pub relocations: usize,
     pub splits: usize,
     pub units: usize,
-}
-
-// The loader's answer: the counts are zeros after a refusal.
-#[derive(Clone, Copy)]
-pub struct FileAnswer {
-    pub answer: Answer,
-    pub counts: Counts,
 }
 
 // Where the parts of the column of places start: 64 sections, 4,096 symbols, 4,096 relocations, 1,024 splits, 1,024 units, 4,096 names, and
@@ -131,8 +123,9 @@ fn find_name(
     )
 }
 
-// ---- the number of a record's first fault, 0 if it has none: "1, 2, then its kind's number". `at` is where its payload starts, `len` the
-// payload's length, `n` counts what is loaded; each takes the columns that mean the tables, so that the contracts read alike
+// ---- the number of a record's first fault, as the error: "1, 2, then its kind's number". `at` is where its payload starts, `len` the
+// payload's length, `n` counts what is loaded; each takes the columns that mean the tables, so that the contracts read alike. No common function stands for
+// them: each kind reads its own record, looks up other numbers, and asks other columns.
 
 // "3 name byte or length"; "a repeated name adds none", so it is never 2 or 3.
 fn name_number(
@@ -145,21 +138,21 @@ fn name_number(
     lengths: &[u8],
     heads: &[u16],
     chain: &[u16],
-) -> u16
+) -> Result<(), u16>
     requires { (at + len ≤ length file.now) × Ready c file.now n places.now lengths.now heads.now chain.now }
-    ensures { result ≡ name_number c file.now at len (tables_in n places.now lengths.now) }
+    ensures { result ≡ fault_as (name_number c file.now at len (tables_in n places.now lengths.now)) }
 {
     let past = at + len;
     if find_name(file, at, len, n, places, lengths, heads, chain) < n.names {
-        return 0;
+        return Ok(());
     }
     if c.names <= n.names {
-        return 2;
+        return Err(2);
     }
     if bad_name(&file[at..past]) {
-        return 3;
+        return Err(3);
     }
-    0
+    Ok(())
 }
 
 // "then its bytes unless kind 3", "Section bytes equal size": the length is another one.
@@ -186,21 +179,21 @@ fn section_number(
     n: Counts,
     places: &[u32],
     lengths: &[u8],
-) -> u16
+) -> Result<(), u16>
     requires { (at + len ≤ length file.now) × Tabled c file.now n places.now lengths.now }
-    ensures { result ≡ section_number c file.now at len (tables_in n places.now lengths.now) }
+    ensures { result ≡ fault_as (section_number c file.now at len (tables_in n places.now lengths.now)) }
 {
     if section_length_wrong(file, at, len) {
-        return 1;
+        return Err(1);
     }
     if c.sections <= n.sections {
-        return 2;
+        return Err(2);
     }
     let s = read_section(file, at);
     if section_bad(s, name_length(lengths, n.names, s.name)) {
-        return 4;
+        return Err(4);
     }
-    0
+    Ok(())
 }
 
 // "5 symbol: .."
@@ -212,22 +205,22 @@ fn symbol_number(
     n: Counts,
     places: &[u32],
     lengths: &[u8],
-) -> u16
+) -> Result<(), u16>
     requires { (at + len ≤ length file.now) × Tabled c file.now n places.now lengths.now }
-    ensures { result ≡ symbol_number c file.now at len (tables_in n places.now lengths.now) }
+    ensures { result ≡ fault_as (symbol_number c file.now at len (tables_in n places.now lengths.now)) }
 {
     if len != 20 {
-        return 1;
+        return Err(1);
     }
     if c.symbols <= n.symbols {
-        return 2;
+        return Err(2);
     }
     let s = read_symbol(file, at);
     let home = home_of(file, places, n.sections, s.section);
     if symbol_bad(s, n.names, n.sections, home) {
-        return 5;
+        return Err(5);
     }
-    0
+    Ok(())
 }
 
 // "6 relocation: .."
@@ -239,23 +232,23 @@ fn reloc_number(
     n: Counts,
     places: &[u32],
     lengths: &[u8],
-) -> u16
+) -> Result<(), u16>
     requires { (at + len ≤ length file.now) × Tabled c file.now n places.now lengths.now }
-    ensures { result ≡ reloc_number c file.now at len (tables_in n places.now lengths.now) }
+    ensures { result ≡ fault_as (reloc_number c file.now at len (tables_in n places.now lengths.now)) }
 {
     if len != 23 {
-        return 1;
+        return Err(1);
     }
     if c.relocations <= n.relocations {
-        return 2;
+        return Err(2);
     }
     let r = read_reloc(file, at);
     let home = home_of(file, places, n.sections, r.section);
     let floor = floor_of(places, r.section);
     if reloc_bad(r, n.sections, n.symbols, home, floor) {
-        return 6;
+        return Err(6);
     }
-    0
+    Ok(())
 }
 
 // "7 split: .."; "a split's section is left to 20"
@@ -267,24 +260,24 @@ fn split_number(
     n: Counts,
     places: &[u32],
     lengths: &[u8],
-) -> u16
+) -> Result<(), u16>
     requires { (at + len ≤ length file.now) × Tabled c file.now n places.now lengths.now }
-    ensures { result ≡ split_number c file.now at len (tables_in n places.now lengths.now) }
+    ensures { result ≡ fault_as (split_number c file.now at len (tables_in n places.now lengths.now)) }
 {
     if len != PARTIAL_BYTES {
-        return 1;
+        return Err(1);
     }
     if c.splits <= n.splits {
-        return 2;
+        return Err(2);
     }
     // 7 does not ask for its number
     let s = read_partial(file, at, 65535);
     let unit_len = name_length(lengths, n.names, s.unit);
     let rename_len = name_length(lengths, n.names, s.rename);
     if split_bad(s, unit_len, rename_len) {
-        return 7;
+        return Err(7);
     }
-    0
+    Ok(())
 }
 
 // "8 unit: .."
@@ -296,21 +289,21 @@ fn unit_number(
     n: Counts,
     places: &[u32],
     lengths: &[u8],
-) -> u16
+) -> Result<(), u16>
     requires { (at + len ≤ length file.now) × Tabled c file.now n places.now lengths.now }
-    ensures { result ≡ unit_number c file.now at len (tables_in n places.now lengths.now) }
+    ensures { result ≡ fault_as (unit_number c file.now at len (tables_in n places.now lengths.now)) }
 {
     if len != 8 {
-        return 1;
+        return Err(1);
     }
     if c.units <= n.units {
-        return 2;
+        return Err(2);
     }
     let u = read_unit(file, at);
     if unit_bad(u, name_length(lengths, n.names, u.name)) {
-        return 8;
+        return Err(8);
     }
-    0
+    Ok(())
 }
 
 // By kind; "1 .. unknown kind".
@@ -325,9 +318,9 @@ fn kind_number(
     lengths: &[u8],
     heads: &[u16],
     chain: &[u16],
-) -> u16
+) -> Result<(), u16>
     requires { (at + len ≤ length file.now) × Ready c file.now n places.now lengths.now heads.now chain.now }
-    ensures { result ≡ kind_number c file.now at len (tables_in n places.now lengths.now) kind }
+    ensures { result ≡ fault_as (kind_number c file.now at len (tables_in n places.now lengths.now) kind) }
 {
     if kind == 1 {
         return name_number(file, at, len, c, n, places, lengths, heads, chain);
@@ -347,7 +340,7 @@ fn kind_number(
     if kind == 6 {
         return unit_number(file, at, len, c, n, places, lengths);
     }
-    1
+    Err(1)
 }
 
 // The record at `at`: "a four-byte length of its payload, a two-byte kind, the payload"; "1 file cut" within its head or its payload.
@@ -360,17 +353,17 @@ fn record_number(
     lengths: &[u8],
     heads: &[u16],
     chain: &[u16],
-) -> u16
+) -> Result<(), u16>
     requires { (at ≤ length file.now) × Ready c file.now n places.now lengths.now heads.now chain.now }
-    ensures { result ≡ record_number c file.now at (tables_in n places.now lengths.now) }
+    ensures { result ≡ fault_as (record_number c file.now at (tables_in n places.now lengths.now)) }
 {
     let start = at + 6;
     if file.len() < start {
-        return 1;
+        return Err(1);
     }
     let len = get32(file, at) as usize;
     if file.len() < start + len {
-        return 1;
+        return Err(1);
     }
     kind_number(
         get16(file, at + 4),
@@ -388,28 +381,18 @@ fn record_number(
 
 // ---- a record without a fault is kept; the ceilings are named by the contracts only
 
-// 1 if the test holds.
-fn one_if(test: bool) -> usize
-    ensures { (result ≡ one_if test) × (result ≤ 1) }
-{
-    if test {
-        return 1;
-    }
-    0
-}
-
 // One record more of a kind.
 fn one_more(kind: u16, n: Counts) -> Counts
     requires { Counted n }
     ensures { result ≡ one_more kind n }
 {
     Counts {
-        names: n.names + one_if(kind == 1),
-        sections: n.sections + one_if(kind == 2),
-        symbols: n.symbols + one_if(kind == 3),
-        relocations: n.relocations + one_if(kind == 4),
-        splits: n.splits + one_if(kind == 5),
-        units: n.units + one_if(kind == 6),
+        names: n.names + usize::from(kind == 1),
+        sections: n.sections + usize::from(kind == 2),
+        symbols: n.symbols + usize::from(kind == 3),
+        relocations: n.relocations + usize::from(kind == 4),
+        splits: n.splits + usize::from(kind == 5),
+        units: n.units + usize::from(kind == 6),
     }
 }
 
@@ -543,16 +526,6 @@ fn next_record(file: &[u8], at: usize) -> usize
 
 // ---- the whole file
 
-// A refusal at this record.
-fn refused_at(number: u16, address: u32) -> FileAnswer
-    ensures { result ≡ record { answer = Refused number 0 address; counts = no_counts } }
-{
-    FileAnswer {
-        answer: refusal(number, 0, address),
-        counts: no_counts(),
-    }
-}
-
 // The records in file order, up to the first that has a fault.
 fn load_records(
     file: &[u8],
@@ -561,40 +534,34 @@ fn load_records(
     lengths: &mut [u8],
     heads: &mut [u16],
     chain: &mut [u16],
-) -> FileAnswer
+) -> Result<Counts, Refusal>
     requires { Ready c file.now no_counts places.old lengths.old heads.old chain.old }
     ensures { Loads c file.now (load_from (length file.now) c file.now 0 0 nothing) result places.new lengths.new heads.new chain.new }
 {
     let mut n = no_counts();
-    let mut at: usize = 0;
-    let mut r: u32 = 0;
+    let mut at = 0;
+    let mut r = 0;
+    // no count: each record says where the next one starts
     while at < file.len() {
-        let number = record_number(file, at, c, n, places, lengths, heads, chain);
-        if 0 < number {
-            return refused_at(number, r);
+        if let Err(number) = record_number(file, at, c, n, places, lengths, heads, chain) {
+            return refuse(number, 0, r);
         }
         n = keep_record(file, at, c, n, places, lengths, heads, chain);
         at = next_record(file, at);
         r += 1;
     }
-    FileAnswer {
-        answer: Answer::Accepted,
-        counts: n,
-    }
+    Ok(n)
 }
 
 // No relocation so far: zeros from the floors on.
 fn clear_floors(places: &mut [u32])
+    requires { 14464 ≤ length places.old }
     ensures { places.new ≡ clear_from 0 14400 places.old }
 {
-    let mut i = FLOORS;
-    while i < places.len() {
-        places[i] = 0;
-        i += 1;
-    }
+    places[FLOORS..].fill(0);
 }
 
-// Loads the file: its answer, and in the columns where its records are.
+// Loads the file: how many records of each kind it has, and in the columns where they are.
 pub fn load_file(
     file: &[u8],
     c: Ceilings,
@@ -602,12 +569,12 @@ pub fn load_file(
     lengths: &mut [u8],
     heads: &mut [u16],
     chain: &mut [u16],
-) -> FileAnswer
+) -> Result<Counts, Refusal>
     requires { Room c places.old lengths.old heads.old chain.old }
     ensures { Loads c file.now (load_of c file.now) result places.new lengths.new heads.new chain.new }
 {
     if 65536 < file.len() {
-        return refused_at(1, 0);
+        return refuse(1, 0, 0);
     }
     clear_floors(places);
     clear_heads(heads);

@@ -1,6 +1,6 @@
 -- An accepted file is usable: beside the loader's own laws, each section has its bytes. A section's record has the length that its head asks, and lies in the
 -- file as a whole. Assumes nothing.
-use Prim.Native.Nat.{ℕ, zero, suc, ◌+◌, ◌<◌, ◌≤◌}
+use Prim.Native.Nat.{ℕ, zero, suc, ◌+◌, ◌≤◌}
 use mathlib.Core.Path.{◌≡◌, refl, subst}
 use mathlib.Core.Bool.{Bool, true, false, cond, not}
 use mathlib.Core.List.{List}

@@ -1,6 +1,6 @@
 -- The tables of a loaded file as the stages see them: all are the file's own bytes, at the places that the loader found. What is known of a file that was
 -- accepted is `Usable` (`loaded_usable` of proofs/Bytes.antt), and every stage finds there what it asks (proofs/Laws.antt): no table is checked again.
-use Rattle.std.specs.Prelude.{ℕ, ◌+◌, ◌≤◌, ◌<◌, ◌≡◌, List, map, length}
+use Rattle.std.specs.Prelude.{ℕ, ◌+◌, ◌≤◌, ◌≡◌, List, map, length}
 use Rattle.obj.specs.Records.{section_at}
 use Rattle.tables.specs.Tables.{main_ceilings}
 use Rattle.load.specs.Load.{Loaded}

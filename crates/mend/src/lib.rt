@@ -8,48 +8,13 @@ ghost use Rattle.obj.specs.Answers.{meaning};
 ghost use Rattle.obj.specs.Records.{section_at};
 ghost use Rattle.splits.specs.Columns.{columns, row_at, rows, Long};
 ghost use Rattle.lines.specs.Lines.{Written};
-ghost use Rattle.mend.specs.Mend.{section_ends_of, next_of, wrong_end, limit_of, mend_line, mend_check};
-ghost use Rattle.mend.specs.Steps.{Decides, Joins, Turned, Fills, Mends, LowHeads};
+ghost use Rattle.mend.specs.Mend.{section_ends_of, next_of, wrong_end, limit_of, replacement, mend_line, mend_check};
+ghost use Rattle.mend.specs.Steps.{Joins, Turned, Fills, Mends, LowHeads};
 
 use lines::{put_decimal, put_hex8};
 use names::put_bytes;
-use obj::{Answer, Split, refusal, section_at};
+use obj::{Refusal, refuse, section_at};
 use splits::row;
-
-// The start of the next split of the section, or that there is none.
-#[derive(Clone, Copy)]
-pub enum Next {
-    Start(u32),
-    Last,
-}
-
-// A row, whether its end is replaced, and the end that it gets.
-#[derive(Clone, Copy)]
-pub struct Decided {
-    pub split: Split,
-    pub wrong: bool,
-    pub end: u32,
-}
-
-// Whether the lines so far fit, and where they end.
-#[derive(Clone, Copy)]
-pub struct Lines {
-    pub fit: bool,
-    pub end: usize,
-}
-
-// What the mending of a table answers: how many bytes of lines there are, or a refusal.
-#[derive(Clone, Copy)]
-pub enum Mending {
-    Accepted {
-        size: usize,
-    },
-    Refused {
-        number: u16,
-        section: u16,
-        address: u32,
-    },
-}
 
 const SPACE: u8 = 32;
 
@@ -58,39 +23,40 @@ const NEWLINE: u8 = 10;
 // ---- one row
 
 // "an end that is 0, below its start or above the next start"
-fn wrong_end(start: u32, end: u32, next: Next) -> bool
+fn wrong_end(start: u32, end: u32, next: Option<u32>) -> bool
     ensures { result ≡ wrong_end start end next }
 {
     match next {
-        Next::Start(at) => {
-            return (end == 0) | (end < start) | (at < end);
-        }
-        Next::Last => {
-            return (end == 0) | (end < start);
-        }
+        Some(at) => (end == 0) | (end < start) | (at < end),
+        None => (end == 0) | (end < start),
     }
 }
 
 // "by the next start, or by the section's end for the last split"
-fn limit_of(section_ends: &[u32], section: u16, next: Next) -> u32
+fn limit_of(section_ends: &[u32], section: u16, next: Option<u32>) -> u32
     ensures { result ≡ limit_of section_ends.now section next }
 {
     let n = section as usize;
     match next {
-        Next::Start(at) => {
-            return at;
-        }
-        Next::Last => {
+        Some(at) => at,
+        None => {
             if n < section_ends.len() {
                 return section_ends[n];
             }
-            return 0;
+            0
         }
     }
 }
 
-// The next start after row i of n.
-fn next_of(starts: &[u32], ends: &[u32], units: &[u16], rest: &[u64], n: usize, i: usize) -> Next
+// The start of the split after row i of n, if that is of the section too.
+fn next_of(
+    starts: &[u32],
+    ends: &[u32],
+    units: &[u16],
+    rest: &[u64],
+    n: usize,
+    i: usize,
+) -> Option<u32>
     requires { Long (columns starts.now ends.now units.now rest.now) n × (i < n) }
     ensures { result
         ≡ next_of (row_at (columns starts.now ends.now units.now rest.now) i)
@@ -98,15 +64,15 @@ fn next_of(starts: &[u32], ends: &[u32], units: &[u16], rest: &[u64], n: usize, 
 {
     let k = i + 1;
     if n <= k {
-        return Next::Last;
+        return None;
     }
     if rest[k] % 65536 != rest[i] % 65536 {
-        return Next::Last;
+        return None;
     }
-    Next::Start(starts[k])
+    Some(starts[k])
 }
 
-// What becomes of row i of n.
+// The end that row i of n gets, if its own is replaced.
 fn decide(
     starts: &[u32],
     ends: &[u32],
@@ -115,20 +81,18 @@ fn decide(
     n: usize,
     section_ends: &[u32],
     i: usize,
-) -> Decided
+) -> Option<u32>
     requires { Long (columns starts.now ends.now units.now rest.now) n × (i < n) }
-    ensures { Decides section_ends.now (row_at (columns starts.now ends.now units.now rest.now) i)
-        (tabulate (row_at (columns starts.now ends.now units.now rest.now)) (i + 1) (n - (i + 1))) result }
+    ensures { result
+        ≡ replacement section_ends.now (row_at (columns starts.now ends.now units.now rest.now) i)
+        (tabulate (row_at (columns starts.now ends.now units.now rest.now)) (i + 1) (n - (i + 1))) }
 {
     let split = row(starts, ends, units, rest, i);
     let next = next_of(starts, ends, units, rest, n, i);
-    let wrong = wrong_end(split.start, split.end, next);
-    if wrong {
-        let end = limit_of(section_ends, split.section, next);
-        return Decided { split, wrong, end };
+    if wrong_end(split.start, split.end, next) {
+        return Some(limit_of(section_ends, split.section, next));
     }
-    let end = split.end;
-    Decided { split, wrong, end }
+    None
 }
 
 // "86, a new end would be 0 or below its start", of the first n rows in table order.
@@ -139,21 +103,18 @@ pub fn check_ends(
     rest: &[u64],
     n: usize,
     section_ends: &[u32],
-) -> Answer
+) -> Result<(), Refusal>
     requires { Long (columns starts.now ends.now units.now rest.now) n }
     ensures { meaning result
         ≡ mend_check section_ends.now (rows (columns starts.now ends.now units.now rest.now) n) }
 {
-    let mut i: usize = 0;
-    while i < n {
-        let d = decide(starts, ends, units, rest, n, section_ends, i);
-        let s = d.split;
-        if (d.end == 0) | (d.end < s.start) {
-            return refusal(86, 0, 0);
+    for i in 0..n {
+        let end = decide(starts, ends, units, rest, n, section_ends, i).unwrap_or(ends[i]);
+        if (end == 0) | (end < starts[i]) {
+            return refuse(86, 0, 0);
         }
-        i += 1;
     }
-    Answer::Accepted
+    Ok(())
 }
 
 // ---- lines
@@ -169,29 +130,30 @@ fn write_line(out: &mut [u8], section: u16, start: u32, old: u32, new: u32) -> u
     put_hex8(out, at, new, NEWLINE)
 }
 
-// A line behind the lines so far, if it fits.
-fn put_line(lines: &mut [u8], at: usize, section: u16, start: u32, old: u32, new: u32) -> Lines
+// A line behind the lines so far, if it fits: where they end then.
+fn put_line(
+    lines: &mut [u8],
+    at: usize,
+    section: u16,
+    start: u32,
+    old: u32,
+    new: u32,
+) -> Option<usize>
     requires { at ≤ length lines.old }
     ensures { Joins lines.old lines.new at (mend_line section start old new) result }
 {
     let mut buffer = [0u8; 208];
     let size = write_line(&mut buffer, section, start, old, new);
     if lines.len() - at < size {
-        return Lines {
-            fit: false,
-            end: at,
-        };
+        return None;
     }
     put_bytes(lines, at, &buffer[..size]);
-    Lines {
-        fit: true,
-        end: at + size,
-    }
+    Some(at + size)
 }
 
 // ---- the table
 
-// Row i gets its end, and its line is put behind the lines so far.
+// Row i gets its end, and its line is put behind the lines so far, if it fits: where they end then.
 fn mend_row(
     starts: &[u32],
     ends: &mut [u32],
@@ -202,22 +164,23 @@ fn mend_row(
     i: usize,
     lines: &mut [u8],
     at: usize,
-) -> Lines
+) -> Option<usize>
     requires { Long (columns starts.now ends.old units.now rest.now) n × (i < n) × (at ≤ length lines.old) }
     ensures { Turned section_ends.now (row_at (columns starts.now ends.old units.now rest.now) i)
         (tabulate (row_at (columns starts.now ends.old units.now rest.now)) (i + 1) (n - (i + 1)))
         i ends.old ends.new lines.old lines.new at result }
 {
-    let d = decide(starts, ends, units, rest, n, section_ends, i);
-    let s = d.split;
-    ends[i] = d.end;
-    if d.wrong {
-        return put_line(lines, at, s.section, s.start, s.end, d.end);
+    let s = row(starts, ends, units, rest, i);
+    match decide(starts, ends, units, rest, n, section_ends, i) {
+        Some(end) => {
+            ends[i] = end;
+            put_line(lines, at, s.section, s.start, s.end, end)
+        }
+        None => Some(at),
     }
-    Lines { fit: true, end: at }
 }
 
-// The first n rows get their ends, and the lines stand at the front of the lent bytes, if they fit.
+// The first n rows get their ends, and the lines stand at the front of the lent bytes, if they fit: how many bytes of lines there are.
 pub fn mend_rows(
     starts: &[u32],
     ends: &mut [u32],
@@ -226,25 +189,19 @@ pub fn mend_rows(
     n: usize,
     section_ends: &[u32],
     lines: &mut [u8],
-) -> Lines
+) -> Option<usize>
     requires { Long (columns starts.now ends.old units.now rest.now) n }
     ensures { Fills section_ends.now (rows (columns starts.now ends.old units.now rest.now) n)
         (rows (columns starts.now ends.new units.now rest.now) n) lines.old lines.new result }
 {
-    let mut i: usize = 0;
     let mut at: usize = 0;
-    while i < n {
-        let r = mend_row(starts, ends, units, rest, n, section_ends, i, lines, at);
-        if !r.fit {
-            return r;
-        }
-        at = r.end;
-        i += 1;
+    for i in 0..n {
+        at = mend_row(starts, ends, units, rest, n, section_ends, i, lines, at)?;
     }
-    Lines { fit: true, end: at }
+    Some(at)
 }
 
-// The stage: 86, then the ends and their lines, then 80, of the first n rows.
+// The stage: 86, then the ends and their lines, then 80, of the first n rows. It answers how many bytes of lines there are.
 pub fn mend_table(
     starts: &[u32],
     ends: &mut [u32],
@@ -253,32 +210,15 @@ pub fn mend_table(
     n: usize,
     section_ends: &[u32],
     lines: &mut [u8],
-) -> Mending
+) -> Result<usize, Refusal>
     requires { Long (columns starts.now ends.old units.now rest.now) n }
     ensures { Mends section_ends.now (rows (columns starts.now ends.old units.now rest.now) n)
         (rows (columns starts.now ends.new units.now rest.now) n) lines.old lines.new result }
 {
-    let a = check_ends(starts, ends, units, rest, n, section_ends);
-    if let Answer::Refused {
-        number,
-        section,
-        address,
-    } = a
-    {
-        return Mending::Refused {
-            number,
-            section,
-            address,
-        };
-    }
-    let r = mend_rows(starts, ends, units, rest, n, section_ends, lines);
-    if r.fit {
-        return Mending::Accepted { size: r.end };
-    }
-    Mending::Refused {
-        number: 80,
-        section: 0,
-        address: 0,
+    check_ends(starts, ends, units, rest, n, section_ends)?;
+    match mend_rows(starts, ends, units, rest, n, section_ends, lines) {
+        Some(size) => Ok(size),
+        None => refuse(80, 0, 0),
     }
 }
 
@@ -290,10 +230,8 @@ pub fn fill_section_ends(heads: &[u8], head_places: &[u32], section_ends: &mut [
     ensures { take (length head_places.now) section_ends.new
         ≡ section_ends_of (map (section_at heads.now) head_places.now) }
 {
-    let mut k: usize = 0;
-    while k < head_places.len() {
+    for k in 0..head_places.len() {
         let head = section_at(heads, head_places, k);
         section_ends[k] = head.address + head.size;
-        k += 1;
     }
 }

@@ -11,8 +11,8 @@ use Rattle.lists.proofs.Clear.{clear_all}
 use Rattle.lists.proofs.Outcomes.{not_both, same_accepted}
 use Rattle.lists.proofs.Rows.{length-tabulate}
 use Rattle.obj.specs.Answers.{word, meaning, outcome_word}
-use Rattle.obj.specs.declared.Answer.{Answer}
-use Rattle.obj.specs.declared.Answer.TheVariants.{Accepted, Refused}
+use Rattle.obj.specs.Answers.{Answer}
+use Rattle.std.specs.Prelude.{Result, Ok, Err}
 use Rattle.obj.specs.declared.Split.{Split}
 use Rattle.splits.specs.Columns.{Columns, row_at, rows}
 use Rattle.splits.specs.Bytes.{table_bytes}
@@ -21,8 +21,7 @@ use Rattle.outputs.specs.Outputs.{store_counts}
 use Rattle.kept_output.specs.Kept.{kept_of}
 use Rattle.mend.specs.Mend.{Mended}
 use Rattle.mend.specs.Steps.{mending}
-use Rattle.mend.specs.declared.Mending.{Mending}
-use Rattle.mend.specs.declared.Mending.TheVariants.{Accepted as Kept, Refused as Rejected}
+use Rattle.obj.specs.declared.Refusal.{Refusal}
 use Rattle.mend_outputs.specs.Outputs.{Leaves, Laid, Gives, Stores, Finishes}
 use Rattle.obj.specs.Records.{split_width}
 use Rattle.mend_outputs.proofs.Counts.{at_front, counts-kept}
@@ -30,10 +29,10 @@ use Rattle.mend_outputs.proofs.Counts.{at_front, counts-kept}
 -- ---- an outcome on its way
 module _ {A : Type 0} {P : A → Type 0} where
   -- a refusal, and an accepted value of which it holds
-  gives_refused : {o : Outcome A} {number section address : ℕ} → refused number section address ≡ o → Gives o (Refused number section address) P
+  gives_refused : {o : Outcome A} {number section address : ℕ} → refused number section address ≡ o → Gives o (Err (record { number = number; section = section; address = address })) P
   gives_refused e = rw (sym e) (record { answered = refl; given = λ x z. absurd (not_both z) })
 
-  gives_value : {o : Outcome A} {x : A} → accepted x ≡ o → P x → Gives o Accepted P
+  gives_value : {o : Outcome A} {x : A} → accepted x ≡ o → P x → Gives o (Ok tt) P
   gives_value e p = rw (sym e) (record { answered = refl; given = λ y z. subst P (same_accepted z) p })
 
   module _ {a : Answer} where
@@ -53,24 +52,23 @@ module _ {A : Type 0} {P : A → Type 0} where
 
 -- ---- what was stored
 
-pub stores_refused : {r : Mending} {l : List Split} {n number section address : ℕ} {out counts : List ℕ} → r ≡ Rejected number section address
-    → Stores r l n (Refused number section address) out counts out counts
-stores_refused e = rw e (record { answered = refl; stored = λ size z. absurd (let z : ◌≡◌ {A = ℕ} 0 1 = cc in omega arith) })
+pub stores_refused : {r : Result ℕ Refusal} {l : List Split} {n : ℕ} {d : Refusal} {out counts : List ℕ} → r ≡ Err d → Stores r l n (Err d) out counts out counts
+stores_refused e = rw e (record { answered = refl; stored = λ size z. absurd (cc) })
 
-pub stores_rows : {r : Mending} {l : List Split} {n size : ℕ} {out counts out' counts' : List ℕ} → r ≡ Kept size → out' ≡ sets out 0 (table_bytes l)
-    → counts' ≡ store_counts 0 (n ∷ size ∷ []) counts → Stores r l n Accepted out counts out' counts'
+pub stores_rows : {r : Result ℕ Refusal} {l : List Split} {n size : ℕ} {out counts out' counts' : List ℕ} → r ≡ Ok size → out' ≡ sets out 0 (table_bytes l)
+    → counts' ≡ store_counts 0 (n ∷ size ∷ []) counts → Stores r l n (Ok tt) out counts out' counts'
 stores_rows {n = n} {counts = counts} {counts' = counts'} e p q = rw e (record {
   answered = refl;
   stored = λ size z. (p, subst (λ (k : ℕ). counts' ≡ store_counts 0 (n ∷ k ∷ []) counts) (let same : _ ≡ size = cc in same) q);
 })
 
 -- a mending that was stored, with its lines at the front of their room
-pub stored_gives : {o : Outcome Mended} (r : Mending) {n : ℕ} (c : Columns) {a : Answer} {out lines counts out' lines' counts' : List ℕ} → mending r (rows c n) lines' ≡ o
-    → ((size : ℕ) → r ≡ Kept size → (lines' ≡ sets lines 0 (take size lines')) × (size ≤ length lines)) → split_width * n ≤ length out
+pub stored_gives : {o : Outcome Mended} (r : Result ℕ Refusal) {n : ℕ} (c : Columns) {a : Answer} {out lines counts out' lines' counts' : List ℕ} → mending r (rows c n) lines' ≡ o
+    → ((size : ℕ) → r ≡ Ok size → (lines' ≡ sets lines 0 (take size lines')) × (size ≤ length lines)) → split_width * n ≤ length out
     → Stores r (rows c n) n a out counts out' counts' → Gives o a (Laid out lines counts out' lines' counts')
-stored_gives {o} (Rejected number section address) {n} c {a} {out} {lines} {counts} {out'} {lines'} {counts'} e t h s =
+stored_gives {o} (Err d) {n} c {a} {out} {lines} {counts} {out'} {lines'} {counts'} e t h s =
     subst (λ (x : Answer). Gives o x (Laid out lines counts out' lines' counts')) (sym s.answered) (gives_refused e)
-stored_gives {o} (Kept size) {n} c {a} {out} {lines} {counts} {out'} {lines'} {counts'} e t h s =
+stored_gives {o} (Ok size) {n} c {a} {out} {lines} {counts} {out'} {lines'} {counts'} e t h s =
     let there = t size refl in
     let both = s.stored size refl in
     let long = length-tabulate (row_at c) 0 n in
@@ -88,7 +86,7 @@ stored_gives {o} (Kept size) {n} c {a} {out} {lines} {counts} {out'} {lines'} {c
 -- ---- at the end
 
 module _ {a : Answer} {out lines counts : List ℕ} {answer : ℕ} (said : answer ≡ word a) where
-  pub finishes_refused : {number section address : ℕ} {out' lines' counts' : List ℕ} → a ≡ Refused number section address → out' ≡ clear_from 0 0 out → lines' ≡ clear_from 0 0 lines
+  pub finishes_refused : {number section address : ℕ} {out' lines' counts' : List ℕ} → a ≡ Err (record { number = number; section = section; address = address }) → out' ≡ clear_from 0 0 out → lines' ≡ clear_from 0 0 lines
       → counts' ≡ clear_from 0 0 counts → Finishes a out lines counts answer out' lines' counts'
   finishes_refused e p q r = record {
     said = said;
@@ -97,19 +95,19 @@ module _ {a : Answer} {out lines counts : List ℕ} {answer : ℕ} (said : answe
     counted = r ∙ clear_all 0 counts ∙ sym (ap (kept_of counts) e);
   }
 
-  pub finishes_accepted : a ≡ Accepted → Finishes a out lines counts answer out lines counts
+  pub finishes_accepted : a ≡ Ok tt → Finishes a out lines counts answer out lines counts
   finishes_accepted e = record { said = said; splits = sym (ap (kept_of out) e); lined = sym (ap (kept_of lines) e); counted = sym (ap (kept_of counts) e) }
 
 -- an accepted outcome stays as it was laid, a refused one leaves zeros
 pub leaves : (o : Outcome Mended) (a : Answer) {out lines counts out₁ lines₁ counts₁ out' lines' counts' : List ℕ} {answer : ℕ} → length out₁ ≡ length out → length lines₁ ≡ length lines
     → length counts₁ ≡ length counts → Gives o a (Laid out lines counts out₁ lines₁ counts₁) → Finishes a out₁ lines₁ counts₁ answer out' lines' counts'
     → Leaves o out lines counts answer out' lines' counts'
-leaves (accepted m) Accepted p q r w f =
+leaves (accepted m) (Ok u) p q r w f =
     let d = w.given m refl in
     record { said = f.said; splits = f.splits ∙ d.splits; lined = f.lined ∙ d.lined; counted = f.counted ∙ d.counted }
-leaves (accepted m) (Refused number section address) p q r w f = absurd (not_both w.answered)
-leaves (refused number section address) Accepted p q r w f = absurd (not_both (sym w.answered))
-leaves (refused number section address) (Refused n s d) p q r w f =
+leaves (accepted m) (Err d) p q r w f = absurd (not_both w.answered)
+leaves (refused number section address) (Ok u) p q r w f = absurd (not_both (sym w.answered))
+leaves (refused number section address) (Err d) p q r w f =
     record {
       said = f.said ∙ ap outcome_word w.answered;
       splits = f.splits ∙ ap (λ (k : ℕ). replicate k 0) p;

@@ -1,18 +1,17 @@
 -- What `mend_splits` leaves in its three lent outputs, for every outcome. Document 02: "Here and later, lent bytes past an accepted output stay"; document 01: after a
 -- refusal every output is zeros over its whole lent length. What is left in one output is `output_of` of crate kept_output, for each of the three.
-use Rattle.std.specs.Prelude.{ℕ, ◌/◌, ◌≡◌, List, [], ◌∷◌, length, take}
+use Rattle.std.specs.Prelude.{Result, ℕ, ◌/◌, ◌≡◌, List, [], ◌∷◌, length, take}
 use Rattle.std.proofs.lemmas.List.Edits.{sets}
 use Rattle.lists.specs.Outcome.{Outcome, accepted, refused}
 use Rattle.obj.specs.Answers.{word, meaning, outcome_word}
-use Rattle.obj.specs.declared.Answer.{Answer}
-use Rattle.obj.specs.declared.Answer.TheVariants.{Accepted, Refused}
+use Rattle.obj.specs.Answers.{Answer}
+use Rattle.std.specs.Prelude.{Ok, Err}
 use Rattle.obj.specs.declared.Split.{Split}
 use Rattle.outputs.specs.Outputs.{halves, store_counts}
 use Rattle.splits.specs.Bytes.{table_bytes}
 use Rattle.kept_output.specs.Kept.{output_of, kept_of}
 use Rattle.mend.specs.Mend.{Mended}
-use Rattle.mend.specs.declared.Mending.{Mending}
-use Rattle.mend.specs.declared.Mending.TheVariants.{Accepted as Kept, Refused as Rejected}
+use Rattle.obj.specs.declared.Refusal.{Refusal}
 
 -- the mended table's records
 abbrev pub split_bytes : Mended → List ℕ
@@ -53,14 +52,14 @@ pub record Gives {A : Type 0} (o : Outcome A) (a : Answer) (P : A → Type 0) : 
   pub given : (x : A) → o ≡ accepted x → P x
 
 -- the answer to a mending
-abbrev pub as_answer : Mending → Answer
-as_answer (Kept size) = Accepted
-as_answer (Rejected number section address) = Refused number section address
+abbrev pub as_answer : Result ℕ Refusal → Answer
+as_answer (Ok size) = Ok tt
+as_answer (Err r) = Err r
 
 -- what was answered; the n rows, their number and that of the bytes of lines are stored if the mending was accepted
-pub record Stores (r : Mending) (l : List Split) (n : ℕ) (a : Answer) (out counts out' counts' : List ℕ) : Type 0 where
+pub record Stores (r : Result ℕ Refusal) (l : List Split) (n : ℕ) (a : Answer) (out counts out' counts' : List ℕ) : Type 0 where
   pub answered : a ≡ as_answer r
-  pub stored : (size : ℕ) → r ≡ Kept size → (out' ≡ sets out 0 (table_bytes l)) × (counts' ≡ store_counts 0 (n ∷ size ∷ []) counts)
+  pub stored : (size : ℕ) → r ≡ Ok size → (out' ≡ sets out 0 (table_bytes l)) × (counts' ≡ store_counts 0 (n ∷ size ∷ []) counts)
 
 -- the answer's word, and the outputs zeros if it is a refusal
 pub record Finishes (a : Answer) (out lines counts : List ℕ) (answer : ℕ) (out' lines' counts' : List ℕ) : Type 0 where

@@ -7,14 +7,13 @@ ghost use Rattle.mend.specs.Steps.{line_bytes};
 ghost use Rattle.obj.specs.Records.{split_width};
 ghost use Rattle.mend_outputs.specs.Outputs.{Stores, Finishes};
 
-use mend::Mending;
-use obj::{Answer, word_of};
+use obj::{Refusal, word_of};
 use outputs::{clear_from, put_count};
 use splits::store;
 
 // The first n rows at the front of the output, and in the counts how many they are and how many bytes of lines there are; nothing after a refusal.
 pub fn give_mended(
-    r: Mending,
+    r: Result<usize, Refusal>,
     starts: &[u32],
     ends: &[u32],
     units: &[u16],
@@ -22,37 +21,23 @@ pub fn give_mended(
     n: usize,
     out: &mut [u8],
     counts: &mut [u8],
-) -> Answer
+) -> Result<(), Refusal>
     requires { Long (columns starts.now ends.now units.now rest.now) n × (split_width * n ≤ length out.old) × (n ≤ 1024) × (line_bytes r ≤ 49152) }
     ensures { Stores r (rows (columns starts.now ends.now units.now rest.now) n) n result
         out.old counts.old out.new counts.new }
 {
-    match r {
-        Mending::Refused {
-            number,
-            section,
-            address,
-        } => {
-            return Answer::Refused {
-                number,
-                section,
-                address,
-            };
-        }
-        Mending::Accepted { size } => {
-            store(starts, ends, units, rest, n, out);
-            put_count(counts, 0, n as u16);
-            put_count(counts, 1, size as u16);
-            return Answer::Accepted;
-        }
-    }
+    let size = r?;
+    store(starts, ends, units, rest, n, out);
+    put_count(counts, 0, n as u16);
+    put_count(counts, 1, size as u16);
+    Ok(())
 }
 
 // The end of the entry: its answer as a word, and all outputs zero after a refusal.
-pub fn finish(a: Answer, out: &mut [u8], lines: &mut [u8], counts: &mut [u8]) -> u64
+pub fn finish(a: Result<(), Refusal>, out: &mut [u8], lines: &mut [u8], counts: &mut [u8]) -> u64
     ensures { Finishes a out.old lines.old counts.old result out.new lines.new counts.new }
 {
-    if let Answer::Refused { .. } = a {
+    if let Err(_) = a {
         clear_from(out, 0);
         clear_from(lines, 0);
         clear_from(counts, 0);

@@ -22,8 +22,13 @@ use Rattle.splits.specs.declared.Met.{Met}
 use Rattle.split_edits.specs.Edits.{joined}
 use Rattle.merge.specs.Merge.{Given, given, section_end, Step, keep, push, join, unchanged_if, joint_of, two_alignments, inside_old, in_range, on_joint, on_old, on_own, decide}
 use Rattle.merge.specs.Answers.{decided, HandsGood}
-use Rattle.merge.specs.declared.Decision.{Decision}
-use Rattle.merge.specs.declared.Decision.TheVariants.{Refuse, Join}
+use Rattle.std.specs.Prelude.{Result, Ok, Err}
+use Rattle.obj.specs.declared.Refusal.{Refusal}
+use Rattle.std.specs.Prelude.{min, max}
+use Rattle.std.proofs.lemmas.Bool.Decides.{nat_tests}
+use Rattle.lists.specs.Bounds.{lower, higher}
+use Rattle.merge.specs.declared.Step as steps
+use Rattle.merge.specs.declared.Step.TheVariants.{Join}
 use Rattle.merge.proofs.Rounds.{stays, goes_on, joined_shorter, decide_joins, decide_pushes}
 
 -- ---- the joint range
@@ -183,12 +188,13 @@ module _ (heads places : List ℕ) (cap : ℕ) (l : List Split) (new : Split) wh
 -- ---- answers
 
 -- one that is a refusal
-pub answers : (d : Decision) {o : Outcome Step} {number section address : ℕ} → d ≡ Refuse number section address → o ≡ refused number section address
+pub answers : (d : Result steps.Step Refusal) {o : Outcome Step} {number section address : ℕ}
+    → d ≡ Err (record { number = number; section = section; address = address }) → o ≡ refused number section address
     → (decided d ≡ o) × HandsGood d
 answers d e f = rw e (sym f, tt)
 
 -- one that hands a split on
-pub handed : (d : Decision) (joint : Split) → d ≡ Join joint → HandsGood d → Good joint.alignment
+pub handed : (d : Result steps.Step Refusal) (joint : Split) → d ≡ Ok (Join joint) → HandsGood d → Good joint.alignment
 handed d joint e h = rw e at h
 
 -- after a join fewer rows are left
@@ -201,3 +207,10 @@ join_less g c c' k r new joint e f =
 -- a push has room
 pub push_below : (g : Given) (c : Columns) (k : ℕ) (new : Split) → decide g (rows c k) new ≡ accepted push → k < g.room
 push_below g c k new e = omega (arith, (decide_pushes g (rows c k) new e).room, length-tabulate (row_at c) 0 k)
+
+-- ---- the bounds of a joint split, by std's words
+pub min_lower : (a b : ℕ) → min a b ≡ lower a b
+min_lower a b = grind (arith, nat_tests)
+
+pub max_higher : (a b : ℕ) → max a b ≡ higher a b
+max_higher a b = grind (arith, nat_tests)

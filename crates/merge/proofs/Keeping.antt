@@ -17,7 +17,7 @@ use Rattle.lists.proofs.Outcomes.{bind_inv, same_accepted}
 use Rattle.obj.specs.declared.Split.{Split}
 use Rattle.splits.specs.Questions.{of_unit}
 use Rattle.splits.specs.Rising.{Rising}
-use Rattle.split_edits.specs.Edits.{pushed, renamed, joined}
+use Rattle.split_edits.specs.Edits.{pushed, joined}
 use Rattle.split_edits.proofs.Order.{rising_pushed, rising_joined}
 use Rattle.split_edits.proofs.Each.{all_pushed, all_joined, length-pushed}
 use Rattle.merge.specs.Merge.{Given, Step, keep, push, join, joint_of, decide, again, carried, rounds, merge_one, merge_all}

@@ -1,33 +1,32 @@
--- What the answers of the merge mean: a round's decision is an outcome of `decide`, and what is merged is the rows that the columns then hold.
-use Rattle.std.specs.Prelude.{ℕ, List}
+-- What the answers of the merge mean: a round's step is an outcome of `decide`, and what is merged is the rows that the columns then hold.
+use Rattle.std.specs.Prelude.{ℕ, List, Result, Ok, Err}
 use Rattle.lists.specs.Outcome.{Outcome, accepted, refused}
+use Rattle.obj.specs.declared.Refusal.{Refusal}
 use Rattle.obj.specs.declared.Split.{Split}
 use Rattle.splits.specs.Columns.{Columns, rows, Good}
 use Rattle.merge.specs.Merge.{Step, keep, push, join}
-use Rattle.merge.specs.declared.Decision.{Decision}
-use Rattle.merge.specs.declared.Decision.TheVariants.{Refuse, Keep, Push, Join}
-use Rattle.merge.specs.declared.Merged.{Merged}
-use Rattle.merge.specs.declared.Merged.TheVariants.{Accepted, Refused}
+use Rattle.merge.specs.declared.Step as steps
+use Rattle.merge.specs.declared.Step.TheVariants.{Keep, Push, Join}
 
-abbrev pub decided : Decision → Outcome Step
-decided (Refuse number section address) = refused number section address
-decided Keep = accepted keep
-decided Push = accepted push
-decided (Join joint) = accepted (join joint)
+abbrev pub decided : Result steps.Step Refusal → Outcome Step
+decided (Ok Keep) = accepted keep
+decided (Ok Push) = accepted push
+decided (Ok (Join joint)) = accepted (join joint)
+decided (Err r) = refused r.number r.section r.address
 
 -- a joint split that is handed on has an alignment that the columns can hold
-abbrev pub HandsGood : Decision → Type 0
-HandsGood (Refuse number section address) = Unit {0}
-HandsGood Keep = Unit {0}
-HandsGood Push = Unit {0}
-HandsGood (Join joint) = Good joint.alignment
+abbrev pub HandsGood : Result steps.Step Refusal → Type 0
+HandsGood (Ok Keep) = Unit {0}
+HandsGood (Ok Push) = Unit {0}
+HandsGood (Ok (Join joint)) = Good joint.alignment
+HandsGood (Err r) = Unit {0}
 
 -- the table that an answer leaves in the columns, or its refusal
-abbrev pub merged : Merged → Columns → Outcome (List Split)
-merged (Accepted n) c = accepted (rows c n)
-merged (Refused number section address) c = refused number section address
+abbrev pub merged : Result ℕ Refusal → Columns → Outcome (List Split)
+merged (Ok n) c = accepted (rows c n)
+merged (Err r) c = refused r.number r.section r.address
 
 -- how many rows are left; none after a refusal
-abbrev pub count : Merged → ℕ
-count (Accepted n) = n
-count (Refused number section address) = 0
+abbrev pub count : Result ℕ Refusal → ℕ
+count (Ok n) = n
+count (Err r) = 0

@@ -1,7 +1,7 @@
 -- The name table of a stage: `name_ends` has an end of two bytes for each name, which starts where the one before ends; bytes past the last
 -- end are no fault. 1 where an end falls or passes the bytes, 3 for a bad byte or length, and "Two equal names in stage tables: 3", at the
 -- later one (DECISIONS.md, 12 and 13).
-use Rattle.std.specs.Prelude.{ℕ, ◌+◌, ◌*◌, ◌-◌, ◌/◌, List, [], ◌∷◌, Bool, cond, length, take, drop, eqb, ltb}
+use Rattle.std.specs.Prelude.{ℕ, ◌*◌, ◌-◌, ◌/◌, List, [], ◌∷◌, Bool, cond, length, take, drop, eqb, ltb}
 use Rattle.lists.specs.Rows.{tabulate, any_of}
 use Rattle.lists.specs.Outcome.{Outcome, ◌>>◌}
 use Rattle.fields.specs.Fields.{le16}

@@ -1,11 +1,11 @@
 -- What the check of a name table leaves in the columns that are lent to it, and what a name table that passed is: the law `names_passed` of
 -- proofs/Laws.antt.
-use Rattle.std.specs.Prelude.{ℕ, ◌+◌, ◌*◌, ◌/◌, ◌%◌, ◌<◌, ◌≤◌, ◌≡◌, List, map, ◌≢◌, length, get_or, take}
+use Rattle.std.specs.Prelude.{ℕ, ◌/◌, ◌%◌, ◌<◌, ◌≤◌, ◌≡◌, List, map, ◌≢◌, length, get_or, take}
 use Rattle.lists.specs.Outcome.{Outcome, accepted}
 use Rattle.lists.specs.Rows.{tabulate}
-use Rattle.names.specs.Names.{Named, names_of, outside}
+use Rattle.names.specs.Names.{Named, names_of}
 use Rattle.names.specs.Index.{Indexed}
-use Rattle.name_table.specs.NameTable.{start_of, end_of, name_in, stage_names, name_fault, names_check}
+use Rattle.name_table.specs.NameTable.{start_of, end_of, name_in, stage_names}
 
 -- where the first n names start
 unfoldable pub name_starts : (ends : List ℕ) → ℕ → List ℕ
@@ -39,11 +39,6 @@ pub record Stored (ends bytes places lengths heads chain : List ℕ) (n : ℕ) :
 pub record Stores (answer want : Outcome (Unit {0})) (ends bytes places lengths heads chain : List ℕ) (n : ℕ) : Type 0 where
   pub said : answer ≡ want
   pub stored : want ≡ accepted tt → Stored ends bytes places lengths heads chain n
-
--- name k was found to have this fault, or is stored besides
-pub record Turned (ends bytes places lengths heads chain : List ℕ) (k number : ℕ) : Type 0 where
-  pub is : number ≡ name_fault ends bytes k
-  pub stored : number ≡ 0 → Stored ends bytes places lengths heads chain (k + 1)
 
 -- r is this number, of two bytes
 pub record Number (want r : ℕ) : Type 0 where

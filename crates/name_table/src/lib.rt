@@ -4,13 +4,13 @@
 
 ghost use Rattle.std.specs.Prelude.{◌≡◌, ◌+◌, ◌*◌, ◌/◌, ◌≤◌, ◌<◌, length};
 ghost use Rattle.obj.specs.Answers.{meaning};
-ghost use Rattle.tables.specs.Tables.{records_check};
+ghost use Rattle.tables.specs.Tables.{record_check, records_check};
 ghost use Rattle.name_table.specs.NameTable.{start_of, end_of, name_fault, names_check};
-ghost use Rattle.name_table.specs.Stored.{Room, Stored, Stores, Number, Turned};
+ghost use Rattle.name_table.specs.Stored.{Room, Stored, Stores, Number};
 
 use fields::get16;
 use names::{bad_name, bucket_of, clear_heads, enter, find};
-use obj::Answer;
+use obj::{Refusal, refuse};
 use tables::table_size;
 
 // Where name k starts.
@@ -41,20 +41,20 @@ fn name_fault(
     heads: &[u16],
     chain: &[u16],
     k: usize,
-) -> u16
-    requires { (2 * k + 2 ≤ length ends.now) × Stored ends.now bytes.now places.now lengths.now heads.now chain.now k }
-    ensures { result ≡ name_fault ends.now bytes.now k }
+) -> Result<(), Refusal>
+    requires { (2 * k + 2 ≤ length ends.now) × (k ≤ 4294967295) × Stored ends.now bytes.now places.now lengths.now heads.now chain.now k }
+    ensures { meaning result ≡ record_check (name_fault ends.now bytes.now k) k }
 {
     let start = start_of(ends, k);
     let end = end_of(ends, k);
     if (end < start) | (bytes.len() < end) {
-        return 1;
+        return refuse(1, 0, k as u32);
     }
     let name = &bytes[start..end];
     if bad_name(name) | (find(bytes, places, lengths, k, heads, chain, name) < k) {
-        return 3;
+        return refuse(3, 0, k as u32);
     }
-    0
+    Ok(())
 }
 
 // Name k has no fault: its place and length are stored, and it is entered into the index.
@@ -81,30 +81,7 @@ fn add_name(
     enter(heads, chain, bucket, k);
 }
 
-// A turn: name k is stored and entered, unless it has a fault.
-fn take_name(
-    ends: &[u8],
-    bytes: &[u8],
-    places: &mut [u32],
-    lengths: &mut [u8],
-    heads: &mut [u16],
-    chain: &mut [u16],
-    k: usize,
-) -> u16
-    requires { (2 * k + 2 ≤ length ends.now)
-        × Room (k + 1) places.old lengths.old heads.old chain.old
-        × Stored ends.now bytes.now places.old lengths.old heads.old chain.old k }
-    ensures { Turned ends.now bytes.now places.new lengths.new heads.new chain.new k result }
-{
-    let number = name_fault(ends, bytes, places, lengths, heads, chain, k);
-    if 0 < number {
-        return number;
-    }
-    add_name(ends, bytes, places, lengths, heads, chain, k);
-    0
-}
-
-// Names from the first on, to the first that has a fault.
+// Names from the first on, each stored and entered, to the first that has a fault.
 fn take_names(
     ends: &[u8],
     bytes: &[u8],
@@ -113,25 +90,17 @@ fn take_names(
     lengths: &mut [u8],
     heads: &mut [u16],
     chain: &mut [u16],
-) -> Answer
+) -> Result<(), Refusal>
     requires { (2 * n ≤ length ends.now)
         × Room n places.old lengths.old heads.old chain.old
         × Stored ends.now bytes.now places.old lengths.old heads.old chain.old 0 }
     ensures { Stores (meaning result) (records_check (name_fault ends.now bytes.now) n) ends.now bytes.now places.new lengths.new heads.new chain.new n }
 {
-    let mut i: usize = 0;
-    while i < n {
-        let number = take_name(ends, bytes, places, lengths, heads, chain, i);
-        if 0 < number {
-            return Answer::Refused {
-                number: number,
-                section: 0,
-                address: i as u32,
-            };
-        }
-        i += 1;
+    for i in 0..n {
+        name_fault(ends, bytes, places, lengths, heads, chain, i)?;
+        add_name(ends, bytes, places, lengths, heads, chain, i);
     }
-    Answer::Accepted
+    Ok(())
 }
 
 // The whole table: 1 and 2 of its length, then its names in order; the columns hold what they are. What they hold at first is of no matter.
@@ -143,14 +112,11 @@ pub fn check_names(
     lengths: &mut [u8],
     heads: &mut [u16],
     chain: &mut [u16],
-) -> Answer
+) -> Result<(), Refusal>
     requires { Room ceiling places.old lengths.old heads.old chain.old }
     ensures { Stores (meaning result) (names_check ceiling ends.now bytes.now) ends.now bytes.now places.new lengths.new heads.new chain.new (length ends.now / 2) }
 {
-    let size = table_size(ends.len(), 2, ceiling);
-    if let Answer::Refused { .. } = size {
-        return size;
-    }
+    table_size(ends.len(), 2, ceiling)?;
     clear_heads(heads);
     take_names(ends, bytes, ends.len() / 2, places, lengths, heads, chain)
 }

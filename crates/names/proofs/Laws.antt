@@ -2,7 +2,7 @@
 -- `length-names`, `name_there`, and `number_there`, `number_below`, `number_none`. Assumes nothing.
 use mathlib.Core.Path.{◌≡◌, refl, sym, ap, ap₂, ◌∙◌}
 use mathlib.Core.List.{List, [], ◌∷◌}
-use mathlib.Core.Bool.{Bool, true, false, ◌&&◌}
+use mathlib.Core.Bool.{Bool, true, false, ◌&&◌, ◌||◌}
 use Prim.Native.Nat.{ℕ, suc, ◌+◌, ◌-◌, ◌≤◌, ◌<◌}
 use native.Mathlib.Nat.{zero-add}
 use native.Mathlib.Numerals.{add-one}
@@ -11,7 +11,9 @@ use borrow.Author.Tests.{eq-eqb, eqb-true}
 use lib.Dec.{eqb}
 use lib.ListN.{length, get_or, take, drop, drop_of_length-le}
 use lib.Seq.{drop-cons}
-use Rattle.lists.specs.Rows.{first_in}
+use Rattle.lists.specs.Rows.{first_in, some}
+use Rattle.std.specs.List.{list_any}
+use Rattle.std.specs.Cmp.Lexicographic.{pointwise}
 use Rattle.lists.proofs.Rows.{length-tabulate, get_d_tabulate}
 use Rattle.lists.proofs.FirstIn.{first_in_le, first_in_passes, first_in-first, first_in_before, first_in-none}
 use Rattle.names.specs.Names.{name_at, names_of, same_name, number_of}
@@ -68,6 +70,20 @@ same_turn x y i h k = rw (add-one, drop-cons x i 0, drop-cons y i 0)
 pub same_ended : (x y : List ℕ) (i : ℕ) → length x ≤ i → length y ≤ i → same_name (drop i x) (drop i y) ≡ true
 unfolding same_name
 same_ended x y i h k = rw (drop_of_length-le x h, drop_of_length-le y k)
+
+-- `==` on slices answers whether they are the same
+pub same_pointwise : (x y : List ℕ) → pointwise eqb x y ≡ same_name x y
+unfolding same_name
+same_pointwise [] [] = refl
+same_pointwise [] (b ∷ y) = refl
+same_pointwise (a ∷ x) [] = refl
+same_pointwise (a ∷ x) (b ∷ y) = ap (λ (t : Bool). eqb a b && t) (same_pointwise x y)
+
+-- .. and `any` whether some element passes
+pub any_some : {A : Type 0} (p : A → Bool) (l : List A) → list_any p l ≡ some p l
+unfolding some
+any_some p [] = refl
+any_some p (x ∷ l) = ap (λ (t : Bool). p x || t) (any_some p l)
 
 -- ---- the names of a table
 

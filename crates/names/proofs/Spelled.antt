@@ -10,7 +10,7 @@ use native.Mathlib.Omega.{arith}
 use lib.Dec.{eqb}
 use lib.ListN.{length}
 use borrow.Author.Tests.{eqb-true, eqb-false, eq-eqb, ne_eqb}
-use Rattle.lists.specs.Rows.{keep_if, any_of, any_from}
+use Rattle.lists.specs.Rows.{some, keep_if}
 use Rattle.names.specs.Names.{same_name}
 use Rattle.names.specs.Fixed.{codes, spells, spells_one, of_length}
 use Rattle.names.proofs.Laws.{both, other_lengths}
@@ -22,14 +22,6 @@ eqb_sym a b = go (eqb b a) refl
     go true e = eq-eqb a b (sym (eqb-true b a e))
     go false e = ne_eqb a b (λ q. eqb-false b a e (sym q))
 
-or_assoc : (a b c : Bool) → ((a || b) || c) ≡ (a || (b || c))
-or_assoc true b c = refl
-or_assoc false b c = refl
-
-or_nothing : (a : Bool) → a ≡ (a || false)
-or_nothing true = refl
-or_nothing false = refl
-
 -- a name is compared with a text's bytes
 pub spelled : (text : String) (name : List ℕ) → same_name name (codes text) ≡ spells text name
 unfolding same_name codes spells
@@ -38,23 +30,11 @@ spelled []ˢ (b ∷ name) = refl
 spelled (c ∷ˢ text) [] = refl
 spelled (c ∷ˢ text) (b ∷ name) = ap₂ ◌&&◌ (eqb_sym b (code c)) (spelled text name)
 
--- .. with several texts, one after another
-abbrev pub compared : List ℕ → String → Bool
-compared name text = same_name name (codes text)
-
-one_from : (name : List ℕ) (t : Bool) (texts : List String) → any_from t (map (compared name) texts) ≡ (t || spells_one texts name)
-unfolding any_from spells_one
-one_from name t [] = or_nothing t
-one_from name t (text ∷ texts) =
-    one_from name (t || compared name text) texts
-    ∙ or_assoc t (compared name text) (spells_one texts name)
-    ∙ ap (λ (s : Bool). t || (s || spells_one texts name)) (spelled text name)
-
-pub spelled_one : (texts : List String) (name : List ℕ) → any_of (map (compared name) texts) ≡ spells_one texts name
-unfolding any_of spells_one
+-- .. with the bytes of several texts
+pub spelled_one : (texts : List String) (name : List ℕ) → some (same_name name) (map codes texts) ≡ spells_one texts name
+unfolding some spells_one
 spelled_one [] name = refl
-spelled_one (text ∷ texts) name =
-    one_from name (compared name text) texts ∙ ap (λ (s : Bool). s || spells_one texts name) (spelled text name)
+spelled_one (text ∷ texts) name = ap₂ ◌||◌ (spelled text name) (spelled_one texts name)
 
 -- ---- by length
 

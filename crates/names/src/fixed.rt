@@ -1,9 +1,78 @@
 // Fixed names: "Label and object names are fixed byte strings, compared with a symbol's name bytes in the splitting end and walk."
-ghost use Rattle.std.specs.Prelude.{◌≡◌};
-ghost use Rattle.names.specs.Fixed.{spells_one, of_length, linker_labels};
+ghost use Rattle.std.specs.Prelude.{◌≡◌, ℕ, List, map};
+ghost use Rattle.std.proofs.Common.{Bor};
+ghost use Rattle.lists.specs.Rows.{some};
+ghost use Rattle.names.specs.Names.{same_name};
 ghost use Rattle.names.specs.Fixed.{is_linker_object, is_linker_label, is_vector_table_end, is_bss, is_pointer_list, is_four_aligned};
 
 use crate::same;
+
+// "linker labels", by their length.
+static LABELS_OF_6: [&[u8]; 4] = [b"_ctors", b"_dtors", b"_f_bss", b"_e_bss"];
+
+static LABELS_OF_7: [&[u8]; 10] = [
+    b"_f_init", b"_e_init", b"_fextab", b"_eextab", b"_f_text", b"_e_text", b"_f_data", b"_e_data",
+    b"_f_sbss", b"_e_sbss",
+];
+
+static LABELS_OF_8: [&[u8]; 10] = [
+    b"_f_ctors",
+    b"_e_ctors",
+    b"_f_dtors",
+    b"_e_dtors",
+    b"_f_sdata",
+    b"_e_sdata",
+    b"_f_sbss2",
+    b"_e_sbss2",
+    b"_f_stack",
+    b"_e_stack",
+];
+
+static LABELS_OF_9: [&[u8]; 5] = [
+    b"_f_rodata",
+    b"_e_rodata",
+    b"_f_sdata2",
+    b"_e_sdata2",
+    b"_heap_end",
+];
+
+static LABELS_OF_10: [&[u8]; 4] = [b"_f_bss_rom", b"_stack_end", b"_heap_addr", b"_SDA_BASE_"];
+
+static LABELS_OF_11: [&[u8]; 7] = [
+    b"_f_init_rom",
+    b"_fextab_rom",
+    b"_f_text_rom",
+    b"_f_data_rom",
+    b"_f_sbss_rom",
+    b"_stack_addr",
+    b"_SDA2_BASE_",
+];
+
+static LABELS_OF_12: [&[u8]; 8] = [
+    b"_fextabindex",
+    b"_eextabindex",
+    b"_f_ctors_rom",
+    b"_f_dtors_rom",
+    b"_f_sdata_rom",
+    b"_f_sbss2_rom",
+    b"_f_stack_rom",
+    b"_nbfunctions",
+];
+
+static LABELS_OF_13: [&[u8]; 3] = [b"_f_rodata_rom", b"_f_sdata2_rom", b"_db_stack_end"];
+
+static LABELS_OF_14: [&[u8]; 3] = [b"_db_stack_addr", b"SIZEOF_HEADERS", b"_ABS_SDA_BASE_"];
+
+static LABELS_OF_15: [&[u8]; 1] = [b"_ABS_SDA2_BASE_"];
+
+static LABELS_OF_16: [&[u8]; 1] = [b"_fextabindex_rom"];
+
+// The name is one of the texts.
+fn is_one_of(name: &[u8], texts: &[&[u8]]) -> bool
+    ensures { result ≡ some (same_name name.now) (map (λ (t : Bor (List ℕ)). t.now) texts.now) }
+{
+    texts.iter().any(|text| same(name, text))
+}
 
 // "`.bss`"
 pub fn is_bss(name: &[u8]) -> bool
@@ -16,14 +85,14 @@ pub fn is_bss(name: &[u8]) -> bool
 pub fn is_pointer_list(name: &[u8]) -> bool
     ensures { result ≡ is_pointer_list name.now }
 {
-    same(name, b".ctors") | same(name, b".dtors")
+    is_one_of(name, &[b".ctors", b".dtors"])
 }
 
 // "`.ctors`, `.dtors`, `extab`, `extabindex`: 4"
 pub fn is_four_aligned(name: &[u8]) -> bool
     ensures { result ≡ is_four_aligned name.now }
 {
-    same(name, b".ctors") | same(name, b".dtors") | same(name, b"extab") | same(name, b"extabindex")
+    is_one_of(name, &[b".ctors", b".dtors", b"extab", b"extabindex"])
 }
 
 // "`gTRKInterruptVectorTableEnd`"
@@ -37,144 +106,34 @@ pub fn is_vector_table_end(name: &[u8]) -> bool
 pub fn is_linker_generated_object(name: &[u8]) -> bool
     ensures { result ≡ is_linker_object name.now }
 {
-    same(name, b"_eti_init_info")
-        | same(name, b"_rom_copy_info")
-        | same(name, b"_bss_init_info")
-        | same(name, b"_ctors$99")
-        | same(name, b"_dtors$99")
+    is_one_of(
+        name,
+        &[
+            b"_eti_init_info",
+            b"_rom_copy_info",
+            b"_bss_init_info",
+            b"_ctors$99",
+            b"_dtors$99",
+        ],
+    )
 }
 
-// The labels of 6 bytes.
-fn labels_of_6(name: &[u8]) -> bool
-    ensures { result ≡ spells_one (of_length 6 linker_labels) name.now }
-{
-    same(name, b"_ctors") | same(name, b"_dtors") | same(name, b"_f_bss") | same(name, b"_e_bss")
-}
-
-// The labels of 7 bytes.
-fn labels_of_7(name: &[u8]) -> bool
-    ensures { result ≡ spells_one (of_length 7 linker_labels) name.now }
-{
-    same(name, b"_f_init")
-        | same(name, b"_e_init")
-        | same(name, b"_fextab")
-        | same(name, b"_eextab")
-        | same(name, b"_f_text")
-        | same(name, b"_e_text")
-        | same(name, b"_f_data")
-        | same(name, b"_e_data")
-        | same(name, b"_f_sbss")
-        | same(name, b"_e_sbss")
-}
-
-// The labels of 8 bytes.
-fn labels_of_8(name: &[u8]) -> bool
-    ensures { result ≡ spells_one (of_length 8 linker_labels) name.now }
-{
-    same(name, b"_f_ctors")
-        | same(name, b"_e_ctors")
-        | same(name, b"_f_dtors")
-        | same(name, b"_e_dtors")
-        | same(name, b"_f_sdata")
-        | same(name, b"_e_sdata")
-        | same(name, b"_f_sbss2")
-        | same(name, b"_e_sbss2")
-        | same(name, b"_f_stack")
-        | same(name, b"_e_stack")
-}
-
-// The labels of 9 bytes.
-fn labels_of_9(name: &[u8]) -> bool
-    ensures { result ≡ spells_one (of_length 9 linker_labels) name.now }
-{
-    same(name, b"_f_rodata")
-        | same(name, b"_e_rodata")
-        | same(name, b"_f_sdata2")
-        | same(name, b"_e_sdata2")
-        | same(name, b"_heap_end")
-}
-
-// The labels of 10 bytes.
-fn labels_of_10(name: &[u8]) -> bool
-    ensures { result ≡ spells_one (of_length 10 linker_labels) name.now }
-{
-    same(name, b"_f_bss_rom")
-        | same(name, b"_stack_end")
-        | same(name, b"_heap_addr")
-        | same(name, b"_SDA_BASE_")
-}
-
-// The labels of 11 bytes.
-fn labels_of_11(name: &[u8]) -> bool
-    ensures { result ≡ spells_one (of_length 11 linker_labels) name.now }
-{
-    same(name, b"_f_init_rom")
-        | same(name, b"_fextab_rom")
-        | same(name, b"_f_text_rom")
-        | same(name, b"_f_data_rom")
-        | same(name, b"_f_sbss_rom")
-        | same(name, b"_stack_addr")
-        | same(name, b"_SDA2_BASE_")
-}
-
-// The labels of 12 bytes.
-fn labels_of_12(name: &[u8]) -> bool
-    ensures { result ≡ spells_one (of_length 12 linker_labels) name.now }
-{
-    same(name, b"_fextabindex")
-        | same(name, b"_eextabindex")
-        | same(name, b"_f_ctors_rom")
-        | same(name, b"_f_dtors_rom")
-        | same(name, b"_f_sdata_rom")
-        | same(name, b"_f_sbss2_rom")
-        | same(name, b"_f_stack_rom")
-        | same(name, b"_nbfunctions")
-}
-
-// The labels of 13 bytes.
-fn labels_of_13(name: &[u8]) -> bool
-    ensures { result ≡ spells_one (of_length 13 linker_labels) name.now }
-{
-    same(name, b"_f_rodata_rom") | same(name, b"_f_sdata2_rom") | same(name, b"_db_stack_end")
-}
-
-// The labels of 14 bytes.
-fn labels_of_14(name: &[u8]) -> bool
-    ensures { result ≡ spells_one (of_length 14 linker_labels) name.now }
-{
-    same(name, b"_db_stack_addr") | same(name, b"SIZEOF_HEADERS") | same(name, b"_ABS_SDA_BASE_")
-}
-
-// The label of 15 bytes.
-fn labels_of_15(name: &[u8]) -> bool
-    ensures { result ≡ spells_one (of_length 15 linker_labels) name.now }
-{
-    same(name, b"_ABS_SDA2_BASE_")
-}
-
-// The label of 16 bytes.
-fn labels_of_16(name: &[u8]) -> bool
-    ensures { result ≡ spells_one (of_length 16 linker_labels) name.now }
-{
-    same(name, b"_fextabindex_rom")
-}
-
-// "linker labels": a name is compared with the labels of its length.
+// "linker labels": a name is compared with the labels of its length. Comparing each name with all 56 takes the walk four times as long.
 pub fn is_linker_generated_label(name: &[u8]) -> bool
     ensures { result ≡ is_linker_label name.now }
 {
     match name.len() {
-        6 => labels_of_6(name),
-        7 => labels_of_7(name),
-        8 => labels_of_8(name),
-        9 => labels_of_9(name),
-        10 => labels_of_10(name),
-        11 => labels_of_11(name),
-        12 => labels_of_12(name),
-        13 => labels_of_13(name),
-        14 => labels_of_14(name),
-        15 => labels_of_15(name),
-        16 => labels_of_16(name),
+        6 => is_one_of(name, &LABELS_OF_6),
+        7 => is_one_of(name, &LABELS_OF_7),
+        8 => is_one_of(name, &LABELS_OF_8),
+        9 => is_one_of(name, &LABELS_OF_9),
+        10 => is_one_of(name, &LABELS_OF_10),
+        11 => is_one_of(name, &LABELS_OF_11),
+        12 => is_one_of(name, &LABELS_OF_12),
+        13 => is_one_of(name, &LABELS_OF_13),
+        14 => is_one_of(name, &LABELS_OF_14),
+        15 => is_one_of(name, &LABELS_OF_15),
+        16 => is_one_of(name, &LABELS_OF_16),
         _ => false,
     }
 }

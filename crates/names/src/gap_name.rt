@@ -23,13 +23,9 @@ fn put_section(out: &mut [u8], section: u16)
     requires { 8 ≤ length out.old }
     ensures { out.new ≡ sets out.old 0 (codes "auto_" ++ decimal2 section ++ codes "_") }
 {
-    out[0] = b'a';
-    out[1] = b'u';
-    out[2] = b't';
-    out[3] = b'o';
-    out[4] = b'_';
-    out[5] = digit_of((section / 10 % 10) as u64);
-    out[6] = digit_of((section % 10) as u64);
+    put_bytes(out, 0, b"auto_");
+    out[5] = digit_of(u64::from(section / 10 % 10));
+    out[6] = digit_of(u64::from(section % 10));
     out[7] = b'_';
 }
 
@@ -38,7 +34,7 @@ fn put_address(out: &mut [u8], address: u32)
     requires { 17 ≤ length out.old }
     ensures { out.new ≡ sets out.old 8 (hex8 address ++ codes "_") }
 {
-    let a = address as u64;
+    let a = u64::from(address);
     out[8] = digit_of(a / 268435456 % 16);
     out[9] = digit_of(a / 16777216 % 16);
     out[10] = digit_of(a / 1048576 % 16);
@@ -54,14 +50,12 @@ fn put_address(out: &mut [u8], address: u32)
 fn leading_dots(name: &[u8]) -> usize
     ensures { Dots name.now result }
 {
-    let mut i = 0;
-    while i < name.len() {
-        if name[i] != b'.' {
+    for (i, byte) in name.iter().enumerate() {
+        if *byte != b'.' {
             return i;
         }
-        i += 1;
     }
-    i
+    name.len()
 }
 
 // Writes the name of a gap's unit to the front of `out`, and gives its length.

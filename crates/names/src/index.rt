@@ -5,22 +5,13 @@ ghost use Rattle.names.specs.Index.{InBucket, Indexed, Found};
 
 use crate::{name_at, same};
 
-// A byte as a number of 64 bits.
-fn wide(b: u8) -> usize
-    ensures { (result ≡ b) × (result < 256) }
-{
-    b as usize
-}
-
 // The bucket of a name: its bytes mixed into 32 bits, of which the upper 13 are taken.
 pub fn bucket_of(name: &[u8]) -> usize
     ensures { InBucket name.now result }
 {
     let mut hash: usize = 2166136261;
-    let mut i = 0;
-    while i < name.len() {
-        hash = (hash * 16777619 + wide(name[i])) % 4294967296;
-        i += 1;
+    for byte in name {
+        hash = (hash * 16777619 + usize::from(*byte)) % 4294967296;
     }
     hash / 524288
 }
@@ -30,7 +21,7 @@ pub fn number_at(column: &[u16], k: usize) -> usize
     requires { k < length column.now }
     ensures { result ≡ get_or column.now k 0 }
 {
-    column[k] as usize
+    usize::from(column[k])
 }
 
 // Name k is x.
@@ -41,7 +32,8 @@ fn is_name(bytes: &[u8], places: &[u32], lengths: &[u8], k: usize, x: &[u8]) -> 
     same(x, name_at(bytes, places, lengths, k))
 }
 
-// The number of the name x, n if none of the n names is x: along the chain of its bucket, from the last name to the first.
+// The number of the name x, n if none of the n names is x (the number that x gets where it is then added): along the chain of its bucket,
+// from the last name to the first.
 pub fn find(
     bytes: &[u8],
     places: &[u32],
@@ -55,6 +47,7 @@ pub fn find(
     ensures { Found (names_of bytes.now places.now lengths.now n) x.now result }
 {
     let mut cur = number_at(heads, bucket_of(x));
+    // A walk along a chain, which is no count.
     while cur != 0 {
         let k = cur - 1;
         if is_name(bytes, places, lengths, k, x) {
@@ -79,9 +72,5 @@ pub fn enter(heads: &mut [u16], chain: &mut [u16], bucket: usize, k: usize)
 pub fn clear_heads(heads: &mut [u16])
     ensures { heads.new ≡ replicate (length heads.old) 0 }
 {
-    let mut i: usize = 0;
-    while i < heads.len() {
-        heads[i] = 0;
-        i += 1;
-    }
+    heads.fill(0);
 }

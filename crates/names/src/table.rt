@@ -1,6 +1,6 @@
 // Appending to a name table: "28 name table full"; "4,096 names of 65,535 bytes in all"; "A shorter lent output table has its own
 // length as ceiling".
-ghost use Rattle.std.specs.Prelude.{◌≡◌, ◌+◌, ◌≤◌, ◌<◌, length};
+ghost use Rattle.std.specs.Prelude.{◌≡◌, ◌+◌, ◌≤◌, length};
 ghost use Rattle.std.proofs.lemmas.List.Edits.{sets};
 ghost use Rattle.names.specs.Append.{Packed, Appended};
 
@@ -9,11 +9,7 @@ pub fn put_bytes(out: &mut [u8], at: usize, from: &[u8])
     requires { at + length from.now ≤ length out.old }
     ensures { out.new ≡ sets out.old at from.now }
 {
-    let mut i = 0;
-    while i < from.len() {
-        out[at + i] = from[i];
-        i += 1;
-    }
+    out[at..at + from.len()].copy_from_slice(from);
 }
 
 // Appends the name as number n, its bytes from `used` on, unless the table is full; says whether it did.

@@ -22,7 +22,9 @@ use Rattle.names.specs.Index.{bucket_of, Found, InBucket}
 use Rattle.names.proofs.Laws.{number_le}
 use Rattle.names.proofs.Indexes.{Search, search_ends, search_bound, search_turn, search_finds, last_below, indexed_entered}
 use Rattle.name_table.specs.NameTable.{name_in}
-use Rattle.number_names.specs.Numbers.{Room, no_place, enter_name, enter_names, name_ends, Laid, Known, Held, Within, Entered, Going, InTable, Fits}
+use Rattle.number_names.specs.Numbers.{Room, no_place, enter_name, enter_names, name_ends, Laid, Known, Held, Within, Whole, Short, Entered, Going, InTable, Fits}
+use Rattle.std.specs.Prelude.{Result, Ok, Err}
+use Rattle.obj.specs.declared.Refusal.{Refusal}
 use Rattle.number_names.specs.declared.Count.{Count}
 use Rattle.number_names.proofs.Laid.{name_back, count_back, start_back, end_back, length-name_ends}
 
@@ -202,26 +204,21 @@ module _ {room : Room} {left : ℕ → List (List ℕ)} {goal : Outcome (List (L
     bytes_fit = omega (arith, w.bytes_fit, held_bytes g.held);
   }
 
-  module _ {o : Outcome (List (List ℕ))} {ends' bytes' heads' chain' : List ℕ} {r' : Count}
-      (turn : enter_names room g.names (left i) ≡ (o >>= λ more. enter_names room more (left (i + 1))))
-      (e : Entered o ends₀ bytes₀ ends' bytes' heads' chain' r') where
+  module _ {o : Outcome (List (List ℕ))} {ends' bytes' heads' chain' : List ℕ}
+      (turn : enter_names room g.names (left i) ≡ (o >>= λ more. enter_names room more (left (i + 1)))) where
     -- the turn found no place: that is the outcome
-    pub going_stops : r'.full ≡ true → Entered goal ends₀ bytes₀ ends' bytes' heads' chain' r'
+    pub going_stops : {e : Refusal} → Short o ends₀ bytes₀ ends' bytes' heads' chain' e → Short goal ends₀ bytes₀ ends' bytes' heads' chain' e
     unfolding ◌>>=◌
-    going_stops f =
-        let said : o ≡ refused 2 0 r'.names = e.is ∙ rw f in
-        record { names = e.names; is = sym g.same ∙ turn ∙ rw (said, f); held = e.held }
+    going_stops s = let said = s.is in record { names = s.names; is = sym g.same ∙ turn ∙ rw said; was = s.was; held = s.held }
 
     -- it did: the names that are left
-    pub going_on : r'.full ≡ false → Going room left goal ends₀ bytes₀ ends' bytes' heads' chain' (i + 1) r'
+    pub going_on : {n : Count} → Whole o ends₀ bytes₀ ends' bytes' heads' chain' n → Going room left goal ends₀ bytes₀ ends' bytes' heads' chain' (i + 1) n
     unfolding ◌>>=◌
-    going_on f =
-        let said : o ≡ accepted e.names = e.is ∙ rw f in
-        record { names = e.names; held = e.held; same = sym (rw said at turn) ∙ g.same }
+    going_on s = let said = s.is in record { names = s.names; held = s.held; same = sym (rw said at turn) ∙ g.same }
 
   -- none is left
-  pub going_done : enter_names room g.names (left i) ≡ accepted g.names → r.full ≡ false → Entered goal ends₀ bytes₀ ends bytes heads chain r
-  going_done d f = record { names = g.names; is = sym g.same ∙ d ∙ rw f; held = g.held }
+  pub going_done : enter_names room g.names (left i) ≡ accepted g.names → Whole goal ends₀ bytes₀ ends bytes heads chain r
+  going_done d = record { names = g.names; is = sym g.same ∙ d; held = g.held }
 
 -- the room of outputs that hold names
 pub held-within : {names : List (List ℕ)} {ends₀ bytes₀ ends bytes heads chain : List ℕ} {n used most most_bytes : ℕ} → Held names ends₀ bytes₀ ends bytes heads chain n used
@@ -234,6 +231,18 @@ held-within h w = record {
 }
 
 -- the same outcome, said otherwise
-pub entered_as : {o want : Outcome (List (List ℕ))} {ends₀ bytes₀ ends bytes heads chain : List ℕ} {r : Count} → o ≡ want
+pub entered_as : {o want : Outcome (List (List ℕ))} (ends₀ bytes₀ ends bytes heads chain : List ℕ) (r : Result Count Refusal) → o ≡ want
     → Entered o ends₀ bytes₀ ends bytes heads chain r → Entered want ends₀ bytes₀ ends bytes heads chain r
-entered_as q e = record { names = e.names; is = sym q ∙ e.is; held = e.held }
+entered_as ends₀ bytes₀ ends bytes heads chain (Ok n) q e = record { names = e.names; is = sym q ∙ e.is; held = e.held }
+entered_as ends₀ bytes₀ ends bytes heads chain (Err r) q e = record { names = e.names; is = sym q ∙ e.is; was = e.was; held = e.held }
+
+-- a name that has no place, after those that the outputs hold
+pub short_held : {o : Outcome (List (List ℕ))} {names : List (List ℕ)} {ends₀ bytes₀ ends bytes heads chain : List ℕ} {n used : ℕ}
+    → o ≡ refused 2 0 (length names) → Held names ends₀ bytes₀ ends bytes heads chain n used
+    → Short o ends₀ bytes₀ ends bytes heads chain (record { number = 2; section = 0; address = n })
+short_held {o} {names} q h = record {
+  names = names;
+  is = q;
+  was = ap (λ (k : ℕ). record { number = 2; section = 0; address = k }) h.counted;
+  held = rw (← h.counted, ← h.sum) h;
+}

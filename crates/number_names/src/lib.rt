@@ -10,13 +10,13 @@ ghost use Rattle.number_names.specs.Numbers.{Room, enter_name, Known, Knows, Hel
 use fields::put16;
 use name_table::{end_of, start_of};
 use names::{bucket_of, enter, number_at, put_bytes, same};
+use obj::{Refusal, refuse};
 
-// How many names stand in the table, how many bytes they have, and whether one had no place.
+// How many names stand in the table, and how many bytes they have.
 #[derive(Clone, Copy)]
 pub struct Count {
     pub names: usize,
     pub used: usize,
-    pub full: bool,
 }
 
 // ---- a name of the table
@@ -31,12 +31,13 @@ fn is_name(ends: &[u8], bytes: &[u8], k: usize, x: &[u8]) -> bool
     same(x, &bytes[start..end])
 }
 
-// The number of the name x, their count if none of the names is x: along the chain of its bucket, from the last name to the first.
+// The number of the name x, their count if none of the names is x, as `number_of` says: along the chain of its bucket, from the last name to the first.
 pub fn find_name(ends: &[u8], bytes: &[u8], heads: &[u16], chain: &[u16], x: &[u8]) -> usize
     requires { Knows ends.now bytes.now heads.now chain.now }
     ensures { (names : List (List ℕ)) → Known names ends.now bytes.now heads.now chain.now → Found names x.now result }
 {
     let mut cur = number_at(heads, bucket_of(x));
+    // no count: the chain says which name is next
     while cur != 0 {
         let k = cur - 1;
         if is_name(ends, bytes, k, x) {
@@ -71,7 +72,7 @@ fn add_name(
     enter(heads, chain, bucket_of(x), n);
 }
 
-// Enters the name x: it is there, or it is the next, or it has no place.
+// Enters the name x: it is there, or it is the next, or it has no place and is refused by 2 at its number.
 pub fn enter_name(
     x: &[u8],
     name_ends: &mut [u8],
@@ -81,7 +82,7 @@ pub fn enter_name(
     at: Count,
     most: usize,
     most_bytes: usize,
-) -> Count
+) -> Result<Count, Refusal>
     requires { Holds name_ends.old name_bytes.old heads.old chain.old at.names at.used
         × Within most most_bytes (length name_ends.old) (length name_bytes.old) }
     ensures { (names : List (List ℕ)) (ends₀ bytes₀ : List ℕ)
@@ -93,24 +94,15 @@ pub fn enter_name(
     let m = 2 * n;
     let k = find_name(&name_ends[..m], &name_bytes[..used], heads, chain, x);
     if k < n {
-        return Count {
-            names: n,
-            used: used,
-            full: false,
-        };
+        return Ok(at);
     }
     let end = used + x.len();
     if (most <= n) | (most_bytes < end) {
-        return Count {
-            names: n,
-            used: used,
-            full: true,
-        };
+        return refuse(2, 0, n as u32);
     }
     add_name(x, name_ends, name_bytes, heads, chain, n, used);
-    Count {
+    Ok(Count {
         names: n + 1,
         used: end,
-        full: false,
-    }
+    })
 }

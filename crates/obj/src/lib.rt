@@ -3,10 +3,9 @@
 // table are read by the same function.
 #![tactic(auto)]
 
-ghost use Rattle.std.specs.Prelude.{◌≡◌, ◌+◌, ◌<◌, ◌≤◌, length, get_or};
+ghost use Rattle.std.specs.Prelude.{◌≡◌, ◌+◌, ◌<◌, ◌≤◌, length, get_or, Err};
 ghost use Rattle.obj.specs.Records.{section_at, symbol_at, reloc_at, partial_at, origin_of, partial_numbered, split_at, unit_at, Held, partial_width, split_width};
 ghost use Rattle.obj.specs.Answers.{word, place};
-ghost use Rattle.obj.specs.declared.Answer.TheVariants.{Refused};
 
 use fields::{get_i32, get_i64, get16, get32};
 
@@ -64,15 +63,12 @@ pub struct Unit {
     pub order: i32,
 }
 
-// What a check or a stage answers: "A refusal is a number, section and address".
-#[derive(Clone, Copy)]
-pub enum Answer {
-    Accepted,
-    Refused {
-        number: u16,
-        section: u16,
-        address: u32,
-    },
+// "A refusal is a number, section and address": what a check or a stage that refuses gives as its error.
+#[derive(Clone, Copy, Debug, PartialEq, Eq)]
+pub struct Refusal {
+    pub number: u16,
+    pub section: u16,
+    pub address: u32,
 }
 
 // Bytes of a partial split's record, in a file and in the merge's list, and of a split's record in a stage table.
@@ -214,14 +210,14 @@ pub fn unit_at(b: &[u8], places: &[u32], k: usize) -> Unit
     read_unit(b, places[k] as usize)
 }
 
-pub fn refusal(number: u16, section: u16, address: u32) -> Answer
-    ensures { result ≡ Refused number section address }
+pub fn refuse<T>(number: u16, section: u16, address: u32) -> Result<T, Refusal>
+    ensures { result ≡ Err (record { number = number; section = section; address = address }) }
 {
-    Answer::Refused {
+    Err(Refusal {
         number,
         section,
         address,
-    }
+    })
 }
 
 // A record's number as the address of a refusal.
@@ -235,19 +231,15 @@ pub fn place_of(k: usize) -> u32
 }
 
 // What an entry answers: 0, or number, section and address of a refusal in 16, 16 and 32 bits from the top.
-pub fn word_of(a: Answer) -> u64
-    ensures { result ≡ word a }
+pub fn word_of(answer: Result<(), Refusal>) -> u64
+    ensures { result ≡ word answer }
 {
-    match a {
-        Answer::Accepted => 0,
-        Answer::Refused {
-            number,
-            section,
-            address,
-        } => {
-            (number as u64) * 0x1_0000_0000_0000
-                + (section as u64) * 0x1_0000_0000
-                + (address as u64)
+    match answer {
+        Ok(()) => 0,
+        Err(r) => {
+            (r.number as u64) * 0x1_0000_0000_0000
+                + (r.section as u64) * 0x1_0000_0000
+                + (r.address as u64)
         }
     }
 }

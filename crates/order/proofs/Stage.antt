@@ -1,5 +1,5 @@
 -- From the sort's answer and table to the stage's: what each answer leaves, and that every node left is one. Assumes nothing.
-use Prim.Native.Nat.{ℕ, ◌+◌, ◌*◌, ◌/◌, ◌≤◌, ◌<◌}
+use Prim.Native.Nat.{ℕ, ◌*◌, ◌/◌, ◌≤◌, ◌<◌}
 use mathlib.Core.Path.{◌≡◌, refl, sym, ap, subst, ◌∙◌}
 use mathlib.Core.List.{List, [], ◌∷◌, ◌++◌, map}
 use mathlib.Core.Bool.{Bool, true, false}
@@ -16,40 +16,41 @@ use Rattle.lists.proofs.Rows.{get_d_map, length-tabulate}
 use Rattle.obj.specs.Answers.{meaning}
 use Rattle.obj.specs.declared.Split.{Split}
 use Rattle.obj.specs.declared.Unit as units
-use Rattle.obj.specs.declared.Answer.{Answer}
-use Rattle.obj.specs.declared.Answer.TheVariants.{Refused}
+use Rattle.std.specs.Prelude.{Result, Ok, Err}
 use Rattle.toposort.specs.Search.{Graph, End, all, cyclic, lost, searched}
 use Rattle.toposort.specs.Sorting as sorting
 use Rattle.toposort.specs.Sorting.{sort_of, kept, Sorts, Within, Sound, answer_of}
 use Rattle.toposort.specs.Answers.{Edge, Path, Closes, Right}
-use Rattle.toposort.specs.declared.Sorted.{Sorted}
-use Rattle.toposort.specs.declared.Sorted.TheVariants.{Ordered, Cycle, NoNode, Short}
+use Rattle.toposort.specs.declared.Unsorted.{Unsorted}
+use Rattle.toposort.specs.declared.Unsorted.TheVariants.{Cycle, NoNode, Short}
 use Rattle.toposort.proofs.Theorems.{Gives, no_node, too_short, answer, sorted_right}
 use Rattle.tables.specs.Records.{no_split}
 use Rattle.splits.specs.Columns.{Columns, rows, row_at}
 use Rattle.order_numbers.specs.Numbers.{ordered, order_twice}
-use Rattle.link_graph.specs.Graph.{Given, UnitEdge, units_of, counted, node_of, has_node, nodes, split_at, chained, links, edges, graph_of}
+use Rattle.link_graph.specs.Graph.{Given, UnitEdge, units_of, node_of, has_node, nodes, split_at, chained, links, edges, graph_of}
 use Rattle.link_graph.proofs.Nodes.{in_counted}
 use Rattle.link_graph.proofs.Rows.{row_at_lem}
 use Rattle.link_graph.proofs.Joined.{place_of}
 use Rattle.link_graph.proofs.Graph.{same_edges}
-use Rattle.order.specs.declared.Resolved.{Resolved}
+use Rattle.order.specs.declared.Unlinked.{Unlinked}
+use Rattle.order.specs.declared.Unlinked.TheVariants.{Refused}
+use Rattle.order.specs.Columns as stage
 use Rattle.order.specs.LinkOrder.{link_order, nodes_left, record_of, records_of}
 use Rattle.order.specs.Bytes.{units_bytes}
 use Rattle.order.specs.Columns.{said_of, Room, Resolves, Rows, Lent, SplitsTaken, UnitsTaken}
 
 -- ---- what an answer leaves is what its outcome says
-said : (r : Sorted) (t : List ℕ) (o : Outcome End) → sorting.meaning r t ≡ o → meaning (answer_of r) ≡ said_of o
-said (Ordered n) t o e = ap said_of e
-said (Cycle k) t o e = ap said_of e
-said (NoNode i) t o e = ap said_of e
-said Short t o e = ap said_of e
+said : (r : Result ℕ Unsorted) (t : List ℕ) (o : Outcome End) → sorting.meaning r t ≡ o → meaning (answer_of r) ≡ said_of o
+said (Ok n) t o e = ap said_of e
+said (Err (Cycle k)) t o e = ap said_of e
+said (Err (NoNode i)) t o e = ap said_of e
+said (Err Short) t o e = ap said_of e
 
-left : (r : Sorted) (t : List ℕ) (o : Outcome End) → sorting.meaning r t ≡ o → take (kept r) t ≡ nodes_left o
-left (Ordered n) t o e = ap nodes_left e
-left (Cycle k) t o e = ap nodes_left e
-left (NoNode i) t o e = ap nodes_left e
-left Short t o e = ap nodes_left e
+left : (r : Result ℕ Unsorted) (t : List ℕ) (o : Outcome End) → sorting.meaning r t ≡ o → take (kept r) t ≡ nodes_left o
+left (Ok n) t o e = ap nodes_left e
+left (Err (Cycle k)) t o e = ap nodes_left e
+left (Err (NoNode i)) t o e = ap nodes_left e
+left (Err Short) t o e = ap nodes_left e
 
 -- a table of more bytes than 1,024 units take is as good as one of 1,024
 same_room : (g : Graph) (size room : ℕ) → g.count ≤ 1024 → Room size room → sort_of g room ≡ sort_of g (size / 8)
@@ -57,7 +58,7 @@ unfolding sort_of
 same_room g size room h w = rw (w.same g.count h)
 
 -- the table is the first `room` places of a longer one
-pub sorts_in : {r : Sorted} {part : List ℕ} (g : Graph) (room : ℕ) (table : List ℕ) → room ≤ length table
+pub sorts_in : {r : Result ℕ Unsorted} {part : List ℕ} (g : Graph) (room : ℕ) (table : List ℕ) → room ≤ length table
     → Sorts (sort_of g (length (take room table))) (length (take room table)) r part → Sorts (sort_of g room) room r part
 sorts_in {r} {part} g room table h s = subst (λ (k : ℕ). Sorts (sort_of g k) k r part) (length-take-le room table h) s
 
@@ -109,7 +110,7 @@ nodes-named c n column w = all_in (λ x. x < length column) (nodes (rows c n)) (
         omega (arith, w.named k.0 inside)
 
 -- ---- the front of a table whose first part was lent and comes back as `part`
-module _ (g : Graph) (size room : ℕ) (r : Sorted) (part rest : List ℕ) (k : ℕ) (few : g.count ≤ 1024) (w : Room size room) (s : Sorts (sort_of g room) room r part)
+module _ (g : Graph) (size room : ℕ) (r : Result ℕ Unsorted) (part rest : List ℕ) (k : ℕ) (few : g.count ≤ 1024) (w : Room size room) (s : Sorts (sort_of g room) room r part)
     (e : k ≡ kept r) where
   means : sorting.meaning r part ≡ sort_of g (size / 8)
   means = s.means ∙ same_room g size room few w
@@ -126,24 +127,26 @@ module _ (g : Graph) (size room : ℕ) (r : Sorted) (part rest : List ℕ) (k : 
   pub kept-fits : 8 * k ≤ size
   kept-fits = omega (arith, s.room, w.fits)
 
-  pub sorted_resolves : (splits : List Split) (us : List units.Unit) (a : Answer) (before after : List ℕ) → length before ≡ size → a ≡ answer_of r
+  pub sorted_resolves : (splits : List Split) (us : List units.Unit) (a : Result ℕ Unlinked) (before after : List ℕ) → length before ≡ size
+      → (stage.kept a ≡ kept r) × (stage.answer_of a ≡ answer_of r) × stage.NotCycle a
       → after ≡ sets before 0 (units_bytes (records_of splits us (take k (part ++ rest))))
-      → Resolves splits us (sort_of g (size / 8)) (record { answer = a; kept = k }) before after
+      → Resolves splits us (sort_of g (size / 8)) a before after
   sorted_resolves splits us a before after long q f = record {
-    said = ap meaning q ∙ said r part _ means;
-    counted = sym kept_long ∙ ap length kept-nodes;
+    said = ap meaning q.1 ∙ said r part _ means;
+    counted = q.0 ∙ sym e ∙ sym kept_long ∙ ap length kept-nodes;
     front = f ∙ ap (λ (l : List ℕ). sets before 0 (units_bytes (records_of splits us l))) kept-nodes;
-    room = omega (arith, kept-fits);
-    few = omega (arith, s.room, w.low);
+    room = omega (arith, kept-fits, q.0, e);
+    few = omega (arith, s.room, w.low, q.0);
+    other = q.2;
   }
 
 -- ---- the stage: 60 first
-pub order_twice_resolves : (g : Given) (room : ℕ) (a : Answer) (before : List ℕ) → order_twice g.units ≡ true → a ≡ Refused 60 0 0
-    → Resolves g.splits g.units (link_order g room) (record { answer = a; kept = 0 }) before before
+pub order_twice_resolves : (g : Given) (room : ℕ) (before : List ℕ) → order_twice g.units ≡ true
+    → Resolves g.splits g.units (link_order g room) (Err (Refused (record { number = 60; section = 0; address = 0 }))) before before
 unfolding link_order units_bytes records_of
-order_twice_resolves g room a before e q =
+order_twice_resolves g room before e =
     rw (fails 60 0 0 (order_twice g.units) (sort_of (graph_of g) room) e)
-    (record { said = ap meaning q; counted = refl; front = refl; room = omega arith; few = omega arith })
+    (record { said = refl; counted = refl; front = refl; room = omega arith; few = omega arith; other = λ e. omega arith })
 
 pub sorted_stage : (g : Given) (room : ℕ) → order_twice g.units ≡ false → sort_of (graph_of g) room ≡ link_order g room
 unfolding link_order
@@ -153,7 +156,7 @@ sorted_stage g room e = sym (passes 60 0 0 (order_twice g.units) (sort_of (graph
 pub same_sort : (g h : Graph) (room : ℕ) → g.count ≡ h.count → g.from ≡ h.from → g.to ≡ h.to → sort_of g room ≡ sort_of h room
 same_sort g h room c f t = λ i. sort_of (record { count = c i; from = f i; to = t i }) room
 
-pub resolves_as : {splits : List Split} {us : List units.Unit} {o p : Outcome End} {r : Resolved} {before after : List ℕ} → o ≡ p
+pub resolves_as : {splits : List Split} {us : List units.Unit} {o p : Outcome End} {r : Result ℕ Unlinked} {before after : List ℕ} → o ≡ p
     → Resolves splits us o r before after → Resolves splits us p r before after
 resolves_as {splits} {us} {o} {p} {r} {before} {after} e w = subst (λ (x : Outcome End). Resolves splits us x r before after) e w
 

@@ -1,10 +1,10 @@
 -- The stage in lent columns: what its functions ask of the tables, and what they leave.
-use Rattle.std.specs.Prelude.{ℕ, ◌*◌, ◌/◌, ◌≤◌, ◌<◌, ◌≡◌, List, cond, length, get_or, eqb, ltb}
+use Rattle.std.specs.Prelude.{ℕ, ◌*◌, ◌/◌, ◌≤◌, ◌<◌, ◌≡◌, List, Result, Ok, Err, cond, length, get_or, eqb, ltb}
 use Rattle.std.proofs.lemmas.List.Edits.{sets}
 use Rattle.lists.specs.Rows.{some}
 use Rattle.lists.specs.Sort.{All}
 use Rattle.lists.specs.Outcome.{Outcome, accepted, refused}
-use Rattle.obj.specs.Answers.{meaning}
+use Rattle.obj.specs.Answers.{Answer, meaning}
 use Rattle.obj.specs.declared.Split.{Split}
 use Rattle.obj.specs.declared.Unit as units
 use Rattle.tables.specs.Records.{no_unit}
@@ -15,7 +15,8 @@ use Rattle.toposort.specs.Search.{End, all, cyclic, lost}
 use Rattle.toposort.specs.Sorting.{Within}
 use Rattle.link_graph.specs.Graph.{nodes}
 use Rattle.link_graph.specs.Columns.{Splits, Units}
-use Rattle.order.specs.declared.Resolved.{Resolved}
+use Rattle.order.specs.declared.Unlinked.{Unlinked}
+use Rattle.order.specs.declared.Unlinked.TheVariants.{Refused, Cycle}
 use Rattle.order.specs.Bytes.{units_bytes}
 use Rattle.order.specs.LinkOrder.{first_record, hand_of, made_unit, nodes_left, records_of}
 
@@ -28,6 +29,24 @@ said_of (accepted (cyclic l)) = refused 61 0 0
 said_of (accepted lost) = accepted tt
 said_of (refused number section address) = refused number section address
 
+-- how many unit records an answer leaves at the front of the unit table: those of the order or of the cycle, none after a refusal
+abbrev pub kept : Result ℕ Unlinked → ℕ
+kept (Ok n) = n
+kept (Err (Cycle k)) = k
+kept (Err (Refused r)) = 0
+
+-- document 01's number, section and address for each case of the answer
+abbrev pub answer_of : Result ℕ Unlinked → Answer
+answer_of (Ok n) = Ok tt
+answer_of (Err (Cycle k)) = Err (record { number = 61; section = 0; address = 0 })
+answer_of (Err (Refused r)) = Err r
+
+-- 61 is the cycle's number alone
+abbrev pub NotCycle : Result ℕ Unlinked → Type 0
+NotCycle (Ok n) = Unit {0}
+NotCycle (Err (Cycle k)) = Unit {0}
+NotCycle (Err (Refused r)) = r.number ≡ 61 → ⊥
+
 -- room for the units of a table of this many bytes, of which no more than 1,024 are asked
 pub record Room (size r : ℕ) : Type 0 where
   pub low : r ≤ 1024
@@ -35,12 +54,13 @@ pub record Room (size r : ℕ) : Type 0 where
   pub same : (n : ℕ) → n ≤ 1024 → ltb r n ≡ ltb (size / 8) n
 
 -- what the stage leaves: its answer, and the records of the order or the cycle at the front of the unit table
-pub record Resolves (splits : List Split) (us : List units.Unit) (o : Outcome End) (r : Resolved) (before after : List ℕ) : Type 0 where
-  pub said : meaning r.answer ≡ said_of o
-  pub counted : r.kept ≡ length (nodes_left o)
+pub record Resolves (splits : List Split) (us : List units.Unit) (o : Outcome End) (r : Result ℕ Unlinked) (before after : List ℕ) : Type 0 where
+  pub said : meaning (answer_of r) ≡ said_of o
+  pub counted : kept r ≡ length (nodes_left o)
   pub front : after ≡ sets before 0 (units_bytes (records_of splits us (nodes_left o)))
-  pub room : 8 * r.kept ≤ length before
-  pub few : r.kept ≤ 1024
+  pub room : 8 * kept r ≤ length before
+  pub few : kept r ≤ 1024
+  pub other : NotCycle r
 
 -- ---- the unit records
 

@@ -6,23 +6,76 @@ mod records;
 ghost use Rattle.std.specs.Prelude.{◌≡◌, ◌/◌, ◌≤◌, length};
 ghost use Rattle.tables.specs.Records.{units_in};
 ghost use Rattle.splits.specs.Columns.{columns, rows};
-ghost use Rattle.toposort.specs.Sorting.{sort_of};
+ghost use Rattle.toposort.specs.Sorting as sorting;
+ghost use Rattle.toposort.specs.Sorting.{sort_of, carried};
 ghost use Rattle.link_graph.specs.Columns.{given_of, Splits};
 ghost use Rattle.order.specs.LinkOrder.{link_order};
-ghost use Rattle.order.specs.Columns.{Room, Resolves, Sortable, Lent, SplitsTaken, UnitsTaken};
+ghost use Rattle.order.specs.declared.Unlinked.TheVariants.{Refused};
+ghost use Rattle.order.specs.Columns.{kept as kept_by, answer_of, NotCycle, Room, Resolves, Sortable, Lent, SplitsTaken, UnitsTaken};
 
 use link_graph::make_graph;
-use obj::{Answer, refusal};
+use obj::{Refusal, refuse};
 use order_numbers::{order_twice, order_units};
 pub use records::put_unit;
 use records::write_records;
-use toposort::{answer_of, kept};
+use toposort::Unsorted;
 
-// The answer, and how many unit records stand at the front of the unit table.
+// Why there is no link order: a refusal, or "61 cycle, left in the unit table", of so many unit records.
 #[derive(Clone, Copy)]
-pub struct Resolved {
-    pub answer: Answer,
-    pub kept: usize,
+pub enum Unlinked {
+    Refused(Refusal),
+    Cycle(usize),
+}
+
+impl From<Refusal> for Unlinked {
+    ghost from_gives = { λ r e. e ≡ Refused r };
+
+    fn from(r: Refusal) -> Unlinked {
+        Unlinked::Refused(r)
+    }
+}
+
+// How many unit records stand at the front of the unit table.
+pub fn kept(r: Result<usize, Unlinked>) -> usize
+    ensures { result ≡ kept_by r }
+{
+    match r {
+        Ok(n) => n,
+        Err(Unlinked::Cycle(k)) => k,
+        Err(Unlinked::Refused(_)) => 0,
+    }
+}
+
+// Document 01's number, section and address for each case of the answer.
+pub fn answer_of(r: Result<usize, Unlinked>) -> Result<(), Refusal>
+    ensures { result ≡ answer_of r }
+{
+    match r {
+        Ok(_) => Ok(()),
+        Err(Unlinked::Cycle(_)) => refuse(61, 0, 0),
+        Err(Unlinked::Refused(refusal)) => Err(refusal),
+    }
+}
+
+// What the sort says, said of the unit records.
+fn linked(r: Result<usize, Unsorted>) -> Result<usize, Unlinked>
+    requires { carried r ≤ 2048 }
+    ensures { (kept_by result ≡ sorting.kept r) × (answer_of result ≡ sorting.answer_of r) × NotCycle result }
+{
+    match r {
+        Ok(n) => Ok(n),
+        Err(Unsorted::Cycle(k)) => Err(Unlinked::Cycle(k)),
+        Err(Unsorted::NoNode(e)) => Err(Unlinked::Refused(Refusal {
+            number: 62,
+            section: 0,
+            address: e as u32,
+        })),
+        Err(Unsorted::Short) => Err(Unlinked::Refused(Refusal {
+            number: 76,
+            section: 0,
+            address: 0,
+        })),
+    }
 }
 
 // As many units as the unit table has room for; more than 1,024 are never asked.
@@ -50,14 +103,14 @@ fn sort_graph(
     table: &mut [u16],
     column: &mut [u16],
     out: &mut [u8],
-) -> Resolved
+) -> Result<usize, Unlinked>
     requires { Sortable (columns starts.now ends.now units.now rest.now) n unit_bytes.now unit_places.now nodes.now from.now to.now table.old column.old }
     ensures { Resolves (rows (columns starts.now ends.now units.now rest.now) n) (units_in unit_bytes.now unit_places.now)
         (sort_of (record { count = length nodes.now; from = from.now; to = to.now }) (length out.old / 8)) result out.old out.new }
 {
     let room = room_of(out.len());
     let r = toposort::toposort(nodes.len(), from, to, &mut table[..room]);
-    let m = kept(r);
+    let m = toposort::kept(r);
     write_records(
         starts,
         ends,
@@ -71,10 +124,7 @@ fn sort_graph(
         &table[..m],
         out,
     );
-    Resolved {
-        answer: answer_of(r),
-        kept: m,
-    }
+    linked(r)
 }
 
 // The stage: 60, then the graph and its sort. Sections are heads at places, names and units lie at places, the splits stand in columns; `numbers`, `scratch`,
@@ -99,7 +149,7 @@ pub fn resolve_link_order(
     from: &mut [u16],
     to: &mut [u16],
     out: &mut [u8],
-) -> Resolved
+) -> Result<usize, Unlinked>
     requires { Splits (columns starts.now ends.now units.now rest.now) n heads.now head_places.now name_bytes.now name_places.now name_lengths.now
         × Lent (columns starts.now ends.now units.now rest.now) n unit_bytes.now unit_places.now numbers.old scratch.old column.old nodes.old from.old to.old }
     ensures { Resolves (rows (columns starts.now ends.now units.now rest.now) n) (units_in unit_bytes.now unit_places.now)
@@ -109,10 +159,7 @@ pub fn resolve_link_order(
 {
     let k = order_units(unit_bytes, unit_places, numbers, scratch);
     if order_twice(unit_bytes, unit_places, &numbers[..k]) {
-        return Resolved {
-            answer: refusal(60, 0, 0),
-            kept: 0,
-        };
+        return Ok(refuse(60, 0, 0)?);
     }
     let made = make_graph(
         starts,
@@ -167,7 +214,7 @@ pub fn ordered(
     unit_bytes: &[u8],
     unit_places: &[u32],
     out: &mut [u8],
-) -> Resolved
+) -> Result<usize, Unlinked>
     requires { SplitsTaken (columns starts.now ends.now units.now rest.now) n heads.now head_places.now name_bytes.now name_places.now lengths.now
         × UnitsTaken unit_bytes.now unit_places.now }
     ensures { Resolves (rows (columns starts.now ends.now units.now rest.now) n) (units_in unit_bytes.now unit_places.now)

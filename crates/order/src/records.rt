@@ -41,14 +41,10 @@ fn mark_hand(
     requires { Rows (columns starts.now ends.now units.now rest.now) n column.old }
     ensures { HandMarked (rows (columns starts.now ends.now units.now rest.now) n) column.old column.new }
 {
-    let mut i: usize = 0;
-    while i < n {
+    for i in 0..n {
         let s = row(starts, ends, units, rest, i);
-        if is_auto(s) {
-            i += 1;
-        } else {
+        if !is_auto(s) {
             column[s.unit as usize] = HAND;
-            i += 1;
         }
     }
 }
@@ -58,9 +54,7 @@ fn mark_records(unit_bytes: &[u8], unit_places: &[u32], column: &mut [u16])
     requires { Units unit_bytes.now unit_places.now column.old }
     ensures { RecordMarked (units_in unit_bytes.now unit_places.now) column.old column.new }
 {
-    let mut k = unit_places.len();
-    while 0 < k {
-        k -= 1;
+    for k in (0..unit_places.len()).rev() {
         let u = unit_at(unit_bytes, unit_places, k);
         column[u.name as usize] = k as u16;
     }
@@ -103,14 +97,6 @@ pub fn put_unit(out: &mut [u8], at: usize, u: Unit)
     put_i32(out, at + 4, u.order);
 }
 
-// The number at place i.
-fn number(s: &[u16], i: usize) -> usize
-    requires { i < length s.now }
-    ensures { result ≡ get_or s.now i 0 }
-{
-    s[i] as usize
-}
-
 // The record of node v.
 fn node_record(
     unit_bytes: &[u8],
@@ -139,11 +125,9 @@ fn write_units(
     ensures { out.new ≡ sets out.old 0
         (units_bytes (map (node_record (units_in unit_bytes.now unit_places.now) column.now nodes.now) list.now)) }
 {
-    let mut i: usize = 0;
-    while i < list.len() {
-        let u = node_record(unit_bytes, unit_places, column, nodes, number(list, i));
+    for i in 0..list.len() {
+        let u = node_record(unit_bytes, unit_places, column, nodes, list[i] as usize);
         put_unit(out, 8 * i, u);
-        i += 1;
     }
 }
 

@@ -1,17 +1,18 @@
 -- A number that stands twice in a list, `twice`: sorting does not change it, and in a sorted list two that are equal are neighbours. Assumes nothing.
-use Prim.Native.Nat.{ℕ, suc, ◌+◌, ◌≤◌, ◌<◌}
-use mathlib.Core.Path.{◌≡◌, refl, sym, ap, ap₂, ◌∙◌}
-use mathlib.Core.List.{List, [], ◌∷◌}
+use Prim.Native.Nat.{ℕ, suc, ◌+◌, ◌-◌, ◌≤◌, ◌<◌}
+use mathlib.Core.Path.{◌≡◌, refl, sym, ap, ap₂, subst, ◌∙◌}
+use mathlib.Core.List.{List, [], ◌∷◌, map}
 use mathlib.Core.Bool.{Bool, true, false, cond, ◌||◌}
 use native.Mathlib.Numerals.{add-one}
 use native.Mathlib.Omega.{arith}
 use borrow.Author.Tests.{eqb-true, eqb-false, eq-eqb, ne_eqb}
 use lib.Dec.{eqb, leb}
-use lib.ListN.{length, get_or, drop, length-drop}
+use lib.ListN.{length, get_or, drop, length-drop, length-map}
 use lib.Seq.{drop-cons}
 use Rattle.lists.specs.Rows.{some}
 use Rattle.lists.specs.Sort.{insert_key, sort_by, All, none, each, Sorted}
 use Rattle.lists.proofs.All.{all_map}
+use Rattle.lists.proofs.Rows.{get_d_map}
 use Rattle.lists.proofs.Sort.{sorted_sort}
 use Rattle.order_numbers.specs.Numbers.{twice, next_same}
 
@@ -113,3 +114,17 @@ next_turn l i h =
 
 pub next_none : (l : List ℕ) (i : ℕ) → length l ≤ i + 1 → next_same (drop i l) ≡ false
 next_none l i h = at_most_one (drop i l) (omega (arith, length-drop i l))
+
+-- the same of neighbours i - 1 and i, by what is asked of them
+module _ (f : ℕ → ℕ) (s : List ℕ) where
+  turn : (i : ℕ) → i + 1 < length s → next_same (drop i (map f s)) ≡ (eqb (f (get_or s i 0)) (f (get_or s (i + 1) 0)) || next_same (drop (i + 1) (map f s)))
+  turn i h =
+      next_turn (map f s) i (omega (arith, length-map s f))
+      ∙ ap₂ (λ (x y : ℕ). eqb x y || next_same (drop (i + 1) (map f s))) (get_d_map f s i 0 0 (omega arith)) (get_d_map f s (i + 1) 0 0 h)
+
+  pub map_turn : (i : ℕ) → 0 < i → i < length s
+      → next_same (drop (i - 1) (map f s)) ≡ (eqb (f (get_or s (i - 1) 0)) (f (get_or s i 0)) || next_same (drop i (map f s)))
+  map_turn i low h =
+      let z : i - 1 + 1 ≡ i = omega (arith, low) in
+      subst (λ (k : ℕ). next_same (drop (i - 1) (map f s)) ≡ (eqb (f (get_or s (i - 1) 0)) (f (get_or s k 0)) || next_same (drop k (map f s)))) z
+      (turn (i - 1) (omega (arith, low, h)))

@@ -1,6 +1,6 @@
 -- The bytes of the lent output tables. A table's records are followed by zeros to the end of the lent slice (`laid` of lists);
 -- `counts` has a count of two bytes for each output before it, as many as fit whole into what was lent, and zeros after.
-use Rattle.std.specs.Prelude.{ℕ, zero, suc, ◌+◌, ◌*◌, ◌/◌, List, [], ◌∷◌, ◌++◌, cond, length, take, leb}
+use Rattle.std.specs.Prelude.{ℕ, suc, ◌+◌, ◌*◌, ◌/◌, List, [], ◌∷◌, ◌++◌, cond, length, take, leb}
 use Rattle.std.proofs.lemmas.List.Edits.{sets}
 use Rattle.lists.specs.Tables.{laid}
 use Rattle.fields.specs.Fields.{enc16}

@@ -1,7 +1,7 @@
 // What an entry writes into the tables that are lent to it: numbers of two bytes, the counts, and zeros after what is kept.
 #![tactic(auto)]
 
-ghost use Rattle.std.specs.Prelude.{◌≡◌, ◌+◌, ◌*◌, ◌≤◌, length};
+ghost use Rattle.std.specs.Prelude.{◌≡◌, ◌*◌, ◌≤◌, length};
 ghost use Rattle.std.proofs.lemmas.List.Edits.{sets};
 ghost use Rattle.lists.specs.Rows.{clear_from};
 ghost use Rattle.outputs.specs.Outputs.{halves, store_count};
@@ -12,26 +12,24 @@ use fields::put16;
 pub fn clear_from(out: &mut [u8], from: usize)
     ensures { out.new ≡ clear_from 0 from out.old }
 {
-    let mut i = from;
-    while i < out.len() {
-        out[i] = 0;
-        i += 1;
+    if from < out.len() {
+        out[from..].fill(0);
     }
 }
 
 // The numbers at the front of a table of two-byte records.
+#[tactic(auto, using(crate::proofs::Laws::halves_turn, crate::proofs::Laws::halves_done))]
 pub fn put_halves(out: &mut [u8], numbers: &[u16])
     requires { 2 * length numbers.now ≤ length out.old }
     ensures { out.new ≡ sets out.old 0 (halves numbers.now) }
 {
-    let mut i = 0;
-    while i < numbers.len() {
-        put16(out, 2 * i, numbers[i]);
-        i += 1;
+    for (i, number) in numbers.iter().enumerate() {
+        put16(out, 2 * i, *number);
     }
 }
 
 // Count k, where it fits whole into the lent counts.
+#[tactic(auto, unfolding(crate::specs::Outputs::store_count))]
 pub fn put_count(counts: &mut [u8], k: usize, count: u16)
     requires { k ≤ 64 }
     ensures { counts.new ≡ store_count k count counts.old }

@@ -15,9 +15,8 @@ use borrow.Author.Tests.{eq-eqb, ne_eqb, eqb-true}
 use Rattle.lists.specs.Rows.{tabulate}
 use Rattle.lists.proofs.Rows.{tabulate_more, get_d_tabulate, length-tabulate, get_or_same}
 use Rattle.pieces.specs.declared.PieceSymbol.{PieceSymbol}
-use Rattle.pieces.specs.Pieces.{symbol_at, symbols_in}
+use Rattle.pieces.specs.Pieces.{symbols_in}
 use Rattle.pieces.specs.Questions.{has}
-use Rattle.pieces.proofs.Laws.{length-symbols_in}
 use Rattle.piece_columns.specs.Columns.{entry_at, last_of, Chained, PushedSymbol}
 
 -- ---- Booleans

@@ -24,8 +24,7 @@ pub fn push_piece(counts: &mut [u16], out: &mut [u8], k: usize, p: Piece)
     requires { (p.unit < length counts.old) × Counted counts.old out.old k × (piece_width * k + piece_width ≤ length out.old) × (k < 65535) }
     ensures { PushedPiece counts.new out.old out.new k p }
 {
-    let unit = p.unit as usize;
-    counts[unit] = counts[unit] + 1;
+    counts[usize::from(p.unit)] += 1;
     add_piece(out, k, p);
 }
 
@@ -34,6 +33,7 @@ pub fn has_symbol(chains: &[u16], out: &[u8], k: usize, unit: u16, symbol: usize
     requires { (symbol < length (lasts_in chains.now)) × Chained (lasts_in chains.now) (prevs_in chains.now) out.now k }
     ensures { result ≡ has unit symbol (symbols_in out.now k) }
 {
+    // along a chain: no count
     let mut j = number(chains, symbol);
     while j != 0 {
         let y = piece_symbol_at(out, j - 1);
@@ -50,7 +50,7 @@ pub fn push_symbol(chains: &mut [u16], out: &mut [u8], k: usize, y: PieceSymbol)
     requires { (y.symbol < length (lasts_in chains.old)) × Chained (lasts_in chains.old) (prevs_in chains.old) out.old k × (k < length (prevs_in chains.old)) × (12 * k + 12 ≤ length out.old) × (k < 65535) }
     ensures { PushedSymbol (lasts_in chains.new) (prevs_in chains.new) out.old out.new k y }
 {
-    let i = y.symbol as usize;
+    let i = usize::from(y.symbol);
     chains[4096 + k] = chains[i];
     chains[i] = k as u16 + 1;
     add_piece_symbol(out, k, y);

@@ -20,11 +20,9 @@ pub fn fill_starts(b: &[u8], n: usize, starts: &mut [usize])
     ensures { take n starts.new ≡ starts_at n b.now 0 }
 {
     let mut at: usize = 0;
-    let mut i: usize = 0;
-    while i < n {
+    for i in 0..n {
         starts[i] = at;
         at = next_at(b, at);
-        i += 1;
     }
 }
 
@@ -42,11 +40,9 @@ fn fill_keys(b: &[u8], starts: &[usize], table: &mut [u8])
     requires { Placed b.now starts.now × (20 * length starts.now ≤ length table.old) }
     ensures { Keyed b.now starts.now (length starts.now) table.new }
 {
-    let mut i: usize = 0;
-    while i < starts.len() {
-        let p = head_at(b, starts[i]);
+    for (i, start) in starts.iter().enumerate() {
+        let p = head_at(b, *start);
         put_key(table, 20 * i, p.section, p.address);
-        i += 1;
     }
 }
 
@@ -55,10 +51,8 @@ fn fill_numbers(order: &mut [u16])
     requires { length order.old ≤ 65535 }
     ensures { order.new ≡ numbers (length order.old) }
 {
-    let mut i: usize = 0;
-    while i < order.len() {
-        order[i] = i as u16;
-        i += 1;
+    for (i, number) in order.iter_mut().enumerate() {
+        *number = i as u16;
     }
 }
 

@@ -6,10 +6,7 @@ use Rattle.std.specs.Prelude.{ℕ, zero, suc, ◌+◌, ◌-◌, ◌≤◌, ◌<�
 use Rattle.lists.specs.Outcome.{Outcome, accepted, refused, refuse, ◌>>=◌, ◌>>◌}
 use Rattle.lists.specs.Rows.{any_of}
 use Rattle.fields.specs.Fields.{le16, le32, enc16, enc32}
-use Rattle.obj.specs.declared.Answer.{Answer}
-use Rattle.obj.specs.declared.Answer.TheVariants.{Accepted, Refused}
 use Rattle.join.specs.Join.{Part}
-use Rattle.piece_records.specs.declared.Counted.{Counted}
 use Rattle.piece_records.specs.declared.PieceHead.{PieceHead}
 
 -- ---- a record at a place
@@ -76,14 +73,6 @@ pub record Lying (b : List ℕ) (at : ℕ) : Type 0 where
 unfoldable pub Whole : (count : ℕ) → List ℕ → (at : ℕ) → Type 0
 Whole zero b at = Unit {0}
 Whole (suc count) b at = Lying b at × Whole count b (next_at b at)
-
--- what the count's answer means
-abbrev pub count_of : (count : ℕ) → Answer → Outcome ℕ
-count_of count Accepted = accepted count
-count_of count (Refused number section address) = refused number section address
-
-abbrev pub counted : Counted → Outcome ℕ
-counted r = count_of r.count r.answer
 
 -- a piece without its bytes: how many they are
 pub record IsHead (p : Part) (r : PieceHead) : Type 0 where

@@ -3,18 +3,11 @@
 #![tactic(auto)]
 
 ghost use Rattle.std.specs.Prelude.{◌≡◌, ◌+◌, ◌≤◌, length};
-ghost use Rattle.lists.specs.Outcome as outcome;
-ghost use Rattle.piece_records.specs.Records.{part_at, next_at, record_bad, count_from, counted, Lying, IsHead};
+ghost use Rattle.obj.specs.Answers.{meaning};
+ghost use Rattle.piece_records.specs.Records.{part_at, next_at, record_bad, count_from, Lying, IsHead};
 
 use fields::{get16, get32};
-use obj::{Answer, refusal};
-
-// How many records there are, if they were accepted.
-#[derive(Clone, Copy)]
-pub struct Counted {
-    pub answer: Answer,
-    pub count: u32,
-}
+use obj::{Refusal, refuse};
 
 // A piece without its bytes.
 #[derive(Clone, Copy)]
@@ -75,33 +68,22 @@ pub fn bytes_at<'a>(b: &'a [u8], at: usize) -> &'a [u8]
     &b[start..end]
 }
 
-fn refused(number: u16, place: u32) -> Counted
-    ensures { counted result ≡ outcome.refused number 0 place }
-{
-    Counted {
-        answer: refusal(number, 0, place),
-        count: 0,
-    }
-}
-
 // All records in order, each for 1, then 2: how many there are, or the first refusal.
-pub fn count_pieces(b: &[u8]) -> Counted
-    ensures { counted result ≡ count_from 1024 b.now 0 0 }
+pub fn count_pieces(b: &[u8]) -> Result<u32, Refusal>
+    ensures { meaning result ≡ count_from 1024 b.now 0 0 }
 {
+    // no count: each record's own length says where the next one starts
     let mut at: usize = 0;
     let mut n: u32 = 0;
     while at < b.len() {
         if record_bad(b, at) {
-            return refused(1, n);
+            return refuse(1, 0, n);
         }
         if MOST_PIECES <= n {
-            return refused(2, n);
+            return refuse(2, 0, n);
         }
         at = next_at(b, at);
         n += 1;
     }
-    Counted {
-        answer: Answer::Accepted,
-        count: n,
-    }
+    Ok(n)
 }

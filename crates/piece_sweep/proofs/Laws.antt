@@ -1,6 +1,6 @@
 -- Comparing two pieces' bytes from the higher start to the lower end asks whether they differ anywhere. Assumes nothing.
-use Prim.Native.Nat.{ℕ, zero, suc, ◌+◌, ◌-◌, ◌≤◌, ◌<◌, min, max}
-use mathlib.Core.Path.{◌≡◌, refl, sym, ap, ap₂, subst, ◌∙◌}
+use Prim.Native.Nat.{ℕ, zero, suc, ◌+◌, ◌-◌, ◌≤◌, ◌<◌}
+use mathlib.Core.Path.{◌≡◌, refl, sym, ap, subst, ◌∙◌}
 use mathlib.Core.List.Memᴰ
 use mathlib.Core.List.{List, [], ◌∷◌, map, Memᴰ}
 use mathlib.Core.Logic.{◌⊎◌, inl, inr}
@@ -19,7 +19,7 @@ use Rattle.lists.proofs.Compare.{never, and_fails}
 use Rattle.names.specs.Names.{same_name}
 use Rattle.names.proofs.Laws.{same_self, same_equal}
 use Rattle.join.specs.Join.{Part, byte_of, addresses, differ_at, differ}
-use Rattle.piece_sweep.specs.Sweep.{end_of, unequal, farther, sweep_from, sweep, sweep_all}
+use Rattle.piece_sweep.specs.Sweep.{end_of, unequal, farther, sweep_from, sweep}
 use Rattle.lists.proofs.Among.{same_test, fails_by, some_by, some_member, and_true, range_member, member_range}
 use Rattle.join.proofs.Members.{Lies, lies, lies_covers}
 use Rattle.piece_records.specs.Records.{part_at, next_at, parts_at, Whole}

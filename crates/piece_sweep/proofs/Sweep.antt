@@ -5,22 +5,20 @@ use mathlib.Core.List.Permᴰ
 use mathlib.Core.List.{List, [], ◌∷◌, ◌++◌, Memᴰ, Permᴰ}
 use mathlib.Core.Logic.{◌⊎◌, inl, inr, ◌≢◌}
 use mathlib.Core.Bool.{Bool, true, false, cond, ◌&&◌, ◌||◌, not}
-use Prim.Native.Nat.{ℕ, zero, suc, ◌+◌, ◌*◌, ◌-◌, ◌≤◌, ◌<◌}
+use Prim.Native.Nat.{ℕ, ◌≤◌, ◌<◌}
 use native.Mathlib.Omega.{arith}
 use native.Mathlib.Decide.{ℕ_discrete, dec_le}
-use lib.ListN.{length, get_or}
+use lib.ListN.{length}
 use lib.Dec.{eqb, leb}
-use borrow.Author.Tests.{eq-eqb, ne_eqb, le-leb, lt-leb, eqb-true, not-true, not-false}
-use Rattle.lists.specs.Rows.{some}
-use Rattle.lists.specs.Sort.{All, none, each, Sorted, sort_by, insert_key}
+use borrow.Author.Tests.{eq-eqb, ne_eqb, le-leb, lt-leb}
+use Rattle.lists.specs.Sort.{All, Sorted, sort_by, insert_key}
 use Rattle.lists.proofs.Compare.{never}
 use Rattle.lists.proofs.Sort.{sorted_sort}
-use Rattle.lists.proofs.Both.{both}
 use Rattle.join.specs.Join.{Part, byte_of, covers, addresses, differ_at, differ}
 use Rattle.piece_order.specs.Order.{key_of}
 use Rattle.piece_sweep.specs.Sweep.{end_of, unequal, farther, sweep_from, sweep, sweep_all}
-use Rattle.lists.proofs.Among.{Among, same_test, fails_by, some_by, some_member, none_member, and_true, range_member, member_range, perm_among, all_find}
-use Rattle.join.proofs.Members.{Lies, lies_covers, lies, Apart, apart, apart-differ, meets}
+use Rattle.lists.proofs.Among.{fails_by, some_by, none_member, and_true, range_member, perm_among, all_find}
+use Rattle.join.proofs.Members.{Lies, lies_covers, Apart, apart, meets}
 use Rattle.join.proofs.Order.{differ_same}
 
 -- ---- two pieces compared

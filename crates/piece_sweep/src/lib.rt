@@ -1,7 +1,7 @@
 // 83 where no bytes are lent to lay pieces on: the pieces by section and address, each compared with the one before it that reaches farthest. Document 02, (n).
 #![tactic(auto)]
 
-ghost use Rattle.std.specs.Prelude.{◌≡◌, map, ◌≤◌, ◌<◌, min, max, length, get_or};
+ghost use Rattle.std.specs.Prelude.{◌≡◌, map, ◌≤◌, ◌<◌, length, get_or};
 ghost use Rattle.lists.specs.Sort.{All};
 ghost use Rattle.join.specs.Join.{differ};
 ghost use Rattle.piece_records.specs.Records.{part_at, parts_at, Lying, Whole};
@@ -12,24 +12,6 @@ ghost use Rattle.piece_sweep.specs.Overlap.{bytes_in, Within, Farthest};
 use join_pieces::unequal;
 use piece_order::{fill_starts, order_pieces};
 use piece_records::{bytes_at, head_at};
-
-fn larger(a: usize, b: usize) -> usize
-    ensures { result ≡ max a b }
-{
-    if a < b {
-        return b;
-    }
-    a
-}
-
-fn smaller(a: usize, b: usize) -> usize
-    ensures { result ≡ min a b }
-{
-    if a < b {
-        return a;
-    }
-    b
-}
 
 // The bytes of the piece at `at` from address `low` to `high`.
 fn bytes_between<'a>(b: &'a [u8], at: usize, low: usize, high: usize) -> &'a [u8]
@@ -51,10 +33,10 @@ pub fn is_unequal(b: &[u8], far: usize, at: usize) -> bool
 {
     let f = head_at(b, far);
     let p = head_at(b, at);
-    let low = larger(f.address as usize, p.address as usize);
+    let low = (f.address as usize).max(p.address as usize);
     let f_end = (f.address as usize) + (f.length as usize);
     let p_end = (p.address as usize) + (p.length as usize);
-    let high = smaller(f_end, p_end);
+    let high = f_end.min(p_end);
     if f.section != p.section {
         return false;
     }
@@ -96,18 +78,16 @@ fn pass(b: &[u8], starts: &[usize], order: &[u16]) -> bool
     requires { Placed b.now starts.now × All (λ k. k < length starts.now) order.now }
     ensures { result ≡ sweep (map (part_in b.now starts.now) order.now) }
 {
-    if order.len() == 0 {
+    if order.is_empty() {
         return false;
     }
     let mut far = start_of(starts, order, 0);
-    let mut i: usize = 1;
-    while i < order.len() {
+    for i in 1..order.len() {
         let at = start_of(starts, order, i);
         if is_unequal(b, far, at) {
             return true;
         }
         far = farther(b, far, at);
-        i += 1;
     }
     false
 }

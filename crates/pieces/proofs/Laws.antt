@@ -2,16 +2,12 @@
 -- bytes are its records' bytes. All three by the laws of Tables.antt. Assumes nothing.
 use mathlib.Core.Path.{◌≡◌, refl, sym, ap, ◌∙◌}
 use mathlib.Core.List.{List, [], ◌∷◌, ◌++◌}
-use mathlib.Core.Bool.{Bool, true, false}
-use Prim.Native.Nat.{ℕ, ◌+◌, ◌*◌, ◌-◌, ◌≤◌, ◌<◌, min}
+use Prim.Native.Nat.{ℕ, ◌+◌, ◌*◌, ◌≤◌, ◌<◌}
 use native.Mathlib.Omega.{arith}
-use borrow.Author.Tests.{leb-true, leb-false}
-use lib.Dec.{leb}
-use lib.ListN.{length, get_or, take, drop, length-take, length-drop}
-use lib.Seq.{sets, take_all}
-use Rattle.lists.specs.Rows.{tabulate}
+use lib.ListN.{length, get_or, take, drop}
+use lib.Seq.{sets}
 use Rattle.lists.proofs.Rows.{length-tabulate}
-use Rattle.fields.specs.Fields.{le16, le32, le64, enc16, enc32, enc64, little}
+use Rattle.fields.specs.Fields.{le16, le32, le64, little}
 use Rattle.fields.proofs.Laws.{le16_is, le32_is, le64_is, number_at_same, round16, round32, round64}
 use Rattle.pieces.specs.Pieces.{piece_at, symbol_at, reloc_at, piece_head, piece_bytes, symbol_bytes, reloc_bytes, pieces_in, symbols_in, relocs_in, packed, FitsPiece, FitsSymbol, FitsReloc, piece_width}
 use Rattle.pieces.specs.declared.Piece.{Piece}
@@ -187,23 +183,3 @@ module _ (b : List ℕ) (small : (i : ℕ) → get_or b i 0 < 256) where
     pub relocs_packed : 8 * k ≤ length b → packed reloc_bytes (relocs_in b k) ≡ take (8 * k) b
     unfolding relocs_in
     relocs_packed h = packed-table reloc_bytes 8 reloc_at b k (λ i q. reloc_bytes_lem (8 * i) (omega arith))
-
--- ---- a part of a section's bytes, as far as there are any
-empty : (s : List ℕ) → length s ≡ 0 → s ≡ []
-empty [] e = refl
-empty (x ∷ s) e = absurd (omega arith)
-
-pub part_none : (l : List ℕ) (from to : ℕ) → min to (length l) ≤ from → take (to - from) (drop from l) ≡ []
-part_none l from to h = empty (take (to - from) (drop from l)) (simp (length-take, length-drop) (omega arith))
-
-cut_at : (l : List ℕ) (n m : ℕ) → m ≡ min n (length l) → take m l ≡ take n l
-cut_at l n m e = by_test (leb n (length l)) refl
-  where
-    by_test : (t : Bool) → leb n (length l) ≡ t → take m l ≡ take n l
-    by_test true q = ap (λ (k : ℕ). take k l) (let z : m ≡ n = omega (arith, leb-true n (length l) q) in z)
-    by_test false q =
-        let h = leb-false n (length l) q in
-        take_all m l (omega arith) ∙ sym (take_all n l (omega arith))
-
-pub part_cut : (l : List ℕ) (from to : ℕ) → take (min to (length l) - from) (drop from l) ≡ take (to - from) (drop from l)
-part_cut l from to = cut_at (drop from l) (to - from) (min to (length l) - from) (simp length-drop (omega arith))

@@ -2,7 +2,7 @@
 // A piece symbol's and a piece relocation's other fields are those of the image's record of that number.
 #![tactic(auto)]
 
-ghost use Rattle.std.specs.Prelude.{◌≡◌, [], ◌∷◌, ◌++◌, ◌+◌, ◌*◌, ◌-◌, ◌≤◌, min, length, take, drop};
+ghost use Rattle.std.specs.Prelude.{◌≡◌, [], ◌∷◌, ◌++◌, ◌+◌, ◌*◌, ◌-◌, ◌≤◌, length, take, drop};
 ghost use Rattle.std.proofs.lemmas.List.Edits.{sets};
 ghost use Rattle.pieces.specs.Pieces.{piece_width, piece_head, piece_bytes, symbol_bytes, reloc_bytes, piece_at, symbol_at, reloc_at, pieces_in, symbols_in, relocs_in};
 
@@ -42,6 +42,7 @@ pub const PIECE_BYTES: usize = 30;
 
 // ---- records read
 
+#[tactic(auto, unfolding(crate::specs::Pieces::piece_at))]
 pub fn piece_at(b: &[u8], k: usize) -> Piece
     requires { piece_width * k + piece_width ≤ length b.now }
     ensures { result ≡ piece_at b.now (piece_width * k) }
@@ -60,6 +61,7 @@ pub fn piece_at(b: &[u8], k: usize) -> Piece
     }
 }
 
+#[tactic(auto, unfolding(crate::specs::Pieces::symbol_at))]
 pub fn piece_symbol_at(b: &[u8], k: usize) -> PieceSymbol
     requires { 12 * k + 12 ≤ length b.now }
     ensures { result ≡ symbol_at b.now (12 * k) }
@@ -74,6 +76,7 @@ pub fn piece_symbol_at(b: &[u8], k: usize) -> PieceSymbol
     }
 }
 
+#[tactic(auto, unfolding(crate::specs::Pieces::reloc_at))]
 pub fn piece_reloc_at(b: &[u8], k: usize) -> PieceReloc
     requires { 8 * k + 8 ≤ length b.now }
     ensures { result ≡ reloc_at b.now (8 * k) }
@@ -155,22 +158,13 @@ pub fn add_piece_reloc(out: &mut [u8], k: usize, r: PieceReloc)
 
 // ---- bytes
 
-fn lower_of(a: usize, b: usize) -> usize
-    ensures { result ≡ min a b }
-{
-    if a < b {
-        return a;
-    }
-    b
-}
-
 // "A piece's bytes are a returned part of the section's bytes, no copy": those in from..to, counted from the section's start, as far as there are any.
 pub fn piece_bytes(section_bytes: &[u8], from: usize, to: usize) -> &[u8]
     ensures { result.now ≡ take (to - from) (drop from section_bytes.now) }
 {
-    let end = lower_of(to, section_bytes.len());
+    let end = to.min(section_bytes.len());
     if end <= from {
-        return &section_bytes[..0];
+        return &[];
     }
     &section_bytes[from..end]
 }

@@ -16,7 +16,8 @@ use Rattle.splits.specs.Columns.{Columns}
 use Rattle.stage_walk.specs.Room.{room_for, room_in}
 use Rattle.stage_walk.proofs.Room.{room_low, room_pieces, room_12, room_8}
 use Rattle.run.specs.declared.Ran.{Ran}
-use Rattle.run.specs.declared.Ran.TheVariants.{Done, Cycle, Refused}
+use Rattle.order.specs.declared.Unlinked.{Unlinked}
+use Rattle.order.specs.declared.Unlinked.TheVariants.{Refused, Cycle}
 use Rattle.run.specs.Run.{Rooms, Ended, stages, run_of}
 use Rattle.run.specs.Answers.{ran_in}
 use Rattle.run_file.specs.RunFile.{rooms_in, Holds, Runs}
@@ -44,7 +45,7 @@ run_stages file rooms t e = ap (λ (o : Outcome Loaded). o >>= λ t. stages file
 
 module _ (file places lengths : List ℕ) (counts : load.Counts) (c : Beside) (table : Columns) (units pieces entries offsets : List ℕ) (units-room a b d : ℕ) where
   -- the answer of a run, with room in these tables
-  run_printable : (ran : Ran)
+  run_printable : (ran : Result Ran Unlinked)
       → ran_in c table units pieces entries offsets ran
       ≡ run_of file (rooms_in file 4096 65535 1024 units-room (room_in a b d))
       → Holds 4096 65535 1024 (room_in a b d) c units ran
@@ -56,7 +57,7 @@ module _ (file places lengths : List ℕ) (counts : load.Counts) (c : Beside) (t
       → length offsets ≡ d
       → PrintableIf file counts places lengths c units pieces entries offsets ran
   unfolding tables_in
-  run_printable (Done names used splits n made) e h loaded long lengths_long pieces_long entries-long offsets_long =
+  run_printable (Ok r) e h loaded long lengths_long pieces_long entries-long offsets_long =
       let l = loaded _ refl in
       let u = loaded_usable file (tables_in counts places lengths) l in
       let w = h.3 in
@@ -68,12 +69,12 @@ module _ (file places lengths : List ℕ) (counts : load.Counts) (c : Beside) (t
         relocations = part_few 4160 counts.relocations 4096 places (omega arith) u.good.within.relocations;
         few = h.2.few;
         readable =
-            run_readable u (rooms_in file 4096 65535 1024 units-room (room_in a b d) (tables_in counts places lengths)) c table units pieces entries offsets names used splits n made
+            run_readable u (rooms_in file 4096 65535 1024 units-room (room_in a b d) (tables_in counts places lengths)) c table units pieces entries offsets r.names r.used r.splits r.units r.made
             (e ∙ run_stages file _ _ l) h.0.packed h.2 (omega (arith, w.pieces, room_pieces 1024 a)) (omega (arith, w.pieces, room_low 1024 a piece_width))
             (omega (arith, w.symbols, room_12 4096 b)) (omega (arith, w.symbols, room_low 4096 b 12)) (omega (arith, w.relocs, room_8 4096 d));
       }
-  run_printable (Cycle n) e h loaded long lengths_long pieces_long entries-long offsets_long = tt
-  run_printable (Refused number section address) e h loaded long lengths_long pieces_long entries-long offsets_long = tt
+  run_printable (Err (Cycle n)) e h loaded long lengths_long pieces_long entries-long offsets_long = tt
+  run_printable (Err (Refused r)) e h loaded long lengths_long pieces_long entries-long offsets_long = tt
 
 -- THEOREM: what the run of a file left can be printed
 pub runs_printable : {file places lengths : List ℕ} {c : Beside} {table : Columns} {units pieces entries offsets : List ℕ} {units-room a b d : ℕ} (r : RanFile)

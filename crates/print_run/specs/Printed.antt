@@ -8,7 +8,9 @@ use Rattle.load.specs.declared.Counts as load
 use Rattle.load.specs.Columns.{tables_in}
 use Rattle.walk.specs.declared.Counts.{Counts}
 use Rattle.run.specs.declared.Ran.{Ran}
-use Rattle.run.specs.declared.Ran.TheVariants.{Done, Cycle, Refused}
+use Rattle.std.specs.Prelude.{Result, Ok, Err}
+use Rattle.order.specs.declared.Unlinked.{Unlinked}
+use Rattle.order.specs.declared.Unlinked.TheVariants.{Refused, Cycle}
 use Rattle.run_file.specs.declared.RanFile.{RanFile}
 use Rattle.run_file.specs.RunFile.{Runs}
 use Rattle.splits.specs.Columns.{Columns}
@@ -41,10 +43,10 @@ pub record Printable (file : List ℕ) (counts : load.Counts) (places lengths : 
   pub readable : Readable (listed_tables file (tables_in counts places lengths) added units pieces entries offsets n made)
 
 -- .. and a run that was not done asks nothing of them
-abbrev pub PrintableIf : (file : List ℕ) → load.Counts → (places lengths : List ℕ) → Beside → (units pieces entries offsets : List ℕ) → Ran → Type 0
-PrintableIf file counts places lengths added units pieces entries offsets (Done names used splits n made) = Printable file counts places lengths added units n pieces entries offsets made
-PrintableIf file counts places lengths added units pieces entries offsets (Cycle n) = Unit {0}
-PrintableIf file counts places lengths added units pieces entries offsets (Refused number section address) = Unit {0}
+abbrev pub PrintableIf : (file : List ℕ) → load.Counts → (places lengths : List ℕ) → Beside → (units pieces entries offsets : List ℕ) → Result Ran Unlinked → Type 0
+PrintableIf file counts places lengths added units pieces entries offsets (Ok r) = Printable file counts places lengths added units r.units pieces entries offsets r.made
+PrintableIf file counts places lengths added units pieces entries offsets (Err (Cycle n)) = Unit {0}
+PrintableIf file counts places lengths added units pieces entries offsets (Err (Refused r)) = Unit {0}
 
 -- ---- what is written
 
@@ -54,10 +56,10 @@ done_text file counts places lengths added units n pieces entries offsets made =
     listing (run_of (listed_tables file (tables_in counts places lengths) added units pieces entries offsets n made))
 
 -- of each answer of a run: "A refusal prints only `refused`, number, section, address", and "61 cycle" is a refusal here, at section and address 0
-abbrev pub text_of : (file : List ℕ) → load.Counts → (places lengths : List ℕ) → Beside → (units pieces entries offsets : List ℕ) → Ran → List ℕ
-text_of file counts places lengths added units pieces entries offsets (Done names used splits n made) = done_text file counts places lengths added units n pieces entries offsets made
-text_of file counts places lengths added units pieces entries offsets (Cycle n) = refused_line 61 0 0
-text_of file counts places lengths added units pieces entries offsets (Refused number section address) = refused_line number section address
+abbrev pub text_of : (file : List ℕ) → load.Counts → (places lengths : List ℕ) → Beside → (units pieces entries offsets : List ℕ) → Result Ran Unlinked → List ℕ
+text_of file counts places lengths added units pieces entries offsets (Ok r) = done_text file counts places lengths added units r.units pieces entries offsets r.made
+text_of file counts places lengths added units pieces entries offsets (Err (Cycle n)) = refused_line 61 0 0
+text_of file counts places lengths added units pieces entries offsets (Err (Refused r)) = refused_line r.number r.section r.address
 
 -- "Outputs: 1,024 pieces, 4,096 piece symbols, 4,096 piece relocations"
 abbrev pub main_room : Counts

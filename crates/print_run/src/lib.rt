@@ -15,6 +15,7 @@ ghost use Rattle.print_run.specs.Printed.{tables_of, done_text, text_of, Printab
 use lines::write_refused;
 use listing::{Cursor, next_line};
 use load::{Counts, NAMES, RELOCATIONS, SYMBOLS};
+use order::Unlinked;
 use run::Ran;
 use run_file::run_file;
 use std::io;
@@ -206,7 +207,7 @@ fn print_refused<W: Write>(out: &mut W, number: u16, section: u16, address: u32)
 // What a run prints. "61 cycle" is a refusal here, at section and address 0.
 fn print_ran<'a, W: Write>(
     out: &mut W,
-    ran: Ran,
+    ran: Result<Ran, Unlinked>,
     file: &'a [u8],
     counts: Counts,
     places: &[u32],
@@ -224,13 +225,7 @@ fn print_ran<'a, W: Write>(
         (text_of file.now counts places.now lengths.now (beside added_bytes.now added_places.now added_lengths.now) units.now pieces.now entries.now offsets.now ran)) }
 {
     match ran {
-        Ran::Done {
-            names,
-            used,
-            splits,
-            units: n,
-            made,
-        } => print_done(
+        Ok(done) => print_done(
             out,
             file,
             counts,
@@ -240,18 +235,14 @@ fn print_ran<'a, W: Write>(
             added_places,
             added_lengths,
             units,
-            n,
+            done.units,
             pieces,
             entries,
             offsets,
-            made,
+            done.made,
         ),
-        Ran::Cycle(n) => print_refused(out, 61, 0, 0),
-        Ran::Refused {
-            number,
-            section,
-            address,
-        } => print_refused(out, number, section, address),
+        Err(Unlinked::Cycle(_)) => print_refused(out, 61, 0, 0),
+        Err(Unlinked::Refused(r)) => print_refused(out, r.number, r.section, r.address),
     }
 }
 

@@ -2,13 +2,13 @@
 -- gave; and a section has a relocation exactly if its list has one. Assumes nothing.
 use mathlib.Core.Path.{◌≡◌, sym, subst, ◌∙◌}
 use mathlib.Core.List.{List, [], ◌∷◌}
-use mathlib.Core.Bool.{Bool, true, not}
+use mathlib.Core.Bool.{Bool, not}
 use Prim.Native.Nat.{ℕ, ◌-◌, ◌≤◌, ◌<◌}
 use lib.Dec.{eqb}
 use lib.ListN.{length, get_or, take, drop}
 use borrow.Author.Tests.{eqb-true}
 use Rattle.lists.specs.Rows.{keep_if, first_in}
-use Rattle.lists.specs.Sort.{All, none, each, Sorted, Rising as RisingBy, between, at_least}
+use Rattle.lists.specs.Sort.{All, each, Sorted, Rising as RisingBy, between, at_least}
 use Rattle.lists.proofs.All.{all_at, all_map, all_keep, all_both}
 use Rattle.lists.proofs.Filter.{keep_passes, keep_some}
 use Rattle.lists.proofs.Rising.{numbers_rise, numbers-below, rising_keep}

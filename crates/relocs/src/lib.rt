@@ -10,22 +10,12 @@ ghost use Rattle.relocs.specs.Relocs.{reloc_of, relocs_of, address_of, Whole, Ro
 use obj::reloc_at;
 use symbol_order::number;
 
-// The section of relocation k.
-fn section_of(b: &[u8], places: &[u32], k: usize) -> u16
-    requires { Held 23 b.now places.now k }
-    ensures { result ≡ (reloc_of b.now places.now k).section }
-{
-    let r = reloc_at(b, places, k);
-    r.section
-}
-
 // The address of the relocation whose number stands at place i.
 pub fn address_in(b: &[u8], places: &[u32], part: &[u16], i: usize) -> u32
     requires { (i < length part.now) × Readable b.now places.now part.now }
     ensures { result ≡ address_of b.now places.now (get_or part.now i 0) }
 {
-    let r = reloc_at(b, places, number(part, i));
-    r.address
+    reloc_at(b, places, number(part, i)).address
 }
 
 // The section's relocations, in the order of the table, and how many they are: they are `part[..r]`.
@@ -33,15 +23,11 @@ pub fn for_section(b: &[u8], places: &[u32], section: u16, part: &mut [u16]) -> 
     requires { Room places.now part.old × Whole b.now places.now }
     ensures { Leads part.new (relocs_of (reloc_of b.now places.now) (length places.now) section) places.now result }
 {
-    let mut i: usize = 0;
-    let mut k: usize = 0;
-    while i < places.len() {
-        if section_of(b, places, i) == section {
+    let mut k = 0;
+    for i in 0..places.len() {
+        if reloc_at(b, places, i).section == section {
             part[k] = i as u16;
             k += 1;
-            i += 1;
-        } else {
-            i += 1;
         }
     }
     k
@@ -52,6 +38,7 @@ fn search(b: &[u8], places: &[u32], part: &[u16], from: usize, to: usize, addres
     requires { Ordered b.now places.now part.now × (from ≤ first_in (at_least (address_of b.now places.now) address) part.now) × (first_in (at_least (address_of b.now places.now) address) part.now ≤ to) × (to ≤ length part.now) }
     ensures { Within (first_in (at_least (address_of b.now places.now) address) part.now) (length part.now) result }
 {
+    // halves, so it is no count
     let mut lo = from;
     let mut hi = to;
     while lo < hi {
@@ -79,6 +66,7 @@ fn first_from(b: &[u8], places: &[u32], part: &[u16], from: usize, address: u32)
     requires { Ordered b.now places.now part.now × (from ≤ first_in (at_least (address_of b.now places.now) address) part.now) }
     ensures { Within (first_in (at_least (address_of b.now places.now) address) part.now) (length part.now) result }
 {
+    // goes twice as far each time, so it is no count
     let mut lo = from;
     while lo - from < part.len() - lo {
         let ahead = lo + (lo - from);

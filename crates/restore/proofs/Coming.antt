@@ -1,16 +1,15 @@
 -- Where a walk comes to: what is left to do there is what is left of the whole walk, and the splits that are left are of the section. Assumes nothing.
 use Prim.Native.Nat.{ℕ, suc, ◌-◌, ◌≤◌, ◌<◌}
-use mathlib.Core.Path.{◌≡◌, refl, ap, ◌∙◌}
+use mathlib.Core.Path.{◌≡◌, ap, ◌∙◌}
 use mathlib.Core.List.{List, ◌∷◌}
 use mathlib.Core.Bool.{Bool, cond}
 use native.Mathlib.Omega.{arith}
-use lib.Dec.{ltb}
 use borrow.Author.Tests.{lt-ltb}
 use Rattle.lists.specs.Outcome.{Outcome, accepted, ◌>>=◌}
 use Rattle.lists.specs.Sort.{All, each}
 use Rattle.lists.proofs.Binds.{bind_goes}
 use Rattle.obj.specs.declared.Split.{Split}
-use Rattle.walk.specs.Walk.{Input, Output, start_in, splitting_end_in, on_split, walk_splits, walk_section, walk_sections, walk, nothing}
+use Rattle.walk.specs.Walk.{Input, Output, splitting_end_in, on_split, walk_splits, walk_section, walk_sections, walk, nothing}
 use Rattle.splits.specs.Questions.{next_start}
 use Rattle.restore.specs.Misfits.{ToSection, at_first, section_past, ToSplit, at_start, split_past, Comes}
 use Rattle.restore.proofs.Steps.{Reached}

@@ -11,7 +11,7 @@ use lib.Dec.{eqb, ltb}
 use lib.ListN.{length, get_or, take, drop, replicate, length-replicate, length-take, length-drop, get_or-eq_default}
 use lib.Seq.{sets, length-sets}
 use borrow.Author.Tests.{eq-eqb, ne_eqb, ltb-false}
-use Rattle.lists.specs.Outcome.{Outcome, accepted, ◌>>=◌, ◌>>◌}
+use Rattle.lists.specs.Outcome.{Outcome, accepted, ◌>>=◌}
 use Rattle.lists.specs.Rows.{keep_if}
 use Rattle.lists.specs.Sort.{All, none, each}
 use Rattle.lists.proofs.All.{all_map, all_keep, all_both}

@@ -8,7 +8,7 @@ use native.Mathlib.Omega.{arith}
 use lib.Dec.{eqb, leb, ltb}
 use lib.ListN.{length}
 use borrow.Author.Tests.{eqb-true, leb-true}
-use Rattle.lists.specs.Outcome.{accepted, ◌>>=◌, ◌>>◌}
+use Rattle.lists.specs.Outcome.{accepted, ◌>>=◌}
 use Rattle.lists.specs.Rows.{keep_if}
 use Rattle.lists.specs.Sort.{All, none, each}
 use Rattle.lists.proofs.All.{all_append, all_map, all_keep, all_both}

@@ -4,7 +4,7 @@
 -- - "otherwise resembles SHT_PROGBITS": `resembles`; the walk is that of the same section as data (kind 1) whose bytes are zeros, wherever no reduction lowers the
 --   splitting end of the latter (`Whole`). Where one does, document 01 has it otherwise: "Sections without bytes skip both reductions." (`nobits_ends`).
 -- - "the sh_offset member contains the conceptual file offset": `pieces_placed`; a piece's file offset is counted from it, as in every other section (`Placed`).
-use Rattle.std.specs.Prelude.{ℕ, ◌+◌, ◌-◌, ◌<◌, ◌≡◌, List, [], cond, eqb, replicate}
+use Rattle.std.specs.Prelude.{ℕ, ◌+◌, ◌-◌, ◌<◌, ◌≡◌, [], cond, eqb, replicate}
 use Rattle.lists.specs.Outcome.{accepted}
 use Rattle.obj.specs.declared.Section.{Section}
 use Rattle.sections.specs.Image.{Image}

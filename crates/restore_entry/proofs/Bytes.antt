@@ -16,7 +16,6 @@ use Rattle.restore.specs.Restoring.{bytes_in, parts, byte_at, Plain, Restored, A
 use Rattle.restore.specs.Alignments.{Largest}
 use Rattle.restore.proofs.Steps.{From}
 use Rattle.restore.proofs.Theorems as walks
-use Rattle.lists.proofs.Among.{all_find}
 use Rattle.restore_entry.specs.Tables.{Lent, input_in, Accepted, SameTables, spot}
 use Rattle.restore_entry.proofs.Tables.{head_is, length_sections, sections_few, splits_end, input_checked}
 use Rattle.restore_entry.proofs.Decoded.{parts_same}

@@ -4,18 +4,18 @@ use Prim.Native.Nat.{ℕ, zero, suc, ◌+◌, ◌/◌, ◌<◌}
 use mathlib.Core.Path.{◌≡◌, refl, sym, ap, ◌∙◌, subst}
 use mathlib.Core.List.{List}
 use mathlib.Core.Logic.{◌≢◌}
-use mathlib.Core.Bool.{Bool, true, false, cond, not, ◌&&◌}
+use mathlib.Core.Bool.{Bool, true, false, cond}
 use native.Mathlib.Omega.{arith}
 use native.Mathlib.Decide.{ℕ_discrete}
 use borrow.Author.Tests.{eq-eqb, ltb-true}
-use lib.Dec.{eqb, ltb}
-use lib.ListN.{length, get_or}
+use lib.Dec.{ltb}
+use lib.ListN.{length}
 use Rattle.lists.specs.Outcome.{Outcome, refuse, ◌>>◌}
 use Rattle.lists.specs.Rows.{first_from}
 use Rattle.obj.specs.Records.{stage_places}
 use Rattle.obj.specs.declared.Section.{Section}
 use Rattle.tables.specs.Tables.{first_fault, records_check, size_check}
-use Rattle.tables.specs.Records.{no_section, image_places_of, bytes_cut, section_fault, image_fault}
+use Rattle.tables.specs.Records.{image_places_of, bytes_cut, section_fault, image_fault}
 use Rattle.stage_tables.specs.StageTables.{stage_sections, table_check, image_check}
 use Rattle.sections.specs.Sections.{head_of}
 use Rattle.restore_entry.proofs.Tables.{head_is}

@@ -1,6 +1,6 @@
 -- The records that a link order leaves at the front of the unit table: they are read as they were, since each has its widths, and each is named by a number
 -- below 4,096. Assumes nothing.
-use Prim.Native.Nat.{ℕ, ◌+◌, ◌*◌, ◌≤◌, ◌<◌}
+use Prim.Native.Nat.{ℕ, ◌*◌, ◌≤◌, ◌<◌}
 use mathlib.Core.Path.{◌≡◌, refl, sym, ap, subst, ◌∙◌}
 use mathlib.Core.List.{List, [], ◌∷◌, ◌++◌, map-id}
 use mathlib.Core.Bool.{Bool, true, false, cond}
@@ -32,14 +32,15 @@ use Rattle.loaded.specs.Tables.{Usable}
 use Rattle.loaded.proofs.Laws.{few_names}
 use Rattle.toposort.specs.Search.{End}
 use Rattle.symbol_order.proofs.Ranks.{unit_fits}
-use Rattle.link_graph.specs.Graph.{units_of, counted, nodes}
+use Rattle.link_graph.specs.Graph.{units_of, nodes}
 use Rattle.link_graph.proofs.Nodes.{in_counted}
 use Rattle.link_graph.proofs.Graph.{in_at}
 use Rattle.link_graph.proofs.Joined.{place_of}
 use Rattle.order.specs.LinkOrder.{nodes_left, first_record, hand_of, made_unit, record_of, records_of}
 use Rattle.order.specs.Bytes.{units_bytes, Fits}
-use Rattle.order.specs.Columns.{Resolves}
-use Rattle.order.specs.declared.Resolved.{Resolved}
+use Rattle.order.specs.Columns.{kept, Resolves}
+use Rattle.std.specs.Prelude.{Result}
+use Rattle.order.specs.declared.Unlinked.{Unlinked}
 use Rattle.order.proofs.Bytes.{length-units_bytes, units_back}
 use Rattle.order.proofs.Stage.{length_records}
 use Rattle.run_splits.specs.Table.{Homed}
@@ -153,8 +154,8 @@ module _ {file : List ℕ} {t : Loaded} (u : Usable file t) {sections : ℕ} (S 
       }
 
   -- after the link order
-  pub resolved_stands : {r : Resolved} {before after : List ℕ} (o : Outcome End) → All (λ v. v < length (nodes S)) (nodes_left o) → Resolves S U o r before after
-      → Stands S U (nodes_left o) after r.kept
+  pub resolved_stands : {r : Result ℕ Unlinked} {before after : List ℕ} (o : Outcome End) → All (λ v. v < length (nodes S)) (nodes_left o) → Resolves S U o r before after
+      → Stands S U (nodes_left o) after (kept r)
   resolved_stands {r} {before} {after} o inside w =
       subst (Stands S U (nodes_left o) after) (sym w.counted)
       (records_stand (nodes_left o) inside before after w.front (omega (arith, w.room, w.counted)) (omega (arith, w.few, w.counted)))

@@ -21,7 +21,8 @@ use Rattle.splits.specs.Columns.{Columns}
 use Rattle.relocs.specs.Relocs.{reloc_of}
 use Rattle.units.specs.Units.{unit_names, Listed, Numbered}
 use Rattle.walk.specs.declared.Counts.{Counts}
-use Rattle.split_obj.specs.declared.Walked.{Walked}
+use Rattle.std.specs.Prelude.{Result}
+use Rattle.obj.specs.declared.Refusal.{Refusal}
 use Rattle.split_obj.specs.Loop.{Ready}
 use Rattle.stage_walk.specs.Lines.{walk_of, Gives}
 use Rattle.stage_walk.proofs.Lines.{gives_as}
@@ -65,7 +66,7 @@ module _ {file names lengths sections images symbols order relocs us : List ℕ}
   abbrev image : Image
   image = image_of file symbols file names lengths
 
-  pub walked_as : {r : Walked} {pieces entries offsets : List ℕ} (rows : List Split) (unit_table places : List ℕ) (k : ℕ) (room : Counts) → places ≡ stage_places 8 k
+  pub walked_as : {r : Result Counts Refusal} {pieces entries offsets : List ℕ} (rows : List Split) (unit_table places : List ℕ) (k : ℕ) (room : Counts) → places ≡ stage_places 8 k
       → Gives (walk_of image (sections_of file sections file images) (reloc_of file relocs) (length relocs) rows (unit_names unit_table places) room)
       room r pieces entries offsets
       → Gives (walked file (tables_with names lengths sections symbols relocs [] us) room rows (units_at unit_table k)) room r pieces entries offsets

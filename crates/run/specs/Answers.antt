@@ -1,5 +1,5 @@
 -- What the answers of the run mean over the lent tables, and what the functions of the run are given and leave.
-use Rattle.std.specs.Prelude.{ℕ, ◌*◌, ◌≤◌, ◌<◌, ◌≡◌, List, [], cond, length, take, drop, eqb}
+use Rattle.std.specs.Prelude.{ℕ, ◌*◌, ◌≤◌, ◌≡◌, List, [], length, take, drop, Result, Ok, Err}
 use Rattle.lists.specs.Outcome.{Outcome, accepted, refused, ◌>>=◌}
 use Rattle.lists.specs.Sort.{All}
 use Rattle.obj.specs.Records.{stage_places}
@@ -13,13 +13,12 @@ use Rattle.splits.specs.Columns.{Columns, rows, Long}
 use Rattle.order.specs.Bytes.{units_bytes}
 use Rattle.gap_splits.specs.Entering.{Filled, bytes_of}
 use Rattle.gap_splits.specs.Answers.{added}
-use Rattle.split_obj.specs.declared.Walked.{Walked}
-use Rattle.split_obj.specs.declared.Walked.TheVariants as walks
 use Rattle.walk.specs.declared.Counts.{Counts}
 use Rattle.walk.specs.Giving.{output_in}
 use Rattle.run_splits.specs.Table.{Homed}
 use Rattle.run.specs.declared.Ran.{Ran}
-use Rattle.run.specs.declared.Ran.TheVariants.{Done, Cycle, Refused}
+use Rattle.order.specs.declared.Unlinked.{Unlinked}
+use Rattle.order.specs.declared.Unlinked.TheVariants.{Refused, Cycle}
 use Rattle.run.specs.Run.{Ended, done, cycle, ordered_and_walked}
 
 -- the first n records of a unit table
@@ -27,11 +26,11 @@ abbrev pub units_at : (units : List ℕ) → (n : ℕ) → List unit_records.Uni
 units_at units n = units_in units (stage_places 8 n)
 
 -- what an answer means: the names beside the file's, the split table in its columns, and the output tables
-abbrev pub ran_in : Beside → Columns → (units pieces entries offsets : List ℕ) → Ran → Outcome Ended
-ran_in c table units pieces entries offsets (Done names used splits n made) =
-    accepted (done (record { added = added c names; splits = rows table splits; units = units_at units n; output = output_in pieces entries offsets made }))
-ran_in c table units pieces entries offsets (Cycle n) = accepted (cycle (units_at units n))
-ran_in c table units pieces entries offsets (Refused number section address) = refused number section address
+abbrev pub ran_in : Beside → Columns → (units pieces entries offsets : List ℕ) → Result Ran Unlinked → Outcome Ended
+ran_in c table units pieces entries offsets (Ok r) =
+    accepted (done (record { added = added c r.names; splits = rows table r.splits; units = units_at units r.units; output = output_in pieces entries offsets r.made }))
+ran_in c table units pieces entries offsets (Err (Cycle n)) = accepted (cycle (units_at units n))
+ran_in c table units pieces entries offsets (Err (Refused r)) = refused r.number r.section r.address
 
 -- the tables of a file that was accepted, with the places of the sections' bytes and the symbol order
 pub record Prepared (file names lengths sections images symbols order relocs units : List ℕ) : Type 0 where
@@ -67,21 +66,12 @@ pub record Within (room made : Counts) : Type 0 where
   pub relocs : made.relocs ≤ room.relocs
 
 -- what is known of an answer beside its meaning: names and splits are as many as were given, units and output are within their tables
-abbrev pub Keeps : (names used splits : ℕ) → (room : Counts) → (units : List ℕ) → Ran → Type 0
-Keeps names used splits room units (Done k bytes n count made) = (k ≡ names) × (bytes ≡ used) × (n ≡ splits) × Units units count × Within room made
-Keeps names used splits room units (Cycle count) = Units units count
-Keeps names used splits room units (Refused number section address) = Unit {0}
+abbrev pub Keeps : (names used splits : ℕ) → (room : Counts) → (units : List ℕ) → Result Ran Unlinked → Type 0
+Keeps names used splits room units (Ok r) = (r.names ≡ names) × (r.used ≡ used) × (r.splits ≡ splits) × Units units r.units × Within room r.made
+Keeps names used splits room units (Err (Cycle count)) = Units units count
+Keeps names used splits room units (Err (Refused r)) = Unit {0}
 
 -- ---- an answer after another
-
--- the answer of a link order that was refused: "61 cycle, left in the unit table", of n units
-abbrev pub unlinked_by : (number section address n : ℕ) → Ran
-unlinked_by number section address n = cond (eqb number 61) (Cycle n) (Refused number section address)
-
--- the answer of a walk, with the names, splits and units before it
-abbrev pub ran_by : Walked → (names used splits n : ℕ) → Ran
-ran_by (walks.Accepted made) names used splits n = Done names used splits n made
-ran_by (walks.Refused number section address) names used splits n = Refused number section address
 
 -- the link order and the walk of a split table that is given with all names, of which the file has `base`
 abbrev pub walked_after : (file : List ℕ) → Loaded → (units : ℕ) → (room : Counts) → (base : ℕ) → Outcome Filled → Outcome Ended

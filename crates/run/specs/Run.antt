@@ -3,7 +3,7 @@
 -- checked once, by the loader; each stage is its own definition on the tables before it: up to the trim they stand in run_splits, specs/Table.antt. Names stay in the file;
 -- only gap units' names are added.
 use Rattle.std.specs.Prelude.{ℕ, List, [], map, length, drop}
-use Rattle.lists.specs.Outcome.{Outcome, accepted, refused, ◌>>=◌}
+use Rattle.lists.specs.Outcome.{Outcome, accepted, ◌>>=◌}
 use Rattle.obj.specs.declared.Split.{Split}
 use Rattle.obj.specs.declared.Unit as units
 use Rattle.tables.specs.Tables.{main_ceilings}

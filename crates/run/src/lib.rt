@@ -12,34 +12,24 @@ ghost use Rattle.gap_splits.specs.Answers as entering;
 ghost use Rattle.stage_walk.specs.Room.{room_in};
 ghost use Rattle.stage_walk.specs.Lines.{Gives, UnitScratch};
 ghost use Rattle.run.specs.Run.{walked, ordered_and_walked};
-ghost use Rattle.run.specs.Answers.{units_at, ran_in, walked_after, Prepared, Tabled, Units, Keeps, ran_by, unlinked_by};
+ghost use Rattle.run.specs.Answers.{units_at, ran_in, Prepared, Tabled, Units, Keeps, walked_after};
 
 use gap_splits::Entered;
-use obj::Answer;
-use order::ordered;
-use split_obj::Walked;
+use obj::Refusal;
+use order::{Unlinked, ordered};
 use stage_walk::walk_columns;
 use tables::fill_places;
 use units::number_units;
 use walk::Counts;
 
-// What a run answers: how many names were added, with how many bytes, and how many splits, units and records of the walk there are; how many units the cycle has that
-// stands in the unit table; or a refusal.
+// What a run leaves: how many names were added, with how many bytes, and how many splits, units and records of the walk there are.
 #[derive(Clone, Copy)]
-pub enum Ran {
-    Done {
-        names: usize,
-        used: usize,
-        splits: usize,
-        units: usize,
-        made: Counts,
-    },
-    Cycle(usize),
-    Refused {
-        number: u16,
-        section: u16,
-        address: u32,
-    },
+pub struct Ran {
+    pub names: usize,
+    pub used: usize,
+    pub splits: usize,
+    pub units: usize,
+    pub made: Counts,
 }
 
 // The walk of n rows. The records of k units, in link order, stand at the front of the unit table.
@@ -65,7 +55,7 @@ fn walk_units(
     pieces: &mut [u8],
     entries: &mut [u8],
     offsets: &mut [u8],
-) -> Walked
+) -> Result<Counts, Refusal>
     requires { Prepared file.now names.now lengths.now sections.now images.now symbols.now order.now relocs.now unit_places.now
         × Tabled (length sections.now) (columns starts.now ends.now units.now rest.now) n
         × Units unit_table.now k
@@ -127,7 +117,7 @@ fn walk_with_columns(
     pieces: &mut [u8],
     entries: &mut [u8],
     offsets: &mut [u8],
-) -> Walked
+) -> Result<Counts, Refusal>
     requires { Prepared file.now names.now lengths.now sections.now images.now symbols.now order.now relocs.now unit_places.now
         × Tabled (length sections.now) (columns starts.now ends.now units.now rest.now) n
         × Units unit_table.now k
@@ -165,129 +155,8 @@ fn walk_with_columns(
     )
 }
 
-// A link order that was refused: "61 cycle, left in the unit table", of k units.
-fn unlinked(number: u16, section: u16, address: u32, k: usize) -> Ran
-    ensures { result ≡ unlinked_by number section address k }
-{
-    if number == 61 {
-        return Ran::Cycle(k);
-    }
-    Ran::Refused {
-        number,
-        section,
-        address,
-    }
-}
-
-// The answer of a walk, with the names, splits and units before it.
-fn after_walk(w: Walked, names: usize, used: usize, splits: usize, units: usize) -> Ran
-    ensures { result ≡ ran_by w names used splits units }
-{
-    match w {
-        Walked::Accepted(made) => Ran::Done {
-            names,
-            used,
-            splits,
-            units,
-            made,
-        },
-        Walked::Refused {
-            number,
-            section,
-            address,
-        } => Ran::Refused {
-            number,
-            section,
-            address,
-        },
-    }
-}
-
-// The link order of n rows and their walk. `added` names were added to the file's, with `used` bytes.
+// The link order and the walk of the rows that the stages before left.
 fn order_rows(
-    file: &[u8],
-    names: &[u32],
-    lengths: &[u8],
-    sections: &[u32],
-    images: &[u32],
-    symbols: &[u32],
-    order: &[u16],
-    relocs: &[u32],
-    unit_places: &[u32],
-    starts: &[u32],
-    ends: &[u32],
-    units: &[u16],
-    rest: &[u64],
-    n: usize,
-    added: usize,
-    used: usize,
-    out_units: &mut [u8],
-    pieces: &mut [u8],
-    entries: &mut [u8],
-    offsets: &mut [u8],
-) -> Ran
-    requires { Prepared file.now names.now lengths.now sections.now images.now symbols.now order.now relocs.now unit_places.now
-        × Tabled (length sections.now) (columns starts.now ends.now units.now rest.now) n }
-    ensures { ((c : Beside)
-        → ran_in c (columns starts.now ends.now units.now rest.now) out_units.new pieces.new entries.new offsets.new result
-        ≡ ordered_and_walked file.now
-        (tables_with names.now lengths.now sections.now symbols.now relocs.now [] unit_places.now)
-        (length out_units.old / 8) (room_in (length pieces.old) (length entries.old) (length offsets.old))
-        (entering.added c added) (rows_of (columns starts.now ends.now units.now rest.now) n))
-        × Keeps added used n (room_in (length pieces.old) (length entries.old) (length offsets.old)) out_units.new result }
-{
-    let linked = ordered(
-        starts,
-        ends,
-        units,
-        rest,
-        n,
-        file,
-        sections,
-        file,
-        names,
-        lengths,
-        file,
-        unit_places,
-        out_units,
-    );
-    let k = linked.kept;
-    let answer = linked.answer;
-    match answer {
-        Answer::Refused {
-            number,
-            section,
-            address,
-        } => unlinked(number, section, address, k),
-        Answer::Accepted => {
-            let w = walk_with_columns(
-                file,
-                names,
-                lengths,
-                sections,
-                images,
-                symbols,
-                order,
-                relocs,
-                unit_places,
-                starts,
-                ends,
-                units,
-                rest,
-                n,
-                out_units,
-                k,
-                pieces,
-                entries,
-                offsets,
-            );
-            after_walk(w, added, used, n, k)
-        }
-    }
-}
-
-// The link order and the walk of the rows that the stages before left; a refusal before is handed on.
-pub fn order_and_walk(
     e: Entered,
     file: &[u8],
     names: &[u32],
@@ -306,7 +175,84 @@ pub fn order_and_walk(
     pieces: &mut [u8],
     entries: &mut [u8],
     offsets: &mut [u8],
-) -> Ran
+) -> Result<Ran, Unlinked>
+    requires { Prepared file.now names.now lengths.now sections.now images.now symbols.now order.now relocs.now unit_places.now
+        × Tabled (length sections.now) (columns starts.now ends.now units.now rest.now) e.splits }
+    ensures { ((c : Beside)
+        → ran_in c (columns starts.now ends.now units.now rest.now) out_units.new pieces.new entries.new offsets.new result
+        ≡ ordered_and_walked file.now
+        (tables_with names.now lengths.now sections.now symbols.now relocs.now [] unit_places.now)
+        (length out_units.old / 8) (room_in (length pieces.old) (length entries.old) (length offsets.old))
+        (entering.added c e.names) (rows_of (columns starts.now ends.now units.now rest.now) e.splits))
+        × Keeps e.names e.used e.splits (room_in (length pieces.old) (length entries.old) (length offsets.old)) out_units.new result }
+{
+    let linked = ordered(
+        starts,
+        ends,
+        units,
+        rest,
+        e.splits,
+        file,
+        sections,
+        file,
+        names,
+        lengths,
+        file,
+        unit_places,
+        out_units,
+    );
+    let k = linked?;
+    let made = walk_with_columns(
+        file,
+        names,
+        lengths,
+        sections,
+        images,
+        symbols,
+        order,
+        relocs,
+        unit_places,
+        starts,
+        ends,
+        units,
+        rest,
+        e.splits,
+        out_units,
+        k,
+        pieces,
+        entries,
+        offsets,
+    )?;
+    Ok(Ran {
+        names: e.names,
+        used: e.used,
+        splits: e.splits,
+        units: k,
+        made,
+    })
+}
+
+// The link order and the walk of what the stages before gave: what they refused is refused.
+pub fn order_and_walk(
+    e: Result<Entered, Refusal>,
+    file: &[u8],
+    names: &[u32],
+    lengths: &[u8],
+    sections: &[u32],
+    images: &[u32],
+    symbols: &[u32],
+    order: &[u16],
+    relocs: &[u32],
+    unit_places: &[u32],
+    starts: &[u32],
+    ends: &[u32],
+    units: &[u16],
+    rest: &[u64],
+    out_units: &mut [u8],
+    pieces: &mut [u8],
+    entries: &mut [u8],
+    offsets: &mut [u8],
+) -> Result<Ran, Unlinked>
     requires { Prepared file.now names.now lengths.now sections.now images.now symbols.now order.now relocs.now unit_places.now
         × Tabled (length sections.now) (columns starts.now ends.now units.now rest.now) (entering.splits e) }
     ensures { ((base : List (List ℕ)) → (c : Beside)
@@ -317,45 +263,25 @@ pub fn order_and_walk(
         (entering.meant base c (columns starts.now ends.now units.now rest.now) e))
         × Keeps (entering.names e) (entering.used e) (entering.splits e) (room_in (length pieces.old) (length entries.old) (length offsets.old)) out_units.new result }
 {
-    match e {
-        Entered::Refused {
-            number,
-            section,
-            address,
-        } => {
-            return Ran::Refused {
-                number,
-                section,
-                address,
-            };
-        }
-        Entered::Accepted {
-            names: added,
-            used,
-            splits,
-        } => {
-            return order_rows(
-                file,
-                names,
-                lengths,
-                sections,
-                images,
-                symbols,
-                order,
-                relocs,
-                unit_places,
-                starts,
-                ends,
-                units,
-                rest,
-                splits,
-                added,
-                used,
-                out_units,
-                pieces,
-                entries,
-                offsets,
-            );
-        }
-    }
+    let entered = e?;
+    order_rows(
+        entered,
+        file,
+        names,
+        lengths,
+        sections,
+        images,
+        symbols,
+        order,
+        relocs,
+        unit_places,
+        starts,
+        ends,
+        units,
+        rest,
+        out_units,
+        pieces,
+        entries,
+        offsets,
+    )
 }

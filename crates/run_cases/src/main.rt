@@ -93,10 +93,8 @@ fn last(bytes: &[u8], used: usize) -> u8 {
 fn repeat(bytes: &mut [u8], used: usize, count: usize) -> usize {
     let v = last(bytes, used);
     let mut end = used;
-    let mut i: usize = 1;
-    while i < count {
+    for _ in 1..count {
         end = push(bytes, end, v);
-        i += 1;
     }
     end
 }

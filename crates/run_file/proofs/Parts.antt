@@ -9,14 +9,14 @@ use Rattle.lists.specs.Outcome.{Outcome, accepted, refused, ◌>>=◌}
 use Rattle.lists.proofs.Binds.{bind_goes, bind_stops}
 use Rattle.tables.specs.Tables.{main_ceilings}
 use Rattle.load.specs.Load.{Loaded, load_of, names_in}
-use Rattle.load.specs.Columns.{part, tables_in, loaded_as}
+use Rattle.load.specs.Columns.{part, tables_in}
 use Rattle.load.specs.declared.Counts.{Counts}
 use Rattle.load.proofs.Parts.{part-lent}
 use Rattle.loaded.specs.Tables.{byte_places, tables_with, Usable}
 use Rattle.loaded.proofs.Bytes.{loaded_usable}
-use Rattle.obj.specs.declared.Answer.{Answer}
-use Rattle.obj.specs.declared.Answer.TheVariants.{Accepted, Refused}
-use Rattle.run_load.specs.Prepared.{Prepares}
+use Rattle.std.specs.Prelude.{Result, Ok, Err}
+use Rattle.obj.specs.declared.Refusal.{Refusal}
+use Rattle.run_load.specs.Prepared.{Prepares, prepared_as}
 use Rattle.run_load.specs.declared.Prepared.{Prepared}
 use Rattle.run.specs.Run.{Rooms, Ended, stages, run_of}
 use Rattle.run_file.specs.RunFile.{Ready, Stored}
@@ -91,22 +91,25 @@ module _ {file : List ℕ} {n : Counts} {ordered : ℕ} {places lengths heads ch
       })
 
 -- ---- the file made ready, and the run of it
-module _ {file : List ℕ} {r : Prepared} {places lengths heads chain images order : List ℕ} (p : Prepares file (load_of main_ceilings file) r places lengths heads chain images order) where
-  abbrev loaded : Loaded
-  loaded = tables_in r.counts places lengths
-
-  pub loads : r.answer ≡ Accepted → load_of main_ceilings file ≡ accepted loaded
-  loads told = sym p.means ∙ ap (λ (a : Answer). loaded_as a loaded) told
-
-  pub stored : r.answer ≡ Accepted → 64 ≤ length images → Stored file r.counts r.ordered places lengths heads chain images order
-  stored told long = record { usable = loaded_usable file loaded (loads told); ready = p.ready told; done = p.done told; images_long = long }
-
+module _ {file : List ℕ} {r : Result Prepared Refusal} {places lengths heads chain images order : List ℕ}
+    (p : Prepares file (load_of main_ceilings file) r places lengths heads chain images order) where
   -- a refused file ends the run
-  pub run_refused : {number section address : ℕ} → r.answer ≡ Refused number section address → (rooms : Loaded → Rooms) → refused number section address ≡ run_of file rooms
+  pub run_refused : {e : Refusal} → r ≡ Err e → (rooms : Loaded → Rooms) → refused e.number e.section e.address ≡ run_of file rooms
   unfolding run_of
-  run_refused {number} {section} {address} told rooms = sym (bind_stops (load_of main_ceilings file) _ number section address (sym p.means ∙ ap (λ (a : Answer). loaded_as a loaded) told))
+  run_refused {e} told rooms =
+      sym (bind_stops (load_of main_ceilings file) _ e.number e.section e.address (sym p.means ∙ ap (λ (a : Result Prepared Refusal). prepared_as a places lengths) told))
 
-  -- an accepted one goes through the stages
-  pub run_goes : r.answer ≡ Accepted → (rooms : Loaded → Rooms) {o : Outcome Ended} → o ≡ stages file loaded (rooms loaded) → o ≡ run_of file rooms
-  unfolding run_of
-  run_goes told rooms e = e ∙ sym (bind_goes (load_of main_ceilings file) (λ (t : Loaded). stages file t (rooms t)) loaded (loads told))
+  module _ {made : Prepared} (told : r ≡ Ok made) where
+    abbrev loaded : Loaded
+    loaded = tables_in made.counts places lengths
+
+    pub loads : load_of main_ceilings file ≡ accepted loaded
+    loads = sym p.means ∙ ap (λ (a : Result Prepared Refusal). prepared_as a places lengths) told
+
+    pub stored : 64 ≤ length images → Stored file made.counts made.ordered places lengths heads chain images order
+    stored long = record { usable = loaded_usable file loaded loads; ready = p.ready made told; done = p.done made told; images_long = long }
+
+    -- an accepted one goes through the stages
+    pub run_goes : (rooms : Loaded → Rooms) {o : Outcome Ended} → o ≡ stages file loaded (rooms loaded) → o ≡ run_of file rooms
+    unfolding run_of
+    run_goes rooms e = e ∙ sym (bind_goes (load_of main_ceilings file) (λ (t : Loaded). stages file t (rooms t)) loaded loads)

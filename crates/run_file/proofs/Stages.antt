@@ -1,35 +1,38 @@
 -- The stages one after another are the run: the room for names is what the ceilings leave, the tables that a stage does not take do not matter to it, and what is known of
 -- an answer is what its stages left. Assumes nothing.
-use Prim.Native.Nat.{ℕ, zero, suc, ◌+◌, ◌-◌, ◌/◌, ◌≤◌, ◌<◌}
+use Prim.Native.Nat.{ℕ, zero, suc, ◌+◌, ◌-◌, ◌≤◌, ◌<◌}
 use mathlib.Core.Path.{◌≡◌, refl, sym, ap, subst, ◌∙◌}
 use mathlib.Core.Bool.{Bool, true, false, cond}
-use mathlib.Core.List.{List, [], ◌∷◌}
+use mathlib.Core.List.{List, []}
 use native.Mathlib.Omega.{arith}
 use borrow.Author.Tests.{ltb-true, ltb-false}
 use lib.Dec.{ltb}
-use lib.ListN.{length, get_or, take, drop, length-drop}
+use lib.ListN.{length, get_or, drop, length-drop}
 use lib.Seq.{length-take-le}
-use Rattle.lists.specs.Outcome.{Outcome, accepted, refused, ◌>>=◌}
+use Rattle.lists.specs.Outcome.{Outcome, ◌>>=◌}
 use Rattle.lists.specs.Rows.{tabulate}
 use Rattle.obj.specs.declared.Split.{Split}
-use Rattle.names.specs.Names.{name_at, names_of, Named}
+use Rattle.names.specs.Names.{name_at, names_of}
 use Rattle.names.specs.Append.{Packed, Columns as Beside}
 use Rattle.names.proofs.Laws.{length-names}
 use Rattle.load.specs.Load.{Loaded, names_in}
 use Rattle.loaded.specs.Tables.{tables_with, Usable}
-use Rattle.loaded.proofs.Laws.{few_names, all_named, measured}
-use Rattle.splits.specs.Columns.{Columns, columns, rows, Long}
-use Rattle.gap_splits.specs.Entering.{Filled, Ceilings, bytes_of}
-use Rattle.gap_splits.specs.Answers.{added, beside, ceilings, meant, names, used, splits, Room, Stand}
+use Rattle.loaded.proofs.Laws.{all_named, measured}
+use Rattle.splits.specs.Columns.{columns, Long}
+use Rattle.gap_splits.specs.Entering.{Filled, bytes_of}
+use Rattle.gap_splits.specs.Answers.{added, beside, ceilings, Room, Stand, names, used, splits}
 use Rattle.gap_splits.specs.declared.Entered.{Entered}
 use Rattle.toposort.specs.Search.{End, all, cyclic, lost}
 use Rattle.walk.specs.declared.Counts.{Counts}
 use Rattle.run_splits.specs.Table.{split_table}
 use Rattle.order.specs.LinkOrder.{link_order}
 use Rattle.run.specs.Run.{Rooms, Ended, linked, walked, on_order, ordered_and_walked, stages}
-use Rattle.run.specs.Answers.{walked_after, Keeps, Units, Within, Names}
+use Rattle.run.specs.Answers.{walked_after, Keeps}
 use Rattle.run.specs.declared.Ran.{Ran}
-use Rattle.run.specs.declared.Ran.TheVariants.{Done, Cycle, Refused}
+use Rattle.std.specs.Prelude.{Result, Ok, Err}
+use Rattle.obj.specs.declared.Refusal.{Refusal}
+use Rattle.order.specs.declared.Unlinked.{Unlinked}
+use Rattle.order.specs.declared.Unlinked.TheVariants.{Refused, Cycle}
 use Rattle.run_room.specs.Room.{sum}
 use Rattle.run_room.proofs.Sums.{sum_turn, sum-none}
 use Rattle.lists.specs.Bounds.{lower}
@@ -104,6 +107,7 @@ module _ (file names' lengths sections symbols relocs partials units : List ℕ)
   unfolding ordered_and_walked
   walked_same n room more rows' = ap (λ (f : End → Outcome Ended). link_order (linked file whole rows') n >>= f) (λ d e. order_same room more rows' e d)
 
+  -- what was ordered and walked after the split table is what the stages give
   pub stages_are : (base : List (List ℕ)) (room : Rooms) {o : Outcome Ended} {m : Outcome Filled} → base ≡ names_in file whole
       → o ≡ walked_after file rest room.units room.output (length base) m → m ≡ split_table file whole room.splits room.names → o ≡ stages file whole room
   unfolding stages
@@ -114,11 +118,11 @@ module _ (file names' lengths sections symbols relocs partials units : List ℕ)
       ∙ ap (λ (n : ℕ). ordered_and_walked file whole room.units room.output (drop n full.names) full.rows) (ap length e)) d)
 
 -- ---- what is known of an answer
-pub holds : (r : Ran) (most most_bytes cap : ℕ) (room : Counts) (c : Beside) (units : List ℕ) (e : Entered) {a b : ℕ} → Keeps (names e) (used e) (splits e) room units r
+pub holds : (r : Result Ran Unlinked) (most most_bytes cap : ℕ) (room : Counts) (c : Beside) (units : List ℕ) (e : Result Entered Refusal) {a b : ℕ} → Keeps (names e) (used e) (splits e) room units r
     → Stand c (names e) (used e) a b → splits e ≤ cap → a ≤ most → a ≤ 4096 → b ≤ most_bytes → b ≤ 65535 → Holds most most_bytes cap room c units r
-holds (Done k bytes n count made) most most_bytes cap room c units e keeps stand few p q v w = (
+holds (Ok r) most most_bytes cap room c units e keeps stand few p q v w = (
   record {
-    packed = subst (λ (x : ℕ). Packed c.bytes c.places c.lengths x bytes) (sym keeps.0) (subst (λ (y : ℕ). Packed c.bytes c.places c.lengths (names e) y) (sym keeps.1) stand.packed);
+    packed = subst (λ (x : ℕ). Packed c.bytes c.places c.lengths x r.used) (sym keeps.0) (subst (λ (y : ℕ). Packed c.bytes c.places c.lengths (names e) y) (sym keeps.1) stand.packed);
     sum = keeps.1 ∙ stand.sum ∙ ap (λ (x : ℕ). bytes_of (added c x)) (sym keeps.0);
     few = omega (arith, keeps.0, stand.few, p);
     small = omega (arith, keeps.0, stand.few, q);
@@ -129,8 +133,8 @@ holds (Done k bytes n count made) most most_bytes cap room c units e keeps stand
   keeps.3,
   keeps.4,
 )
-holds (Cycle count) most most_bytes cap room c units e keeps stand few p q v w = keeps
-holds (Refused number section address) most most_bytes cap room c units e keeps stand few p q v w = tt
+holds (Err (Cycle count)) most most_bytes cap room c units e keeps stand few p q v w = keeps
+holds (Err (Refused r)) most most_bytes cap room c units e keeps stand few p q v w = tt
 
 -- ---- what the ceilings leave
 module _ {a : ℕ} (most n ceiling : ℕ) (e : a ≡ lower (ceiling - n) most) where

@@ -1,6 +1,6 @@
 -- The run of a record file over lent columns: what room the lent tables give it, what its functions are given, and what they leave. The run is `run_of` of run/specs/Run.antt.
 use Rattle.std.specs.Prelude.{ℕ, ◌-◌, ◌≤◌, ◌≡◌, List, length}
-use Rattle.lists.specs.Outcome.{Outcome, accepted}
+use Rattle.lists.specs.Outcome.{accepted}
 use Rattle.names.specs.Names.{names_of}
 use Rattle.names.specs.Index.{Indexed}
 use Rattle.names.specs.Append.{Columns as Beside}
@@ -19,7 +19,9 @@ use Rattle.walk.specs.declared.Counts.{Counts}
 use Rattle.run.specs.Run.{Rooms, Ended, run_of}
 use Rattle.run.specs.Answers.{ran_in, Names, Units, Within}
 use Rattle.run.specs.declared.Ran.{Ran}
-use Rattle.run.specs.declared.Ran.TheVariants.{Done, Cycle, Refused}
+use Rattle.std.specs.Prelude.{Result, Ok, Err}
+use Rattle.order.specs.declared.Unlinked.{Unlinked}
+use Rattle.order.specs.declared.Unlinked.TheVariants.{Refused, Cycle}
 use Rattle.lists.specs.Bounds.{lower}
 use Rattle.run_file.specs.declared.RanFile.{RanFile}
 
@@ -73,10 +75,10 @@ pub record Stored (file : List ℕ) (n : load.Counts) (ordered : ℕ) (places le
 -- ---- what they leave
 
 -- what is known of an answer beside its meaning
-abbrev pub Holds : (most most_bytes cap : ℕ) → (room : Counts) → Beside → (units : List ℕ) → Ran → Type 0
-Holds most most_bytes cap room c units (Done names used splits count made) = Names c names used most most_bytes × (splits ≤ cap) × Units units count × Within room made
-Holds most most_bytes cap room c units (Cycle count) = Units units count
-Holds most most_bytes cap room c units (Refused number section address) = Unit {0}
+abbrev pub Holds : (most most_bytes cap : ℕ) → (room : Counts) → Beside → (units : List ℕ) → Result Ran Unlinked → Type 0
+Holds most most_bytes cap room c units (Ok r) = Names c r.names r.used most most_bytes × (r.splits ≤ cap) × Units units r.units × Within room r.made
+Holds most most_bytes cap room c units (Err (Cycle count)) = Units units count
+Holds most most_bytes cap room c units (Err (Refused r)) = Unit {0}
 
 -- the run of the file, in the lent tables
 pub record Runs (file : List ℕ) (names bytes cap : ℕ) (units-room : ℕ) (room : Counts) (r : RanFile) (places lengths : List ℕ) (c : Beside) (table : Columns)

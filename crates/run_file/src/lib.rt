@@ -19,7 +19,8 @@ ghost use Rattle.run_file.specs.RunFile.{rooms_in, Ready, Lent, Loader, Stored, 
 
 use gap_splits::Entered;
 use load::{Counts, NAMES, RELOCATIONS, SPLITS, SYMBOLS, UNITS};
-use obj::Answer;
+use obj::Refusal;
+use order::Unlinked;
 use run::{Ran, order_and_walk};
 use run_load::{Prepared, prepare};
 use run_room::{bytes_room, names_room};
@@ -28,7 +29,7 @@ use run_splits::split_table;
 // What the run answers, and how many records of each kind the file has.
 #[derive(Clone, Copy)]
 pub struct RanFile {
-    pub ran: Ran,
+    pub ran: Result<Ran, Unlinked>,
     pub counts: Counts,
 }
 
@@ -41,7 +42,7 @@ fn prepare_file(
     chain: &mut [u16],
     images: &mut [u32],
     order: &mut [u16],
-) -> Prepared
+) -> Result<Prepared, Refusal>
     requires { Loader places.old lengths.old heads.old chain.old images.old order.old }
     ensures { Prepares file.now (load_of main_ceilings file.now) result places.new lengths.new heads.new chain.new images.new order.new }
 {
@@ -82,7 +83,7 @@ fn split_rows(
     added_lengths: &mut [u8],
     most: usize,
     most_bytes: usize,
-) -> Entered
+) -> Result<Entered, Refusal>
     requires { Ready file.now names.now lengths.now buckets.now chain.now sections.now images.now symbols.now order.now relocs.now partials.now unit_places.now
         × Long (columns starts.old ends.old units.old rest.old) cap × (cap ≤ 1024)
         × entering.Room (entering.beside added_bytes.old added_places.old added_lengths.old) most most_bytes }
@@ -154,7 +155,7 @@ fn run_tables(
     pieces: &mut [u8],
     entries: &mut [u8],
     offsets: &mut [u8],
-) -> Ran
+) -> Result<Ran, Unlinked>
     requires { Ready file.now names.now lengths.now buckets.now chain.now sections.now images.now symbols.now order.now relocs.now partials.now unit_places.now
         × Lent starts.old ends.old units.old rest.old added_bytes.old added_places.old added_lengths.old
         × (cap ≤ 1024) }
@@ -240,7 +241,7 @@ fn run_loaded(
     pieces: &mut [u8],
     entries: &mut [u8],
     offsets: &mut [u8],
-) -> Ran
+) -> Result<Ran, Unlinked>
     requires { Stored file.now counts ordered places.now lengths.now heads.now chain.now images.now order.now
         × Lent starts.old ends.old units.old rest.old added_bytes.old added_places.old added_lengths.old
         × (cap ≤ 1024) }
@@ -321,29 +322,27 @@ pub fn run_file(
         places.new lengths.new (entering.beside added_bytes.new added_places.new added_lengths.new)
         (columns starts.new ends.new units.new rest.new) out_units.new pieces.new entries.new offsets.new }
 {
-    let p = prepare_file(file, places, lengths, heads, chain, images, order);
-    let answer = p.answer;
-    let counts = p.counts;
-    if let Answer::Refused {
-        number,
-        section,
-        address,
-    } = answer
-    {
-        return RanFile {
-            ran: Ran::Refused {
-                number,
-                section,
-                address,
-            },
-            counts,
-        };
-    }
-    let ordered = p.ordered;
+    let prepared = match prepare_file(file, places, lengths, heads, chain, images, order) {
+        Ok(prepared) => prepared,
+        Err(refusal) => {
+            return RanFile {
+                ran: Err(Unlinked::Refused(refusal)),
+                counts: Counts {
+                    names: 0,
+                    sections: 0,
+                    symbols: 0,
+                    relocations: 0,
+                    splits: 0,
+                    units: 0,
+                },
+            };
+        }
+    };
+    let counts = prepared.counts;
     let ran = run_loaded(
         file,
         counts,
-        ordered,
+        prepared.ordered,
         places,
         lengths,
         heads,

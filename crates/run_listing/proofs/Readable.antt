@@ -26,7 +26,7 @@ use Rattle.pieces.specs.declared.PieceReloc.{PieceReloc}
 use Rattle.walk.specs.declared.Counts.{Counts}
 use Rattle.run_splits.specs.Table.{Homed}
 use Rattle.run_splits.proofs.Keeping.{table_homed}
-use Rattle.run.specs.declared.Ran.TheVariants.{Done}
+use Rattle.std.specs.Prelude.{Ok}
 use Rattle.run.specs.Run.{Rooms, Result, walked, stages}
 use Rattle.run.specs.Answers.{ran_in, Units, units_at}
 use Rattle.listing.specs.Tables.{Readable}
@@ -78,7 +78,7 @@ module _ {file : List ℕ} {t : Loaded} (u : Usable file t) (room : Rooms) (r : 
 -- THEOREM: what a run leaves can be listed
 pub run_readable : {file : List ℕ} {t : Loaded} (u : Usable file t) (room : Rooms) (c : Beside) (table : Columns) (units pieces entries offsets : List ℕ)
     (names used splits n : ℕ) (made : Counts)
-    → ran_in c table units pieces entries offsets (Done names used splits n made) ≡ stages file t room
+    → ran_in c table units pieces entries offsets (Ok (record { names = names; used = used; splits = splits; units = n; made = made })) ≡ stages file t room
     → Packed c.bytes c.places c.lengths names used
     → Units units n
     → piece_width * made.pieces ≤ length pieces

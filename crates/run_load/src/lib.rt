@@ -9,14 +9,13 @@ ghost use Rattle.run_load.specs.Prepared.{Prepares};
 
 use load::{Counts, SYMBOLS, load_file};
 use loaded::image_places;
-use obj::Answer;
+use obj::Refusal;
 use symbol_order::make_order;
 use tables::main_ceilings;
 
-// What was answered, how many records of each kind there are, and how many symbols the order has: it is `order[..ordered]`.
+// How many records of each kind there are, and how many symbols the order has: it is `order[..ordered]`.
 #[derive(Clone, Copy)]
 pub struct Prepared {
-    pub answer: Answer,
     pub counts: Counts,
     pub ordered: usize,
 }
@@ -31,27 +30,14 @@ pub fn prepare(
     images: &mut [u32],
     order: &mut [u16],
     scratch: &mut [u16],
-) -> Prepared
+) -> Result<Prepared, Refusal>
     requires { Room main_ceilings places.old lengths.old heads.old chain.old
         × (64 ≤ length images.old) × (4096 ≤ length order.old) × (4096 ≤ length scratch.old) }
     ensures { Prepares file.now (load_of main_ceilings file.now) result places.new lengths.new heads.new chain.new images.new order.new }
 {
-    let loaded = load_file(file, main_ceilings(), places, lengths, heads, chain);
-    let answer = loaded.answer;
-    let counts = loaded.counts;
-    if let Answer::Refused { .. } = answer {
-        return Prepared {
-            answer,
-            counts,
-            ordered: 0,
-        };
-    }
+    let counts = load_file(file, main_ceilings(), places, lengths, heads, chain)?;
     image_places(&places[..counts.sections], images);
     let end = SYMBOLS + counts.symbols;
     let ordered = make_order(file, &places[SYMBOLS..end], order, scratch);
-    Prepared {
-        answer,
-        counts,
-        ordered,
-    }
+    Ok(Prepared { counts, ordered })
 }

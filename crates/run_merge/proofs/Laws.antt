@@ -6,8 +6,8 @@ use mathlib.Core.List.{List}
 use Rattle.lists.specs.Outcome.{Outcome, accepted, refused, ◌>>=◌}
 use Rattle.lists.proofs.Outcomes.{not_both}
 use Rattle.lists.proofs.Binds.{bind_goes, bind_stops}
-use Rattle.obj.specs.declared.Answer.{Answer}
-use Rattle.obj.specs.declared.Answer.TheVariants.{Accepted, Refused}
+use Rattle.obj.specs.Answers.{Answer}
+use Rattle.std.specs.Prelude.{Ok, Err}
 use Rattle.obj.specs.declared.Split.{Split}
 use Rattle.common.specs.Common.{From, common_of, common_start, first_common, marked_from, answered}
 use Rattle.run_merge.specs.Merging.{marked_in}
@@ -19,8 +19,8 @@ common_is bss rows = refl
 
 pub common_left : (a : Answer) (left : List Split) (bss : List ℕ) (rows : List Split) → answered a left ≡ common_of false 0 bss rows
     → accepted left ≡ common_of false 0 bss rows
-common_left Accepted left bss rows e = e
-common_left (Refused number section address) left bss rows e = absurd (not_both (e ∙ common_is bss rows))
+common_left (Ok u) left bss rows e = e
+common_left (Err r) left bss rows e = absurd (not_both (e ∙ common_is bss rows))
 
 -- after a merge
 pub marked_refused : (bss : List ℕ) {m : Outcome (List Split)} {number section address : ℕ} → m ≡ refused number section address

@@ -13,46 +13,8 @@ ghost use Rattle.common.specs.Sections.{bss_in, Sections};
 ghost use Rattle.run_merge.specs.Merging.{marked_in};
 
 use common::update_common_splits;
-use merge::{Merged, add_splits};
-
-// Common marked in the rows that a merge left. Without a start nothing is refused.
-fn mark_common(
-    file: &[u8],
-    names: &[u32],
-    lengths: &[u8],
-    sections: &[u32],
-    starts: &[u32],
-    ends: &[u32],
-    units: &[u16],
-    rest: &mut [u64],
-    r: Merged,
-) -> Merged
-    requires { Sections file.now names.now lengths.now file.now sections.now × Long (columns starts.now ends.now units.now rest.old) (count r) }
-    ensures { (merged result (columns starts.now ends.now units.now rest.new)
-        ≡ marked_in (bss_in file.now names.now lengths.now file.now sections.now)
-        (merged r (columns starts.now ends.now units.now rest.old)))
-        × (count result ≤ count r) }
-{
-    match r {
-        Merged::Refused {
-            number,
-            section,
-            address,
-        } => {
-            return Merged::Refused {
-                number,
-                section,
-                address,
-            };
-        }
-        Merged::Accepted { n } => {
-            update_common_splits(
-                file, names, lengths, file, sections, starts, ends, units, rest, n, false, 0,
-            );
-            return Merged::Accepted { n };
-        }
-    }
-}
+use merge::add_splits;
+use obj::Refusal;
 
 // The partial splits merged into a table that has none, of at most `cap` rows, and common marked.
 pub fn merge_partials(
@@ -66,7 +28,7 @@ pub fn merge_partials(
     units: &mut [u16],
     rest: &mut [u64],
     cap: usize,
-) -> Merged
+) -> Result<usize, Refusal>
     requires { Sections file.now names.now lengths.now file.now sections.now
         × AllHeld 15 file.now sections.now
         × Partials file.now partials.now
@@ -76,8 +38,12 @@ pub fn merge_partials(
         (merge_all (given (sections_in file.now sections.now) cap) [] (partials_in file.now partials.now)))
         × (count result ≤ cap) }
 {
-    let r = add_splits(
+    let n = add_splits(
         starts, ends, units, rest, 0, cap, file, sections, file, partials,
+    )?;
+    // without a start nothing is refused
+    let _ = update_common_splits(
+        file, names, lengths, file, sections, starts, ends, units, rest, n, false, 0,
     );
-    mark_common(file, names, lengths, sections, starts, ends, units, rest, r)
+    Ok(n)
 }

@@ -1,13 +1,11 @@
 -- What the entry's ends rest on: names put at the front of their tables, counts stored one after another, and what an answer of the run keeps is what its outcome leaves.
 -- Assumes nothing.
-use Prim.Native.Nat.{ℕ, suc, ◌+◌, ◌*◌, ◌-◌, ◌/◌, ◌≤◌, ◌<◌}
-use mathlib.Core.Path.{◌≡◌, refl, sym, ap, subst, ◌∙◌}
+use Prim.Native.Nat.{ℕ, suc, ◌+◌, ◌*◌, ◌≤◌}
+use mathlib.Core.Path.{◌≡◌, refl, sym, ap, ◌∙◌}
 use mathlib.Core.List.{List, [], ◌∷◌}
 use native.Mathlib.Omega.{arith}
-use lib.ListN.{length, take, replicate, length-map}
-use lib.Seq.{sets}
-use Rattle.lists.specs.Outcome.{Outcome, accepted, refused}
-use Rattle.lists.specs.Rows.{clear_from, tabulate}
+use lib.ListN.{length, replicate, length-map}
+use Rattle.lists.specs.Rows.{clear_from}
 use Rattle.lists.specs.Tables.{laid}
 use Rattle.lists.proofs.Clear.{clear_all}
 use Rattle.outputs.specs.Outputs.{halves, counts_of, store_count, store_counts}

@@ -12,7 +12,10 @@ use Rattle.walk.specs.Giving.{output_in}
 use Rattle.run.specs.Run.{Result}
 use Rattle.run.specs.Answers.{units_at, Names, Units}
 use Rattle.run.specs.declared.Ran.{Ran}
-use Rattle.run.specs.declared.Ran.TheVariants.{Done, Cycle, Refused}
+use Rattle.order.specs.declared.Unlinked.{Unlinked}
+use Rattle.order.specs.declared.Unlinked.TheVariants.{Refused, Cycle}
+use Rattle.std.specs.Prelude.{Ok, Err}
+use Rattle.std.specs.Prelude as std
 use Rattle.obj.specs.Records.{split_width}
 use Rattle.run_outputs.specs.declared.Kept.{Kept}
 use Rattle.run_outputs.specs.Laid.{Sizes}
@@ -21,16 +24,16 @@ abbrev pub none : Counts
 none = record { pieces = 0; symbols = 0; relocs = 0 }
 
 -- how many records an answer keeps in each table
-abbrev pub kept_by : Ran → Kept
-kept_by (Done names used splits units made) = record { names = names; used = used; splits = splits; units = units; made = made }
-kept_by (Cycle units) = record { names = 0; used = 0; splits = 0; units = units; made = none }
-kept_by (Refused number section address) = record { names = 0; used = 0; splits = 0; units = 0; made = none }
+abbrev pub kept_by : std.Result Ran Unlinked → Kept
+kept_by (Ok r) = record { names = r.names; used = r.used; splits = r.splits; units = r.units; made = r.made }
+kept_by (Err (Cycle units)) = record { names = 0; used = 0; splits = 0; units = units; made = none }
+kept_by (Err (Refused r)) = record { names = 0; used = 0; splits = 0; units = 0; made = none }
 
 -- its word
-abbrev pub word_of : Ran → ℕ
-word_of (Done names used splits units made) = 0
-word_of (Cycle units) = refusal_word 61 0 0
-word_of (Refused number section address) = refusal_word number section address
+abbrev pub word_of : std.Result Ran Unlinked → ℕ
+word_of (Ok r) = 0
+word_of (Err (Cycle units)) = refusal_word 61 0 0
+word_of (Err (Refused r)) = refusal_word r.number r.section r.address
 
 -- what the tables hold, of which so many records are kept
 abbrev pub left_in : Beside → Columns → (units pieces entries offsets : List ℕ) → Kept → Result

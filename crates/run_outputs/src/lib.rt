@@ -12,7 +12,8 @@ ghost use Rattle.run.specs.Answers.{Names};
 ghost use Rattle.run_outputs.specs.Laid.{Laid};
 ghost use Rattle.run_outputs.specs.Kept.{kept_by, word_of, left_in, Fits, OutputFits, OutputLaid, Countable, listed, sizes_of};
 
-use obj::{Answer, word_of};
+use obj::{refuse, word_of};
+use order::Unlinked;
 use outputs::{clear_from, put_count};
 use pieces::PIECE_BYTES;
 use run::Ran;
@@ -30,65 +31,44 @@ pub struct Kept {
     pub made: Counts,
 }
 
-pub fn kept_of(r: Ran) -> Kept
+pub fn kept_of(r: Result<Ran, Unlinked>) -> Kept
     ensures { result ≡ kept_by r }
 {
-    let none = Counts {
-        pieces: 0,
-        symbols: 0,
-        relocs: 0,
+    let mut kept = Kept {
+        names: 0,
+        used: 0,
+        splits: 0,
+        units: 0,
+        made: Counts {
+            pieces: 0,
+            symbols: 0,
+            relocs: 0,
+        },
     };
     match r {
-        Ran::Done {
-            names,
-            used,
-            splits,
-            units,
-            made,
-        } => Kept {
-            names,
-            used,
-            splits,
-            units,
-            made,
-        },
-        Ran::Cycle(units) => Kept {
-            names: 0,
-            used: 0,
-            splits: 0,
-            units,
-            made: none,
-        },
-        Ran::Refused { .. } => Kept {
-            names: 0,
-            used: 0,
-            splits: 0,
-            units: 0,
-            made: none,
-        },
+        Ok(ran) => {
+            kept = Kept {
+                names: ran.names,
+                used: ran.used,
+                splits: ran.splits,
+                units: ran.units,
+                made: ran.made,
+            };
+        }
+        Err(Unlinked::Cycle(units)) => kept.units = units,
+        Err(Unlinked::Refused(_)) => {}
     }
+    kept
 }
 
 // The answer as a word; "61 cycle" at (0, 0).
-pub fn word_for(r: Ran) -> u64
+pub fn word_for(r: Result<Ran, Unlinked>) -> u64
     ensures { result ≡ word_of r }
 {
     match r {
-        Ran::Done { .. } => 0,
-        Ran::Cycle(_) => word_of(Answer::Refused {
-            number: 61,
-            section: 0,
-            address: 0,
-        }),
-        Ran::Refused {
-            number,
-            section,
-            address,
-        } => word_of(Answer::Refused {
-            number,
-            section,
-            address,
-        }),
+        Ok(_) => 0,
+        Err(Unlinked::Cycle(_)) => word_of(refuse(61, 0, 0)),
+        Err(Unlinked::Refused(refusal)) => word_of(Err(refusal)),
     }
 }
 

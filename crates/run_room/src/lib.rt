@@ -5,24 +5,7 @@ ghost use Rattle.std.specs.Prelude.{◌≡◌, ◌-◌, ◌≤◌, length};
 ghost use Rattle.lists.specs.Bounds.{lower as lowerOf};
 ghost use Rattle.run_room.specs.Room.{sum};
 
-fn lower(a: usize, b: usize) -> usize
-    ensures { result ≡ lowerOf a b }
-{
-    if a < b {
-        return a;
-    }
-    b
-}
-
-// What a ceiling leaves beside what is there.
-fn left(ceiling: usize, there: usize) -> usize
-    ensures { result ≡ ceiling - there }
-{
-    if there < ceiling {
-        return ceiling - there;
-    }
-    0
-}
+use std::cmp::min;
 
 // How many bytes the names have in all.
 fn bytes_of(lengths: &[u8]) -> usize
@@ -30,10 +13,8 @@ fn bytes_of(lengths: &[u8]) -> usize
     ensures { result ≡ sum lengths.now }
 {
     let mut bytes: usize = 0;
-    let mut i: usize = 0;
-    while i < lengths.len() {
-        bytes += lengths[i] as usize;
-        i += 1;
+    for i in 0..lengths.len() {
+        bytes += usize::from(lengths[i]);
     }
     bytes
 }
@@ -42,7 +23,7 @@ fn bytes_of(lengths: &[u8]) -> usize
 pub fn names_room(there: usize, most: usize) -> usize
     ensures { result ≡ lowerOf (4096 - there) most }
 {
-    lower(left(4096, there), most)
+    min(4096_usize.saturating_sub(there), most)
 }
 
 // How many bytes these may have, beside the names of these lengths.
@@ -50,5 +31,5 @@ pub fn bytes_room(lengths: &[u8], most: usize) -> usize
     requires { length lengths.now ≤ 4096 }
     ensures { result ≡ lowerOf (65535 - sum lengths.now) most }
 {
-    lower(left(65535, bytes_of(lengths)), most)
+    min(65535_usize.saturating_sub(bytes_of(lengths)), most)
 }

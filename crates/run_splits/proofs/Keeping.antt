@@ -1,7 +1,7 @@
 -- What each stage keeps of the rows: sections that are there, ends at or below the ceiling, units and renames that are names. The merge of such splits gives such rows, common only
 -- sets a flag, gaps are such splits with a name that was found or added, and the trim leaves ends that it was asked. So no stage is given what it cannot take.
 -- Assumes nothing.
-use Prim.Native.Nat.{ℕ, ◌+◌, ◌<◌, ◌≤◌}
+use Prim.Native.Nat.{ℕ, ◌<◌, ◌≤◌}
 use mathlib.Core.Path.{◌≡◌, refl, sym, subst, ◌∙◌}
 use mathlib.Core.Bool.{Bool, true, false, cond, ◌&&◌}
 use mathlib.Core.List.{List, [], ◌∷◌, ◌++◌, map}

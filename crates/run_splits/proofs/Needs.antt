@@ -1,9 +1,9 @@
 -- What each stage of the split table is asked with: the loaded file's laws for the tables, and the rows that the stage before left. Assumes nothing.
-use Prim.Native.Nat.{ℕ, ◌+◌, ◌*◌, ◌≤◌}
+use Prim.Native.Nat.{ℕ, ◌≤◌}
 use mathlib.Core.Path.{◌≡◌, sym, ap, subst, ◌∙◌}
 use mathlib.Core.List.{List}
 use native.Mathlib.Omega.{arith}
-use native.Mathlib.Nat.{zero-add, not-suc-le-zero}
+use native.Mathlib.Nat.{zero-add}
 use lib.ListN.{length, get_or, drop, length-drop}
 use lib.Seq.{length-take-le}
 use Rattle.lists.specs.Outcome.{accepted}
@@ -12,7 +12,7 @@ use Rattle.lists.proofs.All.{all_at}
 use Rattle.lists.proofs.Outcomes.{bind_inv}
 use Rattle.lists.proofs.Rows.{get_d_tabulate, length-tabulate}
 use Rattle.names.specs.Names.{name_at}
-use Rattle.names.specs.Append.{Columns as Beside}
+use Rattle.obj.specs.declared.Split.{Split}
 use Rattle.names.proofs.Laws.{length-names}
 use Rattle.tables.specs.Records.{no_split}
 use Rattle.load.specs.Load.{Loaded, names_in}
@@ -23,9 +23,6 @@ use Rattle.splits.specs.Columns.{Columns, row_at, rows, Long}
 use Rattle.common.specs.Sections.{Sections}
 use Rattle.gaps.specs.Found.{Roomy}
 use Rattle.gap_splits.specs.Entering.{Filled, Ceilings}
-use Rattle.gap_splits.specs.Answers.{meant, splits}
-use Rattle.gap_splits.specs.declared.Entered.{Entered}
-use Rattle.gap_splits.specs.declared.Entered.TheVariants.{Accepted, Refused}
 use Rattle.create_gap_splits.specs.Create.{Short}
 use Rattle.trim.specs.Steps.{Placed, AllPlaced}
 use Rattle.run_splits.specs.Table.{Fine, merged, with_common, with_gaps}
@@ -77,9 +74,9 @@ module _ {file : List ℕ} {t : Loaded} (u : Usable file t) where
           subst (Placed (length t.sections)) e (record { section = f.section; end = f.end });
     }
 
-    pub rows-placed : (images : List ℕ) → images ≡ byte_places t.sections → (base : List (List ℕ)) (c : Beside) (table : Columns) (e : Entered)
-        → meant base c table e ≡ gaps_with file t room names images (marked_table file t room names) → Long table (splits e)
-        → AllPlaced (length t.sections) table (splits e)
-    rows-placed images p base c table (Accepted k bytes n) e long =
-        fine_placed table n _ long (gapped_fine _ (ap (λ (l : List ℕ). gaps_with file t room names l (marked_table file t room names)) (sym p) ∙ sym e))
-    rows-placed images p base c table (Refused number section address) e long = record { long = long; each = λ k h. absurd (not-suc-le-zero h) }
+    pub rows-placed : (images : List ℕ) → images ≡ byte_places t.sections → (full : Filled) → accepted full ≡ gaps_with file t room names images (marked_table file t room names)
+        → (table : Columns) (n : ℕ) → full.rows ≡ rows table n → Long table n → AllPlaced (length t.sections) table n
+    rows-placed images p full e table n same long =
+        fine_placed table n _ long
+        (subst (λ (l : List Split). All (Fine (length t.sections) (length full.names)) l) same
+        (gapped_fine full (ap (λ (l : List ℕ). gaps_with file t room names l (marked_table file t room names)) (sym p) ∙ sym e)))

@@ -17,7 +17,8 @@ use Rattle.splits.specs.Columns.{Columns, rows}
 use Rattle.gap_splits.specs.Entering.{Ceilings}
 use Rattle.gap_splits.specs.Answers as entering
 use Rattle.gap_splits.specs.declared.Entered.{Entered}
-use Rattle.gap_splits.specs.declared.Entered.TheVariants.{Accepted, Refused}
+use Rattle.std.specs.Prelude.{Result, Ok, Err}
+use Rattle.obj.specs.declared.Refusal.{Refusal}
 use Rattle.run_splits.specs.Table.{merged, with_common, with_gaps, checked, split_table, Homed}
 use Rattle.run_splits.proofs.Keeping.{table_homed}
 
@@ -36,11 +37,11 @@ unfolding tabulate
 no_rows P table = none
 
 -- THEOREM: the rows of a split table that stands in columns lie in sections that are there, and their units and renames are names
-pub rows_homed : {file : List ℕ} {t : Loaded} (u : Usable file t) (room : ℕ) (names : Ceilings) (base : List (List ℕ)) (c : Beside) (table : Columns) (e : Entered)
+pub rows_homed : {file : List ℕ} {t : Loaded} (u : Usable file t) (room : ℕ) (names : Ceilings) (base : List (List ℕ)) (c : Beside) (table : Columns) (e : Result Entered Refusal)
     → entering.meant base c table e ≡ split_table file t room names → length base + entering.names e ≤ 4096
     → All (Homed (length t.sections) 4096) (rows table (entering.splits e))
-rows_homed u room names base c table (Accepted k bytes n) p h =
-    let count = length-names c.bytes c.places c.lengths k in
-    let few : length (base ++ entering.added c k) ≤ 4096 = omega (arith, h, length-append base (entering.added c k), count) in
-    all_map (λ s q. homed_more few q) (table_homed u room names (record { names = base ++ entering.added c k; rows = rows table n }) (sym p))
-rows_homed u room names base c table (Refused number section address) p h = no_rows _ table
+rows_homed u room names base c table (Ok e) p h =
+    let count = length-names c.bytes c.places c.lengths e.names in
+    let few : length (base ++ entering.added c e.names) ≤ 4096 = omega (arith, h, length-append base (entering.added c e.names), count) in
+    all_map (λ s q. homed_more few q) (table_homed u room names (record { names = base ++ entering.added c e.names; rows = rows table e.splits }) (sym p))
+rows_homed u room names base c table (Err r) p h = no_rows _ table

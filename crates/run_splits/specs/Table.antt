@@ -2,21 +2,15 @@
 -- gaps (`create_gap_splits`), checks (`validate_splits`), trims (..)". Each stage is its own definition on the table before it. What is known of the rows that are left:
 -- `table_homed` of proofs/Keeping.antt.
 use Rattle.std.specs.Prelude.{ℕ, ◌≤◌, ◌<◌, ◌≡◌, List, [], false}
-use Rattle.lists.specs.Outcome.{Outcome, accepted, refused, ◌>>◌, ◌>>=◌}
-use Rattle.obj.specs.declared.Answer.{Answer}
-use Rattle.obj.specs.declared.Answer.TheVariants as answers
+use Rattle.lists.specs.Outcome.{Outcome, accepted, ◌>>◌, ◌>>=◌}
 use Rattle.obj.specs.declared.Split.{Split}
 use Rattle.tables.specs.Records.{sections_in, partials_in}
 use Rattle.load.specs.Load.{Loaded, names_in}
 use Rattle.loaded.specs.Tables.{image_from, sections_from}
-use Rattle.sections.specs.Image.{Image}
-use Rattle.sections.specs.Sections.{Sections}
-use Rattle.merge.specs.Merge.{Given, given, merge_all}
+use Rattle.merge.specs.Merge.{given, merge_all}
 use Rattle.common.specs.Common.{common_of}
 use Rattle.common.specs.Sections.{bss_in}
 use Rattle.gap_splits.specs.Entering.{Filled, Ceilings}
-use Rattle.gap_splits.specs.declared.Entered.{Entered}
-use Rattle.gap_splits.specs.declared.Entered.TheVariants.{Accepted, Refused}
 use Rattle.create_gap_splits.specs.Create.{gaps_filled}
 use Rattle.validate.specs.Check.{validate}
 use Rattle.trim.specs.Trim.{trimmed}
@@ -64,23 +58,3 @@ pub record Homed (sections names : ℕ) (s : Split) : Type 0 where
   pub section : s.section < sections
   pub unit : s.unit < names
   pub renamed : (s.rename ≡ 65535 → ⊥) → s.rename < names
-
--- ---- an answer after another
-
--- the rows of a filled table are checked and trimmed
-abbrev pub trimmed_after : (List Split → Outcome (List Split)) → Outcome Filled → Outcome Filled
-trimmed_after check full = full >>= λ t. check t.rows >>= λ rows. accepted (record { names = t.names; rows = rows })
-
--- as many names and rows as before, or refused
-abbrev pub Stays : (before after : Entered) → Type 0
-Stays before (Accepted names used splits) = before ≡ Accepted names used splits
-Stays before (Refused number section address) = Unit {0}
-
--- the gaps of a table that is given are found and enter it
-abbrev pub filled_after : Image → Sections → Given → Ceilings → (names : List (List ℕ)) → Outcome (List Split) → Outcome Filled
-filled_after image sections g room names table = table >>= λ rows. gaps_filled image sections g room (record { names = names; rows = rows })
-
--- the answer of a trim, with the names and rows that it was given
-abbrev pub trim_answer : Answer → (names used splits : ℕ) → Entered
-trim_answer answers.Accepted names used splits = Accepted names used splits
-trim_answer (answers.Refused number section address) names used splits = Refused number section address

@@ -20,183 +20,13 @@ ghost use Rattle.gap_splits.specs.Answers as entering;
 ghost use Rattle.create_gap_splits.specs.Create.{Short};
 ghost use Rattle.trim.specs.Steps.{AllPlaced};
 ghost use Rattle.run_trim.specs.Checking.{checked_table};
-ghost use Rattle.run_splits.specs.Table.{split_table, filled_after, trimmed_after, trim_answer, Stays};
+ghost use Rattle.run_splits.specs.Table.{split_table};
 
 use create_gap_splits::create_gap_splits;
 use gap_splits::Entered;
-use merge::Merged;
-use obj::Answer;
+use obj::Refusal;
 use run_merge::merge_partials;
 use run_trim::check_and_trim;
-
-// The gaps of the rows that a merge left enter them, as `create_gap_splits` says; a refused merge is handed on.
-fn fill_merged(
-    m: Merged,
-    file: &[u8],
-    names: &[u32],
-    lengths: &[u8],
-    buckets: &[u16],
-    chain: &[u16],
-    sections: &[u32],
-    images: &[u32],
-    symbols: &[u32],
-    order: &[u16],
-    starts: &mut [u32],
-    ends: &mut [u32],
-    units: &mut [u16],
-    rest: &mut [u64],
-    cap: usize,
-    added_bytes: &mut [u8],
-    added_places: &mut [u32],
-    added_lengths: &mut [u8],
-    most: usize,
-    most_bytes: usize,
-    marks: &mut [u8],
-    keys: &mut [u64],
-    gap_ends: &mut [u32],
-) -> Entered
-    requires { Tables file.now symbols.now order.now file.now names.now lengths.now
-        × Kept file.now sections.now file.now images.now names.now
-        × Sound (symbol_of file.now symbols.now) (length symbols.now)
-        × Long (columns starts.old ends.old units.old rest.old) cap × (count m ≤ cap)
-        × Clean marks.old × (length names.now ≤ length marks.old)
-        × Roomy keys.old gap_ends.old (length sections.now) (count m) (length symbols.now)
-        × Indexed (names_of file.now names.now lengths.now (length names.now)) buckets.now chain.now
-        × Short file.now sections.now file.now names.now lengths.now
-        × entering.Room (entering.beside added_bytes.old added_places.old added_lengths.old) most most_bytes }
-    ensures { (entering.meant (names_of file.now names.now lengths.now (length names.now))
-        (entering.beside added_bytes.new added_places.new added_lengths.new)
-        (columns starts.new ends.new units.new rest.new) result
-        ≡ filled_after
-        (image_of file.now symbols.now file.now names.now lengths.now)
-        (sections_of file.now sections.now file.now images.now)
-        (given (sections_in file.now sections.now) cap)
-        (entering.ceilings (names_of file.now names.now lengths.now (length names.now)) most most_bytes)
-        (names_of file.now names.now lengths.now (length names.now))
-        (merged m (columns starts.old ends.old units.old rest.old)))
-        × entering.Stand (entering.beside added_bytes.new added_places.new added_lengths.new) (entering.names result) (entering.used result) most most_bytes
-        × (entering.splits result ≤ cap) }
-{
-    match m {
-        Merged::Refused {
-            number,
-            section,
-            address,
-        } => {
-            return Entered::Refused {
-                number,
-                section,
-                address,
-            };
-        }
-        Merged::Accepted { n } => {
-            return create_gap_splits(
-                file,
-                symbols,
-                order,
-                file,
-                names,
-                lengths,
-                buckets,
-                chain,
-                file,
-                sections,
-                file,
-                images,
-                starts,
-                ends,
-                units,
-                rest,
-                n,
-                cap,
-                added_bytes,
-                added_places,
-                added_lengths,
-                most,
-                most_bytes,
-                marks,
-                keys,
-                gap_ends,
-            );
-        }
-    }
-}
-
-// The answer of a trim, with the names and rows that it was given.
-fn after_trim(a: Answer, names: usize, used: usize, splits: usize) -> Entered
-    ensures { result ≡ trim_answer a names used splits }
-{
-    match a {
-        Answer::Accepted => Entered::Accepted {
-            names,
-            used,
-            splits,
-        },
-        Answer::Refused {
-            number,
-            section,
-            address,
-        } => Entered::Refused {
-            number,
-            section,
-            address,
-        },
-    }
-}
-
-// The rows with their gaps, checked and trimmed; a refusal before is handed on.
-fn trim_filled(
-    e: Entered,
-    file: &[u8],
-    names: &[u32],
-    lengths: &[u8],
-    sections: &[u32],
-    images: &[u32],
-    symbols: &[u32],
-    order: &[u16],
-    starts: &[u32],
-    ends: &mut [u32],
-    units: &[u16],
-    rest: &[u64],
-    falls: &mut [u32],
-) -> Entered
-    requires { Tables file.now symbols.now order.now file.now names.now lengths.now
-        × Sound (symbol_of file.now symbols.now) (length symbols.now)
-        × Kept file.now sections.now file.now images.now names.now
-        × AllPlaced (length sections.now) (columns starts.now ends.old units.now rest.now) (entering.splits e)
-        × (entering.splits e ≤ length falls.old) }
-    ensures { ((base : List (List ℕ)) → (c : Beside)
-        → entering.meant base c (columns starts.now ends.new units.now rest.now) result
-        ≡ trimmed_after (checked_table (image_of file.now symbols.now file.now names.now lengths.now)
-        (sections_of file.now sections.now file.now images.now))
-        (entering.meant base c (columns starts.now ends.old units.now rest.now) e))
-        × Stays e result }
-{
-    match e {
-        Entered::Refused {
-            number,
-            section,
-            address,
-        } => {
-            return Entered::Refused {
-                number,
-                section,
-                address,
-            };
-        }
-        Entered::Accepted {
-            names: k,
-            used,
-            splits,
-        } => {
-            let a = check_and_trim(
-                file, names, lengths, sections, images, symbols, order, starts, ends, units, rest,
-                splits, falls,
-            );
-            return after_trim(a, k, used, splits);
-        }
-    }
-}
 
 // The split table of a loaded file, with its gaps, in four columns: at most `cap` rows, at most `most` names more with `most_bytes` bytes. `images` are the places
 // of the sections' bytes, `order` is the symbol order, `buckets` and `chain` are the index of the names.
@@ -225,7 +55,7 @@ pub fn split_table(
     keys: &mut [u64],
     gap_ends: &mut [u32],
     falls: &mut [u32],
-) -> Entered
+) -> Result<Entered, Refusal>
     requires { Usable file.now (tables_with names.now lengths.now sections.now symbols.now [] partials.now [])
         × (images.now ≡ byte_places sections.now)
         × (order.now ≡ order_of (symbol_of file.now symbols.now) (length symbols.now))
@@ -243,24 +73,27 @@ pub fn split_table(
         × entering.Stand (entering.beside added_bytes.new added_places.new added_lengths.new) (entering.names result) (entering.used result) most most_bytes
         × (entering.splits result ≤ cap) }
 {
-    let m = merge_partials(
+    let n = merge_partials(
         file, names, lengths, sections, partials, starts, ends, units, rest, cap,
-    );
-    let e = fill_merged(
-        m,
+    )?;
+    let filled = create_gap_splits(
+        file,
+        symbols,
+        order,
         file,
         names,
         lengths,
         buckets,
         chain,
+        file,
         sections,
+        file,
         images,
-        symbols,
-        order,
         starts,
         ends,
         units,
         rest,
+        n,
         cap,
         added_bytes,
         added_places,
@@ -270,8 +103,21 @@ pub fn split_table(
         marks,
         keys,
         gap_ends,
-    );
-    trim_filled(
-        e, file, names, lengths, sections, images, symbols, order, starts, ends, units, rest, falls,
-    )
+    )?;
+    check_and_trim(
+        file,
+        names,
+        lengths,
+        sections,
+        images,
+        symbols,
+        order,
+        starts,
+        ends,
+        units,
+        rest,
+        filled.splits,
+        falls,
+    )?;
+    Ok(filled)
 }

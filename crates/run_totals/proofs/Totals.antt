@@ -36,7 +36,7 @@ use Rattle.walk.specs.declared.Counts.{Counts}
 use Rattle.restore.proofs.Walked.{pieces_room}
 use Rattle.stage_walk.specs.Room.{room_in}
 use Rattle.stage_walk.proofs.Room.{room_low}
-use Rattle.run.specs.declared.Ran.TheVariants.{Done}
+use Rattle.std.specs.Prelude.{Ok}
 use Rattle.run.specs.Run.{Rooms, Result, done, walked, stages, run_of}
 use Rattle.run.specs.Answers.{ran_in, units_at}
 use Rattle.run_file.specs.RunFile.{rooms_in}
@@ -158,7 +158,7 @@ module _ (file : List ℕ) (names bytes splits most a b d : ℕ) (t : Loaded) (l
 
   -- THEOREM T8: .. and so it is told from the bytes of the tables that the run left, and of the file's symbols
   pub tables_totals : (c : Beside) (table : Columns) (unit_records pieces entries offsets : List ℕ) (added used rows n : ℕ) (made : Counts)
-      → ran_in c table unit_records pieces entries offsets (Done added used rows n made) ≡ run_of file rooms
+      → ran_in c table unit_records pieces entries offsets (Ok (record { names = added; used = used; splits = rows; units = n; made = made })) ≡ run_of file rooms
       → Read (listed_tables file t c unit_records pieces entries offsets n made)
   tables_totals c table unit_records pieces entries offsets added used rows n made e =
       read_of (listed_tables file t c unit_records pieces entries offsets n made)

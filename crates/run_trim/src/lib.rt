@@ -10,7 +10,7 @@ ghost use Rattle.splits.specs.Columns.{columns, rows};
 ghost use Rattle.trim.specs.Steps.{AllPlaced, seen};
 ghost use Rattle.run_trim.specs.Checking.{checked_table};
 
-use obj::Answer;
+use obj::Refusal;
 use trim::trim;
 use validate::validate;
 
@@ -29,7 +29,7 @@ pub fn check_and_trim(
     rest: &[u64],
     n: usize,
     falls: &mut [u32],
-) -> Answer
+) -> Result<(), Refusal>
     requires { Tables file.now symbols.now order.now file.now names.now lengths.now
         × Sound (symbol_of file.now symbols.now) (length symbols.now)
         × Kept file.now sections.now file.now images.now names.now
@@ -40,10 +40,7 @@ pub fn check_and_trim(
         (sections_of file.now sections.now file.now images.now)
         (rows (columns starts.now ends.old units.now rest.now) n) }
 {
-    let a = validate(file, symbols, order, starts, ends, units, rest, n);
-    if let Answer::Refused { .. } = a {
-        return a;
-    }
+    validate(file, symbols, order, starts, ends, units, rest, n)?;
     trim(
         file, symbols, order, file, names, lengths, file, sections, file, images, starts, ends,
         units, rest, n, falls,

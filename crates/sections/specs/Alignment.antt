@@ -1,16 +1,17 @@
 -- The alignment of a split: document 01, "**Alignment of a split.** The given one, else the larger of the default (code, `.ctors`, `.dtors`,
 -- `extab`, `extabindex`: 4; else 8) and the highest alignment of sized symbols in start..end, stripped ones included." It comes with its
 -- reason: given, from a symbol, or the default; a range asked backwards is 11, and where one is given no range is asked.
-use Rattle.std.specs.Prelude.{ℕ, max, List, cond, not, ◌||◌, eqb, ltb}
+use Rattle.std.specs.Prelude.{ℕ, max, List, cond, not, ◌||◌, eqb, ltb, Result, Ok, Err}
 use Rattle.lists.specs.Outcome.{Outcome, accepted, refused, ◌>>=◌}
 use Rattle.obj.specs.declared.Section.{Section}
 use Rattle.obj.specs.declared.Symbol.{Symbol}
 use Rattle.obj.specs.declared.Split.{Split}
 use Rattle.names.specs.Fixed.{is_four_aligned}
 use Rattle.symbols.specs.Ranges.{highest_in}
+use Rattle.symbols.specs.declared.Backwards.{Backwards}
 use Rattle.sections.specs.Image.{Image}
 use Rattle.sections.specs.declared.Alignment.{Alignment}
-use Rattle.sections.specs.declared.Alignment.TheVariants.{Given, FromSymbol, Default, Backwards}
+use Rattle.sections.specs.declared.Alignment.TheVariants.{Given, FromSymbol, Default}
 
 pub data Reason : Type 0 where
   given : Reason
@@ -45,9 +46,13 @@ alignment_from g head start s =
     (default_alignment (head s.section) (g.name (head s.section).name))
     s.alignment start s.end
 
+-- the alignment and its reason
+abbrev pub chosen : Alignment → Chosen
+chosen (Given a) = record { value = a; reason = given }
+chosen (FromSymbol a) = record { value = a; reason = symbol }
+chosen (Default a) = record { value = a; reason = default }
+
 -- what an answer means, to a range asked of section n from `start` on
-abbrev pub alignment_meaning : (n start : ℕ) → Alignment → Outcome Chosen
-alignment_meaning n start (Given a) = accepted (record { value = a; reason = given })
-alignment_meaning n start (FromSymbol a) = accepted (record { value = a; reason = symbol })
-alignment_meaning n start (Default a) = accepted (record { value = a; reason = default })
-alignment_meaning n start Backwards = refused 11 n start
+abbrev pub alignment_meaning : (n start : ℕ) → Result Alignment Backwards → Outcome Chosen
+alignment_meaning n start (Ok a) = accepted (chosen a)
+alignment_meaning n start (Err e) = refused 11 n start

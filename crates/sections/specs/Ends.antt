@@ -1,17 +1,14 @@
 -- The splitting end of a section: document 01, "**Splitting end** (`end_for_section`)". The reduction by linker objects is one pass over
 -- the section's symbols, the last first; `lowered_loop` of proofs/Loop.antt says that it is document 01's loop, "while the last ..".
 -- Laws for kind 3, "Sections without bytes": `nobits_end` of proofs/Nobits.antt.
-use Rattle.std.specs.Prelude.{ℕ, ◌+◌, ◌-◌, ◌≤◌, ◌≡◌, List, [], ◌∷◌, reverse, Bool, true, cond, ◌&&◌, ◌||◌, length, drop, eqb, ltb}
+use Rattle.std.specs.Prelude.{ℕ, ◌+◌, ◌-◌, ◌≤◌, ◌≡◌, List, [], ◌∷◌, reverse, Bool, true, cond, ◌&&◌, ◌||◌, length, drop, eqb, ltb, Option, Some, None, Result, Ok, Err}
 use Rattle.lists.specs.Outcome.{Outcome, accepted, refused, refuse, ◌>>◌}
 use Rattle.obj.specs.declared.Section.{Section}
 use Rattle.obj.specs.declared.Symbol.{Symbol}
 use Rattle.names.specs.Fixed.{is_linker_object, is_pointer_list}
 use Rattle.symbol_order.specs.Order.{symbols_of}
 use Rattle.symbols.specs.Ranges.{sized_unstripped}
-use Rattle.symbols.specs.declared.Found.{Found}
-use Rattle.symbols.specs.declared.Found.TheVariants.{At, Nothing}
-use Rattle.sections.specs.declared.End.{End}
-use Rattle.sections.specs.declared.End.TheVariants.{Is, Short}
+use Rattle.sections.specs.declared.Short.{Short}
 use Rattle.sections.specs.Image.{Image}
 use Rattle.sections.specs.Bytes.{all_zero}
 
@@ -36,9 +33,9 @@ abbrev pub lowered_end : Image → (n end : ℕ) → ℕ
 lowered_end g n end = lowered g end (reverse (symbols_of g.symbol g.count n))
 
 -- a round of document 01's loop, with the last such symbol below `end`: it goes on from that symbol's address, or ends
-unfoldable pub round : Image → (next : ℕ → ℕ) → (end : ℕ) → Found → ℕ
-round g next end Nothing = end
-round g next end (At i) = cond (is_linkers g (g.symbol i)) (next (g.symbol i).address) end
+unfoldable pub round : Image → (next : ℕ → ℕ) → (end : ℕ) → Option ℕ → ℕ
+round g next end None = end
+round g next end (Some i) = cond (is_linkers g (g.symbol i)) (next (g.symbol i).address) end
 
 -- "less 4 if `.ctors` or `.dtors` ends in four zero bytes"
 abbrev pub less_four : (list : Bool) → (bytes : List ℕ) → (end : ℕ) → ℕ
@@ -55,9 +52,9 @@ splitting_end g n head bytes =
       accepted (lowered_end g n (less_four (is_pointer_list (g.name head.name)) bytes (head.address + head.size))))
 
 -- what an answer means, of section n that starts at `start`
-abbrev pub end_meaning : (n start : ℕ) → End → Outcome ℕ
-end_meaning n start (Is end) = accepted end
-end_meaning n start Short = refused 10 n start
+abbrev pub end_meaning : (n start : ℕ) → Result ℕ Short → Outcome ℕ
+end_meaning n start (Ok end) = accepted end
+end_meaning n start (Err e) = refused 10 n start
 
 -- ---- steps of the code
 

@@ -4,40 +4,27 @@
 ghost use Rattle.std.specs.Prelude.{◌≡◌, reverse, ◌-◌, ◌<◌, ◌≤◌, length, drop};
 ghost use Rattle.names.specs.Names.{name_at, Named};
 ghost use Rattle.symbol_order.specs.Order.{symbol_of, Order};
-ghost use Rattle.lists.specs.Outcome.{accepted};
 ghost use Rattle.sections.specs.Image.{image_of, Tables, Part, Whole, Lies};
 ghost use Rattle.sections.specs.Bytes.{bytes_of, all_zero};
 ghost use Rattle.sections.specs.Ends.{object_below, lowered, less_four, splitting_end, end_meaning, Within, Four};
 ghost use Rattle.sections.specs.Sections.{head_of, Heads};
-ghost use Rattle.sections.specs.Alignment.{default_alignment, larger, alignment_of, alignment_from, alignment_meaning};
+ghost use Rattle.sections.specs.Alignment.{default_alignment, larger, alignment_of, alignment_from, alignment_meaning, chosen};
 
 use names::{is_four_aligned, is_linker_generated_object, is_pointer_list, name_at};
 use obj::{Section, Split, Symbol, section_at, symbol_at};
 use symbol_order::number;
-use symbols::{Highest, for_section, highest_in, is_sized_unstripped};
+use symbols::{Backwards, for_section, highest_in, is_sized_unstripped};
 
-// The splitting end.
-#[derive(Clone, Copy)]
-pub enum End {
-    Is(u32),
-    // 10
-    Short,
-}
+// 10: a `.ctors` or `.dtors` of 1 to 3 bytes.
+#[derive(Clone, Copy, Debug, PartialEq, Eq)]
+pub struct Short;
 
 // A split's alignment with its reason.
-#[derive(Clone, Copy)]
+#[derive(Clone, Copy, Debug, PartialEq, Eq)]
 pub enum Alignment {
     Given(u32),
     FromSymbol(u32),
     Default(u32),
-    // 11
-    Backwards,
-}
-
-fn index(k: u16) -> usize
-    ensures { result ≡ k }
-{
-    k as usize
 }
 
 // The bytes of section n: a part of the image, none for kind 3.
@@ -57,14 +44,7 @@ pub fn section_bytes<'a>(image: &'a [u8], places: &[u32], n: usize, head: Sectio
 pub fn is_zero(bytes: &[u8]) -> bool
     ensures { result ≡ all_zero bytes.now }
 {
-    let mut i: usize = 0;
-    while i < bytes.len() {
-        if bytes[i] != 0 {
-            return false;
-        }
-        i += 1;
-    }
-    true
+    bytes.iter().all(|x| *x == 0)
 }
 
 // "unstripped Object symbol below it of known nonzero size"
@@ -88,12 +68,10 @@ fn lower(
     ensures { Within (lowered (image_of b.now places.now name_bytes.now name_places.now name_lengths.now) end (reverse part.now)) end result }
 {
     let mut low = end;
-    let mut j = part.len();
-    while 0 < j {
-        j -= 1;
+    for j in (0..part.len()).rev() {
         let y = symbol_at(b, places, number(part, j));
         if is_object_below(y, low) {
-            let k = index(y.name);
+            let k = usize::from(y.name);
             if is_linker_generated_object(name_at(name_bytes, name_places, name_lengths, k)) {
                 low = y.address;
             } else {
@@ -104,27 +82,16 @@ fn lower(
     low
 }
 
-// Whether the last four bytes are zero.
-fn ends_zero(bytes: &[u8]) -> bool
-    requires { 4 ≤ length bytes.now }
-    ensures { result ≡ all_zero (drop (length bytes.now - 4) bytes.now) }
-{
-    let n = bytes.len() - 4;
-    (bytes[n] == 0) & (bytes[n + 1] == 0) & (bytes[n + 2] == 0) & (bytes[n + 3] == 0)
-}
-
 // "less 4 if `.ctors` or `.dtors` ends in four zero bytes"
 fn less_four(bytes: &[u8], list: bool, end: u32) -> u32
     requires { Four list (length bytes.now) end }
     ensures { result ≡ less_four list bytes.now end }
 {
-    if list {
-        if ends_zero(bytes) {
-            return end - 4;
-        }
-        return end;
+    if list && is_zero(&bytes[bytes.len() - 4..]) {
+        end - 4
+    } else {
+        end
     }
-    end
 }
 
 // The splitting end of section n, which has this head and these bytes.
@@ -138,22 +105,22 @@ pub fn end_for_section(
     section: u16,
     head: Section,
     bytes: &[u8],
-) -> End
+) -> Result<u32, Short>
     requires { Tables b.now places.now order.now name_bytes.now name_places.now name_lengths.now × Whole head bytes.now name_places.now }
     ensures { end_meaning section head.address result ≡ splitting_end (image_of b.now places.now name_bytes.now name_places.now name_lengths.now) section head bytes.now }
 {
     let end = head.address + head.size;
     if (head.kind == 3) | (head.size == 0) {
-        return End::Is(end);
+        return Ok(end);
     }
-    let k = index(head.name);
+    let k = usize::from(head.name);
     let list = is_pointer_list(name_at(name_bytes, name_places, name_lengths, k));
     if list & (head.size < 4) {
-        return End::Short;
+        return Err(Short);
     }
     let last = less_four(bytes, list, end);
     let part = for_section(b, places, order, section);
-    End::Is(lower(b, places, part, name_bytes, name_places, name_lengths, last))
+    Ok(lower(b, places, part, name_bytes, name_places, name_lengths, last))
 }
 
 // "the default (code, `.ctors`, `.dtors`, `extab`, `extabindex`: 4; else 8)"
@@ -167,8 +134,8 @@ pub fn default_alignment(head: Section, name: &[u8]) -> u32
 }
 
 // "the larger of the default .. and the highest alignment of sized symbols"
-fn larger_of(least: u32, highest: u32, section: u16, start: u32) -> Alignment
-    ensures { alignment_meaning section start result ≡ accepted (larger least highest) }
+fn larger_of(least: u32, highest: u32) -> Alignment
+    ensures { chosen result ≡ larger least highest }
 {
     if least < highest {
         return Alignment::FromSymbol(highest);
@@ -186,18 +153,15 @@ pub fn alignment_of(
     own: u32,
     start: u32,
     end: u32,
-) -> Alignment
+) -> Result<Alignment, Backwards>
     requires { Order b.now places.now order.now }
     ensures { alignment_meaning section start result ≡ alignment_of (symbol_of b.now places.now) (length places.now) section least own start end }
 {
     if own != 0 {
-        return Alignment::Given(own);
+        return Ok(Alignment::Given(own));
     }
-    let highest = highest_in(b, places, order, section, start, end);
-    match highest {
-        Highest::Is(found) => larger_of(least, found, section, start),
-        Highest::Backwards => Alignment::Backwards,
-    }
+    let highest = highest_in(b, places, order, section, start, end)?;
+    Ok(larger_of(least, highest))
 }
 
 // The default alignment of section k.
@@ -213,7 +177,7 @@ fn default_of(
     ensures { result ≡ default_alignment (head_of heads.now head_places.now k) (name_at name_bytes.now name_places.now name_lengths.now (head_of heads.now head_places.now k).name) }
 {
     let head = section_at(heads, head_places, k);
-    let name = index(head.name);
+    let name = usize::from(head.name);
     default_alignment(head, name_at(name_bytes, name_places, name_lengths, name))
 }
 
@@ -229,7 +193,7 @@ pub fn split_alignment(
     head_places: &[u32],
     s: Split,
     start: u32,
-) -> Alignment
+) -> Result<Alignment, Backwards>
     requires { Tables b.now places.now order.now name_bytes.now name_places.now name_lengths.now × Heads heads.now head_places.now name_places.now × (s.section < length head_places.now) }
     ensures { alignment_meaning s.section start result ≡ alignment_from (image_of b.now places.now name_bytes.now name_places.now name_lengths.now) (head_of heads.now head_places.now) start s }
 {
@@ -239,7 +203,7 @@ pub fn split_alignment(
         name_lengths,
         heads,
         head_places,
-        s.section as usize,
+        usize::from(s.section),
     );
     alignment_of(
         b,

@@ -17,10 +17,8 @@ fn has_unit(units: &[u16], from: usize, to: usize, unit: u16) -> bool
     ensures { result ≡ some (λ (u : ℕ). eqb u unit) (tabulate (λ (k : ℕ). get_or units.now k 0) from (to - from)) }
 {
     let mut any = false;
-    let mut k = from;
-    while k < to {
-        any = any | (units[k] == unit);
-        k += 1;
+    for k in from..to {
+        any |= units[k] == unit;
     }
     any
 }
@@ -30,8 +28,7 @@ fn keeps_units(units: &[u16], n: usize, first: usize, stop: usize, unit: u16) ->
     requires { (first ≤ stop) × (stop ≤ n) × (n ≤ length units.now) }
     ensures { result ≡ true → Apart (λ (k : ℕ). get_or units.now k 0) n first stop unit }
 {
-    let mut i = first;
-    while i < stop {
+    for i in first..stop {
         let u = units[i];
         if u != unit {
             let before = has_unit(units, 0, first, u);
@@ -40,7 +37,6 @@ fn keeps_units(units: &[u16], n: usize, first: usize, stop: usize, unit: u16) ->
                 return false;
             }
         }
-        i += 1;
     }
     true
 }
@@ -109,7 +105,7 @@ fn takes_place(
 }
 
 // A join over the range of s and a push of s, where s can take the place of the rows in it: the rows behind move once. How many rows there are then, or 0 and
-// nothing changed.
+// nothing changed: a count, since the caller goes on with it as with every other count of rows.
 pub fn join_and_push(
     starts: &mut [u32],
     ends: &mut [u32],

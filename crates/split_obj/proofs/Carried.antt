@@ -1,32 +1,27 @@
 -- The state of the walk's loops over the lent tables, and how a turn carries it on: what is left to walk from here gives what the whole gives. Assumes nothing.
-use mathlib.Core.Path.{◌≡◌, refl, sym, ap, subst, ◌∙◌}
+use mathlib.Core.Path.{◌≡◌, sym, ap, subst, ◌∙◌}
 use mathlib.Core.List.{List}
 use mathlib.Core.Bool.{true, cond}
 use mathlib.Core.Logic.{◌≢◌}
 use Prim.Native.Nat.{ℕ, ◌+◌, ◌-◌, ◌%◌, ◌≤◌, ◌<◌}
+use Rattle.std.specs.Prelude.{Result, Err}
 use lib.Dec.{ltb}
 use lib.ListN.{length, get_or}
 use Rattle.lists.specs.Outcome.{Outcome, accepted, refused, ◌>>=◌}
+use Rattle.obj.specs.declared.Refusal.{Refusal}
 use Rattle.obj.specs.declared.Split.{Split}
 use Rattle.sections.specs.Image.{image_of}
 use Rattle.sections.specs.Sections.{sections_of}
-use Rattle.sections.specs.Ends.{end_meaning}
-use Rattle.sections.specs.declared.End.{End}
-use Rattle.sections.specs.declared.End.TheVariants.{Is, Short}
-use Rattle.splits.specs.Columns.{Columns, columns, row_at, rows as rows_of}
+use Rattle.splits.specs.Columns.{Columns, row_at, rows as rows_of}
 use Rattle.splits.specs.Questions.{within, from_hit}
 use Rattle.relocs.specs.Relocs.{reloc_of}
 use Rattle.units.specs.Units.{unit_names}
 use Rattle.walk.specs.declared.Counts.{Counts}
 use Rattle.walk.specs.declared.Step.{Step}
-use Rattle.walk.specs.declared.Step.TheVariants.{Skip, Give, Fault}
-use Rattle.walk.specs.declared.Gave.{Gave}
-use Rattle.walk.specs.declared.Gave.TheVariants as gaves
+use Rattle.walk.specs.declared.Step.TheVariants.{Skip, Give}
 use Rattle.walk.specs.Walk.{Input, Output, start_in, splitting_end_in, halved, on_aligned, walk_splits, walk_sections}
-use Rattle.walk.specs.Steps.{decide, step_meaning}
-use Rattle.walk.specs.Giving.{input_of, output_in, gave_meaning}
-use Rattle.split_obj.specs.declared.Walked.{Walked}
-use Rattle.split_obj.specs.declared.Walked.TheVariants.{Accepted, Refused}
+use Rattle.walk.specs.Steps.{decide}
+use Rattle.walk.specs.Giving.{input_of, output_in}
 use Rattle.split_obj.specs.Loop.{Hits, Tabled, seen, Left}
 use Rattle.split_obj.proofs.Turns.{turn_fault, turn_skip, turn_misfit, turn_refused, turn_given, splits-none, section_short, section_starts, section_ends, sections_end}
 
@@ -66,28 +61,24 @@ pub record AtSplit (t : Input) (whole : Outcome Output) (symbols relocs units la
   pub tabled : Tabled symbols relocs units t.room done scratch part pieces entries offsets
 
 -- ---- an answer
-pub refused_at : (symbols : ℕ) (room : Counts) (scratch pieces entries offsets : List ℕ) (r : Walked) (number n current : ℕ) (whole : Outcome Output)
-    → r ≡ Refused number n current → refused number n current ≡ whole
+pub refused_at : (symbols : ℕ) (room : Counts) (scratch pieces entries offsets : List ℕ) (r : Result Counts Refusal) (e : Refusal) (whole : Outcome Output)
+    → r ≡ Err e → refused e.number e.section e.address ≡ whole
     → (seen pieces entries offsets r ≡ whole) × Left symbols room scratch pieces entries offsets r
-refused_at symbols room scratch pieces entries offsets r number n current whole e q =
-    subst (λ (x : Walked). (seen pieces entries offsets x ≡ whole) × Left symbols room scratch pieces entries offsets x) (sym e) (q, tt)
+refused_at symbols room scratch pieces entries offsets r e whole is q =
+    subst (λ (x : Result Counts Refusal). (seen pieces entries offsets x ≡ whole) × Left symbols room scratch pieces entries offsets x) (sym is) (q, tt)
 
 -- ---- a section
 module _ (t : Input) (n last : ℕ) (out : Output) (whole : Outcome Output) (same : walk_sections t n (last - n) out ≡ whole) where
   pub sections_done : n ≡ last → accepted out ≡ whole
   sections_done e = sym (sections_end t n last out e) ∙ same
 
-  module _ (h : n < last) (low : ℕ) (is : low ≡ start_in t.sections n) (found : End) (d : end_meaning n (start_in t.sections n) found ≡ splitting_end_in t.image t.sections n) where
-    pub ends_short : found ≡ Short → refused 10 n low ≡ whole
-    ends_short z =
-        sym (section_short t n last out h low
-        (sym d ∙ ap (end_meaning n (start_in t.sections n)) z ∙ ap (λ (a : ℕ). refused 10 n a) (sym is)))
-        ∙ same
+  module _ (h : n < last) (low : ℕ) (is : low ≡ start_in t.sections n) where
+    pub ends_short : refused 10 n (start_in t.sections n) ≡ splitting_end_in t.image t.sections n → refused 10 n low ≡ whole
+    ends_short d = sym (section_short t n last out h low (sym d ∙ ap (λ (a : ℕ). refused 10 n a) (sym is))) ∙ same
 
-    pub goes_section : (end : ℕ) → found ≡ Is end → (c : Columns) (count r : ℕ) → t.splits ≡ rows_of c count → Hits (within n low end) c count 0 r
-        → splits_left t last n low end c count low r out ≡ whole
-    goes_section end z c count r g hits =
-        sym (section_starts t n last out h low end (sym d ∙ ap (end_meaning n (start_in t.sections n)) z) is c count r g hits) ∙ same
+    pub goes_section : (end : ℕ) → accepted end ≡ splitting_end_in t.image t.sections n → (c : Columns) (count r : ℕ) → t.splits ≡ rows_of c count
+        → Hits (within n low end) c count 0 r → splits_left t last n low end c count low r out ≡ whole
+    goes_section end d c count r g hits = sym (section_starts t n last out h low end (sym d) is c count r g hits) ∙ same
 
 -- ---- a split
 module _ (t : Input) (last n low end : ℕ) (c : Columns) (rows current i : ℕ) (out : Output) (whole : Outcome Output) (same : splits_left t last n low end c rows current i out ≡ whole) where
@@ -100,37 +91,36 @@ module _ (t : Input) (last n low end : ℕ) (c : Columns) (rows current i : ℕ)
     ends_none q = sym (ap (λ (m : Outcome Output). m >>= after t last n) (splits-none t n end current out (within n low end) c rows i h q)) ∙ same
 
     module _ (q : i < rows) (j next : ℕ) (hits : Hits (within n low end) c rows (i + 1) j) (e : next ≡ cond (ltb j rows) (get_or c.starts j 0) end)
-        (s : Split) (is : s ≡ row_at c i) (step : Step) (d : step_meaning n current step ≡ decide t.image t.sections t.units n current next s) where
-      decided : step_meaning n current step ≡ decide t.image t.sections t.units n current next (row_at c i)
-      decided = d ∙ ap (decide t.image t.sections t.units n current next) is
+        (s : Split) (is : s ≡ row_at c i) where
+      abbrev asked : Outcome Step
+      asked = decide t.image t.sections t.units n current next s
 
-      pub ends_fault : (number : ℕ) → step ≡ Fault number → refused number n current ≡ whole
-      ends_fault number z =
-          sym (turn_fault t n end current out (within n low end) c rows i h q j next hits e (after t last n) number (ap (step_meaning n current) (sym z) ∙ decided)) ∙ same
+      at_row : asked ≡ decide t.image t.sections t.units n current next (row_at c i)
+      at_row = ap (decide t.image t.sections t.units n current next) is
 
-      pub goes_skip : step ≡ Skip → splits_left t last n low end c rows next j out ≡ whole
-      goes_skip z =
-          sym (turn_skip t n end current out (within n low end) c rows i h q j next hits e (after t last n) (ap (step_meaning n current) (sym z) ∙ decided)) ∙ same
+      pub ends_fault : (r : Refusal) → refused r.number r.section r.address ≡ asked → refused r.number r.section r.address ≡ whole
+      ends_fault r d =
+          sym (turn_fault t n end current out (within n low end) c rows i h q j next hits e (after t last n) r.number r.section r.address (d ∙ at_row)) ∙ same
 
-      module _ (unit alignment : ℕ) (z : step ≡ Give unit alignment) (a : ℕ) (half : halved 16 alignment current ≡ a) where
+      pub goes_skip : accepted Skip ≡ asked → splits_left t last n low end c rows next j out ≡ whole
+      goes_skip d = sym (turn_skip t n end current out (within n low end) c rows i h q j next hits e (after t last n) (d ∙ at_row)) ∙ same
+
+      module _ (unit alignment : ℕ) (d : accepted (Give unit alignment) ≡ asked) (a : ℕ) (half : halved 16 alignment current ≡ a) where
         pub ends_misfit : current % a ≢ 0 → refused 75 n current ≡ whole
         ends_misfit m =
-            sym (turn_misfit t n end current out (within n low end) c rows i h q j next hits e (after t last n) unit alignment (ap (step_meaning n current) (sym z) ∙ decided) a half m) ∙ same
+            sym (turn_misfit t n end current out (within n low end) c rows i h q j next hits e (after t last n) unit alignment (d ∙ at_row) a half m) ∙ same
 
         -- what was given, at the split's own start
-        module _ (starts : s.start ≡ current) (pieces entries offsets : List ℕ) (gave : Gave) (g : on_aligned t n s.start unit a s out ≡ gave_meaning n s.start pieces entries offsets gave) where
-          given_at : on_aligned t n current unit a (row_at c i) out ≡ gave_meaning n current pieces entries offsets gave
-          given_at =
-              (λ k. on_aligned t n (sym starts k) unit a (sym is k) out) ∙ g ∙ ap (λ (m : ℕ). gave_meaning n m pieces entries offsets gave) starts
+        module _ (starts : s.start ≡ current) where
+          given_at : on_aligned t n current unit a (row_at c i) out ≡ on_aligned t n s.start unit a s out
+          given_at = λ k. on_aligned t n (sym starts k) unit a (sym is k) out
 
-          pub ends_refused : (number : ℕ) → gave ≡ gaves.Fault number → refused number n current ≡ whole
-          ends_refused number y =
-              sym (turn_refused t n end current out (within n low end) c rows i h q j next hits e (after t last n) unit alignment (ap (step_meaning n current) (sym z) ∙ decided) a half number
-              (given_at ∙ ap (gave_meaning n current pieces entries offsets) y))
+          pub ends_refused : (r : Refusal) → on_aligned t n s.start unit a s out ≡ refused r.number r.section r.address → refused r.number r.section r.address ≡ whole
+          ends_refused r g =
+              sym (turn_refused t n end current out (within n low end) c rows i h q j next hits e (after t last n) unit alignment (d ∙ at_row) a half r.number r.section r.address (given_at ∙ g))
               ∙ same
 
-          pub goes_given : (made : Counts) → gave ≡ gaves.Made made → splits_left t last n low end c rows next j (output_in pieces entries offsets made) ≡ whole
-          goes_given made y =
-              sym (turn_given t n end current out (within n low end) c rows i h q j next hits e (after t last n) unit alignment (ap (step_meaning n current) (sym z) ∙ decided) a half (output_in pieces entries offsets made)
-              (given_at ∙ ap (gave_meaning n current pieces entries offsets) y))
+          pub goes_given : (o : Output) → on_aligned t n s.start unit a s out ≡ accepted o → splits_left t last n low end c rows next j o ≡ whole
+          goes_given o g =
+              sym (turn_given t n end current out (within n low end) c rows i h q j next hits e (after t last n) unit alignment (d ∙ at_row) a half o (given_at ∙ g))
               ∙ same

@@ -3,26 +3,23 @@ use mathlib.Core.Path.{◌≡◌, refl, sym, ap, ◌∙◌}
 use mathlib.Core.List.{List, [], ◌∷◌}
 use mathlib.Core.Bool.{Bool, true, false, cond, not, ◌&&◌}
 use mathlib.Core.Logic.{◌≢◌}
-use Prim.Native.Nat.{ℕ, zero, suc, ◌+◌, ◌-◌, ◌%◌, ◌≤◌, ◌<◌}
+use Prim.Native.Nat.{ℕ, suc, ◌+◌, ◌-◌, ◌%◌, ◌≤◌, ◌<◌}
 use native.Mathlib.Nat.{sub-zero}
 use native.Mathlib.Numerals.{add-one}
 use native.Mathlib.Omega.{arith}
 use lib.Dec.{eqb, leb, ltb}
 use lib.ListN.{get_or}
-use borrow.Author.Tests.{lt-ltb, le-ltb, leb-true, ltb-true, ltb-false, ne_eqb}
+use borrow.Author.Tests.{lt-ltb, le-ltb, leb-true, ne_eqb}
 use Rattle.lists.specs.Rows.{tabulate, keep_if}
-use Rattle.lists.specs.Outcome.{Outcome, accepted, refused, refuse, ◌>>=◌, ◌>>◌}
+use Rattle.lists.specs.Outcome.{Outcome, accepted, refused, ◌>>=◌}
 use Rattle.lists.proofs.Outcomes.{fails, passes}
 use Rattle.lists.proofs.Both.{both}
 use Rattle.obj.specs.declared.Split.{Split}
-use Rattle.sections.specs.Sections.{Sections}
-use Rattle.sections.specs.Ends.{end_meaning}
 use Rattle.splits.specs.Columns.{Columns, row_of, row_at, rows}
 use Rattle.splits.specs.Questions.{within, from_hit, next_start}
-use Rattle.walk.specs.declared.Step.{Step}
-use Rattle.walk.specs.declared.Step.TheVariants.{Skip, Give, Fault}
-use Rattle.walk.specs.Walk.{Input, Output, start_in, splitting_end_in, fits, halved, on_aligned, on_split, walk_splits, walk_section, walk_sections}
-use Rattle.walk.specs.Steps.{Decision, skip, give, decide, step_meaning}
+use Rattle.walk.specs.declared.Step.TheVariants.{Skip, Give}
+use Rattle.walk.specs.Walk.{Input, Output, start_in, splitting_end_in, halved, on_aligned, on_split, walk_splits, walk_section, walk_sections}
+use Rattle.walk.specs.Steps.{decide}
 use Rattle.walk.proofs.Deciding.{carried, decide_then_give}
 use Rattle.split_obj.specs.Loop.{Hits}
 
@@ -99,19 +96,20 @@ module _ (t : Input) (n end current : ℕ) (out : Output) where
             ∙ bind_assoc (decide t.image t.sections t.units n current next (row_at c i)) (carried t n current (row_at c i) out) after
 
         -- 11 and 71 to 74
-        pub turn_fault : (number : ℕ) → refused number n current ≡ decide t.image t.sections t.units n current next (row_at c i) → here ≡ refused number n current
-        turn_fault number d = decided ∙ bind_refused _ _ number n current (sym d)
+        pub turn_fault : (number section address : ℕ) → refused number section address ≡ decide t.image t.sections t.units n current next (row_at c i)
+            → here ≡ refused number section address
+        turn_fault number section address d = decided ∙ bind_refused _ _ number section address (sym d)
 
         -- it is skipped
-        pub turn_skip : accepted skip ≡ decide t.image t.sections t.units n current next (row_at c i) → here ≡ after out
+        pub turn_skip : accepted Skip ≡ decide t.image t.sections t.units n current next (row_at c i) → here ≡ after out
         unfolding ◌>>=◌
-        turn_skip d = decided ∙ bind_goes _ _ skip (sym d)
+        turn_skip d = decided ∙ bind_goes _ _ Skip (sym d)
 
         -- it gives to a unit
-        module _ (unit alignment : ℕ) (d : accepted (give unit alignment) ≡ decide t.image t.sections t.units n current next (row_at c i)) (a : ℕ) (half : halved 16 alignment current ≡ a) where
+        module _ (unit alignment : ℕ) (d : accepted (Give unit alignment) ≡ decide t.image t.sections t.units n current next (row_at c i)) (a : ℕ) (half : halved 16 alignment current ≡ a) where
           gives : here ≡ (on_aligned t n current unit a (row_at c i) out >>= after)
           gives =
-              decided ∙ bind_goes _ _ (give unit alignment) (sym d)
+              decided ∙ bind_goes _ _ (Give unit alignment) (sym d)
               ∙ ap (λ (x : ℕ). on_aligned t n current unit x (row_at c i) out >>= after) half
 
           -- "75 alignment misfits"
@@ -120,8 +118,8 @@ module _ (t : Input) (n end current : ℕ) (out : Output) where
           turn_misfit z = gives ∙ bind_refused _ after 75 n current (fails 75 n current _ _ (ap not (ne_eqb (current % a) 0 z)))
 
           -- 11 and 76
-          pub turn_refused : (number : ℕ) → on_aligned t n current unit a (row_at c i) out ≡ refused number n current → here ≡ refused number n current
-          turn_refused number e = gives ∙ bind_refused _ after number n current e
+          pub turn_refused : (number section address : ℕ) → on_aligned t n current unit a (row_at c i) out ≡ refused number section address → here ≡ refused number section address
+          turn_refused number section address e = gives ∙ bind_refused _ after number section address e
 
           -- it has given
           pub turn_given : (o : Output) → on_aligned t n current unit a (row_at c i) out ≡ accepted o → here ≡ after o

@@ -1,8 +1,9 @@
 -- The walk over lent tables and columns: what is asked of them, and what the answer means. On a refusal the output tables may hold anything.
-use Rattle.std.specs.Prelude.{ℕ, ◌+◌, ◌-◌, ◌≤◌, ◌<◌, ◌≡◌, List, Bool, true, length}
+use Rattle.std.specs.Prelude.{ℕ, ◌+◌, ◌-◌, ◌≤◌, ◌<◌, ◌≡◌, List, Bool, true, length, Result, Ok, Err}
 use Rattle.lists.specs.Rows.{tabulate, keep_if}
 use Rattle.lists.specs.Outcome.{Outcome, accepted, refused}
 use Rattle.obj.specs.Records.{Held}
+use Rattle.obj.specs.declared.Refusal.{Refusal}
 use Rattle.obj.specs.declared.Split.{Split}
 use Rattle.sections.specs.Image.{Tables, Whole, Lies}
 use Rattle.sections.specs.Bytes.{bytes_of}
@@ -15,8 +16,6 @@ use Rattle.walk.specs.declared.Counts.{Counts}
 use Rattle.walk.specs.Walk.{Output}
 use Rattle.walk.specs.Steps.{Asked}
 use Rattle.walk.specs.Giving.{output_in, Beside}
-use Rattle.split_obj.specs.declared.Walked.{Walked}
-use Rattle.split_obj.specs.declared.Walked.TheVariants.{Accepted, Refused}
 
 -- r is the place of the first row from place `from` on that passes, or the number of rows
 pub record Hits (p : Split → Bool) (c : Columns) (rows from r : ℕ) : Type 0 where
@@ -53,11 +52,11 @@ pub record Tabled (symbols relocs units : ℕ) (room made : Counts) (scratch par
   pub part_long : relocs ≤ length part
 
 -- what an answer means
-abbrev pub seen : (pieces entries offsets : List ℕ) → Walked → Outcome Output
-seen pieces entries offsets (Accepted made) = accepted (output_in pieces entries offsets made)
-seen pieces entries offsets (Refused number section address) = refused number section address
+abbrev pub seen : (pieces entries offsets : List ℕ) → Result Counts Refusal → Outcome Output
+seen pieces entries offsets (Ok made) = accepted (output_in pieces entries offsets made)
+seen pieces entries offsets (Err r) = refused r.number r.section r.address
 
 -- what is known of the tables after an answer
-abbrev pub Left : (symbols : ℕ) → (room : Counts) → (scratch pieces entries offsets : List ℕ) → Walked → Type 0
-Left symbols room scratch pieces entries offsets (Accepted made) = Beside symbols room made scratch pieces entries offsets
-Left symbols room scratch pieces entries offsets (Refused number section address) = Unit {0}
+abbrev pub Left : (symbols : ℕ) → (room : Counts) → (scratch pieces entries offsets : List ℕ) → Result Counts Refusal → Type 0
+Left symbols room scratch pieces entries offsets (Ok made) = Beside symbols room made scratch pieces entries offsets
+Left symbols room scratch pieces entries offsets (Err r) = Unit {0}

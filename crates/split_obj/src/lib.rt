@@ -13,25 +13,13 @@ ghost use Rattle.relocs.specs.Relocs.{reloc_of};
 ghost use Rattle.units.specs.Units.{unit_names};
 ghost use Rattle.walk.specs.Walk.{splitting_end_in, walk_sections};
 ghost use Rattle.walk.specs.Giving.{input_of, output_in};
-ghost use Rattle.split_obj.specs.declared.Walked.TheVariants.{Refused};
 ghost use Rattle.split_obj.specs.Loop.{Hits, Ended, Ready, Tabled, seen, Left};
 
-use obj::section_at;
+use obj::{Refusal, section_at};
 use relocs::for_section;
-use sections::{End, end_for_section, section_bytes};
+use sections::{Short, end_for_section, section_bytes};
 use splits::{is_within, row};
-use walk::{Counts, Gave, Step, choose, give};
-
-// What the walk answers: how many of each it made, or a refusal.
-#[derive(Clone, Copy)]
-pub enum Walked {
-    Accepted(Counts),
-    Refused {
-        number: u16,
-        section: u16,
-        address: u32,
-    },
-}
+use walk::{Counts, Step, choose, give, refuse_at};
 
 // The first split from place `from` on that starts in low..end of section n, or how many splits there are.
 fn next_split(
@@ -48,14 +36,12 @@ fn next_split(
     requires { Long (columns starts.now ends.now units.now rest.now) rows × (from ≤ rows) × (n < 65535) }
     ensures { Hits (within n low end) (columns starts.now ends.now units.now rest.now) rows from result }
 {
-    let mut i = from;
-    while i < rows {
+    for i in from..rows {
         if is_within(n as u16, low, end, starts[i], rest[i]) {
             return i;
         }
-        i += 1;
     }
-    i
+    rows
 }
 
 // Where split j starts, or the splitting end if there is none.
@@ -91,7 +77,7 @@ fn section_end(
     image: &[u8],
     image_places: &[u32],
     n: usize,
-) -> End
+) -> Result<u32, Short>
     requires { Ended symbols.now symbol_places.now order.now name_bytes.now name_places.now name_lengths.now heads.now head_places.now image.now image_places.now n }
     ensures { end_meaning n (head_of heads.now head_places.now n).address result
         ≡ splitting_end_in (image_of symbols.now symbol_places.now name_bytes.now name_places.now name_lengths.now) (sections_of heads.now head_places.now image.now image_places.now) n }
@@ -109,17 +95,6 @@ fn section_end(
         head,
         bytes,
     )
-}
-
-fn refused(number: u16, n: usize, address: u32) -> Walked
-    requires { n < 65536 }
-    ensures { result ≡ Refused number n address }
-{
-    Walked::Refused {
-        number: number,
-        section: n as u16,
-        address: address,
-    }
 }
 
 // The walk of the sections first..last, behind what is made already. What is carried from one section to the next is the output and how many there are.
@@ -153,7 +128,7 @@ pub fn walk_sections(
     last: usize,
     room: Counts,
     made: Counts,
-) -> Walked
+) -> Result<Counts, Refusal>
     requires { Ready symbols.now symbol_places.now order.now name_bytes.now name_places.now name_lengths.now heads.now head_places.now image.now image_places.now relocs.now reloc_places.now unit_table.now unit_places.now unit_numbers.now (columns starts.now ends.now units.now rest.now) rows last
         × Tabled (length symbol_places.now) (length reloc_places.now) (length unit_places.now) room made scratch.old part.old pieces.old entries.old offsets.old
         × (first ≤ last) }
@@ -165,7 +140,7 @@ pub fn walk_sections(
     let mut n = first;
     let answer = 'sections: loop {
         if n == last {
-            break Walked::Accepted(done);
+            break Ok(done);
         }
         let low = section_start(heads, head_places, n);
         let found = section_end(
@@ -181,15 +156,16 @@ pub fn walk_sections(
             image_places,
             n,
         );
-        let End::Is(end) = found else {
-            break refused(10, n, low);
+        let Ok(end) = found else {
+            break refuse_at(10, n, low);
         };
         let m = for_section(relocs, reloc_places, n as u16, part);
         let mut current = low;
         let mut i = next_split(starts, ends, units, rest, rows, n, low, end, 0);
+        // No count: a turn goes to where the next split starts.
         while current < end {
             if i == rows {
-                break 'sections refused(70, n, current);
+                break 'sections refuse_at(70, n, current);
             }
             let s = row(starts, ends, units, rest, i);
             let j = next_split(starts, ends, units, rest, rows, n, low, end, i + 1);
@@ -212,7 +188,7 @@ pub fn walk_sections(
                 s,
                 current,
                 next,
-            );
+            )?;
             match step {
                 Step::Skip => {
                     current = next;
@@ -225,11 +201,11 @@ pub fn walk_sections(
                             break a;
                         }
                         if a <= 4 {
-                            break 'sections refused(75, n, current);
+                            break 'sections refuse_at(75, n, current);
                         }
                         a = a / 2;
                     };
-                    let gave = give(
+                    done = give(
                         scratch,
                         pieces,
                         entries,
@@ -251,20 +227,9 @@ pub fn walk_sections(
                         fit,
                         room,
                         done,
-                    );
-                    match gave {
-                        Gave::Made(more) => {
-                            done = more;
-                            current = next;
-                            i = j;
-                        }
-                        Gave::Fault(number) => {
-                            break 'sections refused(number, n, current);
-                        }
-                    }
-                }
-                Step::Fault(number) => {
-                    break 'sections refused(number, n, current);
+                    )?;
+                    current = next;
+                    i = j;
                 }
             }
         }

@@ -3,3 +3,4 @@ pub mod Rows
 pub mod Blocks
 pub mod Bytes
 pub mod Rising
+pub mod Meeting

@@ -118,14 +118,12 @@ pub fn load(
     ensures { rows (columns starts.new ends.new units.new rest.new) (length places.now)
         ≡ map (split_at b.now) places.now }
 {
-    let mut i: usize = 0;
-    while i < places.len() {
+    for i in 0..places.len() {
         let s = split_at(b, places, i);
         starts[i] = s.start;
         ends[i] = s.end;
         units[i] = s.unit;
         rest[i] = rest_of(s);
-        i += 1;
     }
 }
 
@@ -157,11 +155,8 @@ pub fn store(starts: &[u32], ends: &[u32], units: &[u16], rest: &[u64], n: usize
     requires { Long (columns starts.now ends.now units.now rest.now) n × (split_width * n ≤ length out.old) }
     ensures { out.new ≡ sets out.old 0 (table_bytes (rows (columns starts.now ends.now units.now rest.now) n)) }
 {
-    let mut i: usize = 0;
-    while i < n {
-        let s = row(starts, ends, units, rest, i);
-        put_split(out, SPLIT_BYTES * i, s);
-        i += 1;
+    for i in 0..n {
+        put_split(out, SPLIT_BYTES * i, row(starts, ends, units, rest, i));
     }
 }
 
@@ -194,10 +189,8 @@ fn holds_unit(units: &[u16], at: usize, unit: u16) -> bool
     ensures { result ≡ some (λ (u : ℕ). eqb u unit) (tabulate (λ (k : ℕ). get_or units.now k 0) at 32) }
 {
     let mut any = false;
-    let mut k: usize = 0;
-    while k < 32 {
-        any = any | (units[at + k] == unit);
-        k += 1;
+    for k in 0..32 {
+        any |= units[at + k] == unit;
     }
     any
 }
@@ -216,14 +209,12 @@ fn next_in_rows(
     requires { Long (columns starts.now ends.now units.now rest.now) n × (at ≤ n) }
     ensures { Hit (of_unit section unit) (columns starts.now ends.now units.now rest.now) n at result }
 {
-    let mut i = at;
-    while i < n {
+    for i in at..n {
         if is_of_unit(section, unit, units[i], rest[i]) {
             return i;
         }
-        i += 1;
     }
-    i
+    n
 }
 
 // The same of the 32 rows from `at` on: row by row only where one is the unit's in some section.
@@ -259,6 +250,7 @@ pub fn next_of_unit(
     requires { Long (columns starts.now ends.now units.now rest.now) n × (at ≤ n) }
     ensures { Hit (of_unit section unit) (columns starts.now ends.now units.now rest.now) n at result }
 {
+    // by blocks, and then what is left: no count of rows
     let mut i = at;
     while 32 <= n - i {
         let k = next_in_block(starts, ends, units, rest, section, unit, i);
@@ -276,11 +268,9 @@ fn holds_start(starts: &[u32], at: usize, from: u32, to: u32) -> bool
     ensures { result ≡ some (λ (s : ℕ). leb from s && ltb s to) (tabulate (λ (k : ℕ). get_or starts.now k 0) at 32) }
 {
     let mut any = false;
-    let mut k: usize = 0;
-    while k < 32 {
+    for k in 0..32 {
         let start = starts[at + k];
-        any = any | ((from <= start) & (start < to));
-        k += 1;
+        any |= (from <= start) & (start < to);
     }
     any
 }
@@ -303,14 +293,12 @@ fn within_in_rows(
         × ((k : ℕ) → at ≤ k → k < result → within section from to (row_at (columns starts.now ends.now units.now rest.now) k) ≡ false)
         × (result < n → within section from to (row_at (columns starts.now ends.now units.now rest.now) result) ≡ true) }
 {
-    let mut i = at;
-    while i < n {
+    for i in at..n {
         if is_within(section, from, to, starts[i], rest[i]) {
             return i;
         }
-        i += 1;
     }
-    i
+    n
 }
 
 // The same of the 32 rows from `at` on: row by row only where one starts in the range in some section.
@@ -354,6 +342,7 @@ pub fn next_within(
         × ((k : ℕ) → at ≤ k → k < result → within section from to (row_at (columns starts.now ends.now units.now rest.now) k) ≡ false)
         × (result < n → within section from to (row_at (columns starts.now ends.now units.now rest.now) result) ≡ true) }
 {
+    // by blocks, and then what is left: no count of rows
     let mut i = at;
     while 32 <= n - i {
         let k = within_in_block(starts, ends, units, rest, section, from, to, i);
@@ -385,12 +374,13 @@ pub fn meets(
     let mut hand = false;
     let mut other = false;
     let mut i = next_within(starts, ends, units, rest, n, section, from, to, 0);
+    // from one row in the range to the next: no count
     while i < n {
         let by_hand = is_hand(rest[i]);
         let of_other = units[i] != unit;
         any = true;
-        hand = hand | by_hand;
-        other = other | (by_hand & of_other);
+        hand |= by_hand;
+        other |= by_hand & of_other;
         i = next_within(starts, ends, units, rest, n, section, from, to, i + 1);
     }
     Met { any, hand, other }

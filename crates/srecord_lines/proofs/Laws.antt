@@ -1,17 +1,16 @@
 -- A line in parts, the sum of its bytes, and sections that share an address by their ends. Assumes nothing.
-use Prim.Native.Nat.{ℕ, zero, suc, ◌+◌, ◌*◌, ◌-◌, ◌/◌, ◌%◌, ◌^◌, ◌≤◌, ◌<◌}
-use mathlib.Core.Path.{◌≡◌, refl, sym, ap, ap₂, subst, ◌∙◌}
+use Prim.Native.Nat.{ℕ, ◌+◌, ◌*◌, ◌/◌, ◌%◌, ◌<◌}
+use mathlib.Core.Path.{◌≡◌, refl, sym, ap, ◌∙◌}
 use mathlib.Core.List.{List, [], ◌∷◌, ◌++◌, append_assoc}
 use mathlib.Core.Logic.{◌≢◌}
-use mathlib.Core.Bool.{Bool, true, false, not, ◌&&◌}
+use mathlib.Core.Bool.{Bool, true, not, ◌&&◌}
 use native.Mathlib.Omega.{arith}
 use native.Mathlib.Decide.{dec_lt}
-use lib.Dec.{eqb, ltb, leb}
-use lib.ListN.{length, get_or, set, drop, length-append}
+use lib.Dec.{eqb, ltb}
+use lib.ListN.{length, get_or, drop, length-append}
 use lib.Seq.{sets, drop-cons}
 use native.Mathlib.Numerals.{add-one}
-use borrow.Author.Tests.{eqb-false, ne_eqb, eq-eqb, ltb-true, leb-true, lt-ltb, not-true}
-use Rattle.lists.specs.Rows.{tabulate, some}
+use borrow.Author.Tests.{eqb-false, ne_eqb, ltb-true, leb-true, lt-ltb, not-true}
 use Rattle.lists.proofs.Both.{both}
 use Rattle.lists.proofs.Stores.{sets-sets, sets_then}
 use Rattle.fields.specs.Fields.{big, bytes_of}

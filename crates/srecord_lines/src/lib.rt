@@ -24,10 +24,8 @@ fn put_hexes(out: &mut [u8], at: usize, bytes: &[u8])
     requires { at + 2 * length bytes.now ≤ length out.old }
     ensures { out.new ≡ sets out.old at (hexes bytes.now) }
 {
-    let mut i: usize = 0;
-    while i < bytes.len() {
-        put_hex(out, at + 2 * i, bytes[i]);
-        i += 1;
+    for (i, byte) in bytes.iter().enumerate() {
+        put_hex(out, at + 2 * i, *byte);
     }
 }
 
@@ -37,10 +35,8 @@ fn sum_of(bytes: &[u8]) -> u32
     ensures { Sum bytes.now 64000 result }
 {
     let mut total: u32 = 0;
-    let mut i: usize = 0;
-    while i < bytes.len() {
-        total += bytes[i] as u32;
-        i += 1;
+    for byte in bytes {
+        total += *byte as u32;
     }
     total
 }

@@ -4,8 +4,8 @@ use mathlib.Core.Path.{◌≡◌, refl, sym, ap, ap₂, ◌∙◌}
 use mathlib.Core.List.{List, [], ◌∷◌, ◌++◌}
 use native.Mathlib.Omega.{arith}
 use native.Mathlib.Decide.{dec_lt}
-use lib.ListN.{length, get_or, set, take, drop, length-append, length-drop, length-take, drop_of_length-le}
-use lib.Seq.{sets, length-sets, drop-set-lt, drop-drop, take_all, take-take, take-nil}
+use lib.ListN.{length, take, drop, length-append, length-drop, length-take}
+use lib.Seq.{sets, length-sets, drop-drop, take_all, take-take}
 use Rattle.lists.specs.Rows.{tabulate}
 use Rattle.lists.proofs.Rows.{tabulate_ext}
 use Rattle.lists.proofs.Stores.{sets-sets, drop-take, drop-sets}

@@ -1,5 +1,5 @@
 -- The counts that are stored, from a line of the definition to the next, what the filling left, and the room of the lent columns. Assumes nothing.
-use mathlib.Core.Path.{◌≡◌, refl, sym, ap, subst, ◌∙◌}
+use mathlib.Core.Path.{◌≡◌, refl, sym, ap, ◌∙◌}
 use mathlib.Core.List.{List, [], ◌∷◌, ◌++◌}
 use Prim.Native.Nat.{ℕ, ◌+◌, ◌/◌, ◌≤◌, ◌<◌}
 use native.Mathlib.Omega.{arith}
@@ -12,7 +12,7 @@ use Rattle.lists.proofs.Outcomes.{not_both, same_accepted}
 use Rattle.lists.proofs.Binds.{after_goes, after-stops}
 use Rattle.lists.proofs.Rows.{length-tabulate}
 use Rattle.obj.specs.Answers.{meaning}
-use Rattle.obj.specs.declared.Answer.{Answer}
+use Rattle.obj.specs.Answers.{Answer}
 use Rattle.obj.specs.declared.Section.{Section}
 use Rattle.obj.specs.declared.Split.{Split}
 use Rattle.names.specs.Append.{Columns as Beside}
@@ -29,9 +29,7 @@ use Rattle.stage_splits.specs.StageSplits.{room_of, said, Taken}
 use Rattle.merge.specs.Merge.{given}
 use Rattle.gaps.specs.Found.{Roomy}
 use Rattle.gap_splits.specs.Entering.{Filled, Ceilings, bytes_of}
-use Rattle.gap_splits.specs.Answers.{beside, added, names, used, Room, Stand}
-use Rattle.gap_splits.specs.declared.Entered.{Entered}
-use Rattle.gap_splits.specs.declared.Entered.TheVariants.{Accepted}
+use Rattle.gap_splits.specs.Answers.{beside, added, Room, Stand}
 use Rattle.gap_splits.proofs.Naming.{bytes_append}
 use Rattle.create_gap_splits.specs.Create.{gaps_filled}
 use Rattle.stage_gaps.specs.StageGaps.{Laid, Gives, from_splits, Space, Columns, Lent}
@@ -96,14 +94,10 @@ flat_two : (s t : List (List ℕ)) → length (flat (s ++ t)) ≡ length (flat s
 flat_two s t = let a = flat_bytes (s ++ t) in let b = flat_bytes s in let c = flat_bytes t in let d = bytes_append s t in omega (arith, a, b, c, d)
 
 -- ---- what the filling left
-module _ (base : List (List ℕ)) (c : Beside) {r : Entered} {k u n : ℕ} (e : r ≡ Accepted k u n) {most most_bytes : ℕ} where
-  pub stand_as : Stand c (names r) (used r) most most_bytes → Stand c k u most most_bytes
-  stand_as s = subst (λ (x : Entered). Stand c (names x) (used x) most most_bytes) e s
-
+module _ (base : List (List ℕ)) (c : Beside) {k u most most_bytes : ℕ} where
   -- the names fit into the outputs
-  pub names_fit : {es bs : ℕ} → Space base most most_bytes es bs → Stand c (names r) (used r) most most_bytes → Fits base (added c k) es bs
-  names_fit p s =
-      let t = stand_as s in
+  pub names_fit : {es bs : ℕ} → Space base most most_bytes es bs → Stand c k u most most_bytes → Fits base (added c k) es bs
+  names_fit p t =
       let l = length-names c.bytes c.places c.lengths k in
       let b = flat_bytes (added c k) in
       record {
@@ -113,11 +107,11 @@ module _ (base : List (List ℕ)) (c : Beside) {r : Entered} {k u n : ℕ} (e : 
       }
 
   -- .. and their number into a count
-  pub names_few : {es bs count : ℕ} → Space base most most_bytes es bs → Stand c (names r) (used r) most most_bytes → length base ≡ count → count + k ≤ 4096
-  names_few p s z = omega (arith, (stand_as s).few, p.few, z)
+  pub names_few : {es bs count : ℕ} → Space base most most_bytes es bs → Stand c k u most most_bytes → length base ≡ count → count + k ≤ 4096
+  names_few p s z = omega (arith, s.few, p.few, z)
 
   -- .. and that of their bytes
-  pub bytes_few : {es bs bytes : ℕ} {out_ends out_bytes : List ℕ} → Space base most most_bytes es bs → Stand c (names r) (used r) most most_bytes → Given (base ++ added c k) es bs out_ends out_bytes bytes → bytes < 65536
+  pub bytes_few : {es bs bytes : ℕ} {out_ends out_bytes : List ℕ} → Space base most most_bytes es bs → Stand c k u most most_bytes → Given (base ++ added c k) es bs out_ends out_bytes bytes → bytes < 65536
   bytes_few p s g = omega (arith, g.count, flat_two base (added c k), (names_fit p s).short)
 
 -- both tables are in the outputs

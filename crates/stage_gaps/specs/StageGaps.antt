@@ -4,7 +4,7 @@ use Rattle.std.specs.Prelude.{ℕ, ◌+◌, ◌*◌, ◌≤◌, ◌≡◌, List,
 use Rattle.lists.specs.Outcome.{Outcome, accepted, refused, ◌>>◌}
 use Rattle.lists.specs.Tables.{laid}
 use Rattle.obj.specs.Answers.{meaning}
-use Rattle.obj.specs.declared.Answer.{Answer}
+use Rattle.obj.specs.Answers.{Answer}
 use Rattle.obj.specs.declared.Section.{Section}
 use Rattle.names.specs.Names.{names_of, Named}
 use Rattle.names.specs.Index.{Indexed}

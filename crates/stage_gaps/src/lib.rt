@@ -2,7 +2,7 @@
 // them on whole.
 #![tactic(auto)]
 
-ghost use Rattle.std.specs.Prelude.{◌≡◌, [], ◌∷◌, ◌*◌, ◌≤◌, ◌<◌, length};
+ghost use Rattle.std.specs.Prelude.{◌≡◌, [], ◌∷◌, ◌++◌, ◌*◌, ◌≤◌, ◌<◌, length};
 ghost use Rattle.outputs.specs.Outputs.{counts_of};
 ghost use Rattle.names.specs.Names.{names_of, Named};
 ghost use Rattle.tables.specs.Records.{sections_in};
@@ -12,13 +12,13 @@ ghost use Rattle.sections.specs.Image.{image_of, Tables};
 ghost use Rattle.sections.specs.Sections.{sections_of};
 ghost use Rattle.splits.specs.Columns.{columns, rows, Long};
 ghost use Rattle.merge.specs.Merge.{given};
-ghost use Rattle.gap_splits.specs.Answers.{beside, ceilings, meant, names, used, splits, Stand};
+ghost use Rattle.gap_splits.specs.Answers.{beside, added, ceilings, Stand};
 ghost use Rattle.create_gap_splits.specs.Create.{gaps_filled};
 ghost use Rattle.obj.specs.Records.{split_width};
-ghost use Rattle.stage_gaps.specs.StageGaps.{from_splits, Gives, Names, Headed, Space, Columns, Lent};
+ghost use Rattle.stage_gaps.specs.StageGaps.{from_splits, Gives, Laid, Names, Headed, Space, Columns, Lent};
 
 use gap_splits::Entered;
-use obj::{Answer, SPLIT_BYTES};
+use obj::{Refusal, SPLIT_BYTES};
 use outputs::{clear_from, put_count};
 use stage_names::give_names;
 use stage_splits::{put_splits, room_of, take_split_columns};
@@ -36,7 +36,7 @@ fn give_counts(counts: &mut [u8], names: usize, bytes: usize, splits: usize)
     put_count(counts, 2, splits as u16);
 }
 
-// What the filling left in the columns, in the outputs; nothing after a refusal.
+// What the filling left in the columns, in the outputs.
 fn give_filled(
     name_bytes: &[u8],
     name_places: &[u32],
@@ -48,57 +48,41 @@ fn give_filled(
     ends: &[u32],
     units: &[u16],
     rest: &[u64],
-    r: Entered,
+    filled: Entered,
     most: usize,
     most_bytes: usize,
     out_ends: &mut [u8],
     out_bytes: &mut [u8],
     out: &mut [u8],
     counts: &mut [u8],
-) -> Answer
+)
     requires { (Named name_bytes.now name_places.now name_lengths.now (length name_places.now))
         × Space (names_of name_bytes.now name_places.now name_lengths.now (length name_places.now)) most most_bytes (length out_ends.old) (length out_bytes.old)
-        × Stand (beside added_bytes.now added_places.now added_lengths.now) (names r) (used r) most most_bytes
-        × Long (columns starts.now ends.now units.now rest.now) (splits r)
-        × (split_width * splits r ≤ length out.old)
-        × (splits r ≤ 1024) }
-    ensures { Gives
-        (meant (names_of name_bytes.now name_places.now name_lengths.now (length name_places.now)) (beside added_bytes.now added_places.now added_lengths.now) (columns starts.now ends.now units.now rest.now) r)
-        result (length out_ends.old) (length out_bytes.old) (length out.old) (length counts.old) out_ends.new out_bytes.new out.new counts.new }
+        × Stand (beside added_bytes.now added_places.now added_lengths.now) filled.names filled.used most most_bytes
+        × Long (columns starts.now ends.now units.now rest.now) filled.splits
+        × (split_width * filled.splits ≤ length out.old)
+        × (filled.splits ≤ 1024) }
+    ensures { Laid
+        (record {
+          names = names_of name_bytes.now name_places.now name_lengths.now (length name_places.now) ++ added (beside added_bytes.now added_places.now added_lengths.now) filled.names;
+          rows = rows (columns starts.now ends.now units.now rest.now) filled.splits;
+        })
+        (length out_ends.old) (length out_bytes.old) (length out.old) (length counts.old) out_ends.new out_bytes.new out.new counts.new }
 {
-    match r {
-        Entered::Refused {
-            number,
-            section,
-            address,
-        } => {
-            return Answer::Refused {
-                number,
-                section,
-                address,
-            };
-        }
-        Entered::Accepted {
-            names,
-            used: _,
-            splits,
-        } => {
-            let bytes = give_names(
-                name_bytes,
-                name_places,
-                name_lengths,
-                added_bytes,
-                added_places,
-                added_lengths,
-                names,
-                out_ends,
-                out_bytes,
-            );
-            put_splits(starts, ends, units, rest, splits, out);
-            give_counts(counts, name_places.len() + names, bytes, splits);
-            return Answer::Accepted;
-        }
-    }
+    let bytes = give_names(
+        name_bytes,
+        name_places,
+        name_lengths,
+        added_bytes,
+        added_places,
+        added_lengths,
+        filled.names,
+        out_ends,
+        out_bytes,
+    );
+    put_splits(starts, ends, units, rest, filled.splits, out);
+    let names = name_places.len() + filled.names;
+    give_counts(counts, names, bytes, filled.splits);
 }
 
 // ---- the tables
@@ -135,7 +119,7 @@ fn fill_rows(
     out_bytes: &mut [u8],
     out: &mut [u8],
     counts: &mut [u8],
-) -> Answer
+) -> Result<(), Refusal>
     requires { Tables symbols.now symbol_places.now order.now name_bytes.now name_places.now name_lengths.now
         × Sound (symbol_of symbols.now symbol_places.now) (length symbol_places.now)
         × Names name_bytes.now name_places.now name_lengths.now buckets.now chain.now
@@ -151,7 +135,7 @@ fn fill_rows(
         (gaps_filled (image_of symbols.now symbol_places.now name_bytes.now name_places.now name_lengths.now) (sections_of heads.now head_places.now image.now image_places.now) (given (sections_in heads.now head_places.now) cap) (ceilings (names_of name_bytes.now name_places.now name_lengths.now (length name_places.now)) most most_bytes) (record { names = (names_of name_bytes.now name_places.now name_lengths.now (length name_places.now)); rows = (rows (columns starts.old ends.old units.old rest.old) n) }))
         result (length out_ends.old) (length out_bytes.old) (length out.old) (length counts.old) out_ends.new out_bytes.new out.new counts.new }
 {
-    let r = create_gap_splits::create_gap_splits(
+    let filled = create_gap_splits::create_gap_splits(
         symbols,
         symbol_places,
         order,
@@ -178,7 +162,7 @@ fn fill_rows(
         marks,
         keys,
         gap_ends,
-    );
+    )?;
     give_filled(
         name_bytes,
         name_places,
@@ -190,14 +174,15 @@ fn fill_rows(
         ends,
         units,
         rest,
-        r,
+        filled,
         most,
         most_bytes,
         out_ends,
         out_bytes,
         out,
         counts,
-    )
+    );
+    Ok(())
 }
 
 // The splits in lent columns, and the filling.
@@ -232,7 +217,7 @@ fn from_splits(
     out_bytes: &mut [u8],
     out: &mut [u8],
     counts: &mut [u8],
-) -> Answer
+) -> Result<(), Refusal>
     requires { Tables symbols.now symbol_places.now order.now name_bytes.now name_places.now name_lengths.now
         × Sound (symbol_of symbols.now symbol_places.now) (length symbol_places.now)
         × Names name_bytes.now name_places.now name_lengths.now buckets.now chain.now
@@ -247,7 +232,7 @@ fn from_splits(
         result (length out_ends.old) (length out_bytes.old) (length out.old) (length counts.old) out_ends.new out_bytes.new out.new counts.new }
 {
     let room = room_of(out.len());
-    let a = take_split_columns(
+    take_split_columns(
         name_lengths,
         heads,
         head_places,
@@ -258,10 +243,7 @@ fn from_splits(
         ends,
         units,
         rest,
-    );
-    if let Answer::Refused { .. } = a {
-        return a;
-    }
+    )?;
     let n = splits.len() / SPLIT_BYTES;
     fill_rows(
         symbols,
@@ -318,7 +300,7 @@ pub fn with_splits(
     out_bytes: &mut [u8],
     out: &mut [u8],
     counts: &mut [u8],
-) -> Answer
+) -> Result<(), Refusal>
     requires { Tables symbols.now symbol_places.now order.now name_bytes.now name_places.now name_lengths.now
         × Sound (symbol_of symbols.now symbol_places.now) (length symbol_places.now)
         × Names name_bytes.now name_places.now name_lengths.now buckets.now chain.now

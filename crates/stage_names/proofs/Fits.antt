@@ -1,15 +1,17 @@
 -- Names that fit, and names put one after another. Assumes nothing.
 use mathlib.Core.Path.{◌≡◌, refl, sym, ap, ap₂, ◌∙◌}
 use mathlib.Core.List.{List, [], ◌∷◌, ◌++◌, append_assoc}
-use mathlib.Core.Bool.{Bool, true, false, not}
+use mathlib.Core.Bool.{true, false}
 use Prim.Native.Nat.{ℕ, suc, ◌+◌, ◌-◌, ◌*◌, ◌/◌, ◌%◌, ◌≤◌, ◌<◌, zero-le}
 use native.Mathlib.Omega.{arith}
 use borrow.Author.Tests.{leb-false, lt-ltb, le-ltb, eq-eqb, ne_eqb}
-use lib.ListN.{length, length-append, get_or}
-use lib.Dec.{eqb, leb, ltb}
+use lib.ListN.{length, length-append}
+use lib.Dec.{leb, ltb}
 use lib.Seq.{sets, length-sets}
-use Rattle.lists.specs.Outcome.{Outcome, accepted, refused}
-use Rattle.lists.specs.Rows.{tabulate, clear_from}
+use Rattle.lists.specs.Outcome.{accepted, refused}
+use native.Mathlib.Nat.{sub-zero}
+use Rattle.lists.specs.Rows.{tabulate, clear_from, first_from}
+use Rattle.lists.proofs.First.{first_here, first_on, first_end}
 use Rattle.lists.proofs.Outcomes.{fails, passes}
 use Rattle.lists.proofs.Rows.{rest-cons, rest-none}
 use Rattle.lists.proofs.Stores.{sets-sets, sets_then}
@@ -124,20 +126,43 @@ module _ (b places lengths : List ℕ) (n first at : ℕ) (ends₀ bytes₀ : Li
 
 -- ---- the check
 module _ (most most_bytes : ℕ) (ends : List ℕ) where
-  pub fit_cut : {address : ℕ} → (length ends % 2 ≡ 0 → ⊥) → address ≡ place (length ends / 2) → refused 1 0 address ≡ fit_check most most_bytes ends
-  unfolding fit_check
-  fit_cut h e = ap (λ (k : ℕ). refused 1 0 k) e ∙ sym (fails 1 0 (place (length ends / 2)) _ _ (rw (ne_eqb (length ends % 2) 0 h)))
+  abbrev n : ℕ
+  n = length ends / 2
 
-  pub fit_beyond : {k : ℕ} → length ends % 2 ≡ 0 → k ≡ first_beyond most most_bytes ends → k < length ends / 2 → refused 2 0 k ≡ fit_check most most_bytes ends
+  abbrev none_left : ℕ → ℕ
+  none_left i = first_from (beyond most most_bytes ends) i (n - i)
+
+  -- no name before i is beyond: the first from i on is the first, and i is not above the ceiling
+  pub record Fitting (i : ℕ) : Type 0 where
+    pub low : i ≤ most
+    pub same : none_left i ≡ first_beyond most most_bytes ends
+
+  pub fitting : Fitting 0
+  unfolding first_beyond
+  fitting = record { low = zero-le; same = rw sub-zero }
+
+  pub fits_on : {i : ℕ} → Fitting i → i < n → beyond most most_bytes ends i ≡ false → Fitting (i + 1)
+  fits_on {i} g h e = record {
+    low = not_beyond most most_bytes ends i e;
+    same = sym (first_on (beyond most most_bytes ends) i n h e) ∙ g.same;
+  }
+
+  pub fit_cut : {address : ℕ} → (length ends % 2 ≡ 0 → ⊥) → address ≡ place n → refused 1 0 address ≡ fit_check most most_bytes ends
   unfolding fit_check
-  fit_beyond {k} h e l =
+  fit_cut h e = ap (λ (k : ℕ). refused 1 0 k) e ∙ sym (fails 1 0 (place n) _ _ (rw (ne_eqb (length ends % 2) 0 h)))
+
+  pub fit_beyond : {i : ℕ} → length ends % 2 ≡ 0 → Fitting i → i < n → beyond most most_bytes ends i ≡ true → refused 2 0 i ≡ fit_check most most_bytes ends
+  unfolding fit_check
+  fit_beyond {i} h g l b =
+      let e = sym (first_here (beyond most most_bytes ends) i n l b) ∙ g.same in
       ap (λ (m : ℕ). refused 2 0 m) e
-      ∙ sym (passes 1 0 (place (length ends / 2)) _ _ (rw (eq-eqb (length ends % 2) 0 h)) ∙ fails 2 0 (first_beyond most most_bytes ends) _ _ (lt-ltb (first_beyond most most_bytes ends) (length ends / 2) (omega (arith, e))))
+      ∙ sym (passes 1 0 (place n) _ _ (rw (eq-eqb (length ends % 2) 0 h)) ∙ fails 2 0 (first_beyond most most_bytes ends) _ _ (lt-ltb (first_beyond most most_bytes ends) n (omega (arith, e))))
 
-  pub fit_all : {k : ℕ} → length ends % 2 ≡ 0 → k ≡ first_beyond most most_bytes ends → length ends / 2 ≤ k → accepted tt ≡ fit_check most most_bytes ends
+  pub fit_all : {i : ℕ} → length ends % 2 ≡ 0 → Fitting i → n ≤ i → accepted tt ≡ fit_check most most_bytes ends
   unfolding fit_check
-  fit_all {k} h e l =
-      sym (passes 1 0 (place (length ends / 2)) _ _ (rw (eq-eqb (length ends % 2) 0 h)) ∙ passes 2 0 (first_beyond most most_bytes ends) _ _ (le-ltb (first_beyond most most_bytes ends) (length ends / 2) (omega (arith, e))))
+  fit_all {i} h g l =
+      let e = sym (first_end (beyond most most_bytes ends) i n l) ∙ g.same in
+      sym (passes 1 0 (place n) _ _ (rw (eq-eqb (length ends % 2) 0 h)) ∙ passes 2 0 (first_beyond most most_bytes ends) _ _ (le-ltb (first_beyond most most_bytes ends) n (omega (arith, e))))
 
 -- ---- two lists of names, one behind the other
 

@@ -38,11 +38,6 @@ fit_check most most_bytes ends = do
   refuse 2 0 (first_beyond most most_bytes ends) (ltb (first_beyond most most_bytes ends) (length ends / 2))
   accepted tt
 
--- r is the first name that does not fit, and an address
-pub record First (most most_bytes : ℕ) (ends : List ℕ) (r : ℕ) : Type 0 where
-  pub is : r ≡ first_beyond most most_bytes ends
-  pub low : r < length ends / 2 → r ≤ most
-
 -- ---- the names that are given back
 
 -- where names end that lie one after another from `at` on

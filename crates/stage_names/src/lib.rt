@@ -2,35 +2,30 @@
 #![tactic(auto)]
 
 ghost use Rattle.std.specs.Prelude.{◌≡◌, ◌||◌, ◌++◌, ◌+◌, ◌*◌, ◌/◌, ◌≤◌, ◌<◌, length, leb, ltb};
-ghost use Rattle.obj.specs.Answers.{meaning, place};
+ghost use Rattle.obj.specs.Answers.{meaning};
 ghost use Rattle.names.specs.Names.{names_of, Named};
 ghost use Rattle.name_table.specs.NameTable.{end_of};
-ghost use Rattle.stage_names.specs.StageNames.{names_room, bytes_room, beyond, First, fit_check, flat, Put, Fits, Given};
+ghost use Rattle.stage_names.specs.StageNames.{names_room, bytes_room, beyond, fit_check, flat, Put, Fits, Given};
 
 use fields::{get16, put16};
 use names::{name_at, put_bytes};
-use obj::Answer;
+use obj::{Refusal, place_of, refuse};
 use outputs::clear_from;
 
 // How many names a stage may hold and give back in an output of `size` bytes.
+#[tactic(auto, unfolding(crate::specs::StageNames::names_room))]
 pub fn names_room(size: usize) -> usize
     ensures { result ≡ names_room size }
 {
-    let whole = size / 2;
-    if whole < 4096 {
-        return whole;
-    }
-    4096
+    (size / 2).min(4096)
 }
 
 // How many bytes its names may have in all.
+#[tactic(auto, unfolding(crate::specs::StageNames::bytes_room))]
 pub fn bytes_room(size: usize) -> usize
     ensures { result ≡ bytes_room size }
 {
-    if size < 65535 {
-        return size;
-    }
-    65535
+    size.min(65535)
 }
 
 // Name k does not fit.
@@ -42,53 +37,21 @@ fn is_beyond(ends: &[u8], most: usize, most_bytes: usize, k: usize) -> bool
     (most <= k) | (most_bytes < end)
 }
 
-// The first name that does not fit, or their number.
-fn first_beyond(ends: &[u8], most: usize, most_bytes: usize) -> usize
-    ensures { First most most_bytes ends.now result }
-{
-    let n = ends.len() / 2;
-    let mut i: usize = 0;
-    while i < n {
-        if is_beyond(ends, most, most_bytes, i) {
-            return i;
-        }
-        i += 1;
-    }
-    i
-}
-
-// A number of names as an address: one above 32 bits is given as the highest.
-fn address_of(n: usize) -> u32
-    ensures { result ≡ place n }
-{
-    if n < 4294967296 {
-        return n as u32;
-    }
-    4294967295
-}
-
 // The names that are given fit: 1 of their length, then 2 at the first that does not.
-pub fn fit_names(ends: &[u8], most: usize, most_bytes: usize) -> Answer
+pub fn fit_names(ends: &[u8], most: usize, most_bytes: usize) -> Result<(), Refusal>
     requires { most ≤ 4096 }
     ensures { meaning result ≡ fit_check most most_bytes ends.now }
 {
     let n = ends.len() / 2;
     if ends.len() % 2 != 0 {
-        return Answer::Refused {
-            number: 1,
-            section: 0,
-            address: address_of(n),
-        };
+        return refuse(1, 0, place_of(n));
     }
-    let k = first_beyond(ends, most, most_bytes);
-    if k < n {
-        return Answer::Refused {
-            number: 2,
-            section: 0,
-            address: k as u32,
-        };
+    for k in 0..n {
+        if is_beyond(ends, most, most_bytes, k) {
+            return refuse(2, 0, k as u32);
+        }
     }
-    Answer::Accepted
+    Ok(())
 }
 
 // Names behind those that are there: `first` of them, which end at `at`. Gives where the last ends.
@@ -109,13 +72,11 @@ pub fn put_names(
     ensures { Put (names_of bytes.now places.now lengths.now n) first at out_ends.old out_bytes.old out_ends.new out_bytes.new result }
 {
     let mut end = at;
-    let mut i: usize = 0;
-    while i < n {
+    for i in 0..n {
         let x = name_at(bytes, places, lengths, i);
         put_bytes(out_bytes, end, x);
         end += x.len();
         put16(out_ends, 2 * (first + i), end as u16);
-        i += 1;
     }
     end
 }

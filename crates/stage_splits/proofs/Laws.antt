@@ -17,8 +17,8 @@ use Rattle.lists.proofs.Outcomes.{not_both, same_accepted}
 use Rattle.lists.proofs.Rows.{get_d_map}
 use Rattle.align.specs.Align.{bad_align}
 use Rattle.obj.specs.Answers.{word, meaning, outcome_word}
-use Rattle.obj.specs.declared.Answer.{Answer}
-use Rattle.obj.specs.declared.Answer.TheVariants.{Accepted, Refused}
+use Rattle.obj.specs.Answers.{Answer}
+use Rattle.std.specs.Prelude.{Ok, Err, is_err}
 use Rattle.obj.specs.declared.Section.{Section}
 use Rattle.obj.specs.declared.Split.{Split}
 use Rattle.obj.specs.Records.{split_at, stage_places, split_width, partial_width}
@@ -33,7 +33,7 @@ use Rattle.outputs.specs.Outputs.{halves, counts_of, store_count, store_counts}
 use Rattle.outputs.proofs.Laws.{counts_stored}
 use Rattle.splits.specs.Columns.{Columns, rows}
 use Rattle.splits.specs.Bytes.{table_bytes, Loadable, Partials}
-use Rattle.stage_splits.specs.StageSplits.{room_of, Leaves, Taken, Laid, said, Gives}
+use Rattle.stage_splits.specs.StageSplits.{room_of, Leaves, Taken, Laid, Gives}
 
 -- ---- the room
 pub room_low : (size : ℕ) → room_of size ≤ 1024
@@ -145,10 +145,10 @@ no_count size = go (size / 2) refl
 module _ {size counts_size : ℕ} {out counts : List ℕ} where
   -- a stage that was refused, and one whose rows were given
   pub gives_refused : {o : Outcome (List Split)} {number section address : ℕ} → refused number section address ≡ o
-      → Gives o (Refused number section address) size counts_size out counts
+      → Gives o (Err (record { number = number; section = section; address = address })) size counts_size out counts
   gives_refused e = rw (sym e) (record { answered = refl; given = λ l z. absurd (not_both z) })
 
-  pub gives_laid : {o : Outcome (List Split)} {l : List Split} → accepted l ≡ o → Laid l size counts_size out counts → Gives o Accepted size counts_size out counts
+  pub gives_laid : {o : Outcome (List Split)} {l : List Split} → accepted l ≡ o → Laid l size counts_size out counts → Gives o (Ok tt) size counts_size out counts
   gives_laid {l = l} e d = rw (sym e) (record { answered = refl; given = λ m z. subst (λ (x : List Split). Laid x size counts_size out counts) (same_accepted z) d })
 
 module _ {a : Answer} {size counts_size : ℕ} {out counts : List ℕ} where
@@ -174,21 +174,21 @@ module _ {a : Answer} {size counts_size : ℕ} {out counts : List ℕ} where
 -- ---- at the end
 module _ (o : Outcome (List Split)) (out counts : List ℕ) where
   -- an accepted outcome has its rows in the outputs
-  pub leaves_accepted : {answer : ℕ} → answer ≡ word Accepted → Gives o Accepted (length out) (length counts) out counts
+  pub leaves_accepted : {answer : ℕ} → answer ≡ word (Ok tt) → Gives o (Ok tt) (length out) (length counts) out counts
       → Leaves o (length out) (length counts) answer out counts
   leaves_accepted {answer} e w = go o w
     where
-      go : (p : Outcome (List Split)) → Gives p Accepted (length out) (length counts) out counts → Leaves p (length out) (length counts) answer out counts
+      go : (p : Outcome (List Split)) → Gives p (Ok tt) (length out) (length counts) out counts → Leaves p (length out) (length counts) answer out counts
       go (accepted l) v = let d = v.given l refl in record { said = e; splits = d.splits; counted = d.counted }
       go (refused number section address) v = absurd (not_both (sym v.answered))
 
   -- a refused one has none
-  pub leaves_refused : {number section address answer : ℕ} {out' counts' : List ℕ} → answer ≡ word (Refused number section address)
-      → Gives o (Refused number section address) (length out) (length counts) out counts → out' ≡ clear_from 0 0 out → counts' ≡ clear_from 0 0 counts
+  pub leaves_refused : {number section address answer : ℕ} {out' counts' : List ℕ} → answer ≡ word (Err (record { number = number; section = section; address = address }))
+      → Gives o (Err (record { number = number; section = section; address = address })) (length out) (length counts) out counts → out' ≡ clear_from 0 0 out → counts' ≡ clear_from 0 0 counts
       → Leaves o (length out) (length counts) answer out' counts'
   leaves_refused {number} {section} {address} {answer} {out'} {counts'} e w f g = go o w
     where
-      go : (p : Outcome (List Split)) → Gives p (Refused number section address) (length out) (length counts) out counts
+      go : (p : Outcome (List Split)) → Gives p (Err (record { number = number; section = section; address = address })) (length out) (length counts) out counts
           → Leaves p (length out) (length counts) answer out' counts'
       go (accepted l) v = absurd (not_both v.answered)
       go (refused n s d) v = record {
@@ -196,6 +196,13 @@ module _ (o : Outcome (List Split)) (out counts : List ℕ) where
         splits = f ∙ clear_all 0 out ∙ nothing-laid (length out);
         counted = g ∙ clear_all 0 counts ∙ no_count (length counts);
       }
+
+-- the end of an entry: the outputs are cleared if its answer is a refusal, and else they stay
+pub leaves_cleared : (a : Answer) (o : Outcome (List Split)) (out counts : List ℕ) {answer : ℕ} {out' counts' : List ℕ} → answer ≡ word a
+    → (is_err a ≡ true → (out' ≡ clear_from 0 0 out) × (counts' ≡ clear_from 0 0 counts)) → (is_err a ≡ false → (out' ≡ out) × (counts' ≡ counts))
+    → Gives o a (length out) (length counts) out counts → Leaves o (length out) (length counts) answer out' counts'
+leaves_cleared (Ok u) o out counts {answer} e f g w = rw ((g refl).0, (g refl).1) (leaves_accepted o out counts e w)
+leaves_cleared (Err r) o out counts e f g w = leaves_refused o out counts e w (f refl).0 (f refl).1
 
 -- `finish` after a function that gave its outputs: what was lent has its length still
 pub finished : (o : Outcome (List Split)) {a : Answer} {size counts_size answer : ℕ} (out counts : List ℕ) {out' counts' : List ℕ} → length out ≡ size → length counts ≡ counts_size

@@ -6,7 +6,7 @@ use Rattle.std.specs.Prelude.{ℕ, ◌/◌, ◌≡◌, List, [], ◌∷◌, cond
 use Rattle.lists.specs.Outcome.{Outcome, accepted, refused}
 use Rattle.lists.specs.Tables.{laid}
 use Rattle.obj.specs.Answers.{meaning, outcome_word}
-use Rattle.obj.specs.declared.Answer.{Answer}
+use Rattle.obj.specs.Answers.{Answer}
 use Rattle.obj.specs.declared.Split.{Split}
 use Rattle.outputs.specs.Outputs.{counts_of}
 use Rattle.splits.specs.Columns.{Columns, rows}

@@ -15,7 +15,7 @@ ghost use Rattle.splits.specs.Bytes.{table_bytes};
 ghost use Rattle.obj.specs.Records.{split_width};
 ghost use Rattle.stage_splits.specs.StageSplits.{room_of, Taken, Laid, Gives, Leaves};
 
-use obj::{Answer, SPLIT_BYTES, word_of};
+use obj::{Refusal, SPLIT_BYTES, word_of};
 use outputs::{clear_from, put_count};
 use splits::{load, store};
 use stage_tables::take_splits;
@@ -43,18 +43,15 @@ pub fn take_split_columns(
     ends: &mut [u32],
     units: &mut [u16],
     rest: &mut [u64],
-) -> Answer
+) -> Result<(), Refusal>
     requires { AllHeld 15 heads.now head_places.now × Room ceiling places.old × Long (columns starts.old ends.old units.old rest.old) ceiling }
     ensures { Taken (meaning result) (splits_check ceiling lengths.now (sections_in heads.now head_places.now) b.now) b.now
         (columns starts.new ends.new units.new rest.new) }
 {
-    let a = take_splits(lengths, heads, head_places, b, ceiling, places);
-    if let Answer::Refused { .. } = a {
-        return a;
-    }
+    take_splits(lengths, heads, head_places, b, ceiling, places)?;
     let n = b.len() / SPLIT_BYTES;
     load(b, &places[..n], starts, ends, units, rest);
-    a
+    Ok(())
 }
 
 // The first n rows in the output, and zeros after them.
@@ -94,14 +91,13 @@ pub fn give_splits(
 }
 
 // The end of an entry: its answer as a word, and all outputs zero after a refusal.
-pub fn finish(a: Answer, out: &mut [u8], counts: &mut [u8]) -> u64
+pub fn finish(a: Result<(), Refusal>, out: &mut [u8], counts: &mut [u8]) -> u64
     ensures { (o : Outcome (List Split)) → Gives o a (length out.old) (length counts.old) out.old counts.old
         → Leaves o (length out.old) (length counts.old) result out.new counts.new }
 {
-    if let Answer::Refused { .. } = a {
+    if a.is_err() {
         clear_from(out, 0);
         clear_from(counts, 0);
-        return word_of(a);
     }
     word_of(a)
 }

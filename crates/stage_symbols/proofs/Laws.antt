@@ -1,10 +1,9 @@
 -- What tables that passed are to the questions of `symbols` and `sections`: each record's check gives its facts, record by record.
 -- Assumes nothing.
-use Prim.Native.Nat.{ℕ, zero, suc, ◌+◌, ◌*◌, ◌/◌, ◌<◌, ◌≤◌}
+use Prim.Native.Nat.{ℕ, zero, suc, ◌+◌, ◌/◌, ◌<◌, ◌≤◌}
 use mathlib.Core.Path.{◌≡◌, sym, ap, ◌∙◌}
 use mathlib.Core.List.{List, [], ◌∷◌}
 use mathlib.Core.Bool.{false}
-use mathlib.Core.Logic.{◌≢◌}
 use Prim.Native.Nat.{suc-le-suc}
 use native.Mathlib.Omega.{arith}
 use lib.ListN.{length, get_or, take, length-take}
@@ -12,23 +11,23 @@ use lib.Seq.{get_or-take}
 use Rattle.lists.specs.Outcome.{accepted}
 use Rattle.lists.proofs.Rows.{get_d_map}
 use Rattle.align.specs.Align.{bad_align}
-use Rattle.obj.specs.Records.{symbol_at, section_at, stage_places, Held}
+use Rattle.obj.specs.Records.{symbol_at, section_at, stage_places}
 use Rattle.obj.specs.declared.Section.{Section}
-use Rattle.obj.specs.declared.Symbol.{Symbol}
 use Rattle.obj.proofs.Laws.{length-stage_places}
 use Rattle.names.specs.Names.{Named}
 use Rattle.tables.specs.Tables.{records_check, AllHeld}
-use Rattle.tables.specs.Records.{sections_in, symbols_in, section_fault, image_fault, symbol_fault, image_places_of, no_section, no_symbol}
+use Rattle.tables.specs.Records.{section_fault, image_fault, symbol_fault, image_places_of, no_section, no_symbol}
 use Rattle.tables.proofs.Laws as tables
 use Rattle.tables.proofs.Lookups.{held, stage_held}
 use Rattle.stage_tables.specs.StageTables.{stage_sections, stage_symbols, symbols_check, image_check}
 use Rattle.stage_tables.proofs.Laws.{table_passed}
-use Rattle.symbol_order.specs.Order.{symbol_of, order_of, Whole, Order}
+use Rattle.symbol_order.specs.Order.{symbol_of, order_of, Whole}
 use Rattle.symbols.specs.Sound.{Sound}
-use Rattle.sections.specs.Image.{SymbolNames, Tables, Lies}
+use Rattle.sections.specs.Image.{Tables, Lies}
 use Rattle.sections.specs.Sections.{head_of, Kept}
-use Rattle.stage_symbols.specs.StageSymbols.{Ordered, Placed}
-use Rattle.stage_symbols.specs.declared.Taken.{Taken}
+use Rattle.stage_symbols.specs.StageSymbols.{ordered, Ordered, Placed}
+use Rattle.std.specs.Prelude.{Result}
+use Rattle.obj.specs.declared.Refusal.{Refusal}
 
 -- a number that a list has something above 0 for is one of its places
 known : (l : List ℕ) (k : ℕ) → 0 < get_or l k 0 → k < length l
@@ -65,10 +64,10 @@ module _ (ceiling names : ℕ) (sections : List Section) (b : List ℕ) (passed 
       record { each = (stage_held 20 (length b / 20) b (omega (arith, few, low)) (omega arith)).each }
 
   -- symbols, their order and names belong together
-  pub tables-taken : ceiling ≤ 4096 → (places order name_bytes name_places name_lengths : List ℕ) (r : Taken)
+  pub tables-taken : ceiling ≤ 4096 → (places order name_bytes name_places name_lengths : List ℕ) (r : Result ℕ Refusal)
       → Ordered (symbols_check ceiling names sections b) b places order r → length name_places ≡ names
       → Named name_bytes name_places name_lengths (length name_places)
-      → Tables b (take (length b / 20) places) (take r.ordered order) name_bytes name_places name_lengths
+      → Tables b (take (length b / 20) places) (take (ordered r) order) name_bytes name_places name_lengths
   tables-taken low places order name_bytes name_places name_lengths r o count named =
       rw (o.placed passed)
       (record {

@@ -9,31 +9,30 @@ ghost use Rattle.tables.specs.Records.{sections_in};
 ghost use Rattle.obj.specs.Records.{split_width, partial_width};
 ghost use Rattle.stage_tables.specs.StageTables.{sections_check, image_check, symbols_check, relocs_check, partials_check, splits_check, units_check, Room, Filled};
 
-use obj::{Answer, PARTIAL_BYTES, SPLIT_BYTES};
+use obj::{PARTIAL_BYTES, Refusal, SPLIT_BYTES};
 use tables::{fill_places, table_size};
 
 // 1 and 2 of a table of `size` bytes, and the places of its records.
-fn fill_table(size: usize, width: usize, ceiling: usize, places: &mut [u32]) -> Answer
+fn fill_table(size: usize, width: usize, ceiling: usize, places: &mut [u32]) -> Result<(), Refusal>
     requires { (0 < width) × (width ≤ 64) × Room ceiling places.old }
     ensures { Filled (meaning result) (size_check width ceiling size) width size places.new }
 {
-    let answer = table_size(size, width, ceiling);
-    if let Answer::Refused { .. } = answer {
-        return answer;
-    }
+    table_size(size, width, ceiling)?;
     fill_places(places, width, size / width);
-    answer
+    Ok(())
 }
 
 // The sections of a stage that does not look at their bytes: "4 section: ..".
-pub fn take_sections(lengths: &[u8], b: &[u8], ceiling: usize, places: &mut [u32]) -> Answer
+pub fn take_sections(
+    lengths: &[u8],
+    b: &[u8],
+    ceiling: usize,
+    places: &mut [u32],
+) -> Result<(), Refusal>
     requires { Room ceiling places.old }
     ensures { Filled (meaning result) (sections_check ceiling lengths.now b.now) 15 (length b.now) places.new }
 {
-    let size = fill_table(b.len(), 15, ceiling, places);
-    if let Answer::Refused { .. } = size {
-        return size;
-    }
+    fill_table(b.len(), 15, ceiling, places)?;
     let n = b.len() / 15;
     tables::check_sections(lengths, b, &places[..n])
 }
@@ -46,14 +45,11 @@ pub fn take_image(
     b: &[u8],
     ceiling: usize,
     places: &mut [u32],
-) -> Answer
+) -> Result<(), Refusal>
     requires { Room ceiling places.old }
     ensures { Filled (meaning result) (image_check ceiling lengths.now image_places.now image b.now) 15 (length b.now) places.new }
 {
-    let size = fill_table(b.len(), 15, ceiling, places);
-    if let Answer::Refused { .. } = size {
-        return size;
-    }
+    fill_table(b.len(), 15, ceiling, places)?;
     let n = b.len() / 15;
     tables::check_image(lengths, image_places, image, b, &places[..n])
 }
@@ -66,14 +62,11 @@ pub fn take_symbols(
     b: &[u8],
     ceiling: usize,
     places: &mut [u32],
-) -> Answer
+) -> Result<(), Refusal>
     requires { AllHeld 15 heads.now head_places.now × Room ceiling places.old }
     ensures { Filled (meaning result) (symbols_check ceiling names (sections_in heads.now head_places.now) b.now) 20 (length b.now) places.new }
 {
-    let size = fill_table(b.len(), 20, ceiling, places);
-    if let Answer::Refused { .. } = size {
-        return size;
-    }
+    fill_table(b.len(), 20, ceiling, places)?;
     let n = b.len() / 20;
     tables::check_symbols(names, heads, head_places, b, &places[..n])
 }
@@ -87,27 +80,26 @@ pub fn take_relocs(
     ceiling: usize,
     places: &mut [u32],
     floors: &mut [u32],
-) -> Answer
+) -> Result<(), Refusal>
     requires { AllHeld 15 heads.now head_places.now × Room ceiling places.old × (length head_places.now ≤ length floors.old) }
     ensures { Filled (meaning result) (relocs_check ceiling (sections_in heads.now head_places.now) symbols b.now) 23 (length b.now) places.new }
 {
-    let size = fill_table(b.len(), 23, ceiling, places);
-    if let Answer::Refused { .. } = size {
-        return size;
-    }
+    fill_table(b.len(), 23, ceiling, places)?;
     let n = b.len() / 23;
     tables::check_relocs(heads, head_places, symbols, b, &places[..n], floors)
 }
 
 // A partial list, "checked as records": "7 split: ..".
-pub fn take_partials(lengths: &[u8], b: &[u8], ceiling: usize, places: &mut [u32]) -> Answer
+pub fn take_partials(
+    lengths: &[u8],
+    b: &[u8],
+    ceiling: usize,
+    places: &mut [u32],
+) -> Result<(), Refusal>
     requires { Room ceiling places.old }
     ensures { Filled (meaning result) (partials_check ceiling lengths.now b.now) partial_width (length b.now) places.new }
 {
-    let size = fill_table(b.len(), PARTIAL_BYTES, ceiling, places);
-    if let Answer::Refused { .. } = size {
-        return size;
-    }
+    fill_table(b.len(), PARTIAL_BYTES, ceiling, places)?;
     let n = b.len() / PARTIAL_BYTES;
     tables::check_partials(lengths, b, &places[..n])
 }
@@ -120,27 +112,26 @@ pub fn take_splits(
     b: &[u8],
     ceiling: usize,
     places: &mut [u32],
-) -> Answer
+) -> Result<(), Refusal>
     requires { AllHeld 15 heads.now head_places.now × Room ceiling places.old }
     ensures { Filled (meaning result) (splits_check ceiling lengths.now (sections_in heads.now head_places.now) b.now) split_width (length b.now) places.new }
 {
-    let size = fill_table(b.len(), SPLIT_BYTES, ceiling, places);
-    if let Answer::Refused { .. } = size {
-        return size;
-    }
+    fill_table(b.len(), SPLIT_BYTES, ceiling, places)?;
     let n = b.len() / SPLIT_BYTES;
     tables::check_splits(lengths, heads, head_places, b, &places[..n])
 }
 
 // Units: "8 unit: ..".
-pub fn take_units(lengths: &[u8], b: &[u8], ceiling: usize, places: &mut [u32]) -> Answer
+pub fn take_units(
+    lengths: &[u8],
+    b: &[u8],
+    ceiling: usize,
+    places: &mut [u32],
+) -> Result<(), Refusal>
     requires { Room ceiling places.old }
     ensures { Filled (meaning result) (units_check ceiling lengths.now b.now) 8 (length b.now) places.new }
 {
-    let size = fill_table(b.len(), 8, ceiling, places);
-    if let Answer::Refused { .. } = size {
-        return size;
-    }
+    fill_table(b.len(), 8, ceiling, places)?;
     let n = b.len() / 8;
     tables::check_units(lengths, b, &places[..n])
 }

@@ -1,6 +1,6 @@
 -- The walk of all sections: columns that hold nothing yet, and what it gives over them. Assumes nothing.
 use Prim.Native.Nat.{ℕ, ◌+◌, ◌-◌, ◌≤◌, ◌<◌}
-use mathlib.Core.Path.{◌≡◌, refl, sym, ap, subst, ◌∙◌}
+use mathlib.Core.Path.{◌≡◌, refl, sym, subst, ◌∙◌}
 use mathlib.Core.List.{List}
 use native.Mathlib.Nat.{sub-zero}
 use native.Mathlib.Omega.{arith}
@@ -18,8 +18,8 @@ use Rattle.sections.specs.Image.{Image}
 use Rattle.sections.specs.Sections.{Sections}
 use Rattle.walk.specs.Walk.{nothing, walk_sections, walk}
 use Rattle.walk.specs.Giving.{input_of, output_in, chains_in, counts_in}
-use Rattle.split_obj.specs.declared.Walked.{Walked}
-use Rattle.split_obj.specs.declared.Walked.TheVariants.{Accepted, Refused}
+use Rattle.std.specs.Prelude.{Result, Ok, Err}
+use Rattle.obj.specs.declared.Refusal.{Refusal}
 use Rattle.split_obj.specs.Loop.{seen, Left, Tabled}
 use Rattle.stage_walk.specs.Room.{room_in}
 use Rattle.stage_walk.specs.Lines.{walk_of, none, Within, Gives}
@@ -87,13 +87,13 @@ unfolding pieces_in symbols_in relocs_in tabulate
 none_read pieces entries offsets = refl
 
 -- what was made is within the room
-pub left_within : (symbols : ℕ) (room : Counts) (scratch pieces entries offsets : List ℕ) (r : Walked) → Left symbols room scratch pieces entries offsets r → Within room r
-left_within symbols room scratch pieces entries offsets (Accepted made) b = (b.side.few_pieces, b.entered.few, b.side.few_relocs)
-left_within symbols room scratch pieces entries offsets (Refused number section address) b = tt
+pub left_within : (symbols : ℕ) (room : Counts) (scratch pieces entries offsets : List ℕ) (r : Result Counts Refusal) → Left symbols room scratch pieces entries offsets r → Within room r
+left_within symbols room scratch pieces entries offsets (Ok made) b = (b.side.few_pieces, b.entered.few, b.side.few_relocs)
+left_within symbols room scratch pieces entries offsets (Err r) b = tt
 
 -- the walk of all sections, from nothing
 pub walked_all : (g : Image) (sections : Sections) (reloc : ℕ → Reloc) (relocs : ℕ) (splits : List Split) (units : List ℕ) (room most : Counts) (symbols : ℕ)
-    (scratch before-pieces before-entries before-offsets pieces entries offsets : List ℕ) (r : Walked) → room ≡ most
+    (scratch before-pieces before-entries before-offsets pieces entries offsets : List ℕ) (r : Result Counts Refusal) → room ≡ most
     → seen pieces entries offsets r ≡ walk_sections (input_of g sections reloc relocs splits units room) 0 (sections.count - 0) (output_in before-pieces before-entries before-offsets none)
     → Left symbols room scratch pieces entries offsets r → Gives (walk_of g sections reloc relocs splits units most) most r pieces entries offsets
 unfolding walk

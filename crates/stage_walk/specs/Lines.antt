@@ -2,8 +2,8 @@
 use Rattle.std.specs.Prelude.{ℕ, ◌/◌, ◌≤◌, ◌<◌, ◌≡◌, List, length}
 use Rattle.lists.specs.Outcome.{Outcome, ◌>>◌}
 use Rattle.obj.specs.Records.{stage_places}
-use Rattle.obj.specs.declared.Answer.{Answer}
-use Rattle.obj.specs.declared.Answer.TheVariants as answers
+use Rattle.std.specs.Prelude.{Result, Ok, Err}
+use Rattle.obj.specs.declared.Refusal.{Refusal}
 use Rattle.obj.specs.declared.Section.{Section}
 use Rattle.obj.specs.declared.Reloc.{Reloc}
 use Rattle.obj.specs.declared.Split.{Split}
@@ -17,8 +17,6 @@ use Rattle.units.specs.Units.{unit_names}
 use Rattle.walk.specs.declared.Counts.{Counts}
 use Rattle.walk.specs.Walk.{Output, walk}
 use Rattle.walk.specs.Giving.{input_of}
-use Rattle.split_obj.specs.declared.Walked.{Walked}
-use Rattle.split_obj.specs.declared.Walked.TheVariants.{Accepted, Refused}
 use Rattle.split_obj.specs.Loop.{seen}
 
 -- ---- the definition, from one table on
@@ -43,18 +41,13 @@ from_splits lengths heads g sections reloc relocs splits units room = do
 abbrev pub none : Counts
 none = record { pieces = 0; symbols = 0; relocs = 0 }
 
--- what a refused check of a table answers
-abbrev pub stopped_by : Answer → Walked
-stopped_by answers.Accepted = Accepted none
-stopped_by (answers.Refused number section address) = Refused number section address
-
 -- what was made is within the room
-abbrev pub Within : (room : Counts) → Walked → Type 0
-Within room (Accepted made) = (made.pieces ≤ room.pieces) × (made.symbols ≤ room.symbols) × (made.relocs ≤ room.relocs)
-Within room (Refused number section address) = Unit {0}
+abbrev pub Within : (room : Counts) → Result Counts Refusal → Type 0
+Within room (Ok made) = (made.pieces ≤ room.pieces) × (made.symbols ≤ room.symbols) × (made.relocs ≤ room.relocs)
+Within room (Err r) = Unit {0}
 
 -- the outcome that an answer means, over what is in the output tables; after a refusal they are still to be cleared
-pub record Gives (o : Outcome Output) (room : Counts) (r : Walked) (pieces entries offsets : List ℕ) : Type 0 where
+pub record Gives (o : Outcome Output) (room : Counts) (r : Result Counts Refusal) (pieces entries offsets : List ℕ) : Type 0 where
   pub is : seen pieces entries offsets r ≡ o
   pub within : Within room r
 

@@ -12,11 +12,11 @@ ghost use Rattle.units.specs.Units.{unit_names};
 ghost use Rattle.walk.specs.Steps.{Asked};
 ghost use Rattle.split_obj.specs.Loop.{Ready};
 ghost use Rattle.stage_walk.specs.Room.{room_for, room_in};
-ghost use Rattle.stage_walk.specs.Lines.{walk_of, from_units, from_splits, stopped_by, Gives, Headed, Relocated, Rowed, Scratch, UnitScratch};
+ghost use Rattle.stage_walk.specs.Lines.{walk_of, from_units, from_splits, Gives, Headed, Relocated, Rowed, Scratch, UnitScratch};
 
-use obj::{Answer, SPLIT_BYTES};
+use obj::{Refusal, SPLIT_BYTES};
 use pieces::PIECE_BYTES;
-use split_obj::{Walked, walk_sections};
+use split_obj::walk_sections;
 use stage_splits::take_split_columns;
 use stage_tables::take_units;
 use units::number_units;
@@ -32,28 +32,6 @@ pub fn room_for(ceiling: usize, width: usize, size: usize) -> usize
         return whole;
     }
     ceiling
-}
-
-// What a table's check that was refused answers.
-pub fn stopped(a: Answer) -> Walked
-    ensures { result ≡ stopped_by a }
-{
-    match a {
-        Answer::Accepted => Walked::Accepted(Counts {
-            pieces: 0,
-            symbols: 0,
-            relocs: 0,
-        }),
-        Answer::Refused {
-            number,
-            section,
-            address,
-        } => Walked::Refused {
-            number,
-            section,
-            address,
-        },
-    }
 }
 
 // The walk of all sections, with columns of its own beside the outputs.
@@ -81,7 +59,7 @@ pub fn walk_columns(
     pieces: &mut [u8],
     entries: &mut [u8],
     offsets: &mut [u8],
-) -> Walked
+) -> Result<Counts, Refusal>
     requires { Ready symbols.now symbol_places.now order.now name_bytes.now name_places.now name_lengths.now heads.now head_places.now image.now image_places.now relocs.now reloc_places.now unit_table.now unit_places.now unit_numbers.now (columns starts.now ends.now units.now rest.now) rows (length head_places.now)
         × (length symbol_places.now ≤ 4096) }
     ensures { Gives
@@ -158,7 +136,7 @@ fn from_units(
     pieces: &mut [u8],
     entries: &mut [u8],
     offsets: &mut [u8],
-) -> Walked
+) -> Result<Counts, Refusal>
     requires { Asked symbols.now symbol_places.now order.now name_bytes.now name_places.now name_lengths.now
         × Headed heads.now head_places.now image.now image_places.now name_places.now
         × Relocated relocs.now reloc_places.now
@@ -170,10 +148,7 @@ fn from_units(
         (from_units name_lengths.now (image_of symbols.now symbol_places.now name_bytes.now name_places.now name_lengths.now) (sections_of heads.now head_places.now image.now image_places.now) (reloc_of relocs.now reloc_places.now) (length reloc_places.now) (rows_of (columns starts.now ends.now units.now rest.now) rows) unit_table.now (room_in (length pieces.old) (length entries.old) (length offsets.old)))
         (room_in (length pieces.old) (length entries.old) (length offsets.old)) result pieces.new entries.new offsets.new }
 {
-    let a = take_units(name_lengths, unit_table, 1024, places);
-    if let Answer::Refused { .. } = a {
-        return stopped(a);
-    }
+    take_units(name_lengths, unit_table, 1024, places)?;
     let n = unit_table.len() / 8;
     number_units(unit_table, &places[..n], unit_numbers);
     walk_columns(
@@ -226,7 +201,7 @@ fn with_units(
     pieces: &mut [u8],
     entries: &mut [u8],
     offsets: &mut [u8],
-) -> Walked
+) -> Result<Counts, Refusal>
     requires { Asked symbols.now symbol_places.now order.now name_bytes.now name_places.now name_lengths.now
         × Headed heads.now head_places.now image.now image_places.now name_places.now
         × Relocated relocs.now reloc_places.now
@@ -290,7 +265,7 @@ fn from_splits(
     pieces: &mut [u8],
     entries: &mut [u8],
     offsets: &mut [u8],
-) -> Walked
+) -> Result<Counts, Refusal>
     requires { Asked symbols.now symbol_places.now order.now name_bytes.now name_places.now name_lengths.now
         × Headed heads.now head_places.now image.now image_places.now name_places.now
         × Relocated relocs.now reloc_places.now
@@ -301,7 +276,7 @@ fn from_splits(
         (from_splits name_lengths.now (sections_in heads.now head_places.now) (image_of symbols.now symbol_places.now name_bytes.now name_places.now name_lengths.now) (sections_of heads.now head_places.now image.now image_places.now) (reloc_of relocs.now reloc_places.now) (length reloc_places.now) splits.now unit_table.now (room_in (length pieces.old) (length entries.old) (length offsets.old)))
         (room_in (length pieces.old) (length entries.old) (length offsets.old)) result pieces.new entries.new offsets.new }
 {
-    let a = take_split_columns(
+    take_split_columns(
         name_lengths,
         heads,
         head_places,
@@ -312,10 +287,7 @@ fn from_splits(
         ends,
         units,
         rest,
-    );
-    if let Answer::Refused { .. } = a {
-        return stopped(a);
-    }
+    )?;
     let rows = splits.len() / SPLIT_BYTES;
     with_units(
         symbols,
@@ -361,7 +333,7 @@ pub fn with_splits(
     pieces: &mut [u8],
     entries: &mut [u8],
     offsets: &mut [u8],
-) -> Walked
+) -> Result<Counts, Refusal>
     requires { Asked symbols.now symbol_places.now order.now name_bytes.now name_places.now name_lengths.now
         × Headed heads.now head_places.now image.now image_places.now name_places.now
         × Relocated relocs.now reloc_places.now

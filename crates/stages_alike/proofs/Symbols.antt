@@ -13,7 +13,7 @@ use Rattle.lists.proofs.Rising.{numbers-below}
 use Rattle.obj.specs.declared.Symbol.{Symbol}
 use Rattle.symbol_order.specs.Order.{has_section, in_section, key_of, symbols_of, order_of}
 use Rattle.symbols.specs.Ranges.{sized, sized_unstripped, last_or, highest_of, symbols_between, symbols_through, has_symbols, last_below, last_in, highest_in}
-use Rattle.symbols.specs.declared.Found.TheVariants.{Nothing}
+use Rattle.std.specs.Prelude.{None}
 use Rattle.stages_alike.proofs.Lists.{kept_alike, some_alike, sorted_alike, kept-twice}
 
 -- a section's symbols are symbols of the table
@@ -52,7 +52,7 @@ module _ (y z : ℕ → Symbol) (count : ℕ) (same : (i : ℕ) → i < count �
 
     -- "the last sized unstripped symbol below"
     pub last_below_alike : (objects : Bool) (address : ℕ) → last_below y count n objects address ≡ last_below z count n objects address
-    last_below_alike objects address = ap (last_or Nothing) (twice_alike (sized_unstripped objects) (λ s. ltb s.address address))
+    last_below_alike objects address = ap (last_or None) (twice_alike (sized_unstripped objects) (λ s. ltb s.address address))
 
     module _ (start end : ℕ) where
       -- in start..end
@@ -77,7 +77,7 @@ module _ (y z : ℕ → Symbol) (count : ℕ) (same : (i : ℕ) → i < count �
       -- the questions: the last such symbol, the highest alignment
       pub last_alike : last_in y count n start end ≡ last_in z count n start end
       unfolding last_in
-      last_alike = range_alike (ap (last_or Nothing) (twice_alike (sized_unstripped false) between))
+      last_alike = range_alike (ap (last_or None) (twice_alike (sized_unstripped false) between))
 
       highest_of_lem : {l : List ℕ} → All (λ i. i < count) l → highest_of y l ≡ highest_of z l
       unfolding highest_of

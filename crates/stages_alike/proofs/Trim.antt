@@ -12,8 +12,7 @@ use Rattle.align.specs.Align.{align_up}
 use Rattle.obj.specs.declared.Symbol.{Symbol}
 use Rattle.obj.specs.declared.Split.{Split}
 use Rattle.symbols.specs.Ranges.{last_in}
-use Rattle.symbols.specs.declared.Found.{Found}
-use Rattle.symbols.specs.declared.Found.TheVariants.{At, Nothing}
+use Rattle.std.specs.Prelude.{Option, Some, None}
 use Rattle.symbols.proofs.Finds.{in_found}
 use Rattle.sections.specs.Image.{Image}
 use Rattle.sections.specs.Sections.{Sections}
@@ -28,22 +27,22 @@ module _ (g h : Image) (same : SameImages g h) (s t : Sections) (sections : Same
   -- ---- the falls
 
   -- where the symbol ends that is found in a split
-  end_of_lem : (x : Split) (found : Found) → last_in g.symbol g.count x.section x.start x.end ≡ accepted found
+  end_of_lem : (x : Split) (found : Option ℕ) → last_in g.symbol g.count x.section x.start x.end ≡ accepted found
       → end_of g.symbol x.end found ≡ end_of h.symbol x.end found
   unfolding end_of
-  end_of_lem x (At i) e = ap (λ (y : Symbol). y.address + y.size) (same.symbols i (in_found g.symbol g.count x.section x.start x.end i e).there)
-  end_of_lem x Nothing e = refl
+  end_of_lem x (Some i) e = ap (λ (y : Symbol). y.address + y.size) (same.symbols i (in_found g.symbol g.count x.section x.start x.end i e).there)
+  end_of_lem x None e = refl
 
   aligned_alike : (x : Split) → x.section < s.count → aligned_end g s.head x ≡ aligned_end h t.head x
   unfolding aligned_end
   aligned_alike x b =
       bind_when (last_in g.symbol g.count x.section x.start x.end) _ rest
       (λ found e k. alignment_from_alike g h same s t sections x.start x b k >>= λ chosen. accepted (align_up (end_of_lem x found e k) chosen.value))
-      ∙ ap (λ (o : Outcome Found). o >>= rest)
+      ∙ ap (λ (o : Outcome (Option ℕ)). o >>= rest)
       (counted g h same (λ y. last_in y.symbol y.count x.section x.start x.end)
       (last_alike g.symbol h.symbol g.count same.symbols x.section x.start x.end))
     where
-      rest : Found → Outcome ℕ
+      rest : Option ℕ → Outcome ℕ
       rest found = alignment_from h t.head x.start x >>= λ chosen. accepted (align_up (end_of h.symbol x.end found) chosen.value)
 
   next_alike : (x : Split) {l : List Split} → All (λ r. r.section < s.count) l → ask_next g s.head x l ≡ ask_next h t.head x l

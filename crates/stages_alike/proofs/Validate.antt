@@ -8,8 +8,7 @@ use Rattle.lists.specs.Outcome.{accepted, refuse, ◌>>◌}
 use Rattle.obj.specs.declared.Symbol.{Symbol}
 use Rattle.obj.specs.declared.Split.{Split}
 use Rattle.symbols.specs.Ranges.{last_below}
-use Rattle.symbols.specs.declared.Found.{Found}
-use Rattle.symbols.specs.declared.Found.TheVariants.{At, Nothing}
+use Rattle.std.specs.Prelude.{Option, Some, None}
 use Rattle.symbols.proofs.Finds.{below-found}
 use Rattle.sections.specs.Image.{Image}
 use Rattle.validate.specs.Check.{end_of, end_below, validate_one, validate_from, validate}
@@ -18,10 +17,10 @@ use Rattle.stages_alike.proofs.Symbols.{last_below_alike}
 use Rattle.stages_alike.proofs.Sections.{counted}
 
 module _ (y z : ℕ → Symbol) (count : ℕ) (same : (i : ℕ) → i < count → y i ≡ z i) where
-  end_of_lem : (f : Found) → ((i : ℕ) → f ≡ At i → i < count) → end_of y count f ≡ end_of z count f
+  end_of_lem : (f : Option ℕ) → ((i : ℕ) → f ≡ Some i → i < count) → end_of y count f ≡ end_of z count f
   unfolding end_of
-  end_of_lem (At i) there = ap (λ (s : Symbol). s.address + s.size) (same i (there i refl))
-  end_of_lem Nothing there = refl
+  end_of_lem (Some i) there = ap (λ (s : Symbol). s.address + s.size) (same i (there i refl))
+  end_of_lem None there = refl
 
   end_below_alike : (n address : ℕ) → end_below y count n address ≡ end_below z count n address
   end_below_alike n address = end_of_lem (last_below y count n false address) (below-found y count n false address) ∙ ap (end_of z count) (last_below_alike y z count same n false address)

@@ -1,15 +1,15 @@
 -- What a question finds: a symbol of the table that lies in the range and is sized, or an alignment that some symbol of the table has, so that it is
 -- good where theirs are. Assumes nothing.
 use mathlib.Core.Path.{◌≡◌, refl, sym, ap, subst, ◌∙◌}
-use mathlib.Core.List.{List, [], ◌∷◌}
-use mathlib.Core.Bool.{Bool, true, false, not, ◌&&◌, ◌||◌}
+use mathlib.Core.List.{List}
+use mathlib.Core.Bool.{Bool, true, false, not, ◌&&◌}
 use mathlib.Core.Logic.{◌⊎◌, inl, inr}
-use Prim.Native.Nat.{ℕ, ◌≤◌, ◌<◌, max}
+use Prim.Native.Nat.{ℕ, ◌<◌, max}
 use native.Mathlib.Omega.{arith}
 use lib.Dec.{eqb, leb, ltb}
 use borrow.Author.Tests.{leb-true, ltb-true, eqb-false, not-true}
 use Rattle.lists.specs.Rows.{keep_if}
-use Rattle.lists.specs.Outcome.{accepted, refuse, ◌>>◌}
+use Rattle.lists.specs.Outcome.{accepted}
 use Rattle.lists.specs.Sort.{All, none, each}
 use Rattle.lists.proofs.All.{all_keep, all_sort, all_map, all_both}
 use Rattle.lists.proofs.Filter.{keep_passes}
@@ -19,21 +19,21 @@ use Rattle.lists.proofs.Both.{both, one_of_two}
 use Rattle.align.specs.Align.{bad_align}
 use Rattle.obj.specs.declared.Symbol.{Symbol}
 use Rattle.symbol_order.specs.Order.{in_section, symbols_of}
-use Rattle.symbols.specs.declared.Found.{Found}
-use Rattle.symbols.specs.declared.Found.TheVariants.{At, Nothing}
-use Rattle.symbols.specs.Ranges.{sized, stripped, sized_unstripped, last_or, highest_of, symbols_between, symbols_below, backwards, last_below, last_in, highest_in}
+use Rattle.std.specs.Prelude.{Option, Some, None}
+use Rattle.std.proofs.lemmas.Option.{none-some}
+use Rattle.symbols.specs.Ranges.{sized, stripped, sized_unstripped, last_or, highest_of, symbols_between, backwards, last_below, last_in, highest_in}
 use Rattle.symbols.specs.Sound.{Sound, Inside}
 
 -- ---- the last of a list
 
 -- it is one of the list, if it is not the one to fall back on
-last_is : {P : ℕ → Type 0} {l : List ℕ} (best : Found) (i : ℕ) → All P l → (best ≡ At i → P i) → last_or best l ≡ At i → P i
+last_is : {P : ℕ → Type 0} {l : List ℕ} (best : Option ℕ) (i : ℕ) → All P l → (best ≡ Some i → P i) → last_or best l ≡ Some i → P i
 unfolding last_or
 last_is best i none h e = h e
-last_is {P} best i (each {x = j} p q) h e = last_is (At j) i q (λ f. subst P (let z : j ≡ i = cc in z) p) e
+last_is {P} best i (each {x = j} p q) h e = last_is (Some j) i q (λ f. subst P (let z : j ≡ i = cc in z) p) e
 
-no_last : {P : ℕ → Type 0} {l : List ℕ} (i : ℕ) → All P l → last_or Nothing l ≡ At i → P i
-no_last i p e = last_is Nothing i p (λ f. absurd (let z : ◌≡◌ {A = ℕ} 0 1 = cc in omega arith)) e
+no_last : {P : ℕ → Type 0} {l : List ℕ} (i : ℕ) → All P l → last_or None l ≡ Some i → P i
+no_last i p e = last_is None i p (λ f. absurd (none-some i f)) e
 
 -- ---- symbols of a section
 module _ (symbol : ℕ → Symbol) (count n : ℕ) where
@@ -43,7 +43,7 @@ module _ (symbol : ℕ → Symbol) (count n : ℕ) where
   symbols_there = all_sort (λ i. (symbol i).address) (all_keep (λ i. in_section n (symbol i)) (numbers-below count))
 
   -- the last that is found below an address
-  pub below-found : (objects : Bool) (address i : ℕ) → last_below symbol count n objects address ≡ At i → i < count
+  pub below-found : (objects : Bool) (address i : ℕ) → last_below symbol count n objects address ≡ Some i → i < count
   below-found objects address i e =
       no_last i (all_keep (λ k. sized_unstripped objects (symbol k)) (all_keep (λ k. ltb (symbol k).address address) symbols_there)) e
 
@@ -56,7 +56,7 @@ module _ (symbol : ℕ → Symbol) (count n : ℕ) where
     kept-between p = all_both (keep_passes p _) (all_keep p (all_both (all_keep between symbols_there) (keep_passes between _)))
 
     -- the last that is found in start..end
-    pub in_found : (i : ℕ) → last_in symbol count n start end ≡ accepted (At i) → Inside symbol count start end i
+    pub in_found : (i : ℕ) → last_in symbol count n start end ≡ accepted (Some i) → Inside symbol count start end i
     unfolding last_in
     in_found i e =
         let q = (then_inv 11 n start (backwards symbol count n start end) _ _ e).1 in

@@ -11,18 +11,17 @@ use lib.Seq.{take-suc, drop-cons, get_or-drop}
 use Rattle.lists.specs.Rows.{keep_if}
 use Rattle.lists.proofs.Filter.{keep_append}
 use Rattle.obj.specs.declared.Symbol.{Symbol}
-use Rattle.symbols.specs.declared.Found.{Found}
-use Rattle.symbols.specs.declared.Found.TheVariants.{At, Nothing}
+use Rattle.std.specs.Prelude.{Option, Some, None}
 use Rattle.symbols.specs.Ranges.{sized, last_or, highest_of, raise}
 
 -- ---- the last that passes
-last_append : (best : Found) (s t : List ℕ) → last_or best (s ++ t) ≡ last_or (last_or best s) t
+last_append : (best : Option ℕ) (s t : List ℕ) → last_or best (s ++ t) ≡ last_or (last_or best s) t
 unfolding last_or
 last_append best [] t = refl
-last_append best (i ∷ s) t = last_append (At i) s t
+last_append best (i ∷ s) t = last_append (Some i) s t
 
-pub last_turn : (p : ℕ → Bool) (l : List ℕ) (j : ℕ) (best : Found) → 0 < j → j ≤ length l
-    → last_or best (keep_if p (take j l)) ≡ cond (p (get_or l (j - 1) 0)) (At (get_or l (j - 1) 0)) (last_or best (keep_if p (take (j - 1) l)))
+pub last_turn : (p : ℕ → Bool) (l : List ℕ) (j : ℕ) (best : Option ℕ) → 0 < j → j ≤ length l
+    → last_or best (keep_if p (take j l)) ≡ cond (p (get_or l (j - 1) 0)) (Some (get_or l (j - 1) 0)) (last_or best (keep_if p (take (j - 1) l)))
 unfolding last_or keep_if
 last_turn p l j best h q =
     let e : j ≡ suc (j - 1) = omega arith in
@@ -33,27 +32,27 @@ last_turn p l j best h q =
     ∙ last_append best (keep_if p (take (j - 1) l)) (keep_if p (get_or l (j - 1) 0 ∷ []))
     ∙ go (p (get_or l (j - 1) 0))
   where
-    go : (t : Bool) → last_or (last_or best (keep_if p (take (j - 1) l))) (cond t (get_or l (j - 1) 0 ∷ []) []) ≡ cond t (At (get_or l (j - 1) 0)) (last_or best (keep_if p (take (j - 1) l)))
+    go : (t : Bool) → last_or (last_or best (keep_if p (take (j - 1) l))) (cond t (get_or l (j - 1) 0 ∷ []) []) ≡ cond t (Some (get_or l (j - 1) 0)) (last_or best (keep_if p (take (j - 1) l)))
     go true = refl
     go false = refl
 
 -- .. of the places from `from` to before j
 module _ (p : ℕ → Bool) (l : List ℕ) (from : ℕ) where
-  abbrev pub last_from : ℕ → Found
-  last_from j = last_or Nothing (keep_if p (take (j - from) (drop from l)))
+  abbrev pub last_from : ℕ → Option ℕ
+  last_from j = last_or None (keep_if p (take (j - from) (drop from l)))
 
-  pub last_none : (j : ℕ) → j ≤ from → last_from j ≡ Nothing
+  pub last_none : (j : ℕ) → j ≤ from → last_from j ≡ None
   unfolding last_or keep_if
-  last_none j h = let z : j - from ≡ 0 = omega arith in ap (λ (m : ℕ). last_or Nothing (keep_if p (take m (drop from l)))) z
+  last_none j h = let z : j - from ≡ 0 = omega arith in ap (λ (m : ℕ). last_or None (keep_if p (take m (drop from l)))) z
 
-  pub last_from_lem : (j : ℕ) → from < j → j ≤ length l → last_from j ≡ cond (p (get_or l (j - 1) 0)) (At (get_or l (j - 1) 0)) (last_from (j - 1))
+  pub last_from_lem : (j : ℕ) → from < j → j ≤ length l → last_from j ≡ cond (p (get_or l (j - 1) 0)) (Some (get_or l (j - 1) 0)) (last_from (j - 1))
   last_from_lem j h q =
       let n = length-drop from l in
       let e : j - from - 1 ≡ j - 1 - from = omega arith in
       let f : from + (j - from - 1) ≡ j - 1 = omega arith in
       let g : get_or (drop from l) (j - from - 1) 0 ≡ get_or l (j - 1) 0 = get_or-drop from l (j - from - 1) 0 ∙ ap (λ (k : ℕ). get_or l k 0) f in
-      last_turn p (drop from l) (j - from) Nothing (omega arith) (omega (arith, n))
-      ∙ ap₂ (λ (x m : ℕ). cond (p x) (At x) (last_or Nothing (keep_if p (take m (drop from l))))) g e
+      last_turn p (drop from l) (j - from) None (omega arith) (omega (arith, n))
+      ∙ ap₂ (λ (x m : ℕ). cond (p x) (Some x) (last_or None (keep_if p (take m (drop from l))))) g e
 
 -- ---- the highest alignment
 module _ (y : ℕ → Symbol) (l : List ℕ) where
@@ -73,15 +72,3 @@ module _ (y : ℕ → Symbol) (l : List ℕ) where
   pub highest_end : (j most : ℕ) → length l ≤ j → max most (highest_from j) ≡ most
   unfolding highest_of keep_if
   highest_end j most h = rw (drop_of_length-le l h) (omega arith)
-
-  pub highest_start : max 0 (highest_from 0) ≡ highest_from 0
-  highest_start = omega arith
-
-pub raise_more : (most : ℕ) (y : Symbol) → sized y ≡ true → most < y.alignment → y.alignment ≡ raise most y
-raise_more most y e h = rw e (omega arith)
-
-pub raise_less : (most : ℕ) (y : Symbol) → sized y ≡ true → y.alignment ≤ most → most ≡ raise most y
-raise_less most y e h = rw e (omega arith)
-
-pub raise_not : (most : ℕ) (y : Symbol) → sized y ≡ false → most ≡ raise most y
-raise_not most y e = rw e

@@ -2,18 +2,13 @@
 -- symbol, the first, the highest alignment. Each speaks of the symbols themselves, `symbols_of`, which stand by address, then number.
 -- A range with two ends may be asked backwards: "11 start above end, asked of a section that has such records". A range without a start
 -- has no such fault, and a range whose start is its end is empty and none either. "Such records" are symbols of any kind (DECISIONS.md, 23).
--- An answer that may be 11 is an enum; `highest_meaning` and `found_meaning` give document 01's number, section and address for each case.
-use Rattle.std.specs.Prelude.{ℕ, ◌/◌, ◌%◌, ◌≤◌, max, ◌≡◌, List, [], ◌∷◌, Bool, false, cond, not, ◌&&◌, ◌||◌, eqb, leb, ltb}
+-- An answer that may be 11 has the error `Backwards`; `highest_meaning` and `found_meaning` give document 01's number, section and address for it.
+use Rattle.std.specs.Prelude.{ℕ, ◌/◌, ◌%◌, ◌≤◌, max, ◌≡◌, List, [], ◌∷◌, Bool, false, cond, not, ◌&&◌, ◌||◌, eqb, leb, ltb, Option, Some, None, Result, Ok, Err}
 use Rattle.lists.specs.Rows.{keep_if, some}
 use Rattle.lists.specs.Outcome.{Outcome, accepted, refused, refuse, ◌>>◌}
 use Rattle.obj.specs.declared.Symbol.{Symbol}
 use Rattle.symbol_order.specs.Order.{in_section, numbers, symbols_of}
-use Rattle.symbols.specs.declared.Found.{Found}
-use Rattle.symbols.specs.declared.Found.TheVariants.{At, Nothing}
-use Rattle.symbols.specs.declared.FoundIn.{FoundIn}
-use Rattle.symbols.specs.declared.FoundIn.TheVariants as found_in
-use Rattle.symbols.specs.declared.Highest.{Highest}
-use Rattle.symbols.specs.declared.Highest.TheVariants as highest
+use Rattle.symbols.specs.declared.Backwards.{Backwards}
 
 -- ---- tests of a symbol
 
@@ -32,9 +27,9 @@ sized_unstripped objects y = (not objects || eqb y.kind 2) && (sized y && not (s
 -- ---- lists of symbol numbers
 
 -- the last, or `best` if there is none
-unfoldable pub last_or : Found → List ℕ → Found
+unfoldable pub last_or : Option ℕ → List ℕ → Option ℕ
 last_or best [] = best
-last_or best (i ∷ l) = last_or (At i) l
+last_or best (i ∷ l) = last_or (Some i) l
 
 -- the highest alignment; 0, "none", if there is no symbol
 unfoldable pub highest_of : (ℕ → Symbol) → List ℕ → ℕ
@@ -68,14 +63,14 @@ module _ (symbol : ℕ → Symbol) (count n : ℕ) where
   range_refusal start end = refuse 11 n start (backwards start end)
 
   -- "the last sized unstripped symbol below" an address; its Objects only, for the splitting end
-  abbrev pub last_below : (objects : Bool) → (address : ℕ) → Found
-  last_below objects address = last_or Nothing (keep_if (λ i. sized_unstripped objects (symbol i)) (symbols_below address))
+  abbrev pub last_below : (objects : Bool) → (address : ℕ) → Option ℕ
+  last_below objects address = last_or None (keep_if (λ i. sized_unstripped objects (symbol i)) (symbols_below address))
 
   -- "the last such symbol in start..end"
-  unfoldable pub last_in : (start end : ℕ) → Outcome Found
+  unfoldable pub last_in : (start end : ℕ) → Outcome (Option ℕ)
   last_in start end = do
     range_refusal start end
-    accepted (last_or Nothing (keep_if (λ i. sized_unstripped false (symbol i)) (symbols_between start end)))
+    accepted (last_or None (keep_if (λ i. sized_unstripped false (symbol i)) (symbols_between start end)))
 
   -- "the highest alignment of sized symbols in start..end, stripped ones included"
   unfoldable pub highest_in : (start end : ℕ) → Outcome ℕ
@@ -85,13 +80,13 @@ module _ (symbol : ℕ → Symbol) (count n : ℕ) where
 
 -- ---- what the answers mean, to a range asked of section n from `start` on
 
-abbrev pub found_meaning : (n start : ℕ) → FoundIn → Outcome Found
-found_meaning n start (found_in.Is found) = accepted found
-found_meaning n start found_in.Backwards = refused 11 n start
+abbrev pub found_meaning : (n start : ℕ) → Result (Option ℕ) Backwards → Outcome (Option ℕ)
+found_meaning n start (Ok found) = accepted found
+found_meaning n start (Err e) = refused 11 n start
 
-abbrev pub highest_meaning : (n start : ℕ) → Highest → Outcome ℕ
-highest_meaning n start (highest.Is alignment) = accepted alignment
-highest_meaning n start highest.Backwards = refused 11 n start
+abbrev pub highest_meaning : (n start : ℕ) → Result ℕ Backwards → Outcome ℕ
+highest_meaning n start (Ok alignment) = accepted alignment
+highest_meaning n start (Err e) = refused 11 n start
 
 -- ---- steps of the code
 

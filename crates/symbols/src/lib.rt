@@ -2,44 +2,26 @@
 // "Its first" and "its next" symbol are the first and the next number of such a part.
 #![tactic(auto)]
 
-ghost use Rattle.std.specs.Prelude.{◌≡◌, ◌<◌, ◌≤◌, length};
+ghost use Rattle.std.specs.Prelude.{◌≡◌, ◌<◌, ◌≤◌, length, None};
 ghost use Rattle.lists.specs.Rows.{keep_if, first_in as firstPlace};
 ghost use Rattle.lists.specs.Sort.{between, at_least};
 ghost use Rattle.symbol_order.specs.Order.{symbol_of, key_at, symbols_of, Readable, Order};
 ghost use Rattle.symbols.specs.Ranges.{sized, sized_unstripped, last_or, highest_of, symbols_between, symbols_through, has_symbols};
-ghost use Rattle.symbols.specs.Ranges.{backwards as isBackwards, last_below, last_in, highest_in, found_meaning, highest_meaning, Within, raise};
+ghost use Rattle.symbols.specs.Ranges.{backwards, last_below, last_in, highest_in, found_meaning, highest_meaning, Within, raise};
 
 use obj::{Symbol, symbol_at};
 use symbol_order::{key_in, key_of, number};
 
-// A symbol's number, where there is such a symbol.
-#[derive(Clone, Copy)]
-pub enum Found {
-    At(usize),
-    Nothing,
-}
-
-// The answer to a range with two ends.
-#[derive(Clone, Copy)]
-pub enum FoundIn {
-    Is(Found),
-    // 11
-    Backwards,
-}
-
-// The highest alignment in a range with two ends, 0 if no symbol has one.
-#[derive(Clone, Copy)]
-pub enum Highest {
-    Is(u32),
-    // 11
-    Backwards,
-}
+// 11: a range that ends before it starts, asked of a section that has symbols.
+#[derive(Clone, Copy, Debug, PartialEq, Eq)]
+pub struct Backwards;
 
 // The first place of `order` whose symbol's key is at least `key`, if it lies in from..=to.
 fn search(b: &[u8], places: &[u32], order: &[u16], from: usize, to: usize, key: u64) -> usize
     requires { Order b.now places.now order.now × (from ≤ firstPlace (at_least (key_at b.now places.now) key) order.now) × (firstPlace (at_least (key_at b.now places.now) key) order.now ≤ to) × (to ≤ length order.now) }
     ensures { Within (firstPlace (at_least (key_at b.now places.now) key) order.now) (length order.now) result }
 {
+    // halves, so it is no count
     let mut lo = from;
     let mut hi = to;
     while lo < hi {
@@ -67,6 +49,7 @@ fn first_from(b: &[u8], places: &[u32], order: &[u16], from: usize, key: u64) ->
     requires { Order b.now places.now order.now × (from ≤ firstPlace (at_least (key_at b.now places.now) key) order.now) }
     ensures { Within (firstPlace (at_least (key_at b.now places.now) key) order.now) (length order.now) result }
 {
+    // goes twice as far each time, so it is no count
     let mut lo = from;
     while lo - from < order.len() - lo {
         let ahead = lo + (lo - from);
@@ -144,7 +127,7 @@ pub fn has_symbols(b: &[u8], places: &[u32], order: &[u16], section: u16) -> boo
 }
 
 // "11 start above end, asked of a section that has such records". Who walks a part of two ends asks this first.
-pub fn backwards(
+pub fn is_backwards(
     b: &[u8],
     places: &[u32],
     order: &[u16],
@@ -153,7 +136,7 @@ pub fn backwards(
     end: u32,
 ) -> bool
     requires { Order b.now places.now order.now }
-    ensures { result ≡ isBackwards (symbol_of b.now places.now) (length places.now) section start end }
+    ensures { result ≡ backwards (symbol_of b.now places.now) (length places.now) section start end }
 {
     if end < start {
         return has_symbols(b, places, order, section);
@@ -176,19 +159,17 @@ pub fn is_sized_unstripped(y: Symbol, objects: bool) -> bool
 }
 
 // The last sized unstripped symbol of a part.
-pub fn last_of(b: &[u8], places: &[u32], part: &[u16], objects: bool) -> Found
+pub fn last_of(b: &[u8], places: &[u32], part: &[u16], objects: bool) -> Option<usize>
     requires { Readable b.now places.now part.now }
-    ensures { result ≡ last_or Found.Nothing (keep_if (λ i. sized_unstripped objects (symbol_of b.now places.now i)) part.now) }
+    ensures { result ≡ last_or None (keep_if (λ i. sized_unstripped objects (symbol_of b.now places.now i)) part.now) }
 {
-    let mut j = part.len();
-    while 0 < j {
-        j -= 1;
+    for j in (0..part.len()).rev() {
         let i = number(part, j);
         if is_sized_unstripped(symbol_at(b, places, i), objects) {
-            return Found::At(i);
+            return Some(i);
         }
     }
-    Found::Nothing
+    None
 }
 
 // "the last sized unstripped symbol below" an address of a section, or only of its Objects.
@@ -200,23 +181,22 @@ pub fn last_below(
     objects: bool,
     section: u16,
     address: u32,
-) -> Found
+) -> Option<usize>
     requires { Order b.now places.now order.now }
     ensures { result ≡ last_below (symbol_of b.now places.now) (length places.now) section objects address }
 {
-    let mut j = first_at(b, places, order, key_of(section, address));
-    while 0 < j {
-        j -= 1;
+    let end = first_at(b, places, order, key_of(section, address));
+    for j in (0..end).rev() {
         let i = number(order, j);
         let y = symbol_at(b, places, i);
         if y.section < section {
-            return Found::Nothing;
+            return None;
         }
         if is_sized_unstripped(y, objects) {
-            return Found::At(i);
+            return Some(i);
         }
     }
-    Found::Nothing
+    None
 }
 
 // "the last such symbol in start..end"
@@ -227,15 +207,15 @@ pub fn last_in(
     section: u16,
     start: u32,
     end: u32,
-) -> FoundIn
+) -> Result<Option<usize>, Backwards>
     requires { Order b.now places.now order.now }
     ensures { found_meaning section start result ≡ last_in (symbol_of b.now places.now) (length places.now) section start end }
 {
-    if backwards(b, places, order, section, start, end) {
-        return FoundIn::Backwards;
+    if is_backwards(b, places, order, section, start, end) {
+        return Err(Backwards);
     }
     let part = for_section_range(b, places, order, section, start, end);
-    FoundIn::Is(last_of(b, places, part, false))
+    Ok(last_of(b, places, part, false))
 }
 
 // The symbol's alignment, if it is sized and that is more.
@@ -243,12 +223,10 @@ fn raised(most: u32, y: Symbol) -> u32
     ensures { result ≡ raise most y }
 {
     if is_sized(y) {
-        if most < y.alignment {
-            return y.alignment;
-        }
-        return most;
+        most.max(y.alignment)
+    } else {
+        most
     }
-    most
 }
 
 // The highest alignment of a part's sized symbols, stripped ones included.
@@ -257,11 +235,8 @@ fn highest_of(b: &[u8], places: &[u32], part: &[u16]) -> u32
     ensures { result ≡ highest_of (symbol_of b.now places.now) (keep_if (λ i. sized (symbol_of b.now places.now i)) part.now) }
 {
     let mut most: u32 = 0;
-    let mut j: usize = 0;
-    while j < part.len() {
-        let y = symbol_at(b, places, number(part, j));
-        most = raised(most, y);
-        j += 1;
+    for k in part {
+        most = raised(most, symbol_at(b, places, usize::from(*k)));
     }
     most
 }
@@ -274,13 +249,13 @@ pub fn highest_in(
     section: u16,
     start: u32,
     end: u32,
-) -> Highest
+) -> Result<u32, Backwards>
     requires { Order b.now places.now order.now }
     ensures { highest_meaning section start result ≡ highest_in (symbol_of b.now places.now) (length places.now) section start end }
 {
-    if backwards(b, places, order, section, start, end) {
-        return Highest::Backwards;
+    if is_backwards(b, places, order, section, start, end) {
+        return Err(Backwards);
     }
     let part = for_section_range(b, places, order, section, start, end);
-    Highest::Is(highest_of(b, places, part))
+    Ok(highest_of(b, places, part))
 }

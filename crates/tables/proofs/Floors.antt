@@ -1,6 +1,6 @@
 -- The column that holds, for each section, one more than the address of its last relocation so far: a relocation that passed is stored in it,
 -- and what it holds is what the definition finds by looking back. Assumes nothing.
-use Prim.Native.Nat.{ℕ, suc, ◌+◌, ◌%◌, ◌<◌, ◌≤◌}
+use Prim.Native.Nat.{ℕ, suc, ◌+◌, ◌%◌, ◌<◌}
 use mathlib.Core.Path.{◌≡◌, refl, sym, ap, ◌∙◌}
 use mathlib.Core.Bool.{Bool, true, false, cond}
 use mathlib.Core.List.{List, [], ◌∷◌, ◌++◌}
@@ -16,6 +16,9 @@ use Rattle.obj.specs.Records.{section_at, reloc_at}
 use Rattle.faults.proofs.Laws.{reloc_section, reloc_fours}
 use Rattle.tables.specs.Records.{sections_in, relocs_in, no_reloc, floor_from, reloc_fault_above, reloc_fault}
 use Rattle.tables.proofs.Lookups.{found}
+use Rattle.lists.specs.Outcome.{Outcome, accepted}
+use Rattle.tables.specs.Tables.{record_check}
+use Rattle.tables.proofs.Loops.{passed_fault}
 use Rattle.tables.proofs.Faults.{no_number}
 
 -- the column after the first k relocations
@@ -60,18 +63,19 @@ floors_more relocs k floors {r} all h e q =
     by_test s false p =
         rw p (get_or-set_other floors r.section s (suc r.address) 0 (λ same. eqb-false r.section s p (sym same)) ∙ all.each s)
 
-module _ (heads at : List ℕ) (symbols : ℕ) (b places : List ℕ) (k : ℕ) (floors : List ℕ) {r : Reloc} {n : ℕ}
-    (read : r ≡ reloc_at b (get_or places k 0)) (answer : n ≡ reloc_fault_above (sections_in heads at) symbols (get_or floors r.section 0) r) where
+module _ (heads at : List ℕ) (symbols : ℕ) (b places : List ℕ) (k : ℕ) (floors : List ℕ) {r : Reloc} (read : r ≡ reloc_at b (get_or places k 0)) where
   -- what the column gives is the definition's fault
-  pub reloc_fault_here : Floors (relocs_in b places) k floors → k < length places → n ≡ reloc_fault (sections_in heads at) symbols (relocs_in b places) k
+  pub reloc_fault_here : {o : Outcome (Unit {0})} → o ≡ record_check (reloc_fault_above (sections_in heads at) symbols (get_or floors r.section 0) r) k
+      → Floors (relocs_in b places) k floors → k < length places → o ≡ record_check (reloc_fault (sections_in heads at) symbols (relocs_in b places) k) k
   unfolding reloc_fault
-  reloc_fault_here all h =
+  reloc_fault_here answer all h =
       let e = found (reloc_at b) places k no_reloc h read in
-      answer ∙ rw (all.each r.section, e)
+      answer ∙ ap (λ (n : ℕ). record_check n k) (rw (all.each r.section, e))
 
-  -- a relocation without a fault has a known section, and an address to which one can be added
-  pub reloc_passed : n ≤ 0 → (r.section < length at) × (r.address % 4 ≡ 0)
+  -- a relocation that passes has a known section, and an address to which one can be added
+  pub reloc_passed : accepted tt ≡ record_check (reloc_fault_above (sections_in heads at) symbols (get_or floors r.section 0) r) k
+      → (r.section < length at) × (r.address % 4 ≡ 0)
   unfolding reloc_fault_above
-  reloc_passed none =
-      let good = no_number 6 _ (omega arith) (sym answer ∙ (let z : n ≡ 0 = omega arith in z)) in
+  reloc_passed answer =
+      let good = no_number 6 _ (omega arith) (passed_fault _ k answer) in
       (rw (length-map at (section_at heads)) at (reloc_section _ _ _ _ _ good), reloc_fours _ _ _ _ _ good)

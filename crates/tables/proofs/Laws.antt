@@ -25,7 +25,7 @@ use Rattle.faults.specs.Faults.{section_bad, symbol_bad, reloc_bad, split_bad, s
 use Rattle.faults.proofs.Laws as record-laws
 use Rattle.tables.specs.Tables.{size_check, first_fault, records_check}
 use Rattle.tables.specs.Records.{no_section, no_symbol, no_reloc, no_split, no_unit, bytes_cut, floor_from, split_before, reloc_fault_above, section_fault, image_fault, symbol_fault, reloc_fault, partial_fault, split_fault, unit_fault, NotBelow}
-use Rattle.tables.proofs.Loops.{Going, going, goes_on, passes_all}
+use Rattle.tables.proofs.Loops.{no_fault, Going, going, goes_on, passes_all}
 use Rattle.tables.proofs.Faults.{no_number}
 use Rattle.tables.proofs.Floors.{floor_more}
 
@@ -51,7 +51,7 @@ module _ (fault : ℕ → ℕ) (n : ℕ) where
   all_going none (suc i) h =
       let q : i < n = omega arith in
       let here = none i q in
-      rw add-one at (goes_on (all_going none i (omega arith)) q refl (omega arith))
+      rw add-one at (goes_on (all_going none i (omega arith)) q (rw here (no_fault i)))
 
   pub records_pass : ((k : ℕ) → k < n → fault k ≡ 0) → records_check fault n ≡ accepted tt
   records_pass none = sym (passes_all (all_going none n (omega arith)) (omega arith))

@@ -24,7 +24,11 @@ size_check width ceiling size = do
 unfoldable pub first_fault : (fault : ℕ → ℕ) → (n : ℕ) → ℕ
 first_fault fault n = first_from (λ k. ltb 0 (fault k)) 0 n
 
--- it is refused at its number in the table
+-- record k has this fault, 0 if it has none: it is refused at its number in the table
+abbrev pub record_check : (fault k : ℕ) → Outcome (Unit {0})
+record_check fault k = refuse fault 0 k (ltb 0 fault)
+
+-- the first record that has a fault is refused
 unfoldable pub records_check : (fault : ℕ → ℕ) → (n : ℕ) → Outcome (Unit {0})
 records_check fault n = refuse (fault (first_fault fault n)) 0 (first_fault fault n) (ltb (first_fault fault n) n)
 

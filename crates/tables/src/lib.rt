@@ -2,16 +2,16 @@
 // its kind's number". A table is lent bytes and a column of places, as the readers of `obj` take it; names come in as a column of their lengths.
 #![tactic(auto)]
 
-ghost use Rattle.std.specs.Prelude.{◌≡◌, ◌*◌, ◌<◌, ◌≤◌, length, get_or, take, replicate};
+ghost use Rattle.std.specs.Prelude.{ℕ, ◌≡◌, ◌*◌, ◌<◌, ◌≤◌, length, get_or, take, replicate};
 ghost use Rattle.obj.specs.Records.{stage_places, Held, split_width, partial_width};
 ghost use Rattle.obj.specs.Answers.{meaning};
-ghost use Rattle.tables.specs.Tables.{main_ceilings, size_check, records_check, AllHeld};
+ghost use Rattle.tables.specs.Tables.{main_ceilings, size_check, record_check, records_check, AllHeld};
 ghost use Rattle.tables.specs.Records.{sections_in, symbols_in, relocs_in, partials_in, splits_in, units_in, no_section, numbered, image_places_of, bytes_cut, split_before, reloc_fault_above, section_fault, image_fault, symbol_fault, reloc_fault, partial_fault, split_fault, unit_fault};
 
 use faults::{reloc_bad, section_bad, split_bad, split_misplaced, symbol_bad, unit_bad};
 use fields::get32;
 use obj::{
-    Answer, Reloc, Section, Split, place_of, read_partial, reloc_at, section_at, split_at,
+    Refusal, Reloc, Section, Split, place_of, read_partial, refuse, reloc_at, section_at, split_at,
     symbol_at, unit_at,
 };
 
@@ -41,26 +41,18 @@ pub fn main_ceilings() -> Ceilings
 }
 
 // "1 file cut": not whole records; "2 count above its ceiling", at the first too many.
-pub fn table_size(size: usize, width: usize, ceiling: usize) -> Answer
+pub fn table_size(size: usize, width: usize, ceiling: usize) -> Result<(), Refusal>
     requires { (0 < width) × (ceiling < 4294967296) }
     ensures { meaning result ≡ size_check width ceiling size }
 {
     let n = size / width;
     if size % width != 0 {
-        return Answer::Refused {
-            number: 1,
-            section: 0,
-            address: place_of(n),
-        };
+        return refuse(1, 0, place_of(n));
     }
     if ceiling < n {
-        return Answer::Refused {
-            number: 2,
-            section: 0,
-            address: ceiling as u32,
-        };
+        return refuse(2, 0, ceiling as u32);
     }
-    Answer::Accepted
+    Ok(())
 }
 
 // The places of a stage table's n records.
@@ -68,10 +60,8 @@ pub fn fill_places(places: &mut [u32], width: usize, n: usize)
     requires { (n ≤ length places.old) × (width * n ≤ 4294967295) }
     ensures { take n places.new ≡ stage_places width n }
 {
-    let mut i: usize = 0;
-    while i < n {
+    for i in 0..n {
         places[i] = (width * i) as u32;
-        i += 1;
     }
 }
 
@@ -114,45 +104,46 @@ fn number_at(column: &[u32], k: usize) -> u32
     0
 }
 
-// This number if the test holds.
-fn number_if(number: u16, test: bool) -> u16
-    ensures { result ≡ numbered number test }
+// Record k is refused with this number if the test holds.
+#[tactic(auto, unfolding(lists::specs::Outcome::refuse))]
+fn refuse_if(number: u16, k: usize, test: bool) -> Result<(), Refusal>
+    requires { (0 < number) × (k ≤ 4294967295) }
+    ensures { meaning result ≡ record_check (numbered number test) k }
 {
     if test {
-        return number;
+        return refuse(number, 0, k as u32);
     }
-    0
+    Ok(())
+}
+
+// The records of a table in their order, up to the first that is refused: "record: its number there".
+fn check_records<F: Fn(usize) -> Result<(), Refusal>>(n: usize, check: F) -> Result<(), Refusal>
+    requires { (k : ℕ) → k < n → F.pre check k }
+    ensures { (fault : ℕ → ℕ) → ((k : ℕ) (r : _) → k < n → F.post check k r → meaning r ≡ record_check (fault k) k) → meaning result ≡ records_check fault n }
+{
+    for k in 0..n {
+        check(k)?;
+    }
+    Ok(())
 }
 
 // ---- sections
 
 // The fault of section k.
-fn section_fault(lengths: &[u8], b: &[u8], places: &[u32], k: usize) -> u16
-    requires { Held 15 b.now places.now k }
-    ensures { result ≡ section_fault lengths.now (sections_in b.now places.now) k }
+fn section_fault(lengths: &[u8], b: &[u8], places: &[u32], k: usize) -> Result<(), Refusal>
+    requires { AllHeld 15 b.now places.now × (k < length places.now) }
+    ensures { meaning result ≡ record_check (section_fault lengths.now (sections_in b.now places.now) k) k }
 {
     let s = section_at(b, places, k);
-    number_if(4, section_bad(s, length_of(lengths, s.name as usize)))
+    refuse_if(4, k, section_bad(s, length_of(lengths, s.name as usize)))
 }
 
 // Every section: "4 section: ..".
-pub fn check_sections(lengths: &[u8], b: &[u8], places: &[u32]) -> Answer
+pub fn check_sections(lengths: &[u8], b: &[u8], places: &[u32]) -> Result<(), Refusal>
     requires { AllHeld 15 b.now places.now }
     ensures { meaning result ≡ records_check (section_fault lengths.now (sections_in b.now places.now)) (length places.now) }
 {
-    let mut i: usize = 0;
-    while i < places.len() {
-        let number = section_fault(lengths, b, places, i);
-        if 0 < number {
-            return Answer::Refused {
-                number: number,
-                section: 0,
-                address: i as u32,
-            };
-        }
-        i += 1;
-    }
-    Answer::Accepted
+    check_records(places.len(), |k| section_fault(lengths, b, places, k))
 }
 
 // The place of section k's bytes in the image, 0 of one that has none.
@@ -181,12 +172,12 @@ fn image_fault(
     b: &[u8],
     places: &[u32],
     k: usize,
-) -> u16
-    requires { Held 15 b.now places.now k }
-    ensures { result ≡ image_fault lengths.now (image_places_of image_places.now) image (sections_in b.now places.now) k }
+) -> Result<(), Refusal>
+    requires { AllHeld 15 b.now places.now × (k < length places.now) }
+    ensures { meaning result ≡ record_check (image_fault lengths.now (image_places_of image_places.now) image (sections_in b.now places.now) k) k }
 {
     if bytes_cut(image_places, image, k, section_at(b, places, k)) {
-        return 1;
+        return refuse(1, 0, k as u32);
     }
     section_fault(lengths, b, places, k)
 }
@@ -198,23 +189,14 @@ pub fn check_image(
     image: usize,
     b: &[u8],
     places: &[u32],
-) -> Answer
+) -> Result<(), Refusal>
     requires { AllHeld 15 b.now places.now }
     ensures { meaning result ≡ records_check (image_fault lengths.now (image_places_of image_places.now) image (sections_in b.now places.now)) (length places.now) }
 {
-    let mut i: usize = 0;
-    while i < places.len() {
-        let number = image_fault(lengths, image_places, image, b, places, i);
-        if 0 < number {
-            return Answer::Refused {
-                number: number,
-                section: 0,
-                address: i as u32,
-            };
-        }
-        i += 1;
-    }
-    Answer::Accepted
+    check_records(
+        places.len(),
+        |k| image_fault(lengths, image_places, image, b, places, k),
+    )
 }
 
 // ---- symbols
@@ -227,13 +209,13 @@ fn symbol_fault(
     b: &[u8],
     places: &[u32],
     k: usize,
-) -> u16
-    requires { AllHeld 15 heads.now head_places.now × Held 20 b.now places.now k }
-    ensures { result ≡ symbol_fault names (sections_in heads.now head_places.now) (symbols_in b.now places.now) k }
+) -> Result<(), Refusal>
+    requires { AllHeld 15 heads.now head_places.now × AllHeld 20 b.now places.now × (k < length places.now) }
+    ensures { meaning result ≡ record_check (symbol_fault names (sections_in heads.now head_places.now) (symbols_in b.now places.now) k) k }
 {
     let s = symbol_at(b, places, k);
     let home = section_or_none(heads, head_places, s.section as usize);
-    number_if(5, symbol_bad(s, names, head_places.len(), home))
+    refuse_if(5, k, symbol_bad(s, names, head_places.len(), home))
 }
 
 // Every symbol: "5 symbol: ..". `names` is a count, `heads` are the sections.
@@ -243,46 +225,33 @@ pub fn check_symbols(
     head_places: &[u32],
     b: &[u8],
     places: &[u32],
-) -> Answer
+) -> Result<(), Refusal>
     requires { AllHeld 15 heads.now head_places.now × AllHeld 20 b.now places.now }
     ensures { meaning result ≡ records_check (symbol_fault names (sections_in heads.now head_places.now) (symbols_in b.now places.now)) (length places.now) }
 {
-    let mut i: usize = 0;
-    while i < places.len() {
-        let number = symbol_fault(names, heads, head_places, b, places, i);
-        if 0 < number {
-            return Answer::Refused {
-                number: number,
-                section: 0,
-                address: i as u32,
-            };
-        }
-        i += 1;
-    }
-    Answer::Accepted
+    check_records(
+        places.len(),
+        |k| symbol_fault(names, heads, head_places, b, places, k),
+    )
 }
 
 // ---- relocations
 
-// Zeros throughout.
-fn clear(column: &mut [u32])
-    ensures { column.new ≡ replicate (length column.old) 0 }
-{
-    let mut i: usize = 0;
-    while i < column.len() {
-        column[i] = 0;
-        i += 1;
-    }
-}
-
 // The fault of a relocation that follows others: `floors` has for each section one more than the address of its last one, 0 if there is none.
-fn reloc_fault(heads: &[u8], head_places: &[u32], symbols: usize, floors: &[u32], r: Reloc) -> u16
-    requires { AllHeld 15 heads.now head_places.now }
-    ensures { result ≡ reloc_fault_above (sections_in heads.now head_places.now) symbols (get_or floors.now r.section 0) r }
+fn reloc_fault(
+    heads: &[u8],
+    head_places: &[u32],
+    symbols: usize,
+    floors: &[u32],
+    k: usize,
+    r: Reloc,
+) -> Result<(), Refusal>
+    requires { AllHeld 15 heads.now head_places.now × (k ≤ 4294967295) }
+    ensures { meaning result ≡ record_check (reloc_fault_above (sections_in heads.now head_places.now) symbols (get_or floors.now r.section 0) r) k }
 {
     let home = section_or_none(heads, head_places, r.section as usize);
     let floor = number_at(floors, r.section as usize);
-    number_if(6, reloc_bad(r, head_places.len(), symbols, home, floor))
+    refuse_if(6, k, reloc_bad(r, head_places.len(), symbols, home, floor))
 }
 
 // Every relocation: "6 relocation: ..". `floors` is room for a number of each section; what it holds at first is of no matter.
@@ -293,62 +262,40 @@ pub fn check_relocs(
     b: &[u8],
     places: &[u32],
     floors: &mut [u32],
-) -> Answer
+) -> Result<(), Refusal>
     requires { AllHeld 15 heads.now head_places.now × AllHeld 23 b.now places.now × (length head_places.now ≤ length floors.old) }
     ensures { meaning result ≡ records_check (reloc_fault (sections_in heads.now head_places.now) symbols (relocs_in b.now places.now)) (length places.now) }
 {
-    clear(floors);
-    let mut i: usize = 0;
-    while i < places.len() {
+    floors.fill(0);
+    for i in 0..places.len() {
         let r = reloc_at(b, places, i);
-        let number = reloc_fault(heads, head_places, symbols, floors, r);
-        if 0 < number {
-            return Answer::Refused {
-                number: number,
-                section: 0,
-                address: i as u32,
-            };
-        }
-        let home = r.section as usize;
-        floors[home] = r.address + 1;
-        i += 1;
+        reloc_fault(heads, head_places, symbols, floors, i, r)?;
+        floors[r.section as usize] = r.address + 1;
     }
-    Answer::Accepted
+    Ok(())
 }
 
 // ---- splits
 
 // The fault of split k of a record file, or of the merge's partial list.
-fn partial_fault(lengths: &[u8], b: &[u8], places: &[u32], k: usize) -> u16
-    requires { Held partial_width b.now places.now k }
-    ensures { result ≡ partial_fault lengths.now (partials_in b.now places.now) k }
+fn partial_fault(lengths: &[u8], b: &[u8], places: &[u32], k: usize) -> Result<(), Refusal>
+    requires { AllHeld partial_width b.now places.now × (k < length places.now) }
+    ensures { meaning result ≡ record_check (partial_fault lengths.now (partials_in b.now places.now) k) k }
 {
     // 7 does not ask for its number
     let at = places[k] as usize;
     let s = read_partial(b, at, 65535);
     let unit_len = length_of(lengths, s.unit as usize);
     let rename_len = length_of(lengths, s.rename as usize);
-    number_if(7, split_bad(s, unit_len, rename_len))
+    refuse_if(7, k, split_bad(s, unit_len, rename_len))
 }
 
 // Every split of a record file or a partial list, which "is checked as records": "7 split: ..".
-pub fn check_partials(lengths: &[u8], b: &[u8], places: &[u32]) -> Answer
+pub fn check_partials(lengths: &[u8], b: &[u8], places: &[u32]) -> Result<(), Refusal>
     requires { AllHeld partial_width b.now places.now }
     ensures { meaning result ≡ records_check (partial_fault lengths.now (partials_in b.now places.now)) (length places.now) }
 {
-    let mut i: usize = 0;
-    while i < places.len() {
-        let number = partial_fault(lengths, b, places, i);
-        if 0 < number {
-            return Answer::Refused {
-                number: number,
-                section: 0,
-                address: i as u32,
-            };
-        }
-        i += 1;
-    }
-    Answer::Accepted
+    check_records(places.len(), |k| partial_fault(lengths, b, places, k))
 }
 
 // The split before split k; before the first one that nothing falls below.
@@ -379,9 +326,9 @@ fn split_fault(
     b: &[u8],
     places: &[u32],
     k: usize,
-) -> u16
+) -> Result<(), Refusal>
     requires { AllHeld 15 heads.now head_places.now × AllHeld split_width b.now places.now × (k < length places.now) }
-    ensures { result ≡ split_fault lengths.now (sections_in heads.now head_places.now) (splits_in b.now places.now) k }
+    ensures { meaning result ≡ record_check (split_fault lengths.now (sections_in heads.now head_places.now) (splits_in b.now places.now) k) k }
 {
     let s = split_at(b, places, k);
     let unit_len = length_of(lengths, s.unit as usize);
@@ -389,7 +336,11 @@ fn split_fault(
     let home = section_or_none(heads, head_places, s.section as usize);
     let before = split_before(b, places, k);
     let bad = split_bad(s, unit_len, rename_len);
-    number_if(7, bad | split_misplaced(s, head_places.len(), home, before))
+    refuse_if(
+        7,
+        k,
+        bad | split_misplaced(s, head_places.len(), home, before),
+    )
 }
 
 // Every split of a stage table: "7 split: ..; in stage tables also ..".
@@ -399,52 +350,31 @@ pub fn check_splits(
     head_places: &[u32],
     b: &[u8],
     places: &[u32],
-) -> Answer
+) -> Result<(), Refusal>
     requires { AllHeld 15 heads.now head_places.now × AllHeld split_width b.now places.now }
     ensures { meaning result ≡ records_check (split_fault lengths.now (sections_in heads.now head_places.now) (splits_in b.now places.now)) (length places.now) }
 {
-    let mut i: usize = 0;
-    while i < places.len() {
-        let number = split_fault(lengths, heads, head_places, b, places, i);
-        if 0 < number {
-            return Answer::Refused {
-                number: number,
-                section: 0,
-                address: i as u32,
-            };
-        }
-        i += 1;
-    }
-    Answer::Accepted
+    check_records(
+        places.len(),
+        |k| split_fault(lengths, heads, head_places, b, places, k),
+    )
 }
 
 // ---- units
 
 // The fault of unit k.
-fn unit_fault(lengths: &[u8], b: &[u8], places: &[u32], k: usize) -> u16
-    requires { Held 8 b.now places.now k }
-    ensures { result ≡ unit_fault lengths.now (units_in b.now places.now) k }
+fn unit_fault(lengths: &[u8], b: &[u8], places: &[u32], k: usize) -> Result<(), Refusal>
+    requires { AllHeld 8 b.now places.now × (k < length places.now) }
+    ensures { meaning result ≡ record_check (unit_fault lengths.now (units_in b.now places.now) k) k }
 {
     let u = unit_at(b, places, k);
-    number_if(8, unit_bad(u, length_of(lengths, u.name as usize)))
+    refuse_if(8, k, unit_bad(u, length_of(lengths, u.name as usize)))
 }
 
 // Every unit: "8 unit: ..".
-pub fn check_units(lengths: &[u8], b: &[u8], places: &[u32]) -> Answer
+pub fn check_units(lengths: &[u8], b: &[u8], places: &[u32]) -> Result<(), Refusal>
     requires { AllHeld 8 b.now places.now }
     ensures { meaning result ≡ records_check (unit_fault lengths.now (units_in b.now places.now)) (length places.now) }
 {
-    let mut i: usize = 0;
-    while i < places.len() {
-        let number = unit_fault(lengths, b, places, i);
-        if 0 < number {
-            return Answer::Refused {
-                number: number,
-                section: 0,
-                address: i as u32,
-            };
-        }
-        i += 1;
-    }
-    Answer::Accepted
+    check_records(places.len(), |k| unit_fault(lengths, b, places, k))
 }

@@ -8,6 +8,7 @@ use native.Mathlib.Omega.{arith}
 use native.Mathlib.Decide.{ℕ_discrete}
 use lib.ListN.{length, get_or, set, replicate, length-set, length-replicate, get_or-replicate}
 use lib.Seq.{get_or-set_same, get_or-set_other}
+use Rattle.std.specs.Prelude.{Option, None, Some, MatchOption}
 use Rattle.toposort.specs.Search.{next_edge}
 use Rattle.toposort.specs.Sorting.{Chained, After, Follows}
 use Rattle.toposort.proofs.Edges.{next_here, next_on, next_end, next_le, after_le}
@@ -96,9 +97,6 @@ module _ (from heads chain : List ℕ) (v next : ℕ) (f : Follows from heads ch
   before (inl e) n = absurd (n e)
   before (inr e) n = e
 
-  pub next_inside : next ≢ 0 → next ≤ length from
-  next_inside n = (before f.after n).1
-
   pub next_later : next ≢ 0 → get_or chain (next - 1) 0 ≡ next_edge from v next
   next_later n =
       let b = before f.after n in
@@ -107,3 +105,9 @@ module _ (from heads chain : List ℕ) (v next : ℕ) (f : Follows from heads ch
 
   pub next_small : next_edge from v next ≤ length from
   next_small = next_le from v next (after_le from v next f.after)
+
+-- the answer of `edge_of` at a place that holds the edge x, where there are n edges
+pub found : (r : Option ℕ) (place x n : ℕ) → place ≡ x → x ≤ n → MatchOption r (n ≤ place) (λ (e : ℕ). (e ≡ place) × (e < n))
+    → MatchOption r (x ≡ n) (λ (e : ℕ). (e ≡ x) × (e < n))
+found None place x n p l h = omega arith
+found (Some e) place x n p l h = (h.0 ∙ p, h.1)

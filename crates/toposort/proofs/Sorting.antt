@@ -8,15 +8,16 @@ use native.Mathlib.Omega.{arith}
 use borrow.Author.Tests.{lt-ltb, le-ltb}
 use Rattle.lists.specs.Outcome.{Outcome, accepted, refused}
 use Rattle.lists.proofs.Outcomes.{fails, passes}
-use Rattle.toposort.specs.declared.Sorted.{Sorted}
-use Rattle.toposort.specs.declared.Sorted.TheVariants.{NoNode, Short}
+use Rattle.toposort.specs.declared.Unsorted.{Unsorted}
+use Rattle.toposort.specs.declared.Unsorted.TheVariants.{NoNode, Short}
+use Rattle.std.specs.Prelude.{Result, Err}
 use Rattle.toposort.specs.Search.{Graph, End, bad_edge, searched}
 use Rattle.toposort.specs.Sorting.{sort_of, Sorts, Within, Sound, Chainable}
 use Rattle.toposort.proofs.Theorems.{sound_edges}
 
 module _ (g : Graph) (b : ℕ) (within : Within g) (is : b ≡ bad_edge g.count g.from g.to) where
   -- 62
-  pub sorts_bad : b < length g.from → (table : List ℕ) → Sorts (sort_of g (length table)) (length table) (NoNode b) table
+  pub sorts_bad : b < length g.from → (table : List ℕ) → Sorts (sort_of g (length table)) (length table) (Err (NoNode b)) table
   unfolding sort_of
   sorts_bad h table =
       record {
@@ -28,7 +29,7 @@ module _ (g : Graph) (b : ℕ) (within : Within g) (is : b ≡ bad_edge g.count 
 
   module _ (good : length g.from ≤ b) where
     -- 76
-    pub sorts_short : (table : List ℕ) → length table < g.count → Sorts (sort_of g (length table)) (length table) Short table
+    pub sorts_short : (table : List ℕ) → length table < g.count → Sorts (sort_of g (length table)) (length table) (Err Short) table
     unfolding sort_of
     sorts_short table h =
         record {
@@ -39,7 +40,7 @@ module _ (g : Graph) (b : ℕ) (within : Within g) (is : b ≡ bad_edge g.count 
         }
 
     -- the answer of the search
-    pub sorts_searched : (room : ℕ) → g.count ≤ room → (answer : Sorted) (table : List ℕ) → Sorts (accepted (searched g)) room answer table
+    pub sorts_searched : (room : ℕ) → g.count ≤ room → (answer : Result ℕ Unsorted) (table : List ℕ) → Sorts (accepted (searched g)) room answer table
         → Sorts (sort_of g room) room answer table
     unfolding sort_of
     sorts_searched room h answer table s =

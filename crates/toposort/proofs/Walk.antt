@@ -15,7 +15,8 @@ use Rattle.toposort.specs.declared.State.{State}
 use Rattle.toposort.specs.declared.State.TheVariants.{Unseen, Open, Closed}
 use Rattle.toposort.specs.declared.Node.{Node}
 use Rattle.toposort.specs.declared.Move.TheVariants.{Finish, Close, Take}
-use Rattle.toposort.specs.declared.Sorted.TheVariants.{Ordered, Cycle}
+use Rattle.toposort.specs.declared.Unsorted.TheVariants.{Cycle}
+use Rattle.std.specs.Prelude.{Ok, Err}
 use Rattle.toposort.specs.Search.{Graph, Search, End, all, cyclic, Next, going, ended, node, state_at, parent_of, start, up, hops, climb, move_of, on_seen, on_move, on_state, step, run, enough, searched, Reaches}
 use Rattle.toposort.specs.Sorting.{Sound, Sorts, After}
 use Rattle.toposort.proofs.Edges.{after_le}
@@ -250,7 +251,7 @@ module _ {g : Graph} {table₀ table : List ℕ} {ns : List Node} {left cur k p 
 
   -- the root has passed every node: the order fills the table's first places
   pub walk_finish : move_of g cur k ≡ Finish → g.count ≤ length table₀
-      → Sorts (accepted (searched g)) (length table₀) (Ordered g.count) table
+      → Sorts (accepted (searched g)) (length table₀) (Ok g.count) table
   walk_finish m room =
       let q = step_finish g ns cur t.inv.order k p t.is m in
       let full : length t.inv.order ≡ g.count = (went t.sound t.inv _ q).long in
@@ -267,7 +268,7 @@ module _ {g : Graph} {table₀ table : List ℕ} {ns : List Node} {left cur k p 
 
 -- the cycle stands at the front of the table
 pub cycle_sorts : (x : End) (size k : ℕ) (ns : List Node) (cur : ℕ) (rest table : List ℕ) → x ≡ cyclic (climb k ns cur [])
-    → table ≡ climb k ns cur [] ++ rest → length table ≡ size → k ≤ size → k ≤ 2048 → Sorts (accepted x) size (Cycle k) table
+    → table ≡ climb k ns cur [] ++ rest → length table ≡ size → k ≤ size → k ≤ 2048 → Sorts (accepted x) size (Err (Cycle k)) table
 cycle_sorts x size k ns cur rest table e h l r b =
     let long : length (climb k ns cur []) ≡ k = omega (arith, climb-length k ns cur []) in
     record {

@@ -3,7 +3,7 @@
 -- The root stands above all nodes and opens each in turn, as in the Rust, where it is node n; here it is always the last of 1,025 records
 -- ("All 1,025 node records start from one value").
 -- What a right answer is, without the search: Answers.antt. The theorems that join the two: proofs/Theorems.antt.
-use Rattle.std.specs.Prelude.{ℕ, zero, suc, ◌+◌, ◌*◌, ◌<◌, ◌≤◌, ◌≡◌, List, [], ◌∷◌, ◌++◌, Bool, true, false, cond, length, get_or, set, drop, replicate, ltb, leb, eqb}
+use Rattle.std.specs.Prelude.{ℕ, zero, suc, ◌+◌, ◌*◌, ◌<◌, ◌≡◌, List, [], ◌∷◌, cond, length, get_or, set, drop, replicate, leb, eqb}
 use Rattle.toposort.specs.declared.State.{State}
 use Rattle.toposort.specs.declared.State.TheVariants.{Unseen, Open, Closed}
 use Rattle.toposort.specs.declared.Node.{Node}

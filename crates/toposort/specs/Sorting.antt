@@ -3,10 +3,10 @@
 -- `meaning` gives this paper's number, section and address for each case of the code's answer.
 use Rattle.std.specs.Prelude.{ℕ, ◌+◌, ◌-◌, ◌≤◌, ◌<◌, ◌≡◌, List, ◌⊎◌, ◌≢◌, length, get_or, take, ltb}
 use Rattle.lists.specs.Outcome.{Outcome, accepted, refused, refuse, ◌>>◌}
-use Rattle.obj.specs.declared.Answer.{Answer}
-use Rattle.obj.specs.declared.Answer.TheVariants.{Accepted, Refused}
-use Rattle.toposort.specs.declared.Sorted.{Sorted}
-use Rattle.toposort.specs.declared.Sorted.TheVariants.{Ordered, Cycle, NoNode, Short}
+use Rattle.obj.specs.Answers.{Answer}
+use Rattle.std.specs.Prelude.{Result, Ok, Err}
+use Rattle.toposort.specs.declared.Unsorted.{Unsorted}
+use Rattle.toposort.specs.declared.Unsorted.TheVariants.{Cycle, NoNode, Short}
 use Rattle.toposort.specs.Search.{Graph, End, all, cyclic, bad_edge, searched, next_edge}
 
 -- what the sort gives for a table with room for so many nodes
@@ -20,35 +20,35 @@ sort_of g room = do
   accepted (searched g)
 
 -- what an answer of the code says, beside the table that it leaves
-abbrev pub meaning : Sorted → List ℕ → Outcome End
-meaning (Ordered n) table = accepted (all (take n table))
-meaning (Cycle k) table = accepted (cyclic (take k table))
-meaning (NoNode e) table = refused 62 0 e
-meaning Short table = refused 76 0 0
+abbrev pub meaning : Result ℕ Unsorted → List ℕ → Outcome End
+meaning (Ok n) table = accepted (all (take n table))
+meaning (Err (Cycle k)) table = accepted (cyclic (take k table))
+meaning (Err (NoNode e)) table = refused 62 0 e
+meaning (Err Short) table = refused 76 0 0
 
 -- how many nodes the answer leaves in the table
-abbrev pub kept : Sorted → ℕ
-kept (Ordered n) = n
-kept (Cycle k) = k
-kept (NoNode e) = 0
-kept Short = 0
+abbrev pub kept : Result ℕ Unsorted → ℕ
+kept (Ok n) = n
+kept (Err (Cycle k)) = k
+kept (Err (NoNode e)) = 0
+kept (Err Short) = 0
 
 -- the number that an answer carries
-abbrev pub carried : Sorted → ℕ
-carried (Ordered n) = n
-carried (Cycle k) = k
-carried (NoNode e) = e
-carried Short = 0
+abbrev pub carried : Result ℕ Unsorted → ℕ
+carried (Ok n) = n
+carried (Err (Cycle k)) = k
+carried (Err (NoNode e)) = e
+carried (Err Short) = 0
 
 -- document 01's number, section and address for each case of the answer
-abbrev pub answer_of : Sorted → Answer
-answer_of (Ordered n) = Accepted
-answer_of (Cycle k) = Refused 61 0 0
-answer_of (NoNode e) = Refused 62 0 e
-answer_of Short = Refused 76 0 0
+abbrev pub answer_of : Result ℕ Unsorted → Answer
+answer_of (Ok n) = Ok tt
+answer_of (Err (Cycle k)) = Err (record { number = 61; section = 0; address = 0 })
+answer_of (Err (NoNode e)) = Err (record { number = 62; section = 0; address = e })
+answer_of (Err Short) = Err (record { number = 76; section = 0; address = 0 })
 
 -- the answer and the table mean this outcome; the ranges that callers need
-pub record Sorts (o : Outcome End) (size : ℕ) (answer : Sorted) (table : List ℕ) : Type 0 where
+pub record Sorts (o : Outcome End) (size : ℕ) (answer : Result ℕ Unsorted) (table : List ℕ) : Type 0 where
   pub means : meaning answer table ≡ o
   pub long : length table ≡ size
   pub room : kept answer ≤ size

@@ -1,13 +1,13 @@
 // Topological sort of an edge table by depth-first search: a port of util/toposort.rs.
 #![tactic(auto)]
 
-ghost use Rattle.std.specs.Prelude.{◌≡◌, [], ◌++◌, ℕ, suc, ◌≤◌, ◌<◌, length, drop, replicate};
+ghost use Rattle.std.specs.Prelude.{◌≡◌, [], ◌++◌, ℕ, suc, ◌≤◌, ◌<◌, length, drop, MatchOption};
 ghost use Rattle.lists.specs.Outcome.{accepted};
 ghost use Rattle.toposort.specs.Search.{Graph, next_edge, bad_edge, move_of, node, parent_of, hops, climb, state_at, Reaches, searched, start};
 ghost use Rattle.toposort.specs.Sorting.{Sorts, Within, Chainable, Chained, Follows, Moves, Ready, sort_of, carried, kept as kept_by, answer_of};
 ghost use Rattle.toposort.specs.declared.State.TheVariants.{Open, Closed};
 
-use obj::{Answer, refusal};
+use obj::{Refusal, refuse};
 
 // The root's record: the last of the 1,025.
 const ROOT: usize = 1024;
@@ -25,10 +25,9 @@ pub struct Node {
     pub state: State,
 }
 
-// What the sort answers; the table holds the order or the cycle.
+// Why there is no order: the edges close a cycle of so many nodes, which the table holds; an edge joins no node; or the table is too short.
 #[derive(Clone, Copy)]
-pub enum Sorted {
-    Ordered(usize),
+pub enum Unsorted {
     Cycle(usize),
     NoNode(usize),
     Short,
@@ -43,33 +42,20 @@ pub enum Move {
     Take(usize, usize),
 }
 
-// The first edge from or to no node, or the number of edges.
-pub fn bad_edge(n: usize, from: &[u16], to: &[u16]) -> usize
+// The first edge from or to no node.
+pub fn bad_edge(n: usize, from: &[u16], to: &[u16]) -> Option<usize>
     requires { length to.now ≡ length from.now }
-    ensures { result ≡ bad_edge n from.now to.now }
+    ensures { MatchOption result (length from.now ≤ bad_edge n from.now to.now) (λ e. (e ≡ bad_edge n from.now to.now) × (e < length from.now)) }
 {
-    let mut i = 0;
-    while i < from.len() {
-        if n <= from[i] as usize {
-            return i;
+    for e in 0..from.len() {
+        if n <= from[e] as usize {
+            return Some(e);
         }
-        if n <= to[i] as usize {
-            return i;
+        if n <= to[e] as usize {
+            return Some(e);
         }
-        i += 1;
     }
-    i
-}
-
-// Every place holds `value`.
-fn fill(table: &mut [u16], value: u16)
-    ensures { table.new ≡ replicate (length table.old) value }
-{
-    let mut i = 0;
-    while i < table.len() {
-        table[i] = value;
-        i += 1;
-    }
+    None
 }
 
 // Chains the edges by the node that they leave, so that a node's next edge is found without a search: from the last edge to the first,
@@ -78,25 +64,40 @@ pub fn chain_edges(from: &[u16], heads: &mut [u16], chain: &mut [u16])
     requires { Chainable from.now heads.old chain.old }
     ensures { Chained from.now heads.new chain.new }
 {
-    fill(heads, from.len() as u16);
-    let mut i = from.len();
-    while 0 < i {
-        i -= 1;
+    heads.fill(from.len() as u16);
+    for i in (0..from.len()).rev() {
         let v = from[i] as usize;
         chain[i] = heads[v];
         heads[v] = i as u16;
     }
 }
 
-// The first edge at or after `start` that leaves `v`, or the number of edges. `start` is 0 or comes right after an edge that leaves `v`.
-pub fn next_edge(from: &[u16], heads: &[u16], chain: &[u16], v: usize, start: usize) -> usize
+// The edge that a place of `heads` or `chain` names: a node that has no further edge holds the number of edges there, since a place is two
+// bytes of a lent column, which an `Option` does not fit.
+fn edge_of(place: u16, edges: usize) -> Option<usize>
+    ensures { MatchOption result (edges ≤ place) (λ e. (e ≡ place) × (e < edges)) }
+{
+    if (place as usize) < edges {
+        return Some(place as usize);
+    }
+    None
+}
+
+// The first edge at or after `start` that leaves `v`. `start` is 0 or comes right after an edge that leaves `v`.
+pub fn next_edge(
+    from: &[u16],
+    heads: &[u16],
+    chain: &[u16],
+    v: usize,
+    start: usize,
+) -> Option<usize>
     requires { Follows from.now heads.now chain.now v start }
-    ensures { (result ≡ next_edge from.now v start) × (result ≤ length from.now) }
+    ensures { MatchOption result (next_edge from.now v start ≡ length from.now) (λ e. (e ≡ next_edge from.now v start) × (e < length from.now)) }
 {
     if start == 0 {
-        return heads[v] as usize;
+        return edge_of(heads[v], from.len());
     }
-    chain[start - 1] as usize
+    edge_of(chain[start - 1], from.len())
 }
 
 fn open(next: usize, parent: usize) -> Node
@@ -134,12 +135,11 @@ pub fn cycle_length(nodes: [Node; 1025], top: usize, from: usize) -> usize
     requires { Reaches nodes top from }
     ensures { result ≡ suc (hops 1025 nodes top from) }
 {
+    // no count: a way up along the parents
     let mut cur = from;
     let mut k = 1;
     while cur != top {
-        let node = nodes[cur];
-        let state = node.state;
-        cur = parent_of(state);
+        cur = parent_of(nodes[cur].state);
         k += 1;
     }
     k
@@ -151,13 +151,9 @@ pub fn write_cycle(nodes: [Node; 1025], from: usize, k: usize, table: &mut [u16]
     ensures { table.new ≡ climb k nodes from [] ++ drop k table.old }
 {
     let mut cur = from;
-    let mut left = k;
-    while 0 < left {
-        left -= 1;
+    for left in (0..k).rev() {
         table[left] = cur as u16;
-        let node = nodes[cur];
-        let state = node.state;
-        cur = parent_of(state);
+        cur = parent_of(nodes[cur].state);
     }
 }
 
@@ -180,11 +176,10 @@ pub fn next_move(
         }
         return Move::Take(next + 1, next);
     }
-    let e = next_edge(from, heads, chain, cur, next);
-    if e == from.len() {
-        return Move::Close;
+    match next_edge(from, heads, chain, cur, next) {
+        None => Move::Close,
+        Some(e) => Move::Take(e + 1, to[e] as usize),
     }
-    Move::Take(e + 1, to[e] as usize)
 }
 
 // All 1,025 records unseen, but the root's.
@@ -206,7 +201,7 @@ pub fn search(
     heads: &[u16],
     chain: &[u16],
     table: &mut [u16],
-) -> Sorted
+) -> Result<usize, Unsorted>
     requires { Ready (record { count = n; from = from.now; to = to.now }) heads.now chain.now table.old }
     ensures { Sorts (accepted (searched (record { count = n; from = from.now; to = to.now }))) (length table.old) result table.new }
 {
@@ -214,15 +209,12 @@ pub fn search(
     let mut left = n;
     let mut cur = ROOT;
     loop {
-        let node = nodes[cur];
-        let state = node.state;
-        let State::Open { next, parent } = state else {
-            return Sorted::Short;
+        let State::Open { next, parent } = nodes[cur].state else {
+            return Err(Unsorted::Short);
         };
-        let m = next_move(n, from, to, heads, chain, cur, next as usize);
-        match m {
+        match next_move(n, from, to, heads, chain, cur, next as usize) {
             Move::Finish => {
-                return Sorted::Ordered(n);
+                return Ok(n);
             }
             Move::Close => {
                 nodes[cur] = closed();
@@ -232,9 +224,7 @@ pub fn search(
             }
             Move::Take(after, adj) => {
                 nodes[cur] = open(after, parent as usize);
-                let met = nodes[adj];
-                let met_state = met.state;
-                match met_state {
+                match nodes[adj].state {
                     State::Unseen => {
                         nodes[adj] = open(0, cur);
                         cur = adj;
@@ -242,7 +232,7 @@ pub fn search(
                     State::Open { next: _, parent: _ } => {
                         let k = cycle_length(nodes, adj, cur);
                         write_cycle(nodes, cur, k, table);
-                        return Sorted::Cycle(k);
+                        return Err(Unsorted::Cycle(k));
                     }
                     State::Closed => {}
                 }
@@ -252,16 +242,15 @@ pub fn search(
 }
 
 // The order of the nodes, or a cycle, at the front of the table; or a refusal, with whatever in the table.
-pub fn toposort(n: usize, from: &[u16], to: &[u16], table: &mut [u16]) -> Sorted
+pub fn toposort(n: usize, from: &[u16], to: &[u16], table: &mut [u16]) -> Result<usize, Unsorted>
     requires { Within (record { count = n; from = from.now; to = to.now }) }
     ensures { Sorts (sort_of (record { count = n; from = from.now; to = to.now }) (length table.old)) (length table.old) result table.new }
 {
-    let bad = bad_edge(n, from, to);
-    if bad < from.len() {
-        return Sorted::NoNode(bad);
+    if let Some(e) = bad_edge(n, from, to) {
+        return Err(Unsorted::NoNode(e));
     }
     if table.len() < n {
-        return Sorted::Short;
+        return Err(Unsorted::Short);
     }
     let mut heads = [0u16; 1024];
     let mut chain = [0u16; 2048];
@@ -272,26 +261,26 @@ pub fn toposort(n: usize, from: &[u16], to: &[u16], table: &mut [u16]) -> Sorted
 // ---- what an answer leaves and says
 
 // How many nodes the answer leaves in the table.
-pub fn kept(r: Sorted) -> usize
+pub fn kept(r: Result<usize, Unsorted>) -> usize
     ensures { result ≡ kept_by r }
 {
     match r {
-        Sorted::Ordered(n) => n,
-        Sorted::Cycle(k) => k,
-        Sorted::NoNode(_) => 0,
-        Sorted::Short => 0,
+        Ok(n) => n,
+        Err(Unsorted::Cycle(k)) => k,
+        Err(Unsorted::NoNode(_)) => 0,
+        Err(Unsorted::Short) => 0,
     }
 }
 
 // Document 01's number, section and address for each case of the answer.
-pub fn answer_of(r: Sorted) -> Answer
+pub fn answer_of(r: Result<usize, Unsorted>) -> Result<(), Refusal>
     requires { carried r ≤ 2048 }
     ensures { result ≡ answer_of r }
 {
     match r {
-        Sorted::Ordered(_) => Answer::Accepted,
-        Sorted::Cycle(_) => refusal(61, 0, 0),
-        Sorted::NoNode(e) => refusal(62, 0, e as u32),
-        Sorted::Short => refusal(76, 0, 0),
+        Ok(_) => Ok(()),
+        Err(Unsorted::Cycle(_)) => refuse(61, 0, 0),
+        Err(Unsorted::NoNode(e)) => refuse(62, 0, e as u32),
+        Err(Unsorted::Short) => refuse(76, 0, 0),
     }
 }

@@ -10,7 +10,7 @@ use Rattle.obj.specs.declared.Section.{Section}
 use Rattle.obj.specs.declared.Split.{Split}
 use Rattle.sections.specs.Image.{Image}
 use Rattle.sections.specs.Bytes.{bytes_of}
-use Rattle.sections.specs.Sections.{Sections, sections_of}
+use Rattle.sections.specs.Sections.{sections_of}
 use Rattle.trim.specs.Trim.{falls_of, carry_from, cut_section, cut_from, trimmed}
 
 bytes_as : (image I J : List ℕ) (n : ℕ) (head : Section) → get_or I n 0 ≡ get_or J n 0 → bytes_of image I n head ≡ bytes_of image J n head

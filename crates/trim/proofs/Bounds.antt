@@ -8,15 +8,14 @@ use Prim.Native.Nat.{ℕ, zero, suc, ◌+◌, ◌-◌, ◌≤◌, ◌<◌, suc-l
 use native.Mathlib.Nat.{le_of_suc-le-suc, not-suc-le-zero, add-suc, suc-add, zero-add, add-zero}
 use native.Mathlib.Omega.{arith}
 use borrow.Author.Tests.{ltb-true, le-ltb}
-use lib.Dec.{eqb, leb, ltb}
+use lib.Dec.{eqb, ltb}
 use lib.ListN.{length, get_or, set}
-use Rattle.lists.specs.Outcome.{Outcome, accepted, refuse, ◌>>◌, ◌>>=◌}
+use Rattle.lists.specs.Outcome.{accepted, ◌>>◌}
 use Rattle.lists.specs.Rows.{some, any_of, any_from}
 use Rattle.lists.specs.Sort.{All, none, each}
 use Rattle.lists.proofs.All.{all_at}
 use Rattle.lists.proofs.Tests.{none_of}
 use Rattle.lists.proofs.Outcomes.{same_accepted, then_inv, then_both, bind_inv}
-use Rattle.align.specs.Align.{bad_align}
 use Rattle.tables.specs.Records.{no_split, no_section, numbered, split_before, split_fault}
 use Rattle.tables.proofs.Laws.{partial_good, split_good}
 use Rattle.faults.specs.Faults.{split_bad, split_misplaced}
@@ -28,8 +27,8 @@ use Rattle.sections.specs.Sections.{Sections}
 use Rattle.sections.specs.Ends.{splitting_end}
 use Rattle.splits.specs.Updates.{with_end}
 use Rattle.splits.proofs.Rising.{SamePlace}
-use Rattle.trim.specs.Trim.{ask_next, aligned_end, fall_of, falls_of, last_at, carry_one, carry_from, cut_to, cut_last, cut_section, cut_from, trimmed}
-use Rattle.trim.proofs.Ends.{endless, endless_one, section_turn, Passes, trim_passes, trim_keeps, same_length, same_row, same_section, same_start, last_same}
+use Rattle.trim.specs.Trim.{ask_next, fall_of, falls_of, last_at, carry_one, carry_from, cut_to, cut_last, cut_from, trimmed}
+use Rattle.trim.proofs.Ends.{endless, endless_one, section_turn, trim_passes, trim_keeps, same_length, same_row, same_section, same_start, last_same}
 
 -- ---- the falls
 module _ (g : Image) (head : ℕ → Section) where

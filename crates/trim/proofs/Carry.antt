@@ -1,6 +1,6 @@
 -- The falls carried out: the last row at a start, what carrying out one fall is, and a turn of the pass over all falls. Assumes nothing.
 use mathlib.Core.Path.{◌≡◌, refl, sym, ap, ap₂, ◌∙◌}
-use mathlib.Core.List.{List, [], ◌∷◌}
+use mathlib.Core.List.{List}
 use mathlib.Core.Bool.{Bool, true, false, cond, not, ◌&&◌}
 use Prim.Native.Nat.{ℕ, zero, suc, ◌+◌, ◌-◌, ◌≤◌, ◌<◌}
 use native.Mathlib.Numerals.{add-one}
@@ -9,12 +9,11 @@ use native.Mathlib.Omega.{arith}
 use lib.Dec.{eqb, leb}
 use lib.ListN.{length, get_or, take, set, drop, drop_of_length-le}
 use lib.Seq.{drop-cons, get_or-take, length-take-le}
-use Rattle.lists.specs.Outcome.{Outcome, accepted, refused, refuse, ◌>>◌, ◌>>=◌}
+use Rattle.lists.specs.Outcome.{accepted, refused, refuse, ◌>>◌, ◌>>=◌}
 use Rattle.lists.specs.Rows.{tabulate}
 use Rattle.lists.proofs.Rows.{rest-cons, rest-none, get_d_tabulate}
 use Rattle.lists.proofs.DropRows.{drop-rows}
 use Rattle.lists.proofs.Outcomes.{fails, passes}
-use Rattle.lists.proofs.Binds.{bind_goes, bind_stops}
 use Rattle.tables.specs.Records.{no_split}
 use Rattle.obj.specs.declared.Split.{Split}
 use Rattle.splits.specs.Updates.{with_end}

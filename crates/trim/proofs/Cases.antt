@@ -1,15 +1,13 @@
 -- The inputs that tell the readings of the trim apart (DECISIONS.md, 55 to 58): symbols and splits of a data section at 0x1000 of 0x100 bytes, named as
 -- given, and the expected ends or refusal.
-use Prim.Native.Nat.{ℕ, max}
+use Prim.Native.Nat.{ℕ}
 use mathlib.Core.Path.{◌≡◌, refl}
-use mathlib.Core.List.{List, [], ◌∷◌, map, reverse}
-use lib.ListN.{length, get_or, replicate}
-use lib.Count.{ones, ones_in}
+use mathlib.Core.List.{List, [], ◌∷◌, map}
+use lib.ListN.{length, get_or}
 use Rattle.lists.specs.Outcome.{Outcome, accepted, refused, refuse, ◌>>◌, ◌>>=◌}
 use Rattle.lists.specs.Rows.{tabulate, keep_if, some}
 use Rattle.lists.specs.Sort.{insert_key, sort_by}
 use Rattle.align.specs.Align.{align_up}
-use Rattle.obj.specs.declared.Section.{Section}
 use Rattle.obj.specs.declared.Symbol.{Symbol}
 use Rattle.obj.specs.declared.Split.{Split}
 use Rattle.names.specs.Fixed.{codes, spells, spells_one, is_pointer_list, is_four_aligned, is_linker_object}

@@ -4,19 +4,18 @@ use mathlib.Core.Path.{◌≡◌, refl, sym, ap, ap₂, subst, ◌∙◌}
 use mathlib.Core.List.{List, [], ◌∷◌, ◌++◌}
 use mathlib.Core.Bool.{Bool, true, false, cond, not, ◌&&◌}
 use mathlib.Core.Logic.{◌⊎◌, inl, inr}
-use Prim.Native.Nat.{ℕ, zero, suc, ◌+◌, ◌-◌, ◌≤◌, ◌<◌, suc-le-suc}
+use Prim.Native.Nat.{ℕ, zero, suc, ◌+◌, ◌≤◌, ◌<◌, suc-le-suc}
 use native.Mathlib.Nat.{le_of_suc-le-suc, not-suc-le-zero, add-zero}
 use native.Mathlib.Numerals.{add-one}
 use native.Mathlib.Omega.{arith}
 use borrow.Author.Tests.{eqb-true, ltb-true, lt-leb}
-use lib.Dec.{eqb, leb, ltb}
+use lib.Dec.{eqb, ltb}
 use lib.ListN.{length, get_or, set, drop, length-append}
 use lib.Seq.{append_snoc, get_or-append_seam}
-use Rattle.lists.specs.Outcome.{Outcome, accepted, refused, refuse, ◌>>◌, ◌>>=◌}
+use Rattle.lists.specs.Outcome.{Outcome, accepted, ◌>>◌}
 use Rattle.lists.specs.Rows.{some}
 use Rattle.lists.proofs.Both.{both}
-use Rattle.lists.proofs.Compare.{never}
-use Rattle.lists.proofs.Outcomes.{not_both, same_accepted, then_both, bind_inv, passes}
+use Rattle.lists.proofs.Outcomes.{same_accepted, then_both, bind_inv, passes}
 use Rattle.lists.proofs.Binds.{bind_goes}
 use Rattle.align.specs.Align.{bad_align, align_up}
 use Rattle.align.proofs.Theorems.{align_up-least}
@@ -26,8 +25,7 @@ use Rattle.obj.specs.declared.Symbol.{Symbol}
 use Rattle.obj.specs.declared.Split.{Split}
 use Rattle.symbols.specs.Ranges.{last_in}
 use Rattle.symbols.specs.Sound.{Sound}
-use Rattle.symbols.specs.declared.Found.{Found}
-use Rattle.symbols.specs.declared.Found.TheVariants.{At, Nothing}
+use Rattle.std.specs.Prelude.{Option, Some, None}
 use Rattle.symbols.proofs.Finds.{in_found}
 use Rattle.sections.specs.Image.{Image}
 use Rattle.sections.specs.Sections.{Sections}
@@ -35,8 +33,8 @@ use Rattle.sections.specs.Alignment.{Chosen, alignment_from}
 use Rattle.sections.specs.Ends.{splitting_end}
 use Rattle.sections.proofs.Good.{from_good}
 use Rattle.splits.specs.Updates.{with_end}
-use Rattle.validate.specs.Check.{validate_one, validate_from, validate}
-use Rattle.validate.proofs.Laws.{Passed, one_passed, tail_passed, check_rises}
+use Rattle.validate.specs.Check.{validate_from, validate}
+use Rattle.validate.proofs.Laws.{one_passed, tail_passed, check_rises}
 use Rattle.trim.specs.Trim.{end_of, ask_next, aligned_end, fall_of, falls_of, alongside, last_at, closed_below, carry_one, carry_from, cut_to, cut_last, cut_section, cut_from, trimmed}
 use Rattle.trim.proofs.Ends.{section_turn, endless_carry, endless_section, same_section, same_start, Passes, trim_passes}
 use Rattle.trim.proofs.Bounds.{falls_cons, falls_none}
@@ -55,12 +53,12 @@ module _ (g : Image) (head : ℕ → Section) (sound : Sound g.symbol g.count) w
       let b = bind_inv (alignment_from g head s.start s) _ _ a.2 in
       go a.0 a.1 b.0 b.1 (same_accepted b.2)
     where
-      go : (found : Found) → last_in g.symbol g.count s.section s.start s.end ≡ accepted found → (c : Chosen) → alignment_from g head s.start s ≡ accepted c
+      go : (found : Option ℕ) → last_in g.symbol g.count s.section s.start s.end ≡ accepted found → (c : Chosen) → alignment_from g head s.start s ≡ accepted c
           → align_up (end_of g.symbol s.end found) c.value ≡ end → (s.start < end) ⊎ (s.end ≤ end)
-      go (At i) is c chosen up =
+      go (Some i) is c chosen up =
           let found = in_found g.symbol g.count s.section s.start s.end i is in
           inl (omega (arith, found.low, found.sized, up_above s good c chosen ((g.symbol i).address + (g.symbol i).size), up))
-      go Nothing is c chosen up = inr (omega (arith, up_above s good c chosen s.end, up))
+      go None is c chosen up = inr (omega (arith, up_above s good c chosen s.end, up))
 
   pub fall_above : (s : Split) → bad_align s.alignment ≡ false → (later : List Split) (fall : ℕ) → fall_of g head s later ≡ accepted (suc fall) → (s.start < suc fall) × (suc fall < s.end)
   unfolding fall_of

@@ -5,21 +5,18 @@ use mathlib.Core.List.{List, [], ◌∷◌, map}
 use mathlib.Core.Bool.{Bool, true, false, cond, not, ◌&&◌}
 use mathlib.Core.Logic.{◌⊎◌, inl, inr}
 use Prim.Native.Nat.{ℕ, zero, suc, ◌+◌, ◌-◌, ◌≤◌, ◌<◌, suc-le-suc}
-use native.Mathlib.Nat.{le_of_suc-le-suc, not-suc-le-zero, add-suc, suc-add, add-zero, zero-add}
+use native.Mathlib.Nat.{le_of_suc-le-suc, not-suc-le-zero, add-suc, suc-add, add-zero}
 use native.Mathlib.Omega.{arith}
-use borrow.Author.Tests.{eq-eqb, eqb-true, ltb-true}
+use borrow.Author.Tests.{eq-eqb, eqb-true}
 use lib.Dec.{eqb, ltb}
 use lib.ListN.{length, get_or, set, drop, length-map, length-drop}
 use lib.Seq.{get_or-drop}
-use Rattle.lists.specs.Outcome.{Outcome, accepted, refuse, ◌>>◌, ◌>>=◌}
+use Rattle.lists.specs.Outcome.{accepted}
 use Rattle.lists.specs.Rows.{some}
-use Rattle.lists.specs.Sort.{All, none, each}
-use Rattle.lists.proofs.All.{all_at}
 use Rattle.lists.proofs.Both.{both}
 use Rattle.lists.proofs.Compare.{never, lt_or_ge}
-use Rattle.lists.proofs.Outcomes.{same_accepted, then_inv, then_both, bind_inv}
+use Rattle.lists.proofs.Outcomes.{same_accepted, then_inv, bind_inv}
 use Rattle.tables.specs.Records.{no_split}
-use Rattle.obj.specs.declared.Section.{Section}
 use Rattle.obj.specs.declared.Split.{Split}
 use Rattle.sections.specs.Image.{Image}
 use Rattle.sections.specs.Sections.{Sections}
@@ -27,7 +24,7 @@ use Rattle.sections.specs.Ends.{splitting_end}
 use Rattle.splits.specs.Updates.{with_end}
 use Rattle.splits.specs.Rising.{NotBelow, Rising}
 use Rattle.splits.proofs.Rising.{SamePlace, below_same, above_same, rising_at, rising_of}
-use Rattle.trim.specs.Trim.{ask_next, aligned_end, fall_of, falls_of, alongside, last_at, closed_below, carry_one, carry_from, cut_to, cut_last, cut_section, cut_from, trimmed}
+use Rattle.trim.specs.Trim.{falls_of, alongside, last_at, carry_one, carry_from, cut_to, cut_last, cut_section, cut_from, trimmed}
 
 -- ---- the same but for the ends
 

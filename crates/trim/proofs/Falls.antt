@@ -1,22 +1,22 @@
 -- The falls: the ways in which one is found, and a turn of the pass that finds them all. Assumes nothing.
-use mathlib.Core.Path.{◌≡◌, refl, sym, ap, ◌∙◌}
+use mathlib.Core.Path.{◌≡◌, sym, ap, ◌∙◌}
 use mathlib.Core.List.{List, [], ◌∷◌, ◌++◌, append-nil}
-use mathlib.Core.Bool.{Bool, true, false, cond}
-use Prim.Native.Nat.{ℕ, suc, ◌+◌, ◌-◌, ◌≤◌, ◌<◌}
+use mathlib.Core.Bool.{Bool, cond}
+use Prim.Native.Nat.{ℕ, ◌+◌, ◌-◌, ◌≤◌, ◌<◌}
 use native.Mathlib.Numerals.{add-one}
 use native.Mathlib.Omega.{arith}
-use lib.Dec.{eqb, ltb}
+use lib.Dec.{eqb}
 use lib.ListN.{length, take, set}
 use lib.Seq.{take-suc-set, append_snoc}
 use borrow.Author.Tests.{eq-eqb, ne_eqb, lt-ltb, le-ltb}
-use Rattle.lists.specs.Outcome.{Outcome, accepted, refused, refuse, ◌>>◌, ◌>>=◌}
+use Rattle.lists.specs.Outcome.{Outcome, accepted, refused, ◌>>◌, ◌>>=◌}
 use Rattle.lists.specs.Rows.{tabulate}
 use Rattle.lists.proofs.Rows.{rest-cons, rest-none}
-use Rattle.lists.proofs.Binds.{bind_goes, bind_stops, after_goes, after-stops, bind_same, bind_twice, bind_alike}
+use Rattle.lists.proofs.Binds.{bind_goes, bind_stops, bind_same, bind_twice, bind_alike}
 use Rattle.obj.specs.declared.Section.{Section}
 use Rattle.obj.specs.declared.Split.{Split}
 use Rattle.symbols.specs.Ranges.{last_in}
-use Rattle.symbols.specs.declared.Found.{Found}
+use Rattle.std.specs.Prelude.{Option}
 use Rattle.sections.specs.Image.{Image}
 use Rattle.sections.specs.Alignment.{alignment_from}
 use Rattle.trim.specs.Trim.{end_of, ask_next, aligned_end, fall_of, falls_of}
@@ -46,7 +46,7 @@ module _ (g : Image) (head : ℕ → Section) where
 
   -- ---- one fall
   module _ (s : Split) where
-    pub aligned_found : (found : Found) → last_in g.symbol g.count s.section s.start s.end ≡ accepted found
+    pub aligned_found : (found : Option ℕ) → last_in g.symbol g.count s.section s.start s.end ≡ accepted found
         → aligned_end g head s ≡ up_by (end_of g.symbol s.end found) (alignment_from g head s.start s)
     unfolding aligned_end
     aligned_found found e = bind_goes _ _ found e

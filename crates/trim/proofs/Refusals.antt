@@ -4,12 +4,12 @@ use mathlib.Core.Path.{◌≡◌, refl, sym, ap, ◌∙◌}
 use mathlib.Core.List.{List, [], ◌∷◌}
 use mathlib.Core.Bool.{Bool, true, false, cond, not, ◌&&◌}
 use mathlib.Core.Logic.{◌⊎◌, inl, inr}
-use Prim.Native.Nat.{ℕ, zero, suc, ◌+◌, ◌≤◌, ◌<◌, suc-le-suc}
+use Prim.Native.Nat.{ℕ, zero, suc, ◌+◌, ◌≤◌, ◌<◌}
 use native.Mathlib.Omega.{arith}
 use borrow.Author.Tests.{eqb-true, le-ltb}
 use lib.Dec.{eqb, ltb}
 use lib.ListN.{length, get_or}
-use Rattle.lists.specs.Outcome.{Outcome, accepted, refused, refuse, ◌>>◌, ◌>>=◌}
+use Rattle.lists.specs.Outcome.{Outcome, accepted, refused, ◌>>◌, ◌>>=◌}
 use Rattle.lists.proofs.Outcomes.{not_both, passes}
 use Rattle.lists.proofs.Binds.{bind_goes, after_goes}
 use Rattle.align.specs.Align.{bad_align, align_up}
@@ -19,11 +19,10 @@ use Rattle.obj.specs.declared.Symbol.{Symbol}
 use Rattle.obj.specs.declared.Split.{Split}
 use Rattle.symbols.specs.Ranges.{has_symbols, backwards, last_in, highest_in}
 use Rattle.symbols.specs.Sound.{Sound}
-use Rattle.symbols.specs.declared.Found.{Found}
+use Rattle.std.specs.Prelude.{Option}
 use Rattle.sections.specs.Image.{Image}
 use Rattle.sections.specs.Sections.{Sections}
 use Rattle.sections.specs.Alignment.{Chosen, given, default_alignment, larger, alignment_of, alignment_from}
-use Rattle.sections.specs.Ends.{splitting_end}
 use Rattle.validate.specs.Check.{validate_from, validate}
 use Rattle.validate.proofs.Laws.{Passed, one_passed, tail_passed}
 use Rattle.trim.specs.Trim.{end_of, ask_next, aligned_end, fall_of, falls_of, carry_from, cut_last, cut_section, cut_from, trimmed}
@@ -34,7 +33,7 @@ module _ (symbol : ℕ → Symbol) (count n start end : ℕ) (h : start ≤ end)
   forwards : backwards symbol count n start end ≡ false
   forwards = ap (λ (t : Bool). t && has_symbols symbol count n) (le-ltb end start h)
 
-  last_asked : (found : Found) × (last_in symbol count n start end ≡ accepted found)
+  last_asked : (found : Option ℕ) × (last_in symbol count n start end ≡ accepted found)
   unfolding last_in
   last_asked = (_, passes 11 n start (backwards symbol count n start end) _ forwards)
 

@@ -1,25 +1,24 @@
 -- What the functions of the trim take and give.
-use Rattle.std.specs.Prelude.{ℕ, ◌+◌, ◌-◌, ◌≤◌, ◌<◌, ◌≡◌, List, Bool, false, length, get_or, eqb}
+use Rattle.std.specs.Prelude.{ℕ, ◌+◌, ◌-◌, ◌≤◌, ◌<◌, ◌≡◌, List, false, length, eqb}
 use Rattle.lists.specs.Outcome.{Outcome, accepted, refused, ◌>>=◌}
 use Rattle.lists.specs.Rows.{tabulate, some}
 use Rattle.align.specs.Align.{align_up}
-use Rattle.obj.specs.declared.Answer.{Answer}
-use Rattle.obj.specs.declared.Answer.TheVariants.{Accepted, Refused}
+use Rattle.obj.specs.Answers.{Answer}
+use Rattle.std.specs.Prelude.{Result, Ok, Err}
 use Rattle.obj.specs.declared.Split.{Split}
 use Rattle.symbol_order.specs.Order.{symbol_of}
 use Rattle.symbols.specs.Sound.{Sound}
 use Rattle.sections.specs.Image.{Tables}
 use Rattle.sections.specs.Sections.{Heads}
 use Rattle.sections.specs.Alignment.{Chosen}
-use Rattle.splits.specs.Columns.{Columns, row_at, rows, Long}
-use Rattle.trim.specs.declared.Asked.{Asked}
-use Rattle.trim.specs.declared.Asked.TheVariants.{Is, Backwards}
+use Rattle.splits.specs.Columns.{Columns, row_at, Long}
+use Rattle.symbols.specs.declared.Backwards.{Backwards}
 use Rattle.trim.specs.Trim.{alongside}
 
 -- what an answer means, to a range asked of section n from `start` on
-abbrev pub asked_meaning : (n start : ℕ) → Asked → Outcome ℕ
-asked_meaning n start (Is number) = accepted number
-asked_meaning n start Backwards = refused 11 n start
+abbrev pub asked_meaning : {A : Type 0} → (n start : ℕ) → Result A Backwards → Outcome A
+asked_meaning n start (Ok a) = accepted a
+asked_meaning n start (Err e) = refused 11 n start
 
 -- a value aligned up by the alignment that was chosen
 abbrev pub up_by : (value : ℕ) → Outcome Chosen → Outcome ℕ
@@ -31,8 +30,8 @@ unused m = m >>= λ chosen. accepted tt
 
 -- an answer with the value that was made, if it was accepted
 abbrev pub seen : {A : Type 0} → Answer → A → Outcome A
-seen Accepted a = accepted a
-seen (Refused number section address) a = refused number section address
+seen (Ok u) a = accepted a
+seen (Err r) a = refused r.number r.section r.address
 
 -- symbols, names and heads as a range of symbols and an alignment are asked of them
 pub record Asks (b places order name_bytes name_places name_lengths heads head_places : List ℕ) : Type 0 where

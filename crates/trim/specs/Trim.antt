@@ -3,7 +3,7 @@
 -- asked, from this split's start. Then, where the splitting end isn't the section's end, a last split that ends above it is cut to it."
 -- All falls are found in the table as it was, and then carried out: 54 comes "after every 11 of the stage", and 10 after that.
 -- What a trimmed table keeps, and what it is for a table that passed the check: the laws of proofs/Laws.antt.
-use Rattle.std.specs.Prelude.{ℕ, zero, suc, ◌+◌, List, [], ◌∷◌, Bool, cond, not, ◌&&◌, get_or, set, drop, eqb, leb, ltb}
+use Rattle.std.specs.Prelude.{ℕ, zero, suc, ◌+◌, Option, Some, None, List, [], ◌∷◌, Bool, cond, not, ◌&&◌, get_or, set, drop, eqb, leb, ltb}
 use Rattle.lists.specs.Outcome.{Outcome, accepted, refuse, ◌>>◌, ◌>>=◌}
 use Rattle.lists.specs.Rows.{some}
 use Rattle.tables.specs.Records.{no_split}
@@ -12,8 +12,6 @@ use Rattle.obj.specs.declared.Section.{Section}
 use Rattle.obj.specs.declared.Symbol.{Symbol}
 use Rattle.obj.specs.declared.Split.{Split}
 use Rattle.symbols.specs.Ranges.{last_in}
-use Rattle.symbols.specs.declared.Found.{Found}
-use Rattle.symbols.specs.declared.Found.TheVariants.{At, Nothing}
 use Rattle.sections.specs.Image.{Image}
 use Rattle.sections.specs.Sections.{Sections}
 use Rattle.sections.specs.Alignment.{alignment_from}
@@ -23,9 +21,9 @@ use Rattle.splits.specs.Updates.{with_end}
 -- ---- trim_split_alignment
 
 -- "the end of the last such symbol in start..end"; the split's own end where there is none
-unfoldable pub end_of : (ℕ → Symbol) → (own : ℕ) → Found → ℕ
-end_of symbol own (At i) = (symbol i).address + (symbol i).size
-end_of symbol own Nothing = own
+unfoldable pub end_of : (ℕ → Symbol) → (own : ℕ) → Option ℕ → ℕ
+end_of symbol own (Some i) = (symbol i).address + (symbol i).size
+end_of symbol own None = own
 
 -- `head` gives the sections' heads
 module _ (g : Image) (head : ℕ → Section) where

@@ -3,63 +3,41 @@
 #![tactic(auto)]
 
 ghost use Rattle.std.specs.Prelude.{◌≡◌, true, false, ℕ, ◌+◌, ◌-◌, ◌<◌, ◌≤◌, length, take};
-ghost use Rattle.lists.specs.Outcome.{accepted, refuse};
 ghost use Rattle.lists.specs.Rows.{tabulate};
-ghost use Rattle.align.specs.Align.{good_align, bad_align};
+ghost use Rattle.align.specs.Align.{bad_align};
 ghost use Rattle.symbol_order.specs.Order.{symbol_of, Whole};
 ghost use Rattle.symbols.specs.Ranges.{Within};
 ghost use Rattle.symbols.specs.Sound.{Sound};
 ghost use Rattle.sections.specs.Image.{image_of, Tables};
 ghost use Rattle.sections.specs.Sections.{head_of, sections_of, Kept};
 ghost use Rattle.sections.specs.Bytes.{bytes_of};
-ghost use Rattle.sections.specs.Alignment.{Chosen, alignment_meaning};
+ghost use Rattle.sections.specs.Alignment.{chosen};
 ghost use Rattle.sections.specs.Ends.{splitting_end, end_meaning};
 ghost use Rattle.splits.specs.Columns.{columns, row_at, rows, Long};
 ghost use Rattle.trim.specs.Trim.{end_of, ask_next, aligned_end, fall_of, falls_of, carry_one, carry_from, cut_last, cut_section, cut_from, trimmed};
-ghost use Rattle.trim.specs.Steps.{asked_meaning, up_by, unused, seen, Asks, Placed, AllPlaced, Past, LastOf};
+ghost use Rattle.trim.specs.Steps.{asked_meaning, seen, Asks, Placed, AllPlaced, Past, LastOf};
 
 use align::align_up;
-use obj::{Answer, Section, Split, refusal, section_at, symbol_at};
-use sections::{Alignment, End, end_for_section, section_bytes, split_alignment};
+use obj::{Refusal, Section, Split, refuse, section_at, symbol_at};
+use sections::{Alignment, Short, end_for_section, section_bytes, split_alignment};
 use splits::{row, set_end};
-use symbols::{Found, FoundIn, last_in};
-
-// A number that asks a range of symbols.
-#[derive(Clone, Copy)]
-pub enum Asked {
-    Is(u32),
-    // 11
-    Backwards,
-}
+use symbols::{Backwards, last_in};
 
 // ---- trim_split_alignment: the falls
 
-// `value` aligned up by the alignment of a split, asked of a range of the section from `start` on.
-fn up(value: u32, a: Alignment, section: u16, start: u32) -> Asked
-    requires { (value ≤ 4026531840) × ((c : Chosen) → alignment_meaning section start a ≡ accepted c → good_align c.value ≡ true) }
-    ensures { asked_meaning section start result ≡ up_by value (alignment_meaning section start a) }
+// The alignment of a split, for whatever reason.
+fn value_of(a: Alignment) -> u32
+    ensures { result ≡ (chosen a).value }
 {
     match a {
-        Alignment::Given(given) => Asked::Is(align_up(value, given)),
-        Alignment::FromSymbol(highest) => Asked::Is(align_up(value, highest)),
-        Alignment::Default(least) => Asked::Is(align_up(value, least)),
-        Alignment::Backwards => Asked::Backwards,
+        Alignment::Given(value) => value,
+        Alignment::FromSymbol(value) => value,
+        Alignment::Default(value) => value,
     }
 }
 
-fn is_backwards(a: Alignment, section: u16, start: u32) -> bool
-    ensures { refuse 11 section start result ≡ unused (alignment_meaning section start a) }
-{
-    match a {
-        Alignment::Given(_) => false,
-        Alignment::FromSymbol(_) => false,
-        Alignment::Default(_) => false,
-        Alignment::Backwards => true,
-    }
-}
-
-// Whether "the alignment of the section's next split", which is "still asked, from this split's start", is 11. The next split is that at place j.
-fn next_backwards(
+// "the alignment of the section's next split is still asked, from this split's start", and may be 11. The next split is that at place j.
+fn ask_next(
     b: &[u8],
     places: &[u32],
     order: &[u16],
@@ -75,22 +53,22 @@ fn next_backwards(
     n: usize,
     s: Split,
     j: usize,
-) -> bool
+) -> Result<(), Backwards>
     requires { Asks b.now places.now order.now name_bytes.now name_places.now name_lengths.now heads.now head_places.now
         × AllPlaced (length head_places.now) (columns starts.now ends.now units.now rest.now) n }
-    ensures { refuse 11 s.section s.start result
+    ensures { asked_meaning s.section s.start result
         ≡ ask_next (image_of b.now places.now name_bytes.now name_places.now name_lengths.now)
         (head_of heads.now head_places.now) s
         (tabulate (row_at (columns starts.now ends.now units.now rest.now)) j (n - j)) }
 {
     if n <= j {
-        return false;
+        return Ok(());
     }
     let next = row(starts, ends, units, rest, j);
     if next.section != s.section {
-        return false;
+        return Ok(());
     }
-    let a = split_alignment(
+    split_alignment(
         b,
         places,
         order,
@@ -101,22 +79,22 @@ fn next_backwards(
         head_places,
         next,
         s.start,
-    );
-    is_backwards(a, next.section, s.start)
+    )?;
+    Ok(())
 }
 
 // "the end of the last such symbol in start..end"; the split's own end where there is none.
-fn end_of(b: &[u8], places: &[u32], found: Found, own: u32) -> u32
+fn end_of(b: &[u8], places: &[u32], found: Option<usize>, own: u32) -> u32
     requires { Whole b.now places.now × Sound (symbol_of b.now places.now) (length places.now) × (own ≤ 4026531840)
-        × ((i : ℕ) → found ≡ Found.At i → i < length places.now) }
+        × ((i : ℕ) → found ≡ Some i → i < length places.now) }
     ensures { Within (end_of (symbol_of b.now places.now) own found) 4026531840 result }
 {
     match found {
-        Found::At(i) => {
+        Some(i) => {
             let y = symbol_at(b, places, i);
             y.address + y.size
         }
-        Found::Nothing => own,
+        None => own,
     }
 }
 
@@ -131,31 +109,26 @@ fn aligned_end(
     heads: &[u8],
     head_places: &[u32],
     s: Split,
-) -> Asked
+) -> Result<u32, Backwards>
     requires { Asks b.now places.now order.now name_bytes.now name_places.now name_lengths.now heads.now head_places.now
         × Placed (length head_places.now) s × (bad_align s.alignment ≡ false) }
     ensures { asked_meaning s.section s.start result ≡ aligned_end (image_of b.now places.now name_bytes.now name_places.now name_lengths.now) (head_of heads.now head_places.now) s }
 {
-    let found = last_in(b, places, order, s.section, s.start, s.end);
-    match found {
-        FoundIn::Is(at) => {
-            let end = end_of(b, places, at, s.end);
-            let a = split_alignment(
-                b,
-                places,
-                order,
-                name_bytes,
-                name_places,
-                name_lengths,
-                heads,
-                head_places,
-                s,
-                s.start,
-            );
-            up(end, a, s.section, s.start)
-        }
-        FoundIn::Backwards => Asked::Backwards,
-    }
+    let found = last_in(b, places, order, s.section, s.start, s.end)?;
+    let end = end_of(b, places, found, s.end);
+    let a = split_alignment(
+        b,
+        places,
+        order,
+        name_bytes,
+        name_places,
+        name_lengths,
+        heads,
+        head_places,
+        s,
+        s.start,
+    )?;
+    Ok(align_up(end, value_of(a)))
 }
 
 // Where the end of s falls to, 0 if it does not fall; the split after it is that at place j.
@@ -175,7 +148,7 @@ fn fall_of(
     n: usize,
     s: Split,
     j: usize,
-) -> Asked
+) -> Result<u32, Backwards>
     requires { Asks b.now places.now order.now name_bytes.now name_places.now name_lengths.now heads.now head_places.now
         × AllPlaced (length head_places.now) (columns starts.now ends.now units.now rest.now) n
         × Placed (length head_places.now) s × (bad_align s.alignment ≡ false) }
@@ -183,7 +156,7 @@ fn fall_of(
         ≡ fall_of (image_of b.now places.now name_bytes.now name_places.now name_lengths.now) (head_of heads.now head_places.now) s
         (tabulate (row_at (columns starts.now ends.now units.now rest.now)) j (n - j)) }
 {
-    let aligned = aligned_end(
+    let low = aligned_end(
         b,
         places,
         order,
@@ -193,35 +166,28 @@ fn fall_of(
         heads,
         head_places,
         s,
-    );
-    match aligned {
-        Asked::Is(low) => {
-            if low < s.end {
-                if next_backwards(
-                    b,
-                    places,
-                    order,
-                    name_bytes,
-                    name_places,
-                    name_lengths,
-                    heads,
-                    head_places,
-                    starts,
-                    ends,
-                    units,
-                    rest,
-                    n,
-                    s,
-                    j,
-                ) {
-                    return Asked::Backwards;
-                }
-                return Asked::Is(low);
-            }
-            Asked::Is(0)
-        }
-        Asked::Backwards => Asked::Backwards,
+    )?;
+    if low < s.end {
+        ask_next(
+            b,
+            places,
+            order,
+            name_bytes,
+            name_places,
+            name_lengths,
+            heads,
+            head_places,
+            starts,
+            ends,
+            units,
+            rest,
+            n,
+            s,
+            j,
+        )?;
+        return Ok(low);
     }
+    Ok(0)
 }
 
 // The falls of all splits, in the table's order; 11 is at the split whose fall is asked.
@@ -240,15 +206,14 @@ fn find_falls(
     rest: &[u64],
     n: usize,
     falls: &mut [u32],
-) -> Answer
+) -> Result<(), Refusal>
     requires { Asks b.now places.now order.now name_bytes.now name_places.now name_lengths.now heads.now head_places.now
         × AllPlaced (length head_places.now) (columns starts.now ends.now units.now rest.now) n × (n ≤ length falls.old) }
     ensures { seen result (take n falls.new)
         ≡ falls_of (image_of b.now places.now name_bytes.now name_places.now name_lengths.now) (head_of heads.now head_places.now)
         (rows (columns starts.now ends.now units.now rest.now) n) }
 {
-    let mut i: usize = 0;
-    while i < n {
+    for i in 0..n {
         let s = row(starts, ends, units, rest, i);
         let fall = fall_of(
             b,
@@ -268,16 +233,11 @@ fn find_falls(
             i + 1,
         );
         match fall {
-            Asked::Is(end) => {
-                falls[i] = end;
-                i += 1;
-            }
-            Asked::Backwards => {
-                return refusal(11, s.section, s.start);
-            }
+            Ok(end) => falls[i] = end,
+            Err(Backwards) => return refuse(11, s.section, s.start),
         }
     }
-    Answer::Accepted
+    Ok(())
 }
 
 // ---- trim_split_alignment: the falls carried out
@@ -295,15 +255,13 @@ fn past_start(
     requires { Long (columns starts.now ends.now units.now rest.now) n × (from ≤ n) }
     ensures { Past s (columns starts.now ends.now units.now rest.now) n from result }
 {
-    let mut j = from;
-    while j < n {
+    for j in from..n {
         let y = row(starts, ends, units, rest, j);
         if !((y.section == s.section) & (y.start == s.start)) {
             return j;
         }
-        j += 1;
     }
-    j
+    n
 }
 
 // The fall of row k, 0 if it does not fall: "It falls in the last split at that start".
@@ -315,22 +273,22 @@ fn carry_one(
     n: usize,
     k: usize,
     end: u32,
-) -> Answer
+) -> Result<(), Refusal>
     requires { Long (columns starts.now ends.old units.now rest.now) n × (k < n) }
     ensures { seen result (rows (columns starts.now ends.new units.now rest.now) n)
         ≡ carry_one k end (rows (columns starts.now ends.old units.now rest.now) n) }
 {
     if end == 0 {
-        return Answer::Accepted;
+        return Ok(());
     }
     let s = row(starts, ends, units, rest, k);
     let last = past_start(starts, ends, units, rest, n, s, k + 1) - 1;
     let old = ends[last];
     if (old <= s.start) & (old != 0) {
-        return refusal(54, s.section, s.start);
+        return refuse(54, s.section, s.start);
     }
     set_end(starts, ends, units, rest, n, last, end);
-    Answer::Accepted
+    Ok(())
 }
 
 // The falls of all rows, one after another.
@@ -341,20 +299,15 @@ fn carry_out(
     rest: &[u64],
     n: usize,
     falls: &[u32],
-) -> Answer
+) -> Result<(), Refusal>
     requires { Long (columns starts.now ends.old units.now rest.now) n × (n ≤ length falls.now) }
     ensures { seen result (rows (columns starts.now ends.new units.now rest.now) n)
         ≡ carry_from 0 (take n falls.now) (rows (columns starts.now ends.old units.now rest.now) n) }
 {
-    let mut k: usize = 0;
-    while k < n {
-        let answer = carry_one(starts, ends, units, rest, n, k, falls[k]);
-        if let Answer::Refused { .. } = answer {
-            return answer;
-        }
-        k += 1;
+    for k in 0..n {
+        carry_one(starts, ends, units, rest, n, k, falls[k])?;
     }
-    Answer::Accepted
+    Ok(())
 }
 
 // ---- trim_linker_generated_symbols
@@ -371,13 +324,11 @@ fn after_last(
     requires { Long (columns starts.now ends.now units.now rest.now) n }
     ensures { LastOf section (columns starts.now ends.now units.now rest.now) n result }
 {
-    let mut j = n;
-    while 0 < j {
-        let y = row(starts, ends, units, rest, j - 1);
+    for j in (0..n).rev() {
+        let y = row(starts, ends, units, rest, j);
         if y.section == section {
-            return j;
+            return j + 1;
         }
-        j -= 1;
     }
     0
 }
@@ -420,7 +371,7 @@ fn end_at(
     image_places: &[u32],
     k: usize,
     head: Section,
-) -> End
+) -> Result<u32, Short>
     requires { Tables b.now places.now order.now name_bytes.now name_places.now name_lengths.now
         × Kept heads.now head_places.now image.now image_places.now name_places.now
         × (k < length head_places.now) × (head ≡ head_of heads.now head_places.now k) }
@@ -461,7 +412,7 @@ fn cut_section(
     rest: &[u64],
     n: usize,
     k: usize,
-) -> Answer
+) -> Result<(), Refusal>
     requires { Tables b.now places.now order.now name_bytes.now name_places.now name_lengths.now
         × Kept heads.now head_places.now image.now image_places.now name_places.now
         × Long (columns starts.now ends.old units.now rest.now) n × (k < length head_places.now) }
@@ -486,14 +437,14 @@ fn cut_section(
         head,
     );
     match end {
-        End::Is(low) => {
+        Ok(low) => {
             if head.address + head.size == low {
-                return Answer::Accepted;
+                return Ok(());
             }
             cut_last(starts, ends, units, rest, n, k as u16, low);
-            Answer::Accepted
+            Ok(())
         }
-        End::Short => refusal(10, k as u16, head.address),
+        Err(Short) => refuse(10, k as u16, head.address),
     }
 }
 
@@ -514,7 +465,7 @@ fn cut_sections(
     units: &[u16],
     rest: &[u64],
     n: usize,
-) -> Answer
+) -> Result<(), Refusal>
     requires { Tables b.now places.now order.now name_bytes.now name_places.now name_lengths.now
         × Kept heads.now head_places.now image.now image_places.now name_places.now
         × Long (columns starts.now ends.old units.now rest.now) n }
@@ -523,9 +474,8 @@ fn cut_sections(
         (sections_of heads.now head_places.now image.now image_places.now) (length head_places.now) 0
         (rows (columns starts.now ends.old units.now rest.now) n) }
 {
-    let mut k: usize = 0;
-    while k < head_places.len() {
-        let answer = cut_section(
+    for k in 0..head_places.len() {
+        cut_section(
             b,
             places,
             order,
@@ -542,13 +492,9 @@ fn cut_sections(
             rest,
             n,
             k,
-        );
-        if let Answer::Refused { .. } = answer {
-            return answer;
-        }
-        k += 1;
+        )?;
     }
-    Answer::Accepted
+    Ok(())
 }
 
 // ---- the stage
@@ -571,7 +517,7 @@ pub fn trim(
     rest: &[u64],
     n: usize,
     falls: &mut [u32],
-) -> Answer
+) -> Result<(), Refusal>
     requires { Tables b.now places.now order.now name_bytes.now name_places.now name_lengths.now
         × Sound (symbol_of b.now places.now) (length places.now)
         × Kept heads.now head_places.now image.now image_places.now name_places.now
@@ -581,7 +527,7 @@ pub fn trim(
         (sections_of heads.now head_places.now image.now image_places.now)
         (rows (columns starts.now ends.old units.now rest.now) n) }
 {
-    let found = find_falls(
+    find_falls(
         b,
         places,
         order,
@@ -596,14 +542,8 @@ pub fn trim(
         rest,
         n,
         falls,
-    );
-    if let Answer::Refused { .. } = found {
-        return found;
-    }
-    let carried = carry_out(starts, ends, units, rest, n, falls);
-    if let Answer::Refused { .. } = carried {
-        return carried;
-    }
+    )?;
+    carry_out(starts, ends, units, rest, n, falls)?;
     cut_sections(
         b,
         places,

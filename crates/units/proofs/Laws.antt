@@ -2,12 +2,12 @@
 use mathlib.Core.Path.{◌≡◌, refl, sym, ap, ◌∙◌}
 use mathlib.Core.List.{List, [], ◌∷◌, ◌++◌}
 use mathlib.Core.Bool.{Bool, true, false, cond}
-use Prim.Native.Nat.{ℕ, zero, suc, ◌+◌, ◌≤◌, ◌<◌}
+use Prim.Native.Nat.{ℕ, suc, ◌+◌, ◌≤◌, ◌<◌}
 use native.Mathlib.Nat.{suc-add, add-suc, zero-add}
 use native.Mathlib.Numerals.{add-one}
 use native.Mathlib.Omega.{arith}
 use lib.Dec.{eqb}
-use lib.ListN.{length, get_or, take, set, replicate, length-set, length-replicate, get_or-replicate}
+use lib.ListN.{length, get_or, take, set, length-set}
 use lib.Seq.{take-suc, take_all, length-take-le, get_or-set_same, get_or-set_other}
 use borrow.Author.Tests.{eqb-true, eqb-false}
 use Rattle.units.specs.Units.{last_named, unit_of, Numbered}
@@ -24,13 +24,9 @@ named_last name found number (x ∷ l) u =
 pub record After (units column : List ℕ) (k : ℕ) : Type 0 where
   pub each : (name : ℕ) → name < length column → get_or column name 0 ≡ last_named name (length units) 0 (take k units)
 
-pub after_none : (units column : List ℕ) (m : ℕ) → column ≡ replicate m (length units) → After units column 0
+pub after_none : (units column : List ℕ) → ((name : ℕ) → name < length column → get_or column name 0 ≡ length units) → After units column 0
 unfolding last_named
-after_none units column m e = record {
-  each = λ name h.
-      ap (λ (l : List ℕ). get_or l name 0) e
-      ∙ get_or-replicate m name (length units) 0 (omega (arith, ap length e, length-replicate m (length units)));
-}
+after_none units column h = record { each = h }
 
 module _ (units column : List ℕ) (k u : ℕ) (a : After units column k) (h : k < length units) (is : u ≡ get_or units k 0) (inside : u < length column) where
   one_more : (name : ℕ) → last_named name (length units) 0 (take (k + 1) units) ≡ cond (eqb u name) k (last_named name (length units) 0 (take k units))

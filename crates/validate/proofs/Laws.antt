@@ -2,15 +2,15 @@
 -- below it, and two splits of one section do not overlap. Assumes nothing.
 use mathlib.Core.Path.{◌≡◌, sym, subst, ◌∙◌}
 use mathlib.Core.List.{List, [], ◌∷◌}
-use mathlib.Core.Bool.{Bool, true, false, ◌&&◌, ◌||◌}
+use mathlib.Core.Bool.{◌&&◌, ◌||◌}
 use mathlib.Core.Logic.{◌⊎◌, inl, inr}
-use Prim.Native.Nat.{ℕ, zero, suc, ◌≤◌, ◌<◌, suc-le-suc}
+use Prim.Native.Nat.{ℕ, zero, suc, ◌≤◌, ◌<◌}
 use native.Mathlib.Nat.{le_of_suc-le-suc, not-suc-le-zero}
 use native.Mathlib.Omega.{arith}
 use borrow.Author.Tests.{eq-eqb, eqb-false, ltb-false}
 use lib.Dec.{eqb, ltb}
 use lib.ListN.{length, get_or}
-use Rattle.lists.specs.Outcome.{accepted, refuse, ◌>>◌}
+use Rattle.lists.specs.Outcome.{accepted}
 use Rattle.lists.proofs.Compare.{lt_or_ge}
 use Rattle.lists.proofs.Outcomes.{then_inv, then_both}
 use Rattle.lists.proofs.Tests.{or_false, and_false}

@@ -8,17 +8,17 @@ use Rattle.lists.proofs.Rows.{rest-cons, rest-none}
 use Rattle.obj.specs.declared.Symbol.{Symbol}
 use Rattle.obj.specs.declared.Split.{Split}
 use Rattle.symbols.specs.Ranges.{last_below}
-use Rattle.symbols.specs.declared.Found.TheVariants.{At, Nothing}
+use Rattle.std.specs.Prelude.{Some, None}
 use Rattle.validate.specs.Check.{end_of, end_below, validate_one, validate_from}
 
 module _ (symbol : ℕ → Symbol) (count : ℕ) where
   -- ---- the last sized unstripped symbol below an address
   module _ (n address : ℕ) where
-    pub end_at : (i : ℕ) (y : Symbol) → y ≡ symbol i → At i ≡ last_below symbol count n false address → y.address + y.size ≡ end_below symbol count n address
+    pub end_at : (i : ℕ) (y : Symbol) → y ≡ symbol i → Some i ≡ last_below symbol count n false address → y.address + y.size ≡ end_below symbol count n address
     unfolding end_of
     end_at i y e q = ap (λ (s : Symbol). s.address + s.size) e ∙ ap (end_of symbol count) q
 
-    pub end_none : Nothing ≡ last_below symbol count n false address → 0 ≡ end_below symbol count n address
+    pub end_none : None ≡ last_below symbol count n false address → 0 ≡ end_below symbol count n address
     unfolding end_of
     end_none q = ap (end_of symbol count) q
 

@@ -6,14 +6,14 @@ use Rattle.lists.specs.Outcome.{Outcome, accepted, refuse, ◌>>◌}
 use Rattle.obj.specs.declared.Symbol.{Symbol}
 use Rattle.obj.specs.declared.Split.{Split}
 use Rattle.symbols.specs.Ranges.{last_below}
-use Rattle.symbols.specs.declared.Found.{Found}
-use Rattle.symbols.specs.declared.Found.TheVariants.{At, Nothing}
+use Rattle.std.specs.Prelude.{Option}
+use Rattle.std.specs.Prelude.{Some, None}
 
 module _ (symbol : ℕ → Symbol) (count : ℕ) where
   -- where the found symbol ends; 0 where there is none, which nothing lies below
-  unfoldable pub end_of : Found → ℕ
-  end_of (At i) = (symbol i).address + (symbol i).size
-  end_of Nothing = 0
+  unfoldable pub end_of : Option ℕ → ℕ
+  end_of (Some i) = (symbol i).address + (symbol i).size
+  end_of None = 0
 
   -- where "the last sized unstripped symbol below" an address of section n ends
   abbrev pub end_below : (n address : ℕ) → ℕ

@@ -8,43 +8,49 @@ ghost use Rattle.symbols.specs.Sound.{Sound};
 ghost use Rattle.splits.specs.Columns.{columns, rows, Long};
 ghost use Rattle.validate.specs.Check.{end_below, validate_one as validateSplit, validate as validateTable};
 
-use obj::{Answer, Split, refusal, symbol_at};
+use obj::{Refusal, Split, refuse, symbol_at};
 use splits::row;
-use symbols::{Found, last_below};
+use symbols::last_below;
 
 // Where "the last sized unstripped symbol below" an address of a section ends, 0 if there is none.
 fn end_below(b: &[u8], places: &[u32], order: &[u16], section: u16, address: u32) -> u32
     requires { Order b.now places.now order.now × Sound (symbol_of b.now places.now) (length places.now) }
     ensures { result ≡ end_below (symbol_of b.now places.now) (length places.now) section address }
 {
-    let found = last_below(b, places, order, false, section, address);
-    match found {
-        Found::At(i) => {
+    match last_below(b, places, order, false, section, address) {
+        Some(i) => {
             let y = symbol_at(b, places, i);
             y.address + y.size
         }
-        Found::Nothing => 0,
+        None => 0,
     }
 }
 
 // One split, after a split of section `before` that ends at `last`.
-fn validate_one(b: &[u8], places: &[u32], order: &[u16], before: u16, last: u32, s: Split) -> Answer
+fn validate_one(
+    b: &[u8],
+    places: &[u32],
+    order: &[u16],
+    before: u16,
+    last: u32,
+    s: Split,
+) -> Result<(), Refusal>
     requires { Order b.now places.now order.now × Sound (symbol_of b.now places.now) (length places.now) }
     ensures { meaning result ≡ validateSplit (symbol_of b.now places.now) (length places.now) before last s }
 {
     if (s.section == before) & (s.start < last) {
-        return refusal(50, s.section, s.start);
+        return refuse(50, s.section, s.start);
     }
     if (s.end == 0) | (s.end < s.start) {
-        return refusal(51, s.section, s.start);
+        return refuse(51, s.section, s.start);
     }
     if s.start < end_below(b, places, order, s.section, s.start) {
-        return refusal(52, s.section, s.start);
+        return refuse(52, s.section, s.start);
     }
     if s.end < end_below(b, places, order, s.section, s.end) {
-        return refusal(53, s.section, s.start);
+        return refuse(53, s.section, s.start);
     }
-    Answer::Accepted
+    Ok(())
 }
 
 // The splits in the table's order: the first n rows.
@@ -57,22 +63,17 @@ pub fn validate(
     units: &[u16],
     rest: &[u64],
     n: usize,
-) -> Answer
+) -> Result<(), Refusal>
     requires { Order b.now places.now order.now × Sound (symbol_of b.now places.now) (length places.now) × Long (columns starts.now ends.now units.now rest.now) n }
     ensures { meaning result ≡ validateTable (symbol_of b.now places.now) (length places.now) (rows (columns starts.now ends.now units.now rest.now) n) }
 {
     let mut before: u16 = 0;
     let mut last: u32 = 0;
-    let mut i: usize = 0;
-    while i < n {
+    for i in 0..n {
         let s = row(starts, ends, units, rest, i);
-        let answer = validate_one(b, places, order, before, last, s);
-        if let Answer::Refused { .. } = answer {
-            return answer;
-        }
+        validate_one(b, places, order, before, last, s)?;
         before = s.section;
         last = s.end;
-        i += 1;
     }
-    Answer::Accepted
+    Ok(())
 }

@@ -1,13 +1,12 @@
 -- Document 01's example and P8 as a table: a `.data` with its bytes, and the expected outcome of its walk; besides, a section with symbols and relocations.
 use Prim.Native.Nat.{ℕ}
 use mathlib.Core.Path.{◌≡◌, refl}
-use mathlib.Core.List.{List, [], ◌∷◌, ◌++◌, map}
+use mathlib.Core.List.{List, [], ◌∷◌, map}
 use lib.IntN.{pos}
 use lib.ListN.{length, get_or}
 use Rattle.lists.specs.Outcome.{Outcome, accepted, refused, refuse, ◌>>=◌, ◌>>◌}
 use Rattle.lists.specs.Rows.{tabulate, keep_if, some}
 use Rattle.lists.specs.Sort.{sort_by, insert_key}
-use Rattle.obj.specs.declared.Section.{Section}
 use Rattle.obj.specs.declared.Symbol.{Symbol}
 use Rattle.obj.specs.declared.Reloc.{Reloc}
 use Rattle.obj.specs.declared.Split.{Split}

@@ -29,12 +29,11 @@ use Rattle.pieces.proofs.Laws.{length-pieces_in, length-symbols_in, length-reloc
 use Rattle.relocs.specs.Relocs.{relocs_of, has_relocs}
 use Rattle.relocs.proofs.Laws.{relocs_some}
 use Rattle.splits.specs.Questions.{is_common}
+use Rattle.std.specs.Prelude.{Some, None}
 use Rattle.walk.specs.declared.Counts.{Counts}
-use Rattle.walk.specs.declared.Gave.{Gave}
-use Rattle.walk.specs.declared.Gave.TheVariants.{Made, Fault}
 use Rattle.walk.specs.Walk.{Input, Output, fits, add_symbols, add_relocs, split_symbols, split_relocs, piece_of, given, over, on_aligned}
 use Rattle.walk.specs.Adding.{Entries}
-use Rattle.walk.specs.Giving.{input_of, output_in, gave_meaning, pieces_with, relocs_with, PieceGives, PieceSide, chains_in, counts_in, Beside, Besides}
+use Rattle.walk.specs.Giving.{input_of, output_in, pieces_with, relocs_with, PieceGives, PieceSide, chains_in, counts_in, Beside}
 
 -- ---- tests
 
@@ -170,10 +169,10 @@ module _ (image : Image) (head : ℕ → Section) (reloc : ℕ → Reloc) (reloc
               ∙ (λ d. accepted (record { pieces = pieces_in pieces made.pieces; symbols = sym is d; relocs = relocs_in offsets made.relocs }))
 
           -- by what was answered of the piece and the relocations
-          pub piece_given : is_common s ≡ false → (counts pieces' offsets' : List ℕ) (r : Gave)
-              → PieceGives (pieces_with (head n) n unit alignment s pieces made) (relocs_with reloc relocs n s offsets made) room (record { pieces = made.pieces; symbols = k; relocs = made.relocs }) counts pieces' offsets' r
-              → whole ≡ gave_meaning n s.start pieces' entries' offsets' r
-          piece_given e counts pieces' offsets' (Made m) g =
+          pub piece_given : is_common s ≡ false → (counts pieces' offsets' : List ℕ) (m : Counts)
+              → PieceGives (pieces_with (head n) n unit alignment s pieces made) (relocs_with reloc relocs n s offsets made) room (record { pieces = made.pieces; symbols = k; relocs = made.relocs }) counts pieces' offsets' (Some m)
+              → whole ≡ accepted (output_in pieces' entries' offsets' m)
+          piece_given e counts pieces' offsets' m g =
               aligned_made t n s.start unit alignment s out fit forwards piece_out (given_piece e)
               (over_none room piece_out symbols_few
               (omega (arith, ap length g.relocs_are, length-relocs_in offsets' m.relocs, g.side.few_relocs))
@@ -183,21 +182,22 @@ module _ (image : Image) (head : ℕ → Section) (reloc : ℕ → Reloc) (reloc
                 symbols = (sym is ∙ ap (symbols_in entries') (sym g.symbols_are)) d;
                 relocs = sym g.relocs_are d;
               }))
-          piece_given e counts pieces' offsets' (Fault number) g =
-              aligned_full t n s.start unit alignment s out fit forwards piece_out (given_piece e) (over_later room piece_out g.1)
-              ∙ ap (λ (f : ℕ). refused f n s.start) (sym g.0)
+
+          pub piece_full : is_common s ≡ false → (counts pieces' offsets' : List ℕ)
+              → PieceGives (pieces_with (head n) n unit alignment s pieces made) (relocs_with reloc relocs n s offsets made) room (record { pieces = made.pieces; symbols = k; relocs = made.relocs }) counts pieces' offsets' None
+              → whole ≡ refused 76 n s.start
+          piece_full e counts pieces' offsets' g = aligned_full t n s.start unit alignment s out fit forwards piece_out (given_piece e) (over_later room piece_out g)
 
 -- the tables after the piece
-pub piece_beside : (symbols : ℕ) (room now : Counts) (scratch chains entries counts pieces offsets : List ℕ) (wanted : List Piece) (wanted-relocs : List PieceReloc) (r : Gave)
+pub piece_beside : (symbols : ℕ) (room now : Counts) (scratch chains entries counts pieces offsets : List ℕ) (wanted : List Piece) (wanted-relocs : List PieceReloc) (m : Counts)
     → chains_in scratch ≡ chains → counts_in scratch ≡ counts → 8192 ≤ length scratch
-    → Entries symbols room.symbols chains entries now.symbols → PieceGives wanted wanted-relocs room now counts pieces offsets r
-    → Besides symbols room scratch pieces entries offsets r
-piece_beside symbols room now scratch chains entries counts pieces offsets wanted wanted-relocs (Made m) e f h q g = record {
+    → Entries symbols room.symbols chains entries now.symbols → PieceGives wanted wanted-relocs room now counts pieces offsets (Some m)
+    → Beside symbols room m scratch pieces entries offsets
+piece_beside symbols room now scratch chains entries counts pieces offsets wanted wanted-relocs m e f h q g = record {
   side = subst (λ (l : List ℕ). PieceSide room m l pieces offsets) (sym f) g.side;
   entered = subst (λ (l : List ℕ). Entries symbols room.symbols l entries m.symbols) (sym e) (subst (Entries symbols room.symbols chains entries) (sym g.symbols_are) q);
   long = h;
 }
-piece_beside symbols room now scratch chains entries counts pieces offsets wanted wanted-relocs (Fault number) e f h q g = tt
 
 -- ---- no room for the piece or its relocations
 le_below : (a b : ℕ) → leb a b ≡ ltb a (b + 1)

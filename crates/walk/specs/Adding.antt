@@ -1,5 +1,5 @@
 -- Adding entries to the output: what is asked of the tables, and what the answers mean.
-use Rattle.std.specs.Prelude.{ℕ, ◌+◌, ◌*◌, ◌≤◌, ◌<◌, ◌≡◌, List, length}
+use Rattle.std.specs.Prelude.{ℕ, ◌+◌, ◌*◌, ◌≤◌, ◌<◌, ◌≡◌, List, length, Option, Some, None}
 use Rattle.lists.specs.Sort.{All}
 use Rattle.symbol_order.specs.Order.{symbol_of}
 use Rattle.symbol_order.specs.Order as symbol_order
@@ -7,8 +7,6 @@ use Rattle.relocs.specs.Relocs as reloc_tables
 use Rattle.pieces.specs.declared.PieceSymbol.{PieceSymbol}
 use Rattle.pieces.specs.Pieces.{symbols_in}
 use Rattle.piece_columns.specs.Columns.{Chained, lasts_in, prevs_in}
-use Rattle.walk.specs.declared.Added.{Added}
-use Rattle.walk.specs.declared.Added.TheVariants.{Now, Full}
 
 -- room for entries of so many symbols, of which the first k are there, with their chains
 pub record Entries (symbols room : ℕ) (chains out : List ℕ) (k : ℕ) : Type 0 where
@@ -31,9 +29,9 @@ pub record AddsNow (wanted : List PieceSymbol) (room : ℕ) (chains out : List �
   pub chained : Chained (lasts_in chains) (prevs_in chains) out k
 
 -- they are there, or they are more than there is room for
-abbrev pub Adds : (wanted : List PieceSymbol) → (room : ℕ) → (chains out : List ℕ) → Added → Type 0
-Adds wanted room chains out (Now k) = AddsNow wanted room chains out k
-Adds wanted room chains out Full = room < length wanted
+abbrev pub Adds : (wanted : List PieceSymbol) → (room : ℕ) → (chains out : List ℕ) → Option ℕ → Type 0
+Adds wanted room chains out (Some k) = AddsNow wanted room chains out k
+Adds wanted room chains out None = room < length wanted
 
 -- numbers of relocations that can be read, none below `start`; their numbers have 16 bits
 pub record Above (relocs reloc_places part : List ℕ) (start : ℕ) : Type 0 where

@@ -1,8 +1,9 @@
 -- What a split gives to the lent output tables: they are read as the lists of the definition, `output_in`, and the answer means an outcome, `gave_meaning`. On a
 -- refusal the tables may hold anything.
-use Rattle.std.specs.Prelude.{ℕ, ◌+◌, ◌*◌, ◌≤◌, ◌<◌, ◌≡◌, List, [], ◌∷◌, ◌++◌, Bool, true, ◌||◌, ltb, length, take, drop}
+use Rattle.std.specs.Prelude.{ℕ, ◌*◌, ◌≤◌, ◌<◌, ◌≡◌, List, [], ◌∷◌, ◌++◌, true, ◌||◌, ltb, length, take, drop, Option, Some, None, Result, Ok, Err}
 use Rattle.lists.specs.Outcome.{Outcome, accepted, refused}
 use Rattle.obj.specs.Records.{Held}
+use Rattle.obj.specs.declared.Refusal.{Refusal}
 use Rattle.obj.specs.declared.Section.{Section}
 use Rattle.obj.specs.declared.Reloc.{Reloc}
 use Rattle.obj.specs.declared.Split.{Split}
@@ -15,8 +16,6 @@ use Rattle.pieces.specs.Questions.{count_of}
 use Rattle.piece_columns.specs.Columns.{Counted}
 use Rattle.relocs.specs.Relocs.{reloc_of, relocs_of, Whole, Rising}
 use Rattle.walk.specs.declared.Counts.{Counts}
-use Rattle.walk.specs.declared.Gave.{Gave}
-use Rattle.walk.specs.declared.Gave.TheVariants.{Made, Fault}
 use Rattle.walk.specs.Walk.{Input, Output, piece_of, add_relocs, split_relocs, on_aligned}
 use Rattle.walk.specs.Adding.{Entries}
 
@@ -41,10 +40,10 @@ output_in pieces entries offsets made = record {
   relocs = relocs_in offsets made.relocs;
 }
 
--- what an answer means, at `current` in section n
-abbrev pub gave_meaning : (n current : ℕ) → (pieces entries offsets : List ℕ) → Gave → Outcome Output
-gave_meaning n current pieces entries offsets (Made made) = accepted (output_in pieces entries offsets made)
-gave_meaning n current pieces entries offsets (Fault number) = refused number n current
+-- what an answer means
+abbrev pub gave_meaning : (pieces entries offsets : List ℕ) → Result Counts Refusal → Outcome Output
+gave_meaning pieces entries offsets (Ok made) = accepted (output_in pieces entries offsets made)
+gave_meaning pieces entries offsets (Err r) = refused r.number r.section r.address
 
 -- ---- what is asked of the tables
 
@@ -100,20 +99,20 @@ pub record PieceMade (wanted : List Piece) (wanted-relocs : List PieceReloc) (ro
   pub symbols_are : m.symbols ≡ made.symbols
   pub side : PieceSide room m counts pieces offsets
 
-abbrev pub PieceGives : (wanted : List Piece) → (wanted-relocs : List PieceReloc) → (room made : Counts) → (counts pieces offsets : List ℕ) → Gave → Type 0
-PieceGives wanted wanted-relocs room made counts pieces offsets (Made m) = PieceMade wanted wanted-relocs room made counts pieces offsets m
-PieceGives wanted wanted-relocs room made counts pieces offsets (Fault number) =
-    (number ≡ 76) × ((ltb room.relocs (length wanted-relocs) || ltb room.pieces (length wanted)) ≡ true)
+abbrev pub PieceGives : (wanted : List Piece) → (wanted-relocs : List PieceReloc) → (room made : Counts) → (counts pieces offsets : List ℕ) → Option Counts → Type 0
+PieceGives wanted wanted-relocs room made counts pieces offsets (Some m) = PieceMade wanted wanted-relocs room made counts pieces offsets m
+PieceGives wanted wanted-relocs room made counts pieces offsets None =
+    (ltb room.relocs (length wanted-relocs) || ltb room.pieces (length wanted)) ≡ true
 
 -- what is known of the tables after an answer
-abbrev pub Besides : (symbols : ℕ) → (room : Counts) → (scratch pieces entries offsets : List ℕ) → Gave → Type 0
-Besides symbols room scratch pieces entries offsets (Made made) = Beside symbols room made scratch pieces entries offsets
-Besides symbols room scratch pieces entries offsets (Fault number) = Unit {0}
+abbrev pub Besides : (symbols : ℕ) → (room : Counts) → (scratch pieces entries offsets : List ℕ) → Result Counts Refusal → Type 0
+Besides symbols room scratch pieces entries offsets (Ok made) = Beside symbols room made scratch pieces entries offsets
+Besides symbols room scratch pieces entries offsets (Err r) = Unit {0}
 
 -- the split has given what the definition says, whatever the other splits, the units and the sections' bytes are
 pub record GivesOut (image : Image) (head : ℕ → Section) (reloc : ℕ → Reloc) (relocs n unit alignment : ℕ) (s : Split) (room made : Counts)
-    (pieces₀ entries₀ offsets₀ scratch pieces entries offsets : List ℕ) (r : Gave) : Type 0 where
+    (pieces₀ entries₀ offsets₀ scratch pieces entries offsets : List ℕ) (r : Result Counts Refusal) : Type 0 where
   pub is : (count : ℕ) (bytes : ℕ → List ℕ) (splits : List Split) (units : List ℕ)
       → on_aligned (input_of image (record { count = count; head = head; bytes = bytes }) reloc relocs splits units room) n s.start unit alignment s (output_in pieces₀ entries₀ offsets₀ made)
-      ≡ gave_meaning n s.start pieces entries offsets r
+      ≡ gave_meaning pieces entries offsets r
   pub beside : Besides image.count room scratch pieces entries offsets r

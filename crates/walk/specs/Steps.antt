@@ -1,51 +1,34 @@
 -- The walk of one split in two steps, as the code takes them: *decide* what it asks for, over tables that are only read, then *give* to the output. The laws of
 -- proofs/Deciding.antt say that this is the split's walk, `on_split`. Each answer has a meaning here: document 01's number, section and address.
-use Rattle.std.specs.Prelude.{ℕ, ◌+◌, ◌*◌, ◌-◌, ◌≤◌, ◌<◌, ◌≡◌, List, Bool, true, false, cond, not, ◌&&◌, ◌||◌, eqb, ltb, length, get_or}
+use Rattle.std.specs.Prelude.{ℕ, ◌+◌, ◌≤◌, ◌<◌, ◌≡◌, List, cond, not, ◌&&◌, eqb, ltb, length, Option, Some, None, Result, Ok, Err}
 use Rattle.lists.specs.Outcome.{Outcome, accepted, refused, refuse, ◌>>=◌, ◌>>◌}
-use Rattle.lists.specs.Sort.{All}
-use Rattle.align.specs.Align.{bad_align}
 use Rattle.obj.specs.Records.{Held}
-use Rattle.obj.specs.declared.Section.{Section}
-use Rattle.obj.specs.declared.Reloc.{Reloc}
+use Rattle.obj.specs.declared.Refusal.{Refusal}
 use Rattle.obj.specs.declared.Split.{Split}
 use Rattle.symbol_order.specs.Order.{symbol_of}
 use Rattle.symbols.specs.Sound.{Sound}
 use Rattle.sections.specs.Image.{Image, Tables, Lies}
 use Rattle.sections.specs.Sections.{Sections, head_of}
 use Rattle.sections.specs.Alignment.{Chosen}
-use Rattle.sections.specs.declared.Alignment.{Alignment}
-use Rattle.sections.specs.declared.Alignment.TheVariants.{Given, FromSymbol, Default, Backwards}
+use Rattle.symbols.specs.declared.Backwards.{Backwards}
 use Rattle.units.specs.Units.{unit_of}
 use Rattle.splits.specs.Questions.{is_skipped}
-use Rattle.walk.specs.declared.Counts.{Counts}
 use Rattle.walk.specs.declared.Step.{Step}
-use Rattle.walk.specs.declared.Step.TheVariants.{Skip, Give, Fault}
-use Rattle.walk.specs.Walk.{Input, Output, outside, nonzero, alignment_in}
+use Rattle.walk.specs.declared.Step.TheVariants.{Skip, Give}
+use Rattle.walk.specs.Walk.{outside, nonzero, alignment_in}
 
 -- ---- deciding
 
-pub data Decision : Type 0 where
-  -- it gives nothing
-  skip : Decision
-  -- it gives to this unit, with this alignment before any halving
-  give : (unit alignment : ℕ) → Decision
-
-unfoldable pub decide : Image → Sections → (units : List ℕ) → (n current next : ℕ) → Split → Outcome Decision
+unfoldable pub decide : Image → Sections → (units : List ℕ) → (n current next : ℕ) → Split → Outcome Step
 decide image sections units n current next s = do
   refuse 71 n current (not (eqb s.start current))
   refuse 72 n current (ltb s.end next && outside sections n s.end next)
   refuse 73 n current (ltb s.end next && nonzero sections n s.end next)
-  cond (is_skipped s) (accepted skip)
+  cond (is_skipped s) (accepted Skip)
       (do
         refuse 74 n current (eqb (unit_of units s.unit) (length units))
         chosen ← alignment_in image (sections.head n) n current s
-        accepted (give (unit_of units s.unit) chosen.value))
-
--- what a step means, at `current` in section n
-abbrev pub step_meaning : (n current : ℕ) → Step → Outcome Decision
-step_meaning n current Skip = accepted skip
-step_meaning n current (Give unit alignment) = accepted (give unit alignment)
-step_meaning n current (Fault number) = refused number n current
+        accepted (Give (unit_of units s.unit) chosen.value))
 
 -- what is known of a split that gives
 pub record Gives (units current : ℕ) (s : Split) (unit alignment : ℕ) : Type 0 where
@@ -54,29 +37,27 @@ pub record Gives (units current : ℕ) (s : Split) (unit alignment : ℕ) : Type
   pub least : 0 < alignment
   pub most : alignment ≤ 65536
 
-abbrev pub Sane : (units current : ℕ) → Split → Step → Type 0
-Sane units current s Skip = Unit {0}
-Sane units current s (Give unit alignment) = Gives units current s unit alignment
-Sane units current s (Fault number) = Unit {0}
+abbrev pub Sane : (units current : ℕ) → Split → Result Step Refusal → Type 0
+Sane units current s (Ok Skip) = Unit {0}
+Sane units current s (Ok (Give unit alignment)) = Gives units current s unit alignment
+Sane units current s (Err r) = Unit {0}
 
 -- ---- its parts
 
--- 72 or 73 for the bytes of section n in from..to, else 0
-unfoldable pub between_of : Sections → (n from to : ℕ) → ℕ
-between_of sections n from to = cond (ltb from to) (cond (outside sections n from to) 72 (cond (nonzero sections n from to) 73 0)) 0
+-- 72 or 73 for the bytes of section n in from..to, if there is a fault
+unfoldable pub between_of : Sections → (n from to : ℕ) → Option ℕ
+between_of sections n from to = cond (ltb from to) (cond (outside sections n from to) (Some 72) (cond (nonzero sections n from to) (Some 73) None)) None
 
--- an alignment's value, 0 for none: a good one is above 0
-abbrev pub value_of : Alignment → ℕ
-value_of (Given a) = a
-value_of (FromSymbol a) = a
-value_of (Default a) = a
-value_of Backwards = 0
+-- a is the value of the alignment that is wanted
+pub record Valued (wanted : Outcome Chosen) (a : ℕ) : Type 0 where
+  pub chosen : (c : Chosen) × (wanted ≡ accepted c) × (c.value ≡ a)
+  pub least : 0 < a
+  pub most : a ≤ 65536
 
--- r is the alignment of a split, asked of section n from `start` on, 0 if its range was asked backwards
-pub record AlignedAt (wanted : Outcome Chosen) (n start r : ℕ) : Type 0 where
-  pub backwards : r ≡ 0 → wanted ≡ refused 11 n start
-  pub chosen : (r ≡ 0 → ⊥) → (c : Chosen) × (wanted ≡ accepted c) × (c.value ≡ r)
-  pub most : r ≤ 65536
+-- r is the alignment of a split, asked of section n from `start` on, or its range was asked backwards
+abbrev pub AlignedAt : (wanted : Outcome Chosen) → (n start : ℕ) → Result ℕ Backwards → Type 0
+AlignedAt wanted n start (Ok a) = Valued wanted a
+AlignedAt wanted n start (Err e) = wanted ≡ refused 11 n start
 
 -- ---- what is asked of the tables
 

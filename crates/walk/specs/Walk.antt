@@ -4,7 +4,7 @@
 -- lie in any order and overlap: no rule here rests on the table checks.
 use Rattle.std.specs.Prelude.{ℕ, zero, suc, ◌+◌, ◌-◌, ◌*◌, ◌/◌, ◌%◌, List, [], ◌∷◌, ◌++◌, Bool, cond, not, ◌&&◌, ◌||◌, eqb, leb, ltb, length}
 use Rattle.lists.specs.Rows.{keep_if}
-use Rattle.lists.specs.Outcome.{Outcome, accepted, refused, refuse, ◌>>=◌, ◌>>◌}
+use Rattle.lists.specs.Outcome.{Outcome, accepted, refuse, ◌>>=◌, ◌>>◌}
 use Rattle.obj.specs.declared.Section.{Section}
 use Rattle.obj.specs.declared.Symbol.{Symbol}
 use Rattle.obj.specs.declared.Reloc.{Reloc}

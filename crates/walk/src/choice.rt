@@ -1,18 +1,21 @@
 // What a split asks for: all refusals from 71 to 74, and 11 of its alignment, before anything is written.
 ghost use Rattle.std.specs.Prelude.{◌≡◌, false, ◌&&◌, leb, ltb, ◌+◌, ◌<◌, ◌≤◌, length};
 ghost use Rattle.align.specs.Align.{bad_align};
+ghost use Rattle.obj.specs.Answers.{meaning};
 ghost use Rattle.sections.specs.Image.{image_of};
+ghost use Rattle.sections.specs.Alignment.{chosen};
 ghost use Rattle.sections.specs.Sections.{sections_of, head_of};
 ghost use Rattle.units.specs.Units.{unit_names, Numbered};
 ghost use Rattle.walk.specs.Walk.{alignment_in};
-ghost use Rattle.walk.specs.Steps.{SectionThere, SectionNamed, Asked, between_of, AlignedAt, decide, step_meaning, Sane, value_of};
+ghost use Rattle.walk.specs.Steps.{SectionThere, SectionNamed, Asked, between_of, AlignedAt, decide, Sane};
 
-use crate::{Step, index};
+use crate::{Step, refuse_at};
 use names::name_at;
-use obj::{Section, Split, section_at};
+use obj::{Refusal, Section, Split, section_at};
 use pieces::piece_bytes;
 use sections::{Alignment, alignment_of, default_alignment, is_zero, section_bytes};
 use symbol_order::number;
+use symbols::Backwards;
 
 // As `contains_range` of obj/sections.rs.
 fn is_inside(head: Section, from: u32, to: u32) -> bool
@@ -24,7 +27,7 @@ fn is_inside(head: Section, from: u32, to: u32) -> bool
     ((start <= from) & (from < end)) & ((start < to) & (to <= end))
 }
 
-// "bytes between two, or from the last to the splitting end, must be zero": 72, 73, or 0 where they are or where there are none.
+// "bytes between two, or from the last to the splitting end, must be zero": 72, 73, or nothing where they are or where there are none.
 fn between(
     heads: &[u8],
     head_places: &[u32],
@@ -33,7 +36,7 @@ fn between(
     n: usize,
     from: u32,
     to: u32,
-) -> u16
+) -> Option<u16>
     requires { SectionThere heads.now head_places.now image.now image_places.now n }
     ensures { result ≡ between_of (sections_of heads.now head_places.now image.now image_places.now) n from to }
 {
@@ -44,28 +47,26 @@ fn between(
             let start = head.address;
             let part = piece_bytes(bytes, (from - start) as usize, (to - start) as usize);
             if is_zero(part) {
-                return 0;
+                return None;
             }
-            return 73;
+            return Some(73);
         }
-        return 72;
+        return Some(72);
     }
-    0
+    None
 }
 
-// The alignment, 0 for a range that was asked backwards.
 fn value_of(a: Alignment) -> u32
-    ensures { result ≡ value_of a }
+    ensures { result ≡ (chosen a).value }
 {
     match a {
         Alignment::Given(value) => value,
         Alignment::FromSymbol(value) => value,
         Alignment::Default(value) => value,
-        Alignment::Backwards => 0,
     }
 }
 
-// "Alignment of a split" in section n, asked from `start` on; 0 if its range is asked backwards (11).
+// "Alignment of a split" in section n, asked from `start` on; its range may be asked backwards (11).
 fn alignment_at(
     symbols: &[u8],
     symbol_places: &[u32],
@@ -78,7 +79,7 @@ fn alignment_at(
     n: usize,
     s: Split,
     start: u32,
-) -> u32
+) -> Result<u32, Backwards>
     requires { Asked symbols.now symbol_places.now order.now name_bytes.now name_places.now name_lengths.now
         × SectionNamed heads.now head_places.now name_places.now n
         × (bad_align s.alignment ≡ false) }
@@ -87,9 +88,9 @@ fn alignment_at(
         n start result }
 {
     let head = section_at(heads, head_places, n);
-    let k = index(head.name);
+    let k = head.name as usize;
     let least = default_alignment(head, name_at(name_bytes, name_places, name_lengths, k));
-    value_of(alignment_of(
+    let alignment = alignment_of(
         symbols,
         symbol_places,
         order,
@@ -98,7 +99,8 @@ fn alignment_at(
         s.alignment,
         start,
         s.end,
-    ))
+    )?;
+    Ok(value_of(alignment))
 }
 
 // What the split s at `current` asks for, where the next one, or the splitting end, is at `next`.
@@ -120,31 +122,31 @@ pub fn choose(
     s: Split,
     current: u32,
     next: u32,
-) -> Step
+) -> Result<Step, Refusal>
     requires { Asked symbols.now symbol_places.now order.now name_bytes.now name_places.now name_lengths.now
         × SectionThere heads.now head_places.now image.now image_places.now n
         × SectionNamed heads.now head_places.now name_places.now n
         × Numbered unit_numbers.now (unit_names units.now unit_places.now)
         × (s.unit < length unit_numbers.now)
         × (bad_align s.alignment ≡ false) }
-    ensures { (step_meaning n current result ≡ decide (image_of symbols.now symbol_places.now name_bytes.now name_places.now name_lengths.now) (sections_of heads.now head_places.now image.now image_places.now) (unit_names units.now unit_places.now) n current next s)
+    ensures { (meaning result ≡ decide (image_of symbols.now symbol_places.now name_bytes.now name_places.now name_lengths.now) (sections_of heads.now head_places.now image.now image_places.now) (unit_names units.now unit_places.now) n current next s)
         × Sane (length unit_places.now) current s result }
 {
     if s.start != current {
-        return Step::Fault(71);
+        return refuse_at(71, n, current);
     }
     let fault = between(heads, head_places, image, image_places, n, s.end, next);
-    if fault != 0 {
-        return Step::Fault(fault);
+    if let Some(fault) = fault {
+        return refuse_at(fault, n, current);
     }
     if s.flags / 4 % 2 == 1 {
-        return Step::Skip;
+        return Ok(Step::Skip);
     }
-    let unit = number(unit_numbers, index(s.unit));
+    let unit = number(unit_numbers, s.unit as usize);
     if unit == unit_places.len() {
-        return Step::Fault(74);
+        return refuse_at(74, n, current);
     }
-    let alignment = alignment_at(
+    let asked = alignment_at(
         symbols,
         symbol_places,
         order,
@@ -157,8 +159,8 @@ pub fn choose(
         s,
         current,
     );
-    if alignment == 0 {
-        return Step::Fault(11);
-    }
-    Step::Give { unit, alignment }
+    let Ok(alignment) = asked else {
+        return refuse_at(11, n, current);
+    };
+    Ok(Step::Give { unit, alignment })
 }

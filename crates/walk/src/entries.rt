@@ -9,7 +9,6 @@ ghost use Rattle.relocs.specs.Relocs.{reloc_of, Readable};
 ghost use Rattle.walk.specs.Walk.{passed_over, entry_of, add_symbol, add_symbols, reloc_entry, add_relocs};
 ghost use Rattle.walk.specs.Adding.{Entries, Lying, Adds, Above};
 
-use crate::{Added, index};
 use names::{is_linker_generated_label, is_vector_table_end, name_at};
 use obj::{Split, Symbol, reloc_at, symbol_at};
 use piece_columns::{has_symbol, push_symbol};
@@ -66,7 +65,7 @@ fn entry_of(unit: u16, place: u16, s: Split, i: u16, y: Symbol) -> PieceSymbol
     }
 }
 
-// Symbol i of a split, "each once per unit", behind the first k entries.
+// Symbol i of a split, "each once per unit", behind the first k entries: how many there are then, or nothing if there is no room for another.
 fn add_symbol(
     symbols: &[u8],
     symbol_places: &[u32],
@@ -81,7 +80,7 @@ fn add_symbol(
     k: usize,
     chains: &mut [u16],
     out: &mut [u8],
-) -> Added
+) -> Option<usize>
     requires { Held 20 symbols.now symbol_places.now i
         × SymbolNames symbols.now symbol_places.now name_bytes.now name_places.now name_lengths.now
         × (s.start ≤ (symbol_of symbols.now symbol_places.now i).address)
@@ -89,18 +88,18 @@ fn add_symbol(
     ensures { Adds (add_symbol (image_of symbols.now symbol_places.now name_bytes.now name_places.now name_lengths.now) unit place s (symbols_in out.old k) i) room chains.new out.new result }
 {
     let y = symbol_at(symbols, symbol_places, i);
-    let name = name_at(name_bytes, name_places, name_lengths, index(y.name));
+    let name = name_at(name_bytes, name_places, name_lengths, y.name as usize);
     if is_passed_over(name, s, y) | has_symbol(chains, out, k, unit, i) {
-        return Added::Now(k);
+        return Some(k);
     }
     if k == room {
-        return Added::Full;
+        return None;
     }
     push_symbol(chains, out, k, entry_of(unit, place, s, i as u16, y));
-    Added::Now(k + 1)
+    Some(k + 1)
 }
 
-// The symbols of a split, whose numbers are `part`, behind the first `made` entries.
+// The symbols of a split, whose numbers are `part`, behind the first `made` entries: how many there are then, if there is room.
 pub fn add_symbols(
     symbols: &[u8],
     symbol_places: &[u32],
@@ -115,16 +114,15 @@ pub fn add_symbols(
     made: usize,
     chains: &mut [u16],
     out: &mut [u8],
-) -> Added
+) -> Option<usize>
     requires { Lying symbols.now symbol_places.now part.now s.start
         × SymbolNames symbols.now symbol_places.now name_bytes.now name_places.now name_lengths.now
         × Entries (length symbol_places.now) room chains.old out.old made }
     ensures { Adds (add_symbols (image_of symbols.now symbol_places.now name_bytes.now name_places.now name_lengths.now) unit place s (symbols_in out.old made) part.now) room chains.new out.new result }
 {
     let mut k = made;
-    let mut i: usize = 0;
-    while i < part.len() {
-        let added = add_symbol(
+    for i in 0..part.len() {
+        k = add_symbol(
             symbols,
             symbol_places,
             name_bytes,
@@ -138,14 +136,9 @@ pub fn add_symbols(
             k,
             chains,
             out,
-        );
-        let Added::Now(m) = added else {
-            return Added::Full;
-        };
-        k = m;
-        i += 1;
+        )?;
     }
-    Added::Now(k)
+    Some(k)
 }
 
 // The relocations of a piece that starts at `start`, whose numbers are `part`, behind the first `made`: "Relocation offsets in a piece are rounded down to
@@ -162,8 +155,7 @@ pub fn add_relocs(
     requires { Above relocs.now reloc_places.now part.now start × (8 * (made + length part.now) ≤ length out.old) }
     ensures { relocs_in out.new (made + length part.now) ≡ add_relocs (reloc_of relocs.now reloc_places.now) place start (relocs_in out.old made) part.now }
 {
-    let mut i: usize = 0;
-    while i < part.len() {
+    for i in 0..part.len() {
         let k = number(part, i);
         let r = reloc_at(relocs, reloc_places, k);
         add_piece_reloc(
@@ -175,6 +167,5 @@ pub fn add_relocs(
                 offset: (r.address - start) / 4 * 4,
             },
         );
-        i += 1;
     }
 }

@@ -6,9 +6,10 @@ mod choice;
 mod entries;
 mod output;
 
-ghost use Rattle.std.specs.Prelude.{◌≡◌};
+ghost use Rattle.std.specs.Prelude.{◌≡◌, ◌<◌, Err};
 
 pub use choice::choose;
+use obj::{Refusal, refuse};
 pub use output::give;
 
 // So many pieces, piece symbols and piece relocations.
@@ -26,26 +27,12 @@ pub enum Step {
     Skip,
     // It gives to this unit, with this alignment before any halving.
     Give { unit: usize, alignment: u32 },
-    // 71 to 74, or 11.
-    Fault(u16),
 }
 
-// How many entries there are now, or no room for another.
-#[derive(Clone, Copy)]
-pub enum Added {
-    Now(usize),
-    Full,
-}
-
-// How many there are of each after a split gave, or 11 or 76.
-#[derive(Clone, Copy)]
-pub enum Gave {
-    Made(Counts),
-    Fault(u16),
-}
-
-fn index(k: u16) -> usize
-    ensures { result ≡ k }
+// "(section, current)": where the walk refuses.
+pub fn refuse_at<T>(number: u16, n: usize, current: u32) -> Result<T, Refusal>
+    requires { n < 65536 }
+    ensures { result ≡ Err (record { number = number; section = n; address = current }) }
 {
-    k as usize
+    refuse(number, n as u16, current)
 }

@@ -10,8 +10,8 @@ ghost use Rattle.walk.specs.Walk.{fits, piece_of};
 ghost use Rattle.walk.specs.Giving.{counts_in, Beside, PieceSide, PieceGives, pieces_with, relocs_with, Sided, SectionRelocs, GivesOut};
 
 use crate::entries::{add_relocs, add_symbols};
-use crate::{Added, Counts, Gave};
-use obj::{Section, Split, section_at};
+use crate::{Counts, refuse_at};
+use obj::{Refusal, Section, Split, section_at};
 use piece_columns::{count_of, push_piece};
 use pieces::Piece;
 use relocs::range;
@@ -63,7 +63,7 @@ fn is_backwards(
     ((part.len() != 0) | has_symbols(symbols, symbol_places, order, n as u16)) | (s.flags % 2 != 1)
 }
 
-// The relocations and the piece of a split that is not common; `part` are the section's relocations.
+// The relocations and the piece of a split that is not common, if there is room; `part` are the section's relocations.
 fn give_piece(
     counts: &mut [u16],
     pieces: &mut [u8],
@@ -79,7 +79,7 @@ fn give_piece(
     alignment: u32,
     room: Counts,
     made: Counts,
-) -> Gave
+) -> Option<Counts>
     requires { PieceSide room made counts.old pieces.old offsets.old
         × SectionRelocs relocs.now reloc_places.now part.now n
         × Sided heads.now head_places.now n s
@@ -92,7 +92,7 @@ fn give_piece(
     let inside = range(relocs, reloc_places, part, s.start, s.end);
     let most = made.relocs + inside.len();
     if (room.relocs < most) | (room.pieces <= made.pieces) {
-        return Gave::Fault(76);
+        return None;
     }
     let place = made.pieces as u16;
     add_relocs(
@@ -108,7 +108,7 @@ fn give_piece(
     let number = count_of(counts, pieces, made.pieces, unit);
     let p = piece_of(head, n as u16, unit as u16, number, alignment, s);
     push_piece(counts, pieces, made.pieces, p);
-    Gave::Made(Counts {
+    Some(Counts {
         pieces: made.pieces + 1,
         symbols: made.symbols,
         relocs: most,
@@ -138,7 +138,7 @@ pub fn give(
     alignment: u32,
     room: Counts,
     made: Counts,
-) -> Gave
+) -> Result<Counts, Refusal>
     requires { Beside (length symbol_places.now) room made scratch.old pieces.old entries.old offsets.old
         × Tables symbols.now symbol_places.now order.now name_bytes.now name_places.now name_lengths.now
         × SectionRelocs relocs.now reloc_places.now part.now n
@@ -155,7 +155,7 @@ pub fn give(
         result }
 {
     if is_backwards(symbols, symbol_places, order, part, n, s) {
-        return Gave::Fault(11);
+        return refuse_at(11, n, s.start);
     }
     let inside = for_section_through(symbols, symbol_places, order, n as u16, s.start, s.end);
     let added = add_symbols(
@@ -173,8 +173,8 @@ pub fn give(
         &mut scratch[..8192],
         entries,
     );
-    let Added::Now(k) = added else {
-        return Gave::Fault(76);
+    let Some(k) = added else {
+        return refuse_at(76, n, s.start);
     };
     let now = Counts {
         pieces: made.pieces,
@@ -182,9 +182,9 @@ pub fn give(
         relocs: made.relocs,
     };
     if s.flags % 2 == 1 {
-        return Gave::Made(now);
+        return Ok(now);
     }
-    give_piece(
+    let given = give_piece(
         &mut scratch[8192..],
         pieces,
         offsets,
@@ -199,5 +199,9 @@ pub fn give(
         alignment,
         room,
         now,
-    )
+    );
+    let Some(most) = given else {
+        return refuse_at(76, n, s.start);
+    };
+    Ok(most)
 }

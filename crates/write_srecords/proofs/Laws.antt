@@ -1,14 +1,12 @@
 -- The writer goes along the sections: what is left to write, and that it is still there to be read. Assumes nothing.
-use Prim.Native.Nat.{ℕ, zero, suc, ◌+◌, ◌*◌, ◌-◌, ◌/◌, ◌≤◌, ◌<◌}
-use mathlib.Core.Path.{◌≡◌, refl, sym, ap, ap₂, subst, ◌∙◌}
+use Prim.Native.Nat.{ℕ, suc, ◌+◌, ◌-◌, ◌≤◌, ◌<◌}
+use mathlib.Core.Path.{◌≡◌, refl, sym, ap, ap₂, ◌∙◌}
 use mathlib.Core.List.{List, [], ◌∷◌, ◌++◌, append_assoc, append-nil}
-use mathlib.Core.Logic.{◌≢◌}
 use native.Mathlib.Omega.{arith}
 use native.Mathlib.Decide.{ℕ_discrete}
 use native.Mathlib.Numerals.{add-one}
 use lib.ListN.{length, get_or, take, drop, length-append, length-take, length-drop, drop_of_length-le}
 use lib.Seq.{sets, sets-eq, length-sets, drop-drop, take-take, take_at, drop_at, drop-cons}
-use Rattle.lists.specs.Sort.{All, none, each}
 use Rattle.lists.proofs.All.{all_at}
 use Rattle.lists.proofs.Stores.{sets-sets, drop-take, drop-sets}
 use Rattle.obj.specs.declared.Section.{Section}
@@ -17,7 +15,7 @@ use Rattle.join.proofs.Sizes.{joined_section-held, length-joined, held_by_is, he
 use Rattle.lists.specs.Rows.{some}
 use mathlib.Core.Bool.{true, false, ◌||◌}
 use borrow.Author.Tests.{lt-ltb, le-ltb}
-use Rattle.lists.specs.Outcome.{accepted, refused, refuse, ◌>>◌}
+use Rattle.lists.specs.Outcome.{accepted, refused}
 use Rattle.lists.proofs.Outcomes.{fails, passes}
 use Rattle.join.specs.Laying.{laid_over}
 use Rattle.join_pieces.specs.Joins.{zeroed}

@@ -1,6 +1,6 @@
 -- The lines of all sections from their joined bytes, one section's after another's, as the writer goes along them; and how long they are. That these are the lines of
 -- the definition: `along_is` and `room_is` of proofs/Laws.antt.
-use Rattle.std.specs.Prelude.{ℕ, ◌+◌, ◌*◌, ◌-◌, ◌/◌, ◌≤◌, ◌≡◌, List, [], ◌∷◌, ◌++◌, length, take, drop, false}
+use Rattle.std.specs.Prelude.{ℕ, ◌+◌, ◌/◌, ◌≤◌, ◌≡◌, List, [], ◌∷◌, ◌++◌, length, take, drop, false}
 use Rattle.lists.specs.Sort.{All}
 use Rattle.obj.specs.declared.Section.{Section}
 use Rattle.lists.specs.Rows.{some}

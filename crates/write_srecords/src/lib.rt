@@ -13,7 +13,7 @@ ghost use Rattle.srecords.specs.Lines.{section_lines, lines_of, share_address, s
 ghost use Rattle.write_srecords.specs.Along.{room_along, all_lines, Ended, Ready, Laying};
 
 use join_pieces::{any_outside, base_of, held_by, lay_over_zeros};
-use obj::{Answer, Section, read_section, refusal};
+use obj::{Refusal, Section, read_section, refuse};
 use piece_sweep::any_differ;
 use srecord_lines::{put_line, share_address};
 use srecord_text::write_section;
@@ -34,12 +34,10 @@ fn shares_later(sections: &[u8], k: usize) -> bool
     ensures { result ≡ some (share_address (get_or (stage_sections sections.now) k nowhere)) (drop (k + 1) (stage_sections sections.now)) }
 {
     let s = head_of(sections, k);
-    let mut j = k + 1;
-    while j < sections.len() / 15 {
+    for j in k + 1..sections.len() / 15 {
         if share_address(s, head_of(sections, j)) {
             return true;
         }
-        j += 1;
     }
     false
 }
@@ -48,12 +46,10 @@ fn shares_later(sections: &[u8], k: usize) -> bool
 pub fn any_share(sections: &[u8]) -> bool
     ensures { result ≡ some_share (stage_sections sections.now) }
 {
-    let mut k: usize = 0;
-    while k < sections.len() / 15 {
+    for k in 0..sections.len() / 15 {
         if shares_later(sections, k) {
             return true;
         }
-        k += 1;
     }
     false
 }
@@ -74,10 +70,8 @@ pub fn lines_room(sections: &[u8]) -> usize
     ensures { result ≡ room_along (stage_sections sections.now) + 15 }
 {
     let mut sum: usize = 15;
-    let mut k: usize = 0;
-    while k < sections.len() / 15 {
+    for k in 0..sections.len() / 15 {
         sum += lines_size(held_by(sections, k));
-        k += 1;
     }
     sum
 }
@@ -100,15 +94,13 @@ pub fn write_lines(sections: &[u8], out: &mut [u8], from: usize)
     ensures { out.new ≡ sets out.old 0 (all_lines (stage_sections sections.now) (take (held (stage_sections sections.now)) (drop from out.old))) }
 {
     let n = sections.len() / 15;
-    let mut k: usize = 0;
     let mut at: usize = 0;
     let mut read = from;
-    while k < n {
+    for k in 0..n {
         write_one(sections, out, k, at, read);
         let size = held_by(sections, k);
         at += lines_size(size);
         read += size as usize;
-        k += 1;
     }
     put_line(out, at, 55, 0, &[]);
 }
@@ -125,23 +117,23 @@ fn lay_lines(sections: &[u8], b: &[u8], n: u32, room: usize, out: &mut [u8])
 }
 
 // 87, 82, 83, 80, and the lines in the first bytes of the output; those past them stay.
-pub fn write(sections: &[u8], b: &[u8], n: u32, out: &mut [u8]) -> Answer
+pub fn write(sections: &[u8], b: &[u8], n: u32, out: &mut [u8]) -> Result<(), Refusal>
     requires { (length sections.now / 15 ≤ 64) × Whole n b.now 0 × Ended (stage_sections sections.now) × (n ≤ 1024) }
     ensures { Joins (write_of (stage_sections sections.now) (length out.old) (parts_at n b.now 0)) out.old result out.new }
 {
     if any_share(sections) {
-        return refusal(87, 0, 0);
+        return refuse(87, 0, 0);
     }
     if any_outside(sections, b, n) {
-        return refusal(82, 0, 0);
+        return refuse(82, 0, 0);
     }
     if any_differ(b, n) {
-        return refusal(83, 0, 0);
+        return refuse(83, 0, 0);
     }
     let room = lines_room(sections);
     if out.len() < room {
-        return refusal(80, 0, 0);
+        return refuse(80, 0, 0);
     }
     lay_lines(sections, b, n, room, out);
-    Answer::Accepted
+    Ok(())
 }

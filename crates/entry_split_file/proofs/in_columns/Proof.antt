@@ -15,13 +15,6 @@ use Rattle.entry_split_file.proofs.Finish.{kept-fits, leaves, same_sizes, fits_a
 use borrow.Author.Rules.{rules}
 use Rattle.entry_split_file.proofs.in_columns.Statement.{statement}
 use Rattle.entry_split_file.proofs.in_columns.Tie as tie
-use Rattle.entry_split_file.proofs.in_columns.Reads as reads
-use Rattle.entry_split_file.proofs.in_columns.Lts as lts
-use Rattle.run_outputs.proofs.kept_of.Reads as kept-of-reads
-use Rattle.run_outputs.proofs.lay.Reads as lay-reads
-use Rattle.run_outputs.proofs.word_for.Reads as word-for-reads
-use Rattle.run_file.proofs.run_file.Reads as run-file-reads
-use Rattle.stage_splits.proofs.room_of.Reads as room-of-reads
 
 -- how many bytes are lent, and the room for the walk's output
 abbrev sizes_at : tie.Start → Sizes

@@ -3,9 +3,6 @@
 use borrow.Author.Rules.{rules}
 use Rattle.entry_split_file.proofs.split_file.Statement.{statement}
 use Rattle.entry_split_file.proofs.split_file.Tie as tie
-use Rattle.entry_split_file.proofs.split_file.Reads as reads
-use Rattle.entry_split_file.proofs.split_file.Lts as lts
-use Rattle.entry_split_file.proofs.in_columns.Reads as in-columns-reads
 
 slice-aggregate-in-columns : tie.Need-slice_bounds-in_columns-end
 slice-aggregate-in-columns c = search rules

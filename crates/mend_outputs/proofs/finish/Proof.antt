@@ -11,26 +11,26 @@ enum_told c = search rules
 clear-from-requires : tie.Need-clear_from-requires
 clear-from-requires c κs = search rules
 
-clear-from-requires-2 : tie.Need-clear_from-requires-in-Refused
+clear-from-requires-2 : tie.Need-clear_from-requires-in-Err
 clear-from-requires-2 c κs = search rules
 
-clear-from-requires-3 : tie.Need-clear_from-requires-in-Refused-2
+clear-from-requires-3 : tie.Need-clear_from-requires-in-Err-2
 clear-from-requires-3 c κs = search rules
 
 word-of-requires : tie.Need-word_of-requires
 word-of-requires c κs = search rules
 
-same_length : tie.Need-shape_of-out-in-Refused
+same_length : tie.Need-shape_of-out-in-Err
 same_length c = search rules
 
-same-length-2 : tie.Need-shape_of-lines-in-Refused
+same-length-2 : tie.Need-shape_of-lines-in-Err
 same-length-2 c = search rules
 
-same-length-3 : tie.Need-shape_of-counts-in-Refused
+same-length-3 : tie.Need-shape_of-counts-in-Err
 same-length-3 c = search rules
 
-returns : tie.Need-returns-in-Refused
-returns c = finishes_refused c.word_of.ensures c.in-Refused.is c.clear_from.ensures c.clear_from-in-Refused.ensures c.clear_from-in-Refused-2.ensures
+returns : tie.Need-returns-in-Err
+returns c = finishes_refused c.word_of.ensures c.in-Err.is c.clear_from.ensures c.clear_from-in-Err.ensures c.clear_from-in-Err-2.ensures
 
 enum-told-2 : tie.Need-enum_told-in_default
 enum-told-2 c = search rules

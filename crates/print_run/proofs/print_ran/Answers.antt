@@ -8,4 +8,4 @@ pub print_done-requires : goal.print_done-requires
 print_done-requires g c =
     let a = c.args in
     subst (PrintableIf a.file.now a.counts a.places.now a.lengths.now (beside a.added_bytes.now a.added_places.now a.added_lengths.now) a.units.now a.pieces.now a.entries.now a.offsets.now)
-    c.in-Done.is c.requires
+    c.in-Ok.is c.requires

@@ -1,0 +1,12 @@
+-- `common::first_common`: of the section's common rows, none stands before place i.
+use mathlib.Core.Path.{◌≡◌}
+use Prim.Native.Nat.{◌-◌}
+use Rattle.lists.specs.Rows.{tabulate, keep_if}
+use Rattle.splits.specs.Columns.{columns, row_at}
+use Rattle.common.specs.Common.{common_in}
+use Rattle.common.proofs.first_common.Given as goal
+
+abbrev pub invariant-loop-i : goal.invariant-loop-i
+invariant-loop-i l =
+    keep_if (common_in l.section) (tabulate (row_at (columns l.starts l.ends l.units l.rest)) 0 (l.n - 0))
+    ≡ keep_if (common_in l.section) (tabulate (row_at (columns l.starts l.ends l.units l.rest)) l.i (l.n - l.i))

@@ -1,0 +1,14 @@
+-- `common::is_bss_at` meets its contract: the head's name, compared with `.bss`. Assumes nothing.
+use mathlib.Core.Path.{ap, ◌∙◌}
+use Rattle.obj.specs.declared.Section.{Section}
+use Rattle.names.specs.Names.{name_at}
+use Rattle.names.specs.Fixed.{is_bss}
+use Rattle.common.specs.Sections.{bss_at}
+use Rattle.common.proofs.is_bss_at.Goals as goal
+
+pub returns : goal.returns
+unfolding bss_at
+returns c =
+    let a = c.args in
+    c.is_bss.ensures
+    ∙ ap is_bss (c.name_at.ensures ∙ ap (λ (t : Section). name_at a.name_bytes.now a.name_places.now a.name_lengths.now t.name) c.section_at-head.ensures)

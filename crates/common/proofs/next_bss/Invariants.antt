@@ -1,0 +1,12 @@
+-- `common::next_bss`: of the sections from `from` on that are named `.bss`, none stands before section k.
+use mathlib.Core.Path.{◌≡◌}
+use Prim.Native.Nat.{◌-◌}
+use lib.ListN.{length}
+use Rattle.lists.specs.Rows.{tabulate, keep_if}
+use Rattle.common.specs.Sections.{bss_at}
+use Rattle.common.proofs.next_bss.Given as goal
+
+abbrev pub invariant-loop-k : goal.invariant-loop-k
+invariant-loop-k l =
+    keep_if (bss_at l.name_bytes l.name_places l.name_lengths l.heads l.places) (tabulate (λ j. j) l.from (length l.places - l.from))
+    ≡ keep_if (bss_at l.name_bytes l.name_places l.name_lengths l.heads l.places) (tabulate (λ j. j) l.k (length l.places - l.k))

@@ -1,0 +1,82 @@
+-- Names that do not fit, or are refused, are the answer; else the fronts of the columns have their places and lengths, what is left of the ceilings is free, and the sections
+-- are asked with them.
+use Rattle.std.proofs.Common.{ℕ, sym, ap, ◌∙◌, arith, length}
+use mathlib.Core.Path.{ap₂}
+use lib.Seq.{length-take-le}
+use Rattle.obj.specs.Answers.{meaning}
+use Rattle.obj.proofs.Errors.{same_err}
+use Rattle.stage_names.specs.StageNames.{fit_check}
+use Rattle.entry_create_gap_splits.specs.Entry.{gap_splits_of}
+use Rattle.entry_create_gap_splits.proofs.Laws.{gives_as, gives_stops, gives_goes}
+use Rattle.entry_create_gap_splits.proofs.Passed.{names_room_lem, fit_few, fit_end, names-taken, space, names_as}
+use Rattle.entry_create_gap_splits.proofs.from_names.Goals as goal
+
+pub fit_names-requires : goal.fit_names-requires
+fit_names-requires c = omega (arith, c.names_room-most.ensures, (names_room_lem (length c.args.out_ends.now)).0)
+
+pub returns-in_err-fit_names : goal.returns-in_err-fit_names
+unfolding gap_splits_of
+returns-in_err-fit_names c =
+    rw (same_err c.from_residual.result c.fit_names.result c.from_residual.ensures.1 c.in_err-fit_names.was)
+    (gives_stops _ (c.fit_names.ensures ∙ ap₂ (λ (m b : ℕ). fit_check m b c.args.name_ends.now) c.names_room-most.ensures c.bytes_room-most_bytes.ensures) (ap meaning c.in_err-fit_names.was))
+
+pub returns-in_err-check_names : goal.returns-in_err-check_names
+unfolding gap_splits_of
+returns-in_err-check_names c =
+    rw (same_err c.from_residual-in_err-check_names.result c.check_names.result c.from_residual-in_err-check_names.ensures.1 c.in_err-check_names.was)
+    (gives_goes
+    (ap₂ (λ (m b : ℕ). fit_check m b c.args.name_ends.now) (sym c.names_room-most.ensures) (sym c.bytes_room-most_bytes.ensures) ∙ sym c.fit_names.ensures ∙ ap meaning c.in_ok-fit_names.was)
+    (gives_stops _ c.check_names.ensures.said (ap meaning c.in_err-check_names.was)))
+
+pub slice_bounds-with_sections-end : goal.slice_bounds-with_sections-end
+slice_bounds-with_sections-end c =
+    let passed = sym c.check_names.ensures.said ∙ ap meaning c.in_ok-check_names.was in
+    let stored = c.check_names.ensures.stored passed in
+    stored.named.placed
+
+pub slice_bounds-with_sections-end-2 : goal.slice_bounds-with_sections-end-2
+slice_bounds-with_sections-end-2 c =
+    let passed = sym c.check_names.ensures.said ∙ ap meaning c.in_ok-check_names.was in
+    let stored = c.check_names.ensures.stored passed in
+    sym (length-take-le _ _ stored.named.placed)
+
+pub slice_bounds-with_sections-end-3 : goal.slice_bounds-with_sections-end-3
+slice_bounds-with_sections-end-3 c =
+    let passed = sym c.check_names.ensures.said ∙ ap meaning c.in_ok-check_names.was in
+    let stored = c.check_names.ensures.stored passed in
+    stored.named.measured
+
+pub slice_bounds-with_sections-end-4 : goal.slice_bounds-with_sections-end-4
+slice_bounds-with_sections-end-4 c =
+    let passed = sym c.check_names.ensures.said ∙ ap meaning c.in_ok-check_names.was in
+    let stored = c.check_names.ensures.stored passed in
+    sym (length-take-le _ _ stored.named.measured)
+
+pub overflow_sub-most : goal.overflow_sub-most
+overflow_sub-most c = fit_few _ _ _ (sym c.fit_names.ensures ∙ ap meaning c.in_ok-fit_names.was)
+
+pub overflow_sub-most_bytes : goal.overflow_sub-most_bytes
+overflow_sub-most_bytes c = omega (arith, c.last_end-end.ensures, fit_end _ _ _ (sym c.fit_names.ensures ∙ ap meaning c.in_ok-fit_names.was))
+
+pub with_sections-requires : goal.with_sections-requires
+with_sections-requires c =
+    let a = c.args in
+    let fit = sym c.fit_names.ensures ∙ ap meaning c.in_ok-fit_names.was in
+    let passed = sym c.check_names.ensures.said ∙ ap meaning c.in_ok-check_names.was in
+    let stored = c.check_names.ensures.stored passed in
+    (names-taken _ _ _ _ _ _ stored, space _ _ _ _ _ _ stored (length a.out_ends.now) (length a.out_bytes.now) _ _ _ c.names_room-most.ensures c.bytes_room-most_bytes.ensures c.last_end-end.ensures fit passed)
+
+pub returns : goal.returns
+unfolding gap_splits_of
+returns c =
+    let a = c.args in
+    let fit = sym c.fit_names.ensures ∙ ap meaning c.in_ok-fit_names.was in
+    let passed = sym c.check_names.ensures.said ∙ ap meaning c.in_ok-check_names.was in
+    let stored = c.check_names.ensures.stored passed in
+    gives_goes
+    (ap₂ (λ (m b : ℕ). fit_check m b a.name_ends.now) (sym c.names_room-most.ensures) (sym c.bytes_room-most_bytes.ensures) ∙ fit)
+    (gives_goes passed
+    (gives_as
+    (names_as _ _ _ _ _ _ stored (length a.out_ends.now) (length a.out_bytes.now) _ _ _ c.names_room-most.ensures c.bytes_room-most_bytes.ensures c.last_end-end.ensures fit passed
+    a.sections.now a.section_places.now a.image.now a.symbols.now a.splits.now (length a.out.now))
+    c.with_sections.ensures))

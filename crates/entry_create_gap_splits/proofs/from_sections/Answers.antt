@@ -1,0 +1,71 @@
+-- Sections that are refused are the answer; else the fronts of the columns have their places and those of their bytes, and the symbols are asked with them.
+use Rattle.std.proofs.Common.{sym, ap, ◌∙◌, arith, length}
+use lib.Seq.{length-take-le}
+use Rattle.obj.specs.Answers.{meaning}
+use Rattle.obj.proofs.Errors.{same_err}
+use Rattle.names.specs.Names.{names_of}
+use Rattle.stage_tables.proofs.Laws.{taken_few, taken_places, taken-count, taken-held}
+use Rattle.stage_symbols.proofs.Laws.{sections_kept, place_is}
+use Rattle.gap_splits.specs.Answers.{ceilings}
+use Rattle.entry_create_gap_splits.specs.Entry.{from_sections}
+use Rattle.entry_create_gap_splits.proofs.Laws.{gives_as, gives_stops, gives_goes}
+use Rattle.entry_create_gap_splits.proofs.Passed.{sections_as, sections_short}
+use Rattle.entry_create_gap_splits.proofs.from_sections.Goals as goal
+
+pub returns-in_err-take_image : goal.returns-in_err-take_image
+unfolding from_sections
+returns-in_err-take_image c =
+    rw (same_err c.from_residual.result c.take_image.result c.from_residual.ensures.1 c.in_err-take_image.was)
+    (gives_stops _ c.take_image.ensures.said (ap meaning c.in_err-take_image.was))
+
+pub slice_bounds-with_symbols-end : goal.slice_bounds-with_symbols-end
+slice_bounds-with_symbols-end c = omega (arith, taken_few 15 64 c.args.sections.now _ _ c.take_image.ensures (ap meaning c.in_ok-take_image.was), c.take_image.auto.places, c.requires.2)
+
+pub slice_bounds-with_symbols-end-2 : goal.slice_bounds-with_symbols-end-2
+slice_bounds-with_symbols-end-2 c = sym (taken-count 15 64 c.args.sections.now _ _ c.take_image.ensures (ap meaning c.in_ok-take_image.was))
+
+pub slice_bounds-with_symbols-end-3 : goal.slice_bounds-with_symbols-end-3
+slice_bounds-with_symbols-end-3 c = c.take_image_places-p.ensures.inside
+
+pub slice_bounds-with_symbols-end-4 : goal.slice_bounds-with_symbols-end-4
+slice_bounds-with_symbols-end-4 c = sym (length-take-le _ _ c.take_image_places-p.ensures.inside)
+
+pub with_symbols-requires : goal.with_symbols-requires
+with_symbols-requires c =
+    let a = c.args in
+    let q = c.requires in
+    let t = c.take_image in
+    let p = c.take_image_places-p in
+    let e = ap meaning c.in_ok-take_image.was in
+    let passed = sym t.ensures.said ∙ e in (
+      q.0,
+      record {
+        all = taken-held 15 64 a.sections.now _ _ t.ensures e (omega arith);
+        kept =
+            sections_kept 64 a.name_lengths.now a.section_places.now a.image.now a.sections.now passed (omega arith) _ _ _ _
+            (taken_places 15 64 a.sections.now _ _ t.ensures e) q.0.paired p.ensures (p.auto.column ∙ q.3);
+        short =
+            sections_short 64 a.name_lengths.now a.section_places.now a.image.now a.sections.now passed _ a.name_bytes.now a.name_places.now
+            (taken_places 15 64 a.sections.now _ _ t.ensures e);
+      },
+      q.1,
+    )
+
+pub returns : goal.returns
+unfolding from_sections
+returns c =
+    let a = c.args in
+    let q = c.requires in
+    let t = c.take_image in
+    let p = c.take_image_places-p in
+    let e = ap meaning c.in_ok-take_image.was in
+    let passed = sym t.ensures.said ∙ e in
+    gives_goes passed
+    (gives_as
+    (sections_as a.name_bytes.now a.name_places.now a.name_lengths.now a.sections.now a.image.now _ _ a.section_places.now a.symbols.now a.splits.now
+    (ceilings (names_of a.name_bytes.now a.name_places.now a.name_lengths.now (length a.name_places.now)) a.most a.most_bytes) (length a.out.now)
+    (taken_places 15 64 a.sections.now _ _ t.ensures e)
+    (λ n h.
+    place_is 64 a.name_lengths.now a.section_places.now a.image.now a.sections.now passed _ _ p.ensures n
+    (omega (arith, h, taken_few 15 64 a.sections.now _ _ t.ensures e, p.auto.column, q.3))))
+    c.with_symbols.ensures)

@@ -1,0 +1,93 @@
+-- Symbols that are refused are the answer; else the fronts of the columns have their places and their order, and the splits are asked with them.
+use Rattle.std.proofs.Common.{ℕ, List, ◌≡◌, ◌/◌, ◌≤◌, ◌∙◌, sym, ap, arith, length, refl, Result, Ok}
+use Rattle.std.proofs.lemmas.Result.{err_from_is_err_and}
+use lib.ListN.{take}
+use lib.Seq.{length-take-le}
+use Rattle.obj.specs.Answers.{meaning}
+use Rattle.obj.specs.Records.{stage_places}
+use Rattle.obj.specs.declared.Refusal.{Refusal}
+use Rattle.obj.proofs.Laws.{length-stage_places}
+use Rattle.names.specs.Names.{names_of}
+use Rattle.stage_tables.proofs.Laws.{table_passed}
+use Rattle.sections.specs.Image.{image_of}
+use Rattle.sections.specs.Sections.{sections_of}
+use Rattle.tables.specs.Records.{sections_in}
+use Rattle.gap_splits.specs.Answers.{ceilings}
+use Rattle.stage_symbols.specs.StageSymbols.{answered, ordered}
+use Rattle.stage_symbols.proofs.Laws.{tables-taken, symbols_sound}
+use Rattle.stage_gaps.specs.StageGaps.{from_splits}
+use Rattle.entry_create_gap_splits.specs.Entry.{from_symbols}
+use Rattle.entry_create_gap_splits.proofs.Laws.{gives_as, gives_stops, gives_goes}
+use Rattle.entry_create_gap_splits.proofs.from_symbols.Goals as goal
+
+pub returns-in_err-ordered : goal.returns-in_err-ordered
+unfolding from_symbols
+returns-in_err-ordered c =
+    let p = err_from_is_err_and c.from_residual.result c.from_residual.ensures.1 in
+    let said = rw c.in_err-ordered.was at c.take_symbol_order.ensures.said in
+    rw (p.1, p.2) (gives_stops _ said refl)
+
+pub slice_bounds-with_splits-end : goal.slice_bounds-with_splits-end
+slice_bounds-with_splits-end c =
+    let a = c.args in
+    let t = c.take_symbol_order in
+    let passed = sym c.take_symbol_order.ensures.said ∙ ap (λ (r : Result ℕ Refusal). meaning (answered r)) c.in_ok-ordered.was in
+    let few = (table_passed 20 4096 a.symbols.now _ passed).1 in
+    omega (arith, few, t.auto.places, c.requires.3.places_long)
+
+pub slice_bounds-with_splits-end-2 : goal.slice_bounds-with_splits-end-2
+slice_bounds-with_splits-end-2 c =
+    let a = c.args in
+    let t = c.take_symbol_order in
+    let passed = sym c.take_symbol_order.ensures.said ∙ ap (λ (r : Result ℕ Refusal). meaning (answered r)) c.in_ok-ordered.was in
+    let few = (table_passed 20 4096 a.symbols.now _ passed).1 in
+    let inside : length a.symbols.now / 20 ≤ length t.new.places = omega (arith, few, t.auto.places, c.requires.3.places_long) in
+    sym (length-take-le _ _ inside)
+
+pub slice_bounds-with_splits-end-3 : goal.slice_bounds-with_splits-end-3
+slice_bounds-with_splits-end-3 c =
+    let a = c.args in
+    let t = c.take_symbol_order in
+    let passed = sym c.take_symbol_order.ensures.said ∙ ap (λ (r : Result ℕ Refusal). meaning (answered r)) c.in_ok-ordered.was in
+    let few = (table_passed 20 4096 a.symbols.now _ passed).1 in
+    let is = ap ordered c.in_ok-ordered.was in
+    omega (arith, is, t.ensures.small, few, t.auto.order, c.requires.3.order_long)
+
+pub slice_bounds-with_splits-end-4 : goal.slice_bounds-with_splits-end-4
+slice_bounds-with_splits-end-4 c =
+    let a = c.args in
+    let t = c.take_symbol_order in
+    let passed = sym c.take_symbol_order.ensures.said ∙ ap (λ (r : Result ℕ Refusal). meaning (answered r)) c.in_ok-ordered.was in
+    let few = (table_passed 20 4096 a.symbols.now _ passed).1 in
+    let is = ap ordered c.in_ok-ordered.was in
+    sym (length-take-le _ _ (omega (arith, is, t.ensures.small, few, t.auto.order, c.requires.3.order_long)))
+
+pub with_splits-requires : goal.with_splits-requires
+with_splits-requires c =
+    let a = c.args in
+    let t = c.take_symbol_order in
+    let passed = sym c.take_symbol_order.ensures.said ∙ ap (λ (r : Result ℕ Refusal). meaning (answered r)) c.in_ok-ordered.was in
+    let few = (table_passed 20 4096 a.symbols.now _ passed).1 in
+    let inside : length a.symbols.now / 20 ≤ length t.new.places = omega (arith, few, t.auto.places, c.requires.3.places_long) in
+    let q = c.requires in
+    let count = length a.name_lengths.now in
+    let placed : take (length a.symbols.now / 20) t.new.places ≡ stage_places 20 (length a.symbols.now / 20) = t.ensures.placed passed in (
+      tables-taken 4096 count (sections_in a.heads.now a.head_places.now) a.symbols.now passed (omega arith) _ _ _ _ _ (Ok _) (rw c.in_ok-ordered.was at t.ensures) (sym q.0.paired) q.0.named,
+      rw (placed, length-stage_places) (symbols_sound 4096 count (sections_in a.heads.now a.head_places.now) a.symbols.now passed),
+      q.0,
+      q.1,
+      q.2,
+      omega (arith, few, length-take-le (length a.symbols.now / 20) t.new.places inside),
+    )
+
+pub returns : goal.returns
+unfolding from_symbols
+returns c =
+    let a = c.args in
+    let t = c.take_symbol_order in
+    let passed = sym c.take_symbol_order.ensures.said ∙ ap (λ (r : Result ℕ Refusal). meaning (answered r)) c.in_ok-ordered.was in
+    let few = (table_passed 20 4096 a.symbols.now _ passed).1 in
+    let names = names_of a.name_bytes.now a.name_places.now a.name_lengths.now (length a.name_places.now) in
+    gives_goes passed
+    (gives_as (ap (λ (l : List ℕ). from_splits a.name_lengths.now (sections_in a.heads.now a.head_places.now) (image_of a.symbols.now l a.name_bytes.now a.name_places.now a.name_lengths.now) (sections_of a.heads.now a.head_places.now a.image.now a.image_places.now) (ceilings names a.most a.most_bytes) names a.splits.now (length a.out.now)) (t.ensures.placed passed))
+    c.with_splits.ensures)

@@ -1,0 +1,50 @@
+-- Sections that are refused are the answer; else the symbols are asked over them.
+use Rattle.std.proofs.Common.{ℕ, ◌∙◌, List, refl, sym, ap, arith, length}
+use Rattle.std.proofs.lemmas.Result.{err_from_is_err_and}
+use Rattle.obj.specs.Answers.{meaning}
+use Rattle.tables.specs.Records.{sections_in}
+use Rattle.name_table.specs.Stored.{stage_lengths}
+use Rattle.stage_names.specs.StageNames.{flat}
+use Rattle.stage_tables.specs.StageTables.{stage_sections}
+use Rattle.stage_tables.proofs.Laws.{taken_few, taken_places, taken-count, taken-held}
+use Rattle.number_names.specs.Numbers.{name_ends}
+use Rattle.import.specs.Import.{tables_of}
+use Rattle.entry_import_elf.specs.Entry.{symbols_room}
+use Rattle.entry_import_elf.proofs.Laws.{names_are, given_as, image_said, image_stops, image_goes}
+use Rattle.entry_import_elf.proofs.from_image.Goals as goal
+
+pub returns-in_err-take_image : goal.returns-in_err-take_image
+returns-in_err-take_image c =
+    λ names k q l s p.
+    let a = c.args in
+    let t = tables_of a.file.now names in
+    let r = err_from_is_err_and c.from_residual.result c.from_residual.ensures.1 in
+    let m = l ∙ ap (λ (x : List (List ℕ)). stage_lengths (name_ends x) (flat x)) (sym (names_are a.file.now names)) in
+    let said = image_said (length a.file.now) t c.in_err-take_image.ensures.said m p s in
+    rw (r.1, r.2) (sym (image_stops (length a.file.now) 64 (symbols_room (length a.symbols.now)) t said refl))
+
+pub slice_bounds-from_symbols-end : goal.slice_bounds-from_symbols-end
+slice_bounds-from_symbols-end c =
+    let t = c.take_image in
+    let n = taken_few 15 64 c.args.sections.now _ _ t.ensures (ap meaning c.in_ok-take_image.was) in
+    omega (arith, t.auto.places, c.requires.3.long)
+
+pub slice_bounds-from_symbols-end-2 : goal.slice_bounds-from_symbols-end-2
+slice_bounds-from_symbols-end-2 c = sym (taken-count 15 64 c.args.sections.now _ _ c.take_image.ensures (ap meaning c.in_ok-take_image.was))
+
+pub from_symbols-requires : goal.from_symbols-requires
+from_symbols-requires c =
+    let held = taken-held 15 64 c.args.sections.now _ _ c.take_image.ensures (ap meaning c.in_ok-take_image.was) (omega arith) in
+    (c.requires.0, c.requires.1, c.requires.2, held, c.requires.4)
+
+pub returns : goal.returns
+returns c =
+    λ names k q l s p.
+    let a = c.args in
+    let t = tables_of a.file.now names in
+    let e = ap meaning c.in_ok-take_image.was in
+    let m = l ∙ ap (λ (x : List (List ℕ)). stage_lengths (name_ends x) (flat x)) (sym (names_are a.file.now names)) in
+    let said = image_said (length a.file.now) t c.take_image.ensures.said m p s in
+    let heads = ap (sections_in a.sections.now) (taken_places 15 64 a.sections.now _ _ c.take_image.ensures e) ∙ ap stage_sections s in
+    given_as t a.symbols.now c.from_symbols.new.symbols c.from_symbols.result (image_goes (length a.file.now) 64 (symbols_room (length a.symbols.now)) t said e)
+    (c.from_symbols.ensures names k q heads)

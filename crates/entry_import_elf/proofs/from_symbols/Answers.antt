@@ -1,0 +1,62 @@
+-- Too many are refused; else they are written, and what was written is asked.
+use Rattle.std.proofs.Common.{ℕ, ◌-◌, ◌/◌, ◌≤◌, ◌∙◌, List, sym, ap, arith, length, length-take-le}
+use Rattle.std.proofs.lemmas.List.Edits.{sets}
+use Rattle.std.proofs.lemmas.Result.{err_from_is_err_and}
+use Rattle.lists.specs.Outcome.{refused}
+use Rattle.elf.specs.declared.SectionHeader.{SectionHeader}
+use Rattle.elf_file.specs.File.{section_bytes, symbol_table}
+use Rattle.number_names.specs.Numbers.{name_ends}
+use Rattle.import.specs.Import.{tables_of}
+use Rattle.import.proofs.Sections.{symbols_count}
+use Rattle.import_rows.specs.Rows.{symbols_table}
+use Rattle.import_rows.proofs.Laws.{long_symbols}
+use Rattle.entry_import_elf.specs.Entry.{symbols_room}
+use Rattle.entry_import_elf.proofs.Laws.{front, names_are, symbols_written, symbols_many, symbols_asked}
+use Rattle.entry_import_elf.proofs.from_symbols.Goals as goal
+
+pub returns-then-room-n : goal.returns-then-room-n
+returns-then-room-n c =
+    λ names k q s.
+    let a = c.args in
+    let table = c.bytes_in-table.ensures ∙ ap (λ (h : SectionHeader). section_bytes a.file.now h) (c.symbol_table-t.ensures ∙ ap symbol_table c.header_table.ensures) in
+    let n = c.entry_count-n.ensures.1 ∙ ap (λ (l : List ℕ). length l / 16 - 1) table ∙ sym (symbols_count a.file.now names) in
+    let many = symbols_many (symbols_room (length a.symbols.now)) (tables_of a.file.now names) n (omega (arith, c.if-room-n.true, c.smaller-room.ensures.0)) in
+    rw c.refuse.ensures (sym (ap (λ (m : ℕ). refused 2 0 m) c.smaller-room.ensures.0 ∙ many))
+
+pub put_symbols-requires : goal.put_symbols-requires
+put_symbols-requires c = (c.requires.2, c.requires.1, omega (arith, c.if-room-n.false, c.smaller-room.ensures.2, c.entry_count-n.ensures.1))
+
+pub slice_bounds-take_symbols-end-2 : goal.slice_bounds-take_symbols-end-2
+slice_bounds-take_symbols-end-2 c = sym (length-take-le _ _ (omega (arith, c.if-room-n.false, c.smaller-room.ensures.2, c.put_symbols.auto.out)))
+
+pub take_symbols-requires : goal.take_symbols-requires
+take_symbols-requires c = (c.requires.3, c.requires.4)
+
+pub returns-in_err-take_symbols : goal.returns-in_err-take_symbols
+returns-in_err-take_symbols c =
+    λ names k q s.
+    let a = c.args in
+    let p = err_from_is_err_and c.from_residual.result c.from_residual.ensures.1 in
+    let table = c.bytes_in-table.ensures ∙ ap (λ (h : SectionHeader). section_bytes a.file.now h) (c.symbol_table-t.ensures ∙ ap symbol_table c.header_table.ensures) in
+    let n = c.entry_count-n.ensures.1 ∙ ap (λ (l : List ℕ). length l / 16 - 1) table ∙ sym (symbols_count a.file.now names) in
+    let w = c.put_symbols.ensures names k ∙ ap (sets a.symbols.now 0) (symbols_written a.file.now names table c.symbol_strings-strings.ensures q) in
+    let whole = front a.symbols.now (symbols_table (tables_of a.file.now names).symbols) w (omega (arith, n, long_symbols (tables_of a.file.now names).symbols)) (omega (arith, c.if-room-n.false, c.smaller-room.ensures.2)) in
+    let ends = k.laid.ends_are ∙ ap (λ (l : List (List ℕ)). name_ends l) (sym (names_are a.file.now names)) in
+    let few : c.entry_count-n.result ≤ symbols_room (length a.symbols.now) = omega (arith, c.if-room-n.false, c.smaller-room.ensures.0) in
+    rw (p.1, p.2) (sym (symbols_asked (symbols_room (length a.symbols.now)) (tables_of a.file.now names) n few c.in_err-take_symbols.ensures.said ends s whole))
+
+pub returns : goal.returns
+returns c =
+    λ names k q s.
+    let a = c.args in
+    let table = c.bytes_in-table.ensures ∙ ap (λ (h : SectionHeader). section_bytes a.file.now h) (c.symbol_table-t.ensures ∙ ap symbol_table c.header_table.ensures) in
+    let n = c.entry_count-n.ensures.1 ∙ ap (λ (l : List ℕ). length l / 16 - 1) table ∙ sym (symbols_count a.file.now names) in
+    let w = c.put_symbols.ensures names k ∙ ap (sets a.symbols.now 0) (symbols_written a.file.now names table c.symbol_strings-strings.ensures q) in
+    let whole = front a.symbols.now (symbols_table (tables_of a.file.now names).symbols) w (omega (arith, n, long_symbols (tables_of a.file.now names).symbols)) (omega (arith, c.if-room-n.false, c.smaller-room.ensures.2)) in
+    let ends = k.laid.ends_are ∙ ap (λ (l : List (List ℕ)). name_ends l) (sym (names_are a.file.now names)) in
+    record {
+      said = sym (symbols_asked (symbols_room (length a.symbols.now)) (tables_of a.file.now names) n (omega (arith, c.if-room-n.false, c.smaller-room.ensures.0)) c.in_ok-take_symbols.ensures.said ends s whole);
+      written = w;
+      counted = n;
+      few = omega (arith, c.if-room-n.false, c.smaller-room.ensures.1);
+    }

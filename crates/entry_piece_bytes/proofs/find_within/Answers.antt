@@ -1,0 +1,78 @@
+-- `entry_piece_bytes::find_within` meets its contract: each return is the definition's, and what passed keeps the sum within four bytes.
+-- Assumes nothing.
+use Rattle.std.specs.Prelude.{Result}
+use Rattle.obj.specs.Answers.{meaning}
+use Rattle.obj.specs.declared.Refusal.{Refusal}
+use Prim.Native.Nat.{ℕ, ◌+◌, ◌-◌}
+use mathlib.Core.Path.{sym, ap, ◌∙◌}
+use native.Mathlib.Omega.{arith}
+use lib.ListN.{length}
+use Rattle.lists.specs.Outcome.{accepted}
+use Rattle.tables.specs.Records.{image_places_of, bytes_cut}
+use Rattle.entry_piece_bytes.specs.declared.Place.{Place}
+use Rattle.entry_piece_bytes.specs.Entry.{reach}
+use Rattle.entry_piece_bytes.proofs.Steps.{cut, beyond, lies, placed-none, placed-some, bytes_lie, not_below, not_above}
+use Rattle.entry_piece_bytes.proofs.find_within.Goals as goal
+
+pub returns-then-bytes_cut : goal.returns-then-bytes_cut
+returns-then-bytes_cut c =
+    let a = c.args in
+    let places = image_places_of a.places.now in
+    let image = length a.image.now in
+    let cut_said = c.bytes_cut.ensures ∙ ap (λ (m : ℕ). bytes_cut places m a.p.section a.head) c.reach_of.ensures in
+    ap (λ (x : Result Place Refusal). meaning x) c.refuse.ensures ∙ sym (cut places image a.head a.p (sym cut_said ∙ c.if-bytes_cut.true))
+
+pub returns-then-is_outside : goal.returns-then-is_outside
+returns-then-is_outside c =
+    let a = c.args in
+    let places = image_places_of a.places.now in
+    let image = length a.image.now in
+    let cut_said = c.bytes_cut.ensures ∙ ap (λ (m : ℕ). bytes_cut places m a.p.section a.head) c.reach_of.ensures in
+    let whole = sym cut_said ∙ c.if-bytes_cut.false in
+    ap (λ (x : Result Place Refusal). meaning x) c.refuse-then-is_outside.ensures
+    ∙ sym (beyond places image a.head a.p whole (sym c.is_outside.ensures ∙ c.if-is_outside.true))
+
+pub returns-then-head-eq3 : goal.returns-then-head-eq3
+returns-then-head-eq3 c =
+    let a = c.args in
+    let places = image_places_of a.places.now in
+    let image = length a.image.now in
+    let cut_said = c.bytes_cut.ensures ∙ ap (λ (m : ℕ). bytes_cut places m a.p.section a.head) c.reach_of.ensures in
+    let whole = sym cut_said ∙ c.if-bytes_cut.false in
+    let inside = sym c.is_outside.ensures ∙ c.if-is_outside.false in
+    ap accepted (sym (placed-none _ a.head a.p c.if-head-eq3.true)) ∙ sym (lies places image a.head a.p whole inside)
+
+pub part_of-part-requires : goal.part_of-part-requires
+part_of-part-requires c =
+    let a = c.args in
+    let places = image_places_of a.places.now in
+    let image = length a.image.now in
+    let cut_said = c.bytes_cut.ensures ∙ ap (λ (m : ℕ). bytes_cut places m a.p.section a.head) c.reach_of.ensures in
+    let whole = sym cut_said ∙ c.if-bytes_cut.false in
+    let inside = sym c.is_outside.ensures ∙ c.if-is_outside.false in
+    let bytes = bytes_lie places (reach image) a.p.section a.head whole c.if-head-eq3.false in
+    (omega (arith, bytes, c.image_place-start.ensures), not_below a.head a.p inside, not_above a.head a.p inside)
+
+pub overflow_add-result : goal.overflow_add-result
+overflow_add-result c =
+    let a = c.args in
+    let places = image_places_of a.places.now in
+    let image = length a.image.now in
+    let cut_said = c.bytes_cut.ensures ∙ ap (λ (m : ℕ). bytes_cut places m a.p.section a.head) c.reach_of.ensures in
+    let whole = sym cut_said ∙ c.if-bytes_cut.false in
+    let inside = sym c.is_outside.ensures ∙ c.if-is_outside.false in
+    let bytes = bytes_lie places (reach image) a.p.section a.head whole c.if-head-eq3.false in
+    omega (arith, bytes, c.image_place-start.ensures, not_below a.head a.p inside, not_above a.head a.p inside)
+
+pub returns : goal.returns
+returns c =
+    let a = c.args in
+    let places = image_places_of a.places.now in
+    let image = length a.image.now in
+    let cut_said = c.bytes_cut.ensures ∙ ap (λ (m : ℕ). bytes_cut places m a.p.section a.head) c.reach_of.ensures in
+    let whole = sym cut_said ∙ c.if-bytes_cut.false in
+    let inside = sym c.is_outside.ensures ∙ c.if-is_outside.false in
+    ap (λ (m : ℕ). accepted (record { offset = c.image_place-start.result + (a.p.address - a.head.address); length = m })) c.part_of-part.ensures
+    ∙ ap (λ (m : ℕ). accepted (record { offset = m + (a.p.address - a.head.address); length = a.p.size })) c.image_place-start.ensures
+    ∙ ap accepted (sym (placed-some _ a.head a.p c.if-head-eq3.false))
+    ∙ sym (lies places image a.head a.p whole inside)

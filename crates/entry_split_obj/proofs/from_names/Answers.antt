@@ -1,0 +1,34 @@
+-- `entry_split_obj::from_names` meets its contract. Names that are refused are the answer; else the fronts of the columns have their places and lengths, and the sections are asked with them.
+-- Assumes nothing.
+use Rattle.std.specs.Prelude.{Err}
+use Rattle.std.proofs.lemmas.Result.{err_from_is_err_and}
+use Rattle.obj.specs.declared.Refusal.{Refusal}
+use mathlib.Core.Path.{sym, ap, ◌∙◌}
+use native.Mathlib.Omega.{arith}
+use lib.ListN.{length}
+use Rattle.obj.specs.Answers.{meaning}
+use Rattle.stage_walk.specs.Room.{room_in}
+use Rattle.entry_split_obj.specs.Entry.{split_obj_of}
+use Rattle.entry_split_obj.proofs.Passed.{names-taken, names_few, lengths_count}
+use Rattle.stage_walk.proofs.Lines.{gives_as, gives_stops, gives_goes}
+use Rattle.entry_split_obj.proofs.Lines.{names_as}
+use Rattle.entry_split_obj.proofs.from_names.Goals as goal
+
+pub with_sections-requires : goal.with_sections-requires
+with_sections-requires c =
+    let a = c.args in
+    (names-taken _ _ _ _ _ _ (let s = c.check_names.ensures in s.stored (sym s.said ∙ ap meaning c.in_ok-check_names.was)), omega (arith, lengths_count _ _ _ _ _ _ (let s = c.check_names.ensures in s.stored (sym s.said ∙ ap meaning c.in_ok-check_names.was)), names_few 4096 a.name_ends.now a.name_bytes.now (sym c.check_names.ensures.said ∙ (ap meaning c.in_ok-check_names.was))))
+
+pub returns : goal.returns
+unfolding split_obj_of
+returns c =
+    let a = c.args in
+    gives_goes (sym c.check_names.ensures.said ∙ (ap meaning c.in_ok-check_names.was))
+    (gives_as (names_as _ _ _ _ _ _ (let s = c.check_names.ensures in s.stored (sym s.said ∙ ap meaning c.in_ok-check_names.was)) a.sections.now a.section_places.now a.image.now a.symbols.now a.relocs.now a.splits.now a.unit_table.now (room_in (length a.pieces.now) (length a.entries.now) (length a.offsets.now)))
+    c.with_sections.ensures)
+
+pub returns-in_err-check_names : goal.returns-in_err-check_names
+unfolding split_obj_of
+returns-in_err-check_names c =
+    let p = err_from_is_err_and c.from_residual.result c.from_residual.ensures.1 in
+    gives_stops _ (p.1 ∙ ap (λ (x : Refusal). Err x) p.2) c.in_err-check_names.ensures.said

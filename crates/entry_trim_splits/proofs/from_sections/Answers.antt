@@ -1,0 +1,64 @@
+-- `entry_trim_splits::from_sections` meets its contract. Sections that are refused are the answer; else the fronts of the columns have their places and those of
+-- their bytes, and the symbols are asked with them. Assumes nothing.
+use mathlib.Core.Path.{sym, ap, ◌∙◌}
+use native.Mathlib.Omega.{arith}
+use lib.ListN.{length}
+use lib.Seq.{length-take-le}
+use Rattle.obj.specs.Answers.{meaning}
+use Rattle.obj.proofs.Errors.{same_err}
+use Rattle.stage_tables.proofs.Laws.{taken_few, taken_places, taken-count, taken-held}
+use Rattle.stage_symbols.proofs.Laws.{sections_kept, place_is}
+use Rattle.stage_splits.proofs.Laws.{gives_as, gives_stops, gives_goes}
+use Rattle.entry_trim_splits.specs.Entry.{from_sections}
+use Rattle.entry_trim_splits.proofs.Laws.{sections_as}
+use Rattle.entry_trim_splits.proofs.from_sections.Goals as goal
+
+pub returns-in_err-take_image : goal.returns-in_err-take_image
+unfolding from_sections
+returns-in_err-take_image c =
+    rw (same_err c.from_residual.result c.take_image.result c.from_residual.ensures.1 c.in_err-take_image.was)
+    (gives_stops _ c.take_image.ensures.said (ap meaning c.in_err-take_image.was))
+
+pub slice_bounds-with_symbols-end : goal.slice_bounds-with_symbols-end
+slice_bounds-with_symbols-end c =
+    let t = c.take_image in
+    let n = taken_few 15 64 c.args.sections.now _ _ t.ensures (ap meaning c.in_ok-take_image.was) in
+    omega (arith, n, t.auto.places, c.requires.1)
+
+pub slice_bounds-with_symbols-end-2 : goal.slice_bounds-with_symbols-end-2
+slice_bounds-with_symbols-end-2 c = sym (taken-count 15 64 c.args.sections.now _ _ c.take_image.ensures (ap meaning c.in_ok-take_image.was))
+
+pub slice_bounds-with_symbols-end-4 : goal.slice_bounds-with_symbols-end-4
+slice_bounds-with_symbols-end-4 c = sym (length-take-le _ _ c.take_image_places-p.ensures.inside)
+
+pub with_symbols-requires : goal.with_symbols-requires
+with_symbols-requires c =
+    let t = c.take_image in
+    let p = c.take_image_places-p in
+    let a = c.args in
+    let e = ap meaning c.in_ok-take_image.was in (
+      c.requires.0,
+      record {
+        all = taken-held 15 64 a.sections.now _ _ t.ensures e (omega arith);
+        kept =
+            sections_kept 64 a.name_lengths.now a.section_places.now a.image.now a.sections.now (sym t.ensures.said ∙ e) (omega arith) _ _ _ _
+            (taken_places 15 64 a.sections.now _ _ t.ensures e) c.requires.0.paired p.ensures (p.auto.column ∙ c.requires.2);
+      },
+    )
+
+pub returns : goal.returns
+unfolding from_sections
+returns c =
+    let t = c.take_image in
+    let p = c.take_image_places-p in
+    let a = c.args in
+    let e = ap meaning c.in_ok-take_image.was in
+    let passed = sym t.ensures.said ∙ e in
+    gives_goes passed
+    (gives_as
+    (sections_as a.name_bytes.now a.name_places.now a.name_lengths.now a.sections.now a.image.now _ _ a.section_places.now a.symbols.now a.splits.now (length a.out.now)
+    (taken_places 15 64 a.sections.now _ _ t.ensures e)
+    (λ n h.
+    place_is 64 a.name_lengths.now a.section_places.now a.image.now a.sections.now passed _ _ p.ensures n
+    (omega (arith, h, taken_few 15 64 a.sections.now _ _ t.ensures e, p.auto.column, c.requires.2))))
+    c.with_symbols.ensures)

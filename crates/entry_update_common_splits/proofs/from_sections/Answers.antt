@@ -1,0 +1,51 @@
+-- `entry_update_common_splits::from_sections` meets its contract. Sections that are refused are the answer; else their places are at the front of the column, and
+-- each has a name. Assumes nothing.
+use native.Mathlib.Omega.{arith}
+use mathlib.Core.Path.{sym, ap, ◌∙◌}
+use mathlib.Core.List.{List}
+use Prim.Native.Nat.{ℕ}
+use lib.ListN.{length}
+use Rattle.obj.specs.Answers.{meaning}
+use Rattle.obj.proofs.Errors.{same_err}
+use Rattle.tables.specs.Records.{sections_in}
+use Rattle.stage_tables.proofs.Laws.{taken_few, taken_places, taken-count, taken-held}
+use Rattle.stage_splits.proofs.Laws.{gives_as, gives_stops, gives_goes}
+use Rattle.common.specs.Sections.{bss_in}
+use Rattle.entry_update_common_splits.specs.Entry.{from_splits, from_sections}
+use Rattle.entry_update_common_splits.proofs.Laws.{sections_of_lem}
+use Rattle.entry_update_common_splits.proofs.from_sections.Goals as goal
+
+pub returns-in_err-take_sections : goal.returns-in_err-take_sections
+unfolding from_sections
+returns-in_err-take_sections c =
+    rw (same_err c.from_residual.result c.take_sections.result c.from_residual.ensures.1 c.in_err-take_sections.was)
+    (gives_stops _ c.take_sections.ensures.said (ap meaning c.in_err-take_sections.was))
+
+pub slice_bounds-with_columns-end : goal.slice_bounds-with_columns-end
+slice_bounds-with_columns-end c =
+    let t = c.take_sections in
+    let n = taken_few 15 64 c.args.sections.now _ _ t.ensures (ap meaning c.in_ok-take_sections.was) in
+    omega (arith, n, t.auto.places, c.requires.1)
+
+pub slice_bounds-with_columns-end-2 : goal.slice_bounds-with_columns-end-2
+slice_bounds-with_columns-end-2 c =
+    sym (taken-count 15 64 c.args.sections.now _ _ c.take_sections.ensures (ap meaning c.in_ok-take_sections.was))
+
+pub with_columns-requires : goal.with_columns-requires
+with_columns-requires c =
+    let t = c.take_sections in
+    let a = c.args in
+    let e = ap meaning c.in_ok-take_sections.was in
+    (sections_of_lem a.sections.now _ c.requires.0 t.ensures e, taken-held 15 64 a.sections.now _ _ t.ensures e (omega arith))
+
+pub returns : goal.returns
+unfolding from_sections
+returns c =
+    let t = c.take_sections in
+    let a = c.args in
+    let e = ap meaning c.in_ok-take_sections.was in
+    gives_goes (sym t.ensures.said ∙ e)
+    (gives_as
+    (ap (λ (l : List ℕ). from_splits a.name_lengths.now (sections_in a.sections.now l) (bss_in a.name_bytes.now a.name_places.now a.name_lengths.now a.sections.now l) a.splits.now a.has_start a.start (length a.out.now))
+    (taken_places 15 64 a.sections.now _ _ t.ensures e))
+    c.with_columns.ensures)

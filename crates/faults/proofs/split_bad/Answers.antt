@@ -1,0 +1,9 @@
+-- `faults::split_bad` meets its contract: the code joins the definition's tests in its order; the alignment's is what `align::bad` answers.
+-- Assumes nothing.
+use Rattle.lists.specs.Rows.{any_of}
+use Rattle.faults.specs.Faults.{split_bad}
+use Rattle.faults.proofs.split_bad.Goals as goal
+
+pub returns : goal.returns
+unfolding split_bad any_of
+returns c = rw c.bad.ensures

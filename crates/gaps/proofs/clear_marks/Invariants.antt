@@ -1,0 +1,8 @@
+-- The loop of `gaps::clear_marks`: the marks of the names passed are gone, the others are as they were.
+use lib.ListN.{take}
+use Rattle.symbol_order.specs.Order.{symbol_of}
+use Rattle.gaps.specs.Found.{Unmarked}
+use Rattle.gaps.proofs.clear_marks.Given as goal
+
+abbrev pub invariant-loop-j : goal.invariant-loop-j
+invariant-loop-j l = Unmarked (symbol_of l.b l.places) (take l.j l.part) l.initial.marks l.marks

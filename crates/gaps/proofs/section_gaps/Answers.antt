@@ -1,0 +1,115 @@
+-- The gaps before each split enter, up to the splitting end.
+use Rattle.std.proofs.Common.{ℕ, false, ◌&&◌, ◌≡◌, ◌<◌, ◌≤◌, ◌∙◌, sym, ap, arith, length}
+use Rattle.std.proofs.lemmas.Result.{err_from_is_err_and}
+use mathlib.Core.Logic.{◌⊎◌, inl, inr}
+use lib.Dec.{ltb}
+use borrow.Author.Tests.{lt-ltb, ltb-true, ltb-false}
+use Rattle.lists.proofs.Both.{both}
+use Rattle.lists.proofs.Compare.{lt_or_ge}
+use Rattle.lists.proofs.Tests.{and_false}
+use Rattle.symbol_order.specs.Order.{symbol_of}
+use Rattle.gaps.specs.Found.{searched}
+use Rattle.gaps.proofs.Marks.{still_markable}
+use Rattle.gaps.proofs.Passes.{walk_start, walk_done, walk_last, walk_low, walk_aligned, walk_room, walk_refused, walk_on, space_before}
+use Rattle.gaps.proofs.section_gaps.Goals as goal
+
+-- no split is left where the loop ends before the splitting end
+all_passed : (i n current end : ℕ) → (ltb i n && ltb current end) ≡ false → current < end → n ≤ i
+all_passed i n current end e h = go (lt_or_ge i n)
+  where
+    go : (i < n) ⊎ (n ≤ i) → n ≤ i
+    go (inl q) = absurd (omega (arith, h, ltb-false current end (and_false (ltb i n) (ltb current end) e (lt-ltb i n q))))
+    go (inr q) = q
+
+pub next_below-i-requires : goal.next_below-i-requires
+next_below-i-requires c = (c.requires.3, omega arith)
+
+pub loop-i-init : goal.loop-i-init
+loop-i-init c = let p = c.requires in record { holds = walk_start _ _ _ c.args.least _ _ _ _ _ _ _ _ c.next_below-i.ensures p.1; clean = p.0.clean }
+
+pub row-s-requires : goal.row-s-requires
+row-s-requires c =
+    let p = c.requires.3 in
+    let h = ltb-true c.loop-i.i c.args.n (both (ltb c.loop-i.i c.args.n) (ltb c.loop-i.current c.args.end) c.loop-i-test.true).0 in
+    record { starts = omega (arith, p.starts, h); ends = omega (arith, p.ends, h); units = omega (arith, p.units, h); rest = omega (arith, p.rest, h) }
+
+pub gaps_before-requires : goal.gaps_before-requires
+gaps_before-requires c =
+    let a = c.args in
+    let p = c.requires in
+    let l = c.loop-i in
+    let h = ltb-true l.i a.n (both (ltb l.i a.n) (ltb l.current a.end) c.loop-i-test.true).0 in
+    let low = walk_low _ _ _ _ _ _ _ _ _ _ _ p.2 p.5 _ _ _ _ _ l.invariant.holds h _ c.row-s.ensures in (
+      record {
+        symbols = p.0.symbols;
+        markable = still_markable (symbol_of a.b.now a.places.now) (length a.places.now) a.marks.now l.marks p.0.markable l.auto.marks;
+        clean = l.invariant.clean;
+      },
+      walk_room _ _ _ _ _ _ _ _ _ _ _ p.2 p.5 _ _ _ _ _ l.invariant.holds h _ c.row-s.ensures,
+      p.2,
+      omega (arith, low, p.4),
+      walk_aligned _ _ _ _ _ _ _ _ _ _ _ p.2 p.5 _ _ _ _ _ l.invariant.holds h _ c.row-s.ensures,
+      p.5,
+    )
+
+pub returns-in_err-found : goal.returns-in_err-found
+returns-in_err-found c =
+    let a = c.args in
+    let p = c.requires in
+    let l = c.loop-i in
+    let g = c.gaps_before in
+    let t = both (ltb l.i a.n) (ltb l.current a.end) c.loop-i-test.true in
+    let e = err_from_is_err_and c.from_residual.result c.from_residual.ensures.1 in
+    rw (e.1, e.2) (
+      walk_refused _ _ _ _ _ _ _ _ _ _ _ p.2 p.5 _ _ _ _ _ l.invariant.holds (ltb-true l.i a.n t.0) _ c.row-s.ensures (ltb-true l.current a.end t.1) _ _ _
+          (sym (ap (searched g.new.keys g.new.gap_ends) c.in_err-found.was) ∙ g.ensures.0),
+      g.ensures.1,
+    )
+
+pub loop-i-preserved : goal.loop-i-preserved
+loop-i-preserved c =
+    let a = c.args in
+    let p = c.requires in
+    let l = c.loop-i in
+    let g = c.gaps_before in
+    let t = both (ltb l.i a.n) (ltb l.current a.end) c.loop-i-test.true in
+    record {
+      holds = walk_on _ _ _ _ _ _ _ _ _ _ _ p.2 p.5 _ _ _ _ _ l.invariant.holds (ltb-true l.i a.n t.0) _ c.row-s.ensures (ltb-true l.current a.end t.1)
+          g.new.keys g.new.gap_ends _ c.end_after-current.result c.next_below-i-in-loop-i.result
+          g.auto.keys g.auto.gap_ends
+          (sym (ap (searched g.new.keys g.new.gap_ends) c.in_ok-found.was) ∙ g.ensures.0)
+          c.next_below-i-in-loop-i.ensures c.end_after-current.ensures;
+      clean = g.ensures.1;
+    }
+
+pub returns-then-end-current : goal.returns-then-end-current
+returns-then-end-current c =
+    let p = c.requires in
+    let l = c.loop-i in
+    (walk_done _ _ _ _ _ _ _ _ _ _ _ p.2 p.5 _ _ _ _ _ l.invariant.holds c.if-end-current.true, l.invariant.clean)
+
+pub gaps_to-requires : goal.gaps_to-requires
+gaps_to-requires c =
+    let a = c.args in
+    let p = c.requires in
+    let l = c.loop-i in
+    let h = c.if-end-current.false in (
+      record {
+        symbols = p.0.symbols;
+        markable = still_markable (symbol_of a.b.now a.places.now) (length a.places.now) a.marks.now l.marks p.0.markable l.auto.marks;
+        clean = l.invariant.clean;
+      },
+      space_before _ _ _ _ _ _ _ _ _ _ (omega arith) l.invariant.holds.space,
+      omega (arith, h),
+      p.4,
+      p.5,
+    )
+
+pub returns : goal.returns
+returns c =
+    let a = c.args in
+    let p = c.requires in
+    let l = c.loop-i in (
+      c.gaps_to.ensures.0 ∙ walk_last _ _ _ _ _ _ _ _ _ _ _ p.2 p.5 _ _ _ _ _ l.invariant.holds (all_passed l.i a.n l.current a.end c.loop-i-test.false c.if-end-current.false),
+      c.gaps_to.ensures.1,
+    )

@@ -1,0 +1,20 @@
+-- `load::load_file` meets its contract: a file that is too long is refused; else the cleared columns hold nothing, and the records are loaded.
+-- Assumes nothing.
+use Rattle.load.proofs.Turns.{loads_refused, loads_small, too_long, ready_none}
+use Rattle.load.proofs.load_file.Goals as goal
+
+pub returns-then-file-gt65536 : goal.returns-then-file-gt65536
+returns-then-file-gt65536 c =
+    let a = c.args in
+    loads_refused _ _ _ _ _ _ 1 0 c.refuse.ensures (too_long a.c a.file.now c.if-file-gt65536.true)
+
+pub load_records-requires : goal.load_records-requires
+load_records-requires c =
+    let a = c.args in
+    ready_none a.c a.file.now a.places.now a.lengths.now a.heads.now a.chain.now c.requires c.if-file-gt65536.false c.clear_floors.ensures
+    c.clear_heads.ensures
+
+pub returns : goal.returns
+returns c =
+    let a = c.args in
+    loads_small a.c a.file.now _ _ _ _ c.if-file-gt65536.false c.load_records.ensures

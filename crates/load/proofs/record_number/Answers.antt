@@ -1,0 +1,26 @@
+-- `load::record_number` meets its contract: head and payload lie in the file, then the number by kind.
+-- Assumes nothing.
+use mathlib.Core.Path.{◌∙◌}
+use Rattle.load.specs.Columns.{tables_in}
+use Rattle.load.proofs.Deciding.{head_cut, payload_cut, payload_whole}
+use Rattle.std.proofs.Common.{ap}
+use Rattle.load.specs.Columns.{fault_as}
+use Rattle.load.proofs.record_number.Goals as goal
+
+pub returns-then-file-start : goal.returns-then-file-start
+returns-then-file-start c =
+    let a = c.args in
+    ap fault_as
+    (head_cut a.c a.file.now a.at (tables_in a.n a.places.now a.lengths.now) c.if-file-start.true)
+
+pub returns-then-file-start-2 : goal.returns-then-file-start-2
+returns-then-file-start-2 c =
+    let a = c.args in
+    ap fault_as
+    (payload_cut a.c a.file.now a.at (tables_in a.n a.places.now a.lengths.now) c.if-file-start.false c.get32-len.ensures c.if-file-start-2.true)
+
+pub returns : goal.returns
+returns c =
+    let a = c.args in
+    c.kind_number.ensures ∙ ap fault_as
+    (payload_whole a.c a.file.now a.at (tables_in a.n a.places.now a.lengths.now) c.if-file-start.false c.get32-len.ensures c.get16.ensures c.if-file-start-2.false)

@@ -1,0 +1,18 @@
+-- `mend::mend_table` meets its contract: 86 from the first pass, then the second, and 80 where its lines do not fit. Assumes nothing.
+use mathlib.Core.Path.{sym, ap, ◌∙◌}
+use Rattle.obj.specs.Answers.{meaning}
+use Rattle.std.proofs.lemmas.Result.{err_from_is_err_and}
+use Rattle.mend.proofs.Stage.{mends_refused, mends_full, mends_done}
+use Rattle.mend.proofs.mend_table.Goals as goal
+
+pub returns-in_err-check_ends : goal.returns-in_err-check_ends
+returns-in_err-check_ends c =
+    let p = err_from_is_err_and c.from_residual.result c.from_residual.ensures.1 in
+    rw (p.1, p.2) (mends_refused _ _ (sym (ap meaning c.in_err-check_ends.was) ∙ c.check_ends.ensures))
+
+pub returns-in-Some : goal.returns-in-Some
+returns-in-Some c = mends_done _ _ (sym (ap meaning c.in_ok-check_ends.was) ∙ c.check_ends.ensures) c.mend_rows.ensures _ c.in-Some.is
+
+pub returns-in-None : goal.returns-in-None
+returns-in-None c =
+    rw c.refuse.ensures (mends_full _ _ (sym (ap meaning c.in_ok-check_ends.was) ∙ c.check_ends.ensures) c.mend_rows.ensures c.in-None.is)

@@ -1,0 +1,11 @@
+-- The loop of `name_table::take_names`: no name before i has a fault, and the columns hold those names.
+use Rattle.tables.proofs.Loops.{Going}
+use Rattle.name_table.specs.NameTable.{name_fault}
+use Rattle.name_table.specs.Stored.{Stored}
+use Rattle.name_table.proofs.take_names.Given as goal
+
+abbrev pub invariant-loop-i : goal.invariant-loop-i
+invariant-loop-i l = record {
+  going : Going (name_fault l.ends l.bytes) l.n l.i;
+  stored : Stored l.ends l.bytes l.places l.lengths l.heads l.chain l.i;
+}

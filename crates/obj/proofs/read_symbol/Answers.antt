@@ -1,0 +1,8 @@
+-- `obj::read_symbol` meets its contract: each field is read at the offset that the definition gives it.
+use Rattle.obj.specs.Records.{symbol_at}
+use borrow.Author.Rules.{rules}
+use Rattle.obj.proofs.read_symbol.Goals as goal
+
+pub returns : goal.returns
+unfolding symbol_at
+returns c = (cc)

@@ -1,0 +1,12 @@
+-- `obj::read_unit` meets its contract: each field is read at the offset that the definition gives it.
+use mathlib.Core.Path.{◌∙◌}
+use mir.ValLaws.{to_z-of_z}
+use mir.Syntax.{w32}
+use Rattle.obj.proofs.Made.{unit_made}
+use borrow.Author.Rules.{rules}
+use Rattle.obj.proofs.read_unit.Goals as goal
+
+pub returns : goal.returns
+returns c =
+    unit_made _ _ c.get16.ensures
+    (to_z-of_z w32 c.get_i32.result (record { sfits = c.get_i32.type_inv }) ∙ c.get_i32.ensures)

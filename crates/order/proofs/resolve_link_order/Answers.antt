@@ -1,0 +1,31 @@
+-- `order::resolve_link_order` meets its contract: 60 first; else the columns hold the graph, and its sort is the stage.
+use mathlib.Core.Path.{◌≡◌, sym, ap, ◌∙◌}
+use mathlib.Core.Bool.{false}
+use Prim.Native.Nat.{◌/◌}
+use lib.ListN.{length}
+use Rattle.splits.specs.Columns.{columns}
+use Rattle.order_numbers.specs.Numbers.{order_twice}
+use Rattle.link_graph.specs.Graph.{graph_of}
+use Rattle.link_graph.specs.Columns.{given_of}
+use Rattle.order.proofs.Errors.{refused_as}
+use Rattle.order.proofs.Stage.{order_twice_resolves, same_sort, sorted_stage, resolves_as}
+use Rattle.order.proofs.resolve_link_order.Goals as goal
+
+pub returns : goal.returns
+returns c =
+    let a = c.args in
+    let m = c.make_graph-made in
+    let col = columns a.starts.now a.ends.now a.units.now a.rest.now in
+    let g = given_of col a.n a.heads.now a.head_places.now a.name_bytes.now a.name_places.now a.name_lengths.now a.unit_bytes.now a.unit_places.now in
+    let first : order_twice g.units ≡ false = sym c.order_twice.ensures ∙ c.if-order_twice.false in
+    resolves_as
+    (same_sort _ (graph_of g) (length a.out.now / 8) (ap length m.ensures.nodes_are) m.ensures.starts m.ensures.goals ∙ sorted_stage g (length a.out.now / 8) first)
+    c.sort_graph.ensures
+
+pub returns-in_err-refuse : goal.returns-in_err-refuse
+returns-in_err-refuse c =
+    let a = c.args in
+    let col = columns a.starts.now a.ends.now a.units.now a.rest.now in
+    let g = given_of col a.n a.heads.now a.head_places.now a.name_bytes.now a.name_places.now a.name_lengths.now a.unit_bytes.now a.unit_places.now in
+    rw (refused_as c.from_residual.result c.refuse.result c.from_residual.ensures.1 c.in_err-refuse.was c.refuse.ensures)
+    (order_twice_resolves g (length a.out.now / 8) a.out.now (sym c.order_twice.ensures ∙ c.if-order_twice.true))

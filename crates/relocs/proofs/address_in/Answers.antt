@@ -1,0 +1,12 @@
+-- `relocs::address_in` meets its contract: the number that stands there is that of a relocation, so its record can be read.
+use mathlib.Core.Path.{ap, ◌∙◌}
+use Rattle.obj.specs.declared.Reloc.{Reloc}
+use Rattle.relocs.specs.Relocs.{reloc_of}
+use Rattle.relocs.proofs.Laws.{held_at}
+use Rattle.relocs.proofs.address_in.Goals as goal
+
+pub reloc_at-requires : goal.reloc_at-requires
+reloc_at-requires c = held_at _ _ _ c.requires.1 _ _ c.requires.0 c.number.ensures
+
+pub returns : goal.returns
+returns c = ap (λ (r : Reloc). r.address) (c.reloc_at.ensures ∙ ap (reloc_of c.args.b.now c.args.places.now) c.number.ensures)

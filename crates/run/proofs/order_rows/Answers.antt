@@ -1,0 +1,57 @@
+-- An order that was found is walked; a cycle, and a refusal, are the answer.
+use Rattle.std.proofs.Common.{[], length}
+use Rattle.std.proofs.lemmas.Result.{err_from_is_err_and}
+use Rattle.loaded.specs.Tables.{tables_with}
+use Rattle.splits.specs.Columns.{columns}
+use Rattle.stage_walk.specs.Room.{room_in}
+use Rattle.run.proofs.Linking.{splits-taken, units_taken}
+use Rattle.run.proofs.Answering.{unlinked_right, order_whole, order_named, refused_right, made_right}
+use Rattle.run.proofs.order_rows.Goals as goal
+
+pub ordered-linked-requires : goal.ordered-linked-requires
+ordered-linked-requires c = let q = c.requires in (splits-taken q.0.usable _ _ q.1, units_taken q.0.usable)
+
+pub walk_with_columns-requires : goal.walk_with_columns-requires
+walk_with_columns-requires c =
+    let a = c.args in
+    let q = c.requires in
+    let t = tables_with a.names.now a.lengths.now a.sections.now a.symbols.now a.relocs.now [] a.unit_places.now in
+    let room = room_in (length a.pieces.now) (length a.entries.now) (length a.offsets.now) in
+    let table = columns a.starts.now a.ends.now a.units.now a.rest.now in
+    let o = c.ordered-linked in
+    let is = c.in_ok-k.was in
+    (q.0, q.1, order_whole a.file.now t room table a.e.names a.e.used a.e.splits o.new.out [] [] [] q.0.usable q.1 (length a.out_units.now) o.ensures _ is, order_named a.file.now t room table a.e.names a.e.used a.e.splits o.new.out [] [] [] q.0.usable q.1 (length a.out_units.now) o.ensures _ is)
+
+pub returns-in_err-k : goal.returns-in_err-k
+returns-in_err-k c =
+    let p = err_from_is_err_and c.from_residual.result c.from_residual.ensures.1 in
+    let a = c.args in
+    let q = c.requires in
+    let t = tables_with a.names.now a.lengths.now a.sections.now a.symbols.now a.relocs.now [] a.unit_places.now in
+    let room = room_in (length a.pieces.now) (length a.entries.now) (length a.offsets.now) in
+    let table = columns a.starts.now a.ends.now a.units.now a.rest.now in
+    let o = c.ordered-linked in
+    rw (p.1, p.2) (unlinked_right a.file.now t room table a.e.names a.e.used a.e.splits o.new.out a.pieces.now a.entries.now a.offsets.now q.0.usable q.1 (length a.out_units.now) o.ensures _ c.in_err-k.was)
+
+pub returns-in_err-made : goal.returns-in_err-made
+returns-in_err-made c =
+    let r = c.from_residual-in_err-made in
+    let p = err_from_is_err_and r.result r.ensures.1 in
+    let a = c.args in
+    let q = c.requires in
+    let t = tables_with a.names.now a.lengths.now a.sections.now a.symbols.now a.relocs.now [] a.unit_places.now in
+    let room = room_in (length a.pieces.now) (length a.entries.now) (length a.offsets.now) in
+    let table = columns a.starts.now a.ends.now a.units.now a.rest.now in
+    let o = c.ordered-linked in
+    rw (p.1, p.2) (refused_right a.file.now t room table a.e.names a.e.used a.e.splits o.new.out c.walk_with_columns.new.pieces c.walk_with_columns.new.entries c.walk_with_columns.new.offsets q.0.usable q.1 (length a.out_units.now) o.ensures _ c.in_ok-k.was _ c.in_err-made.ensures)
+
+pub returns : goal.returns
+returns c =
+    let a = c.args in
+    let q = c.requires in
+    let t = tables_with a.names.now a.lengths.now a.sections.now a.symbols.now a.relocs.now [] a.unit_places.now in
+    let room = room_in (length a.pieces.now) (length a.entries.now) (length a.offsets.now) in
+    let table = columns a.starts.now a.ends.now a.units.now a.rest.now in
+    let o = c.ordered-linked in
+    (made_right a.file.now t room table a.e.names a.e.used a.e.splits o.new.out c.walk_with_columns.new.pieces c.walk_with_columns.new.entries c.walk_with_columns.new.offsets
+    q.0.usable q.1 (length a.out_units.now) o.ensures _ c.in_ok-k.was _ c.in_ok-made.ensures)

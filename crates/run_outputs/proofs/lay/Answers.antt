@@ -1,0 +1,32 @@
+-- `run_outputs::lay` meets its contract: each table is laid by itself, and the counts are those of what is kept.
+-- Assumes nothing.
+use mathlib.Core.Path.{sym, ap, ◌∙◌}
+use Prim.Native.Nat.{◌*◌}
+use lib.ListN.{length}
+use Rattle.outputs.specs.Outputs.{counts_of}
+use Rattle.splits.specs.Columns.{columns}
+use Rattle.gap_splits.specs.Answers.{beside}
+use Rattle.stage_walk.proofs.Room.{cleared}
+use Rattle.run_outputs.proofs.Laws.{kept-listed}
+use Rattle.run_outputs.proofs.lay.Goals as goal
+
+pub returns : goal.returns
+returns c =
+    let a = c.args in
+    let q = c.requires in
+    let k = a.k in
+    let beside' = beside a.added_bytes.now a.added_places.now a.added_lengths.now in
+    let table = columns a.starts.now a.ends.now a.units.now a.rest.now in
+    let names = c.lay_names.ensures in
+    let output = c.lay_output.ensures in
+    record {
+      ends_are = names.0;
+      bytes_are = names.1;
+      splits_are = c.put_splits.ensures;
+      units_are = c.clear_from.ensures ∙ cleared a.out_units.now _ (8 * k.units) (sym q.units_there.written) q.units_there.fit;
+      pieces_are = output.pieces_are;
+      symbols_are = output.symbols_are;
+      relocs_are = output.relocs_are;
+      counted = c.put_counts.ensures
+          ∙ ap (counts_of (length a.counts.now)) (kept-listed beside' table a.out_units.now a.pieces.now a.entries.now a.offsets.now k q.names.sum);
+    }

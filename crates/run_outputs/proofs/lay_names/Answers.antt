@@ -1,0 +1,27 @@
+-- `run_outputs::lay_names` meets its contract: the names are put at the front, and zeros after them.
+-- Assumes nothing.
+use mathlib.Core.Path.{sym}
+use native.Mathlib.Omega.{arith}
+use Rattle.gap_splits.specs.Answers.{added, beside}
+use Rattle.names.proofs.Laws.{length-names}
+use Rattle.stage_gaps.proofs.Laws.{flat_bytes}
+use Rattle.run_outputs.proofs.Laws.{ends_laid, bytes_laid}
+use Rattle.run_outputs.proofs.lay_names.Goals as goal
+
+pub put_names-requires : goal.put_names-requires
+put_names-requires c =
+    let a = c.args in
+    let q = c.requires in
+    let long = flat_bytes (added (beside a.added_bytes.now a.added_places.now a.added_lengths.now) a.names) in
+    (q.0.packed.named, omega (arith, q.1), omega (arith, long, q.0.sum, q.0.short), omega (arith, long, q.0.sum, q.0.low))
+
+pub returns : goal.returns
+returns c =
+    let a = c.args in
+    let q = c.requires in
+    let names = added (beside a.added_bytes.now a.added_places.now a.added_lengths.now) a.names in
+    let put = c.put_names.ensures in
+    let count = length-names a.added_bytes.now a.added_places.now a.added_lengths.now a.names in (
+      ends_laid names a.out_ends.now a.out_bytes.now _ _ put (sym count) q.1 c.clear_from.ensures,
+      bytes_laid names a.out_ends.now a.out_bytes.now _ _ put q.0.sum q.0.short c.clear_from-2.ensures,
+    )

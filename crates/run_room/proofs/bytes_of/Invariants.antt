@@ -1,0 +1,10 @@
+-- `run_room::bytes_of` meets its contract. Invariant: the bytes so far and the sum of what is left are the sum of all.
+-- Assumes nothing.
+use Prim.Native.Nat.{◌+◌, ◌*◌, ◌≤◌}
+use mathlib.Core.Path.{◌≡◌}
+use lib.ListN.{drop}
+use Rattle.run_room.specs.Room.{sum}
+use Rattle.run_room.proofs.bytes_of.Given as goal
+
+abbrev pub invariant-loop-i : goal.invariant-loop-i
+invariant-loop-i l = (l.bytes + sum (drop l.i l.lengths) ≡ sum l.lengths) × (l.bytes ≤ 255 * l.i)

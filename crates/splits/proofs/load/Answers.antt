@@ -1,0 +1,23 @@
+-- `splits::load` meets its contract. Invariant: the first i rows are the splits at the first i places.
+-- Assumes nothing.
+use mathlib.Core.Path.{ap, ◌∙◌}
+use native.Mathlib.Omega.{arith}
+use Rattle.lists.proofs.Parts.{tabulate_list}
+use Rattle.align.specs.Align.{bad_align}
+use Rattle.obj.specs.Records.{split_at}
+use Rattle.obj.specs.declared.Split.{Split}
+use Rattle.splits.specs.Columns.{columns, row_at}
+use Rattle.splits.proofs.Alignment.{good_alignment}
+use Rattle.splits.proofs.load.Goals as goal
+
+pub rest_of-requires : goal.rest_of-requires
+rest_of-requires c =
+    let s = c.split_at-s in
+    let aligned = c.requires.0.aligned c.loop-i.i c.loop-i-test.true in
+    good_alignment s.result.alignment (ap (λ (r : Split). bad_align r.alignment) s.ensures ∙ aligned)
+
+pub returns : goal.returns
+returns c =
+    let l = c.loop-i in
+    let a = c.args in
+    tabulate_list (split_at a.b.now) (row_at (columns l.starts l.ends l.units l.rest)) a.places.now 0 (λ k h. l.invariant.2 k (omega arith))

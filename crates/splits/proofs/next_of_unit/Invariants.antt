@@ -1,0 +1,18 @@
+-- `splits::next_of_unit` meets its contract. Invariant: of the rows from `at` on that pass, none stands before place i.
+-- Assumes nothing.
+use mathlib.Core.Path.{◌≡◌}
+use Prim.Native.Nat.{◌-◌, ◌≤◌}
+use Rattle.lists.specs.Rows.{tabulate, keep_if}
+use Rattle.splits.specs.Columns.{columns, row_at}
+use Rattle.splits.specs.Questions.{of_unit}
+use Rattle.splits.proofs.next_of_unit.Given as goal
+
+abbrev pub invariant-loop-i : goal.invariant-loop-i
+invariant-loop-i l =
+    (l.at ≤ l.i)
+    × (l.i ≤ l.n)
+    × (keep_if (of_unit l.section l.unit) (tabulate (row_at (columns l.starts l.ends l.units l.rest)) l.at (l.n - l.at))
+    ≡ keep_if (of_unit l.section l.unit) (tabulate (row_at (columns l.starts l.ends l.units l.rest)) l.i (l.n - l.i)))
+
+abbrev pub decreases-loop-i : goal.decreases-loop-i
+decreases-loop-i l = l.n - l.i

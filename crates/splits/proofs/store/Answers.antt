@@ -1,0 +1,33 @@
+-- `splits::store` meets its contract. Invariant: writing the rows that are left from here on writes them all.
+-- Assumes nothing.
+use mathlib.Core.Path.{sym, ap, ◌∙◌}
+use mathlib.Core.List.{List}
+use native.Mathlib.Omega.{arith}
+use Prim.Native.Nat.{ℕ, ◌+◌, ◌-◌, ◌*◌}
+use lib.Seq.{sets}
+use Rattle.lists.specs.Rows.{tabulate}
+use Rattle.obj.specs.declared.Split.{Split}
+use Rattle.splits.specs.Columns.{columns, row_at}
+use Rattle.splits.specs.Bytes.{split_bytes, table_bytes}
+use Rattle.obj.specs.Records.{split_width}
+use Rattle.splits.proofs.Bytes.{written_turn, written_all}
+use Rattle.splits.proofs.store.Goals as goal
+
+pub loop-i-preserved : goal.loop-i-preserved
+loop-i-preserved c =
+    let l = c.loop-i in
+    let a = c.args in
+    let f = row_at (columns a.starts.now a.ends.now a.units.now a.rest.now) in
+    let w = c.put_split.ensures ∙ ap (λ (s : Split). sets l.out (split_width * l.i) (split_bytes s)) c.row.ensures in (
+      omega arith,
+      c.put_split.auto.out ∙ l.invariant.1,
+      ap (λ (b : List ℕ). sets b (split_width * (l.i + 1)) (table_bytes (tabulate f (l.i + 1) (a.n - (l.i + 1))))) w
+          ∙ written_turn l.out f a.n l.i c.loop-i-test.true
+          ∙ l.invariant.2,
+    )
+
+pub returns : goal.returns
+returns c =
+    let a = c.args in
+    let f = row_at (columns a.starts.now a.ends.now a.units.now a.rest.now) in
+    sym (written_all c.loop-i.out f a.n c.loop-i.i c.loop-i-test.false) ∙ c.loop-i.invariant.2

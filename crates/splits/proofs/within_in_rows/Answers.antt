@@ -1,0 +1,22 @@
+-- `splits::within_in_rows` meets its contract. Invariant: none of the rows from `at` up to i is in the range.
+-- Assumes nothing.
+use mathlib.Core.Path.{sym, ◌∙◌}
+use native.Mathlib.Omega.{arith}
+use Rattle.splits.specs.Columns.{columns, row_of, row_at}
+use Rattle.splits.specs.Questions.{within}
+use Rattle.splits.proofs.Blocks.{none_more}
+use Rattle.splits.proofs.within_in_rows.Goals as goal
+
+pub returns-then-is_within : goal.returns-then-is_within
+unfolding row_of
+returns-then-is_within c =
+    let l = c.loop-i in
+    (omega arith, omega arith, l.invariant.2, λ h. sym c.is_within.ensures ∙ c.if-is_within.true)
+
+pub loop-i-preserved : goal.loop-i-preserved
+unfolding row_of
+loop-i-preserved c =
+    let l = c.loop-i in
+    let a = c.args in
+    let f = row_at (columns a.starts.now a.ends.now a.units.now a.rest.now) in
+    (omega arith, omega arith, none_more (λ k. within a.section a.from a.to (f k)) a.at l.i l.invariant.2 (sym c.is_within.ensures ∙ c.if-is_within.false))

@@ -1,0 +1,14 @@
+-- `splits::within_in_rows` meets its contract. Invariant: none of the rows from `at` up to i is in the range.
+-- Assumes nothing.
+use mathlib.Core.Path.{◌≡◌}
+use mathlib.Core.Bool.{false}
+use Prim.Native.Nat.{ℕ, ◌≤◌, ◌<◌}
+use Rattle.splits.specs.Columns.{columns, row_at}
+use Rattle.splits.specs.Questions.{within}
+use Rattle.splits.proofs.within_in_rows.Given as goal
+
+abbrev pub invariant-loop-i : goal.invariant-loop-i
+invariant-loop-i l =
+    (l.at ≤ l.i)
+    × (l.i ≤ l.n)
+    × ((k : ℕ) → l.at ≤ k → k < l.i → within l.section l.from l.to (row_at (columns l.starts l.ends l.units l.rest) k) ≡ false)

@@ -1,0 +1,7 @@
+-- `srecord_lines::share_address` meets its contract. The tests say that some address is in both.
+-- Assumes nothing.
+use Rattle.srecord_lines.proofs.Laws.{share_is}
+use Rattle.srecord_lines.proofs.share_address.Goals as goal
+
+pub returns : goal.returns
+returns c = share_is c.args.s c.args.t

@@ -1,0 +1,58 @@
+-- `stage_walk::from_splits` meets its contract. Splits that are refused are the answer; else the columns hold them, and the units are asked with them.
+-- Assumes nothing.
+use Rattle.std.specs.Prelude.{Err}
+use Rattle.std.proofs.lemmas.Result.{err_from_is_err_and}
+use Rattle.obj.specs.declared.Refusal.{Refusal}
+use Prim.Native.Nat.{◌/◌}
+use mathlib.Core.Path.{sym, ap, ◌∙◌}
+use native.Mathlib.Omega.{arith}
+use lib.ListN.{length}
+use Rattle.obj.specs.Answers.{meaning}
+use Rattle.stage_tables.proofs.Laws.{table_passed}
+use Rattle.sections.specs.Image.{image_of}
+use Rattle.sections.specs.Sections.{sections_of}
+use Rattle.relocs.specs.Relocs.{reloc_of}
+use Rattle.splits.specs.Columns.{columns, rows as rows_of}
+use Rattle.tables.specs.Records.{sections_in}
+use Rattle.stage_walk.specs.Room.{room_in}
+use Rattle.stage_walk.specs.Lines.{from_splits}
+use Rattle.obj.specs.Records.{split_width}
+use Rattle.stage_walk.proofs.Passed.{rows_named}
+use Rattle.stage_walk.proofs.Lines.{gives_stops, splits_go}
+use Rattle.stage_walk.proofs.from_splits.Goals as goal
+
+pub with_units-requires : goal.with_units-requires
+with_units-requires c =
+    let a = c.args in
+    let passed = sym c.take_split_columns.ensures.said ∙ ap meaning c.in_ok-take_split_columns.was in
+    let few = (table_passed split_width 1024 a.splits.now _ passed).1 in
+    let long = c.requires.5 in
+    let kept = c.take_split_columns.auto in
+    let last = c.take_split_columns.new in (
+      c.requires.0,
+      c.requires.1,
+      c.requires.2,
+      rows_named 1024 a.name_lengths.now (sections_in a.heads.now a.head_places.now) a.splits.now (columns last.starts last.ends last.units last.rest) passed (c.take_split_columns.ensures.taken passed)
+          (record {
+            starts = omega (arith, few, long.starts_long, kept.starts);
+            ends = omega (arith, few, long.ends_long, kept.ends);
+            units = omega (arith, few, long.units_long, kept.units);
+            rest = omega (arith, few, long.rest_long, kept.rest);
+          }),
+      c.requires.3,
+      c.requires.4,
+    )
+
+pub returns : goal.returns
+returns c =
+    let a = c.args in
+    let passed = sym c.take_split_columns.ensures.said ∙ ap meaning c.in_ok-take_split_columns.was in
+    splits_go a.name_lengths.now (sections_in a.heads.now a.head_places.now) (image_of a.symbols.now a.symbol_places.now a.name_bytes.now a.name_places.now a.name_lengths.now) (sections_of a.heads.now a.head_places.now a.image.now a.image_places.now) (reloc_of a.relocs.now a.reloc_places.now) (length a.reloc_places.now) a.splits.now a.unit_table.now
+    (rows_of (columns c.take_split_columns.new.starts c.take_split_columns.new.ends c.take_split_columns.new.units c.take_split_columns.new.rest) (length a.splits.now / split_width)) (room_in (length a.pieces.now) (length a.entries.now) (length a.offsets.now)) c.with_units.result c.with_units.new.pieces c.with_units.new.entries c.with_units.new.offsets
+    passed (c.take_split_columns.ensures.taken passed) c.with_units.ensures
+
+pub returns-in_err-take_split_columns : goal.returns-in_err-take_split_columns
+unfolding from_splits
+returns-in_err-take_split_columns c =
+    let p = err_from_is_err_and c.from_residual.result c.from_residual.ensures.1 in
+    gives_stops _ (p.1 ∙ ap (λ (x : Refusal). Err x) p.2) c.in_err-take_split_columns.ensures.said

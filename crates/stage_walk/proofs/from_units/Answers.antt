@@ -1,0 +1,56 @@
+-- `stage_walk::from_units` meets its contract. Units that are refused are the answer; else each name has the number of its unit, and the sections are walked.
+-- Assumes nothing.
+use Rattle.std.specs.Prelude.{Err}
+use Rattle.std.proofs.lemmas.Result.{err_from_is_err_and}
+use Rattle.obj.specs.declared.Refusal.{Refusal}
+use mathlib.Core.Path.{sym, ap, ◌∙◌}
+use Prim.Native.Nat.{◌/◌, ◌≤◌}
+use native.Mathlib.Omega.{arith}
+use lib.ListN.{length, take}
+use lib.Seq.{length-take-le}
+use Rattle.obj.specs.Answers.{meaning}
+use Rattle.stage_tables.proofs.Laws.{taken_few, taken_places}
+use Rattle.sections.specs.Image.{image_of}
+use Rattle.sections.specs.Sections.{sections_of}
+use Rattle.relocs.specs.Relocs.{reloc_of}
+use Rattle.splits.specs.Columns.{columns, rows as rows_of}
+use Rattle.stage_walk.specs.Room.{room_in}
+use Rattle.stage_walk.specs.Lines.{from_units}
+use Rattle.stage_walk.proofs.Passed.{units_listed}
+use Rattle.stage_walk.proofs.Lines.{gives_stops, units_go}
+use Rattle.stage_walk.proofs.from_units.Goals as goal
+
+pub slice_bounds-number_units-end : goal.slice_bounds-number_units-end
+slice_bounds-number_units-end c = omega (arith, taken_few 8 1024 c.args.unit_table.now _ _ c.take_units.ensures (ap meaning c.in_ok-take_units.was), c.take_units.auto.places, c.requires.6.places_long)
+
+pub slice_bounds-number_units-end-2 : goal.slice_bounds-number_units-end-2
+slice_bounds-number_units-end-2 c =
+    let inside : length c.args.unit_table.now / 8 ≤ length c.take_units.new.places = omega (arith, taken_few 8 1024 c.args.unit_table.now _ _ c.take_units.ensures (ap meaning c.in_ok-take_units.was), c.take_units.auto.places, c.requires.6.places_long) in
+    sym (length-take-le _ _ inside)
+
+pub number_units-requires : goal.number_units-requires
+number_units-requires c =
+    let a = c.args in
+    units_listed a.name_lengths.now a.unit_table.now (sym c.take_units.ensures.said ∙ ap meaning c.in_ok-take_units.was) _ _ (taken_places 8 1024 c.args.unit_table.now _ _ c.take_units.ensures (ap meaning c.in_ok-take_units.was))
+    (omega (arith, c.requires.4, c.requires.6.numbers_long))
+
+pub slice_bounds-walk_columns-end : goal.slice_bounds-walk_columns-end
+slice_bounds-walk_columns-end c = omega (arith, taken_few 8 1024 c.args.unit_table.now _ _ c.take_units.ensures (ap meaning c.in_ok-take_units.was), c.take_units.auto.places, c.requires.6.places_long)
+
+pub slice_bounds-walk_columns-end-2 : goal.slice_bounds-walk_columns-end-2
+slice_bounds-walk_columns-end-2 c =
+    let inside : length c.args.unit_table.now / 8 ≤ length c.take_units.new.places = omega (arith, taken_few 8 1024 c.args.unit_table.now _ _ c.take_units.ensures (ap meaning c.in_ok-take_units.was), c.take_units.auto.places, c.requires.6.places_long) in
+    sym (length-take-le _ _ inside)
+
+pub returns : goal.returns
+returns c =
+    let a = c.args in
+    units_go a.name_lengths.now (image_of a.symbols.now a.symbol_places.now a.name_bytes.now a.name_places.now a.name_lengths.now) (sections_of a.heads.now a.head_places.now a.image.now a.image_places.now) (reloc_of a.relocs.now a.reloc_places.now) (length a.reloc_places.now) (rows_of (columns a.starts.now a.ends.now a.units.now a.rest.now) a.rows) a.unit_table.now
+    (take (length a.unit_table.now / 8) c.take_units.new.places) (room_in (length a.pieces.now) (length a.entries.now) (length a.offsets.now)) c.walk_columns.result c.walk_columns.new.pieces c.walk_columns.new.entries c.walk_columns.new.offsets
+    (sym c.take_units.ensures.said ∙ ap meaning c.in_ok-take_units.was) (taken_places 8 1024 c.args.unit_table.now _ _ c.take_units.ensures (ap meaning c.in_ok-take_units.was)) c.walk_columns.ensures
+
+pub returns-in_err-take_units : goal.returns-in_err-take_units
+unfolding from_units
+returns-in_err-take_units c =
+    let p = err_from_is_err_and c.from_residual.result c.from_residual.ensures.1 in
+    gives_stops _ (p.1 ∙ ap (λ (x : Refusal). Err x) p.2) c.in_err-take_units.ensures.said

@@ -1,0 +1,14 @@
+-- The number is the definition's: the record, what it names, and the split before it are those that the definition looks at.
+use Rattle.std.proofs.Common.{ℕ, refl, ap, ◌∙◌}
+use Rattle.tables.specs.Tables.{record_check}
+use Rattle.tables.proofs.Faults.{split_fault_is}
+use Rattle.tables.proofs.split_fault.Goals as goal
+
+pub returns : goal.returns
+returns c =
+    let a = c.args in
+    c.refuse_if.ensures
+    ∙ ap (λ (n : ℕ). record_check n a.k)
+    (split_fault_is a.lengths.now a.heads.now a.head_places.now a.b.now a.places.now _ c.requires.2
+    c.split_at-s.ensures c.length_of-unit_len.ensures c.length_of-rename_len.ensures c.section_or_none-home.ensures
+    c.split_before-before.ensures c.split_bad-bad.ensures c.split_misplaced.ensures refl)

@@ -1,0 +1,8 @@
+-- `toposort::bad_edge`. Invariant: the scan from `e` on finds what the whole scan finds.
+use Rattle.std.specs.Prelude.{◌≡◌}
+use Rattle.toposort.specs.Search.{bad_edge}
+use Rattle.toposort.proofs.Edges.{bad_from}
+use Rattle.toposort.proofs.bad_edge.Given as goal
+
+abbrev pub invariant-loop-e : goal.invariant-loop-e
+invariant-loop-e l = bad_edge l.n l.from l.to ≡ bad_from l.n l.from l.to l.e

@@ -1,0 +1,19 @@
+-- `trim::after_last` meets its contract. Invariant: no row from place j on is the section's.
+use native.Mathlib.Omega.{arith}
+use Rattle.splits.specs.Columns.{columns, row_at}
+use Rattle.trim.proofs.Cut.{none_down, none_end}
+use Rattle.trim.proofs.after_last.Goals as goal
+
+pub loop-j-init : goal.loop-j-init
+loop-j-init c =
+    let row = row_at (columns c.args.starts.now c.args.ends.now c.args.units.now c.args.rest.now) in
+    let s = c in (omega arith, none_end s.args.section 0 row s.args.n)
+
+pub loop-j-preserved : goal.loop-j-preserved
+loop-j-preserved c =
+    let row = row_at (columns c.args.starts.now c.args.ends.now c.args.units.now c.args.rest.now) in
+    let s = c in
+    let l = c.loop-j in (
+      omega (arith, l.invariant.0),
+      none_down s.args.section 0 row s.args.n l.j _ c.loop-j-test.true l.invariant.0 c.row-y.ensures c.if-y-section.false l.invariant.1,
+    )

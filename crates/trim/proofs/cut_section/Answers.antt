@@ -1,0 +1,56 @@
+-- `trim::cut_section` meets its contract: 10, the rows as they are where the splitting end is the section's end, or its last row cut.
+use mathlib.Core.Path.{sym, ap, ◌∙◌}
+use Prim.Native.Nat.{◌+◌}
+use native.Mathlib.Omega.{arith}
+use Rattle.lists.specs.Outcome.{accepted}
+use Rattle.obj.specs.Answers.{Answer}
+use Rattle.obj.specs.declared.Section.{Section}
+use Rattle.sections.specs.Image.{image_of}
+use Rattle.sections.specs.Sections.{sections_of}
+use Rattle.sections.specs.Ends.{end_meaning}
+use Rattle.sections.proofs.Kept.{kept-held}
+use Rattle.splits.specs.Columns.{columns, rows}
+use Rattle.trim.specs.Steps.{seen}
+use Rattle.trim.proofs.Cut.{section_short, section_whole, section_cut}
+use Rattle.trim.proofs.cut_section.Goals as goal
+
+pub section_at-head-requires : goal.section_at-head-requires
+section_at-head-requires c = kept-held _ _ _ _ _ c.requires.1 c.args.k c.requires.3
+
+pub overflow_add-head : goal.overflow_add-head
+overflow_add-head c =
+    let e = ap (λ (h : Section). h.address + h.size) c.section_at-head.ensures in
+    omega (arith, e, c.requires.1.below c.args.k c.requires.3)
+
+pub overflow_cast-k : goal.overflow_cast-k
+overflow_cast-k c = omega (arith, c.requires.1.few, c.requires.3)
+
+pub overflow_cast-k-in-Err : goal.overflow_cast-k-in-Err
+overflow_cast-k-in-Err c = omega (arith, c.requires.1.few, c.requires.3)
+
+pub returns-then-head-low : goal.returns-then-head-low
+returns-then-head-low c =
+    let a = c.args in
+    let g = image_of a.b.now a.places.now a.name_bytes.now a.name_places.now a.name_lengths.now in
+    let sections = sections_of a.heads.now a.head_places.now a.image.now a.image_places.now in
+    let whole = ap (λ (h : Section). h.address + h.size) c.section_at-head.ensures in
+    let is = sym c.end_at-end.ensures ∙ ap (end_meaning a.k c.section_at-head.result.address) c.in-Ok.is in
+    sym (section_whole g sections a.k _ _ is (sym whole ∙ c.if-head-low.true))
+
+pub returns-else-head-low : goal.returns-else-head-low
+returns-else-head-low c =
+    let a = c.args in
+    let g = image_of a.b.now a.places.now a.name_bytes.now a.name_places.now a.name_lengths.now in
+    let sections = sections_of a.heads.now a.head_places.now a.image.now a.image_places.now in
+    let whole = ap (λ (h : Section). h.address + h.size) c.section_at-head.ensures in
+    let is = sym c.end_at-end.ensures ∙ ap (end_meaning a.k c.section_at-head.result.address) c.in-Ok.is in
+    ap accepted c.cut_last.ensures ∙ sym (section_cut g sections a.k _ _ is (λ e. c.if-head-low.false (whole ∙ e)))
+
+pub returns-in-Err : goal.returns-in-Err
+returns-in-Err c =
+    let a = c.args in
+    let g = image_of a.b.now a.places.now a.name_bytes.now a.name_places.now a.name_lengths.now in
+    let sections = sections_of a.heads.now a.head_places.now a.image.now a.image_places.now in
+    let head = c.section_at-head.result in
+    ap (λ (r : Answer). seen r (rows (columns a.starts.now a.ends.now a.units.now a.rest.now) a.n)) c.refuse.ensures
+    ∙ sym (section_short g sections a.k _ 10 a.k head.address (sym c.end_at-end.ensures ∙ ap (end_meaning a.k head.address) c.in-Err.is))

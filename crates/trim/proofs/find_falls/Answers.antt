@@ -1,0 +1,71 @@
+-- `trim::find_falls` meets its contract: each fall is stored in its place, and the first refusal ends it.
+use mathlib.Core.Path.{◌≡◌, sym, ap, ◌∙◌}
+use Prim.Native.Nat.{ℕ}
+use native.Mathlib.Omega.{arith}
+use lib.ListN.{take}
+use Rattle.lists.specs.Outcome.{accepted}
+use Rattle.obj.specs.Answers.{Answer}
+use Rattle.obj.specs.declared.Split.{Split}
+use Rattle.align.specs.Align.{bad_align}
+use Rattle.sections.specs.Image.{image_of}
+use Rattle.sections.specs.Sections.{head_of}
+use Rattle.splits.specs.Columns.{columns, row_at}
+use Rattle.trim.specs.Steps.{asked_meaning, seen}
+use Rattle.trim.proofs.Falls.{falls_start, fall_turn, fall_stops, falls_ended}
+use Rattle.splits.proofs.Rows.{good_row}
+use Rattle.splits.proofs.Alignment.{alignment_good}
+use Rattle.trim.proofs.find_falls.Goals as goal
+
+pub loop-i-init : goal.loop-i-init
+loop-i-init c =
+    let a = c.args in
+    let g = image_of a.b.now a.places.now a.name_bytes.now a.name_places.now a.name_lengths.now in
+    let head = head_of a.heads.now a.head_places.now in
+    let row = row_at (columns a.starts.now a.ends.now a.units.now a.rest.now) in
+    falls_start g head row a.n
+
+pub fall_of-fall-requires : goal.fall_of-fall-requires
+fall_of-fall-requires c =
+    let e = c.row-s.ensures in
+    let p = c.requires.1.each c.loop-i.i c.loop-i-test.true in (
+      c.requires.0,
+      c.requires.1,
+      record { section = omega (arith, ap (λ (y : Split). y.section) e, p.section); end = omega (arith, ap (λ (y : Split). y.end) e, p.end) },
+      ap (λ (y : Split). bad_align y.alignment) e ∙ alignment_good _ (good_row _ _ _ _),
+    )
+
+pub loop-i-preserved : goal.loop-i-preserved
+loop-i-preserved c =
+    let a = c.args in
+    let g = image_of a.b.now a.places.now a.name_bytes.now a.name_places.now a.name_lengths.now in
+    let head = head_of a.heads.now a.head_places.now in
+    let row = row_at (columns a.starts.now a.ends.now a.units.now a.rest.now) in
+    let l = c.loop-i in
+    let y = c.row-s.result in
+    let fall = sym c.fall_of-fall.ensures ∙ ap (asked_meaning y.section y.start) c.in-Ok.is in
+    fall_turn g head row a.n l.i c.loop-i-test.true y c.row-s.ensures l.falls _ (omega (arith, c.requires.2, l.auto.falls, c.loop-i-test.true)) fall ∙ l.invariant
+
+pub returns-in-Err : goal.returns-in-Err
+returns-in-Err c =
+    let a = c.args in
+    let g = image_of a.b.now a.places.now a.name_bytes.now a.name_places.now a.name_lengths.now in
+    let head = head_of a.heads.now a.head_places.now in
+    let row = row_at (columns a.starts.now a.ends.now a.units.now a.rest.now) in
+    let l = c.loop-i in
+    let y = c.row-s.result in
+    let fall = sym c.fall_of-fall.ensures ∙ ap (asked_meaning y.section y.start) c.in-Err.is in
+    ap (λ (r : Answer). seen r (take a.n l.falls)) c.refuse.ensures
+    ∙ sym (fall_stops g head row a.n l.i c.loop-i-test.true y c.row-s.ensures (take l.i l.falls) 11 y.section y.start fall)
+    ∙ l.invariant
+
+pub returns : goal.returns
+returns c =
+    let a = c.args in
+    let g = image_of a.b.now a.places.now a.name_bytes.now a.name_places.now a.name_lengths.now in
+    let head = head_of a.heads.now a.head_places.now in
+    let row = row_at (columns a.starts.now a.ends.now a.units.now a.rest.now) in
+    let l = c.loop-i in
+    let z : ◌≡◌ a.n l.i = omega (arith, l.auto.i-end, c.loop-i-test.false) in
+    ap (λ (m : ℕ). accepted (take m l.falls)) z
+    ∙ sym (falls_ended g head row a.n l.i (take l.i l.falls) c.loop-i-test.false)
+    ∙ l.invariant

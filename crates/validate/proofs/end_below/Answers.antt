@@ -1,0 +1,33 @@
+-- `validate::end_below` meets its contract: the end of the symbol that `last_below` finds, which is one of the table and ends below 0xF0000000.
+use mathlib.Core.Path.{sym, ap, ◌∙◌}
+use mathlib.Core.Bool.{false}
+use native.Mathlib.Omega.{arith}
+use lib.ListN.{length}
+use Rattle.obj.specs.declared.Symbol.{Symbol}
+use Rattle.symbol_order.specs.Order.{symbol_of}
+use Rattle.symbol_order.proofs.Parts.{held}
+use Rattle.symbols.proofs.Finds.{below-found}
+use Rattle.validate.proofs.Steps.{end_at, end_none}
+use Rattle.validate.proofs.end_below.Goals as goal
+
+pub symbol_at-y-requires : goal.symbol_at-y-requires
+symbol_at-y-requires c =
+    let a = c.args in
+    held _ _ c.requires.0.whole _ (below-found (symbol_of a.b.now a.places.now) (length a.places.now) a.section false a.address c.in-Some.i (sym c.last_below.ensures ∙ c.in-Some.is))
+
+pub overflow_add-result : goal.overflow_add-result
+overflow_add-result c =
+    let a = c.args in
+    let e = ap (λ (y : Symbol). y.address) c.symbol_at-y.ensures in
+    let f = ap (λ (y : Symbol). y.size) c.symbol_at-y.ensures in
+    omega (arith, e, f, c.requires.1.ends _ (below-found (symbol_of a.b.now a.places.now) (length a.places.now) a.section false a.address c.in-Some.i (sym c.last_below.ensures ∙ c.in-Some.is)))
+
+pub returns-in-Some : goal.returns-in-Some
+returns-in-Some c =
+    let a = c.args in
+    end_at (symbol_of a.b.now a.places.now) (length a.places.now) a.section a.address _ _ c.symbol_at-y.ensures (sym c.in-Some.is ∙ c.last_below.ensures)
+
+pub returns-in-None : goal.returns-in-None
+returns-in-None c =
+    let a = c.args in
+    end_none (symbol_of a.b.now a.places.now) (length a.places.now) a.section a.address (sym c.in-None.is ∙ c.last_below.ensures)
