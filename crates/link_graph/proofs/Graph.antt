@@ -27,7 +27,7 @@ use Rattle.order_numbers.proofs.Records.{ordered_records, length-ordered}
 use Rattle.order_numbers.proofs.Parts.{ordered_readable}
 use Rattle.splits.specs.Columns.{Columns, rows, row_at}
 use Rattle.splits.specs.Questions.{is_common}
-use Rattle.link_graph.specs.Graph.{Given, UnitEdge, edge, node_of, has_node, units_of, counted, nodes, split_at, is_first, apart, edge_at, split_edges, chained, links, edges, graph_of}
+use Rattle.link_graph.specs.Graph.{Given, UnitEdge, node_of, has_node, units_of, counted, nodes, split_at, is_first, apart, edge_at, split_edges, chained, links, edges, graph_of}
 use Rattle.link_graph.specs.Columns.{given_of, Splits, mark, Marked, Listed, Edgeable, Edged}
 use Rattle.link_graph.proofs.Nodes.{in_has, counted_in, length-counted, mark_is, no_mark}
 use Rattle.link_graph.proofs.Rows.{row_at_lem, units_of_rows}
@@ -202,7 +202,7 @@ module _ (g : Given) (from₁ from₂ to₁ to₂ kept : List ℕ) (e r : ℕ)
       ∙ sym (map-append (λ (x : UnitEdge). node_of (nodes g.splits) x.to) (split_edges g.pointers g.splits) (links (chained g)))
 
 -- ---- what the functions leave
-module _ (c : Columns) (n : ℕ) (heads head_places name_bytes name_places name_lengths ub up column numbers from to : List ℕ)
+module _ {c : Columns} {n : ℕ} {heads head_places name_bytes name_places name_lengths ub up column numbers from to : List ℕ}
     (given : Splits c n heads head_places name_bytes name_places name_lengths) (lent : Edgeable c n ub up column numbers from to) where
   abbrev G : Given
   G = given_of c n heads head_places name_bytes name_places name_lengths ub up
@@ -222,11 +222,11 @@ module _ (c : Columns) (n : ℕ) (heads head_places name_bytes name_places name_
       rw (ap (λ (s : Split). s.unit) (row_at_lem c n k q)) (lent.named k q)
 
   -- the edges of neighbours, and then those of the nodes that are kept
-  pub edged : (from₁ from₂ to₁ to₂ kept : List ℕ) (e r : ℕ) → Listed (start_in column) (goal_in column) (split_edges G.pointers (rows c n)) from₁ to₁ n e
+  pub edged : {from₁ from₂ to₁ to₂ kept : List ℕ} {e r : ℕ} → Listed (start_in column) (goal_in column) (split_edges G.pointers (rows c n)) from₁ to₁ n e
       → kept ≡ keep_if (λ v. not (eqb v 65535)) (map (λ k. get_or column (unit_of ub up k).name 0) numbers) → length kept ≤ 1024
       → take r from₂ ≡ take e from₁ ++ map (λ (x : UnitEdge). x.from) (links kept)
       → take r to₂ ≡ take e to₁ ++ map (λ (x : UnitEdge). x.to) (links kept) → r ≤ e + length kept → Edged G from₂ to₂ r
-  edged from₁ from₂ to₁ to₂ kept e r l k short f t small =
+  edged {from₁} {from₂} {to₁} {to₂} {kept} {e} {r} l k short f t small =
       let chain : kept ≡ map (node_of (nodes (rows c n))) (chained G) =
       k ∙ ap (λ (m : List ℕ). keep_if (λ v. not (eqb v 65535)) (map (λ k. get_or column (unit_of ub up k).name 0) m)) lent.numbers_are
       ∙ chain_kept G ub up column refl lent.marked few_nodes

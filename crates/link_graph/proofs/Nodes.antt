@@ -1,7 +1,7 @@
 -- The nodes: each unit of the splits once, in the order of the first splits; and the column that has the node of each unit while they are counted.
 -- Assumes nothing.
 use Prim.Native.Nat.{ℕ, zero, suc, ◌+◌, ◌≤◌, ◌<◌, zero-le, suc-le-suc}
-use mathlib.Core.Path.{◌≡◌, refl, sym, ap, ap₂, subst, ◌∙◌}
+use mathlib.Core.Path.{◌≡◌, refl, sym, ap, subst, ◌∙◌}
 use mathlib.Core.List.{List, [], ◌∷◌, ◌++◌}
 use mathlib.Core.Bool.{Bool, true, false, cond}
 use mathlib.Core.Logic.{◌⊎◌, inl, inr, ◌≢◌}
@@ -11,14 +11,14 @@ use native.Mathlib.Omega.{arith}
 use native.Mathlib.Decide.{ℕ_discrete}
 use borrow.Author.Tests.{lt-ltb, le-ltb, ltb-true, ltb-false, eqb-true, eqb-false, eq-eqb, ne_eqb}
 use lib.Dec.{eqb}
-use lib.ListN.{length, get_or, set, take, drop, replicate, length-take, length-append, length-set, get_or-replicate}
+use lib.ListN.{length, get_or, set, take, drop, drop_of_length-le, replicate, length-take, length-append, length-set, get_or-replicate}
 use lib.Seq.{get_or-set_same, get_or-set_other, drop-cons, take-suc-set, length-take-le}
 use Rattle.lists.specs.Rows.{first_in}
 use Rattle.lists.specs.Members.{In, Distinct}
 use Rattle.lists.proofs.Members.{fresh_in, fresh_of}
 use Rattle.lists.proofs.FirstIn.{first_in_passes}
 use Rattle.link_graph.specs.Graph.{node_of, has_node, counted}
-use Rattle.link_graph.specs.Columns.{mark, Marked}
+use Rattle.link_graph.specs.Columns.{mark, Marked, Counted}
 
 -- ---- the first that passes, of a list with one more at its end
 module _ (p : ℕ → Bool) (x : ℕ) where
@@ -162,7 +162,7 @@ length-counted (x ∷ us) seen =
 
 -- ---- the column
 module _ (seen : List ℕ) (few : length seen ≤ 65535) (v : ℕ) where
-  pub no_node : mark seen v ≡ 65535 → has_node seen v ≡ false
+  no_node : mark seen v ≡ 65535 → has_node seen v ≡ false
   unfolding mark
   no_node e = go (has_node seen v) refl e
     where
@@ -170,7 +170,7 @@ module _ (seen : List ℕ) (few : length seen ≤ 65535) (v : ℕ) where
       go true q h = let k = ltb-true (node_of seen v) (length seen) q in absurd (omega arith)
       go false q h = refl
 
-  pub some-node : mark seen v ≢ 65535 → has_node seen v ≡ true
+  some-node : mark seen v ≢ 65535 → has_node seen v ≡ true
   unfolding mark
   some-node e = go (has_node seen v) e
     where
@@ -211,7 +211,7 @@ module _ (seen : List ℕ) (x : ℕ) (new : has_node seen x ≡ false) where
           let long = length-append seen (x ∷ []) in
           rw (le-ltb (node_of (seen ++ (x ∷ [])) v) (length (seen ++ (x ∷ []))) (omega arith))
 
-  pub marked_more : (column : List ℕ) (k : ℕ) → k ≡ length seen → x < length column → Marked column seen → Marked (set column x k) (seen ++ (x ∷ []))
+  marked_more : (column : List ℕ) (k : ℕ) → k ≡ length seen → x < length column → Marked column seen → Marked (set column x k) (seen ++ (x ∷ []))
   marked_more column k e h m = record { marks = λ v q. go v (rw (length-set column x k) at q) (ℕ_discrete v x) }
     where
       go : (v : ℕ) → v < length column → Dec (v ≡ x) → get_or (set column x k) v 0 ≡ mark (seen ++ (x ∷ [])) v
@@ -223,47 +223,59 @@ unfolding mark first_in
 marked_blank column e = record { marks = λ v h. ap (λ (l : List ℕ). get_or l v 0) e ∙ get_or-replicate (length column) v 65535 0 h }
 
 -- ---- a turn of the counting
-pub count_new : (seen us : List ℕ) (x : ℕ) → has_node seen x ≡ false → counted seen (x ∷ us) ≡ counted (seen ++ (x ∷ [])) us
+count_new : (seen us : List ℕ) (x : ℕ) → has_node seen x ≡ false → counted seen (x ∷ us) ≡ counted (seen ++ (x ∷ [])) us
 unfolding counted
 count_new seen us x e = rw e
 
-pub count_old : (seen us : List ℕ) (x : ℕ) → has_node seen x ≡ true → counted seen (x ∷ us) ≡ counted seen us
+count_old : (seen us : List ℕ) (x : ℕ) → has_node seen x ≡ true → counted seen (x ∷ us) ≡ counted seen us
 unfolding counted
 count_old seen us x e = rw e
 
-pub count_end : (seen : List ℕ) → counted seen [] ≡ seen
-unfolding counted
-count_end seen = refl
+-- counting the units from place i on, after the first m of `nodes`, is counting all; the column has these nodes
+pub record Counting (us nodes column : List ℕ) (i m : ℕ) : Type 0 where
+  pub few : m ≤ i
+  pub counts : counted (take m nodes) (drop i us) ≡ counted [] us
+  pub marked : Marked column (take m nodes)
 
-module _ (us nodes column : List ℕ) (i m : ℕ) (h : i < length us) (marked : Marked column (take m nodes)) (x : ℕ) (here : x ≡ get_or us i 0) (inside : x < length column)
-    (few : m ≤ 65535) where
+module _ {us nodes column : List ℕ} {i m : ℕ} (t : Counting us nodes column i m) (h : i < length us) (small : length us ≤ 1024) (inside : get_or us i 0 < length column) where
+  abbrev seen : List ℕ
+  seen = take m nodes
+
+  abbrev x : ℕ
+  x = get_or us i 0
+
   rest_of : drop i us ≡ x ∷ drop (i + 1) us
-  rest_of = drop-cons us i 0 h ∙ ap₂ (λ (y k : ℕ). y ∷ drop k us) (sym here) (sym (add-one i))
+  rest_of = drop-cons us i 0 h ∙ ap (λ (k : ℕ). x ∷ drop k us) (sym (add-one i))
 
-  short : length (take m nodes) ≤ 65535
-  short = omega (arith, length-take m nodes)
+  few : m ≤ 1024
+  few = omega (arith, t.few)
+
+  short : length seen ≤ 65535
+  short = omega (arith, length-take m nodes, few)
 
   -- unit i has no node: it gets the next one
-  module _ (room : m < length nodes) (none : get_or column x 0 ≡ 65535) where
-    new : has_node (take m nodes) x ≡ false
-    new = no_node (take m nodes) short x (sym (marked.marks x inside) ∙ none)
-
-    more : take (m + 1) (set nodes m x) ≡ take m nodes ++ (x ∷ [])
-    more = ap (λ (k : ℕ). take k (set nodes m x)) (add-one m) ∙ take-suc-set nodes m x room
-
-    pub new_counted : counted (take (m + 1) (set nodes m x)) (drop (i + 1) us) ≡ counted (take m nodes) (drop i us)
-    new_counted =
-        ap (λ (l : List ℕ). counted l (drop (i + 1) us)) more
-        ∙ sym (count_new (take m nodes) (drop (i + 1) us) x new)
-        ∙ ap (counted (take m nodes)) (sym rest_of)
-
-    pub new_marked : Marked (set column x m) (take (m + 1) (set nodes m x))
-    new_marked =
-        subst (Marked (set column x m)) (sym more)
-        (marked_more (take m nodes) x new column m (sym (length-take-le m nodes (omega arith))) inside marked)
+  pub counting_new : m < length nodes → get_or column x 0 ≡ 65535 → Counting us (set nodes m x) (set column x m) (i + 1) (m + 1)
+  counting_new room none =
+      let new = no_node seen short x (sym (t.marked.marks x inside) ∙ none) in
+      let more : take (m + 1) (set nodes m x) ≡ seen ++ (x ∷ []) = rw (add-one m) (take-suc-set nodes m x room) in
+      record {
+        few = omega (arith, t.few);
+        counts = ap (λ (l : List ℕ). counted l (drop (i + 1) us)) more ∙ sym (count_new seen (drop (i + 1) us) x new) ∙ ap (counted seen) (sym rest_of) ∙ t.counts;
+        marked = subst (Marked (set column x m)) (sym more) (marked_more seen x new column m (sym (length-take-le m nodes (omega arith))) inside t.marked);
+      }
 
   -- it has one
-  pub old_counted : get_or column x 0 ≢ 65535 → counted (take m nodes) (drop (i + 1) us) ≡ counted (take m nodes) (drop i us)
-  old_counted some =
-      let has = some-node (take m nodes) short x (λ e. some (marked.marks x inside ∙ e)) in
-      sym (count_old (take m nodes) (drop (i + 1) us) x has) ∙ ap (counted (take m nodes)) (sym rest_of)
+  pub counting_old : get_or column x 0 ≢ 65535 → Counting us nodes column (i + 1) m
+  counting_old some =
+      let has = some-node seen short x (λ e. some (t.marked.marks x inside ∙ e)) in
+      record {
+        few = omega (arith, t.few);
+        counts = sym (count_old seen (drop (i + 1) us) x has) ∙ ap (counted seen) (sym rest_of) ∙ t.counts;
+        marked = t.marked;
+      }
+
+pub counting_done : {us nodes column : List ℕ} {i m : ℕ} → Counting us nodes column i m → length us ≤ i → i ≤ length us → Counted us column nodes m
+unfolding counted
+counting_done {us} {nodes} {column} {i} {m} t h k =
+    let all : take m nodes ≡ counted [] us = sym (ap (counted (take m nodes)) (drop_of_length-le us h)) ∙ t.counts in
+    record { is = all; marked = subst (Marked column) all t.marked; small = omega (arith, t.few) }

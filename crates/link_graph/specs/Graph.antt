@@ -3,7 +3,7 @@
 -- chain those that have splits."
 -- A unit is a name number; a node is the place of a unit in `nodes`, so that the search of crate toposort runs on them. What joins two units, said without
 -- these lists, is in specs/Joined.antt; that it is the same: proofs/Joined.antt.
-use Rattle.std.specs.Prelude.{ℕ, ◌+◌, ◌-◌, ◌%◌, List, [], ◌∷◌, ◌++◌, map, Bool, cond, not, ◌&&◌, ◌||◌, length, get_or, eqb, ltb}
+use Rattle.std.specs.Prelude.{ℕ, ◌+◌, ◌-◌, List, [], ◌∷◌, ◌++◌, map, Bool, cond, not, ◌&&◌, ◌||◌, length, get_or, eqb, ltb}
 use Rattle.lists.specs.Rows.{tabulate, keep_if, first_in, any_of}
 use Rattle.obj.specs.declared.Split.{Split}
 use Rattle.obj.specs.declared.Unit as units

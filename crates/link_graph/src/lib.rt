@@ -1,7 +1,7 @@
 // The graph of the link order, in lent columns: "Units count by first split", an edge for neighbours in a section, and the chain of order numbers.
 #![tactic(auto)]
 
-ghost use Rattle.std.specs.Prelude.{◌≡◌, ◌&&◌, not, ◌++◌, map, ℕ, ◌+◌, ◌-◌, ◌%◌, ◌<◌, ◌≤◌, eqb, length, get_or, take, replicate};
+ghost use Rattle.std.specs.Prelude.{◌≡◌, ◌&&◌, not, ◌++◌, map, ℕ, ◌+◌, ◌-◌, ◌%◌, ◌<◌, ◌≤◌, ◌≢◌, eqb, length, get_or, take, replicate, MatchOption};
 ghost use Rattle.lists.specs.Rows.{keep_if};
 ghost use Rattle.lists.specs.Sort.{All};
 ghost use Rattle.splits.specs.Columns.{columns, rows, row_at, Long};
@@ -14,7 +14,8 @@ use names::{is_pointer_list, name_at};
 use obj::{Split, section_at, unit_at};
 use splits::row;
 
-// In a column by name number: a unit that has no node.
+// In a column by name number: a unit that has no node. A number, since a place is two bytes of a lent column, which an `Option` does not fit; a node is less
+// than 1,024.
 const NONE: u16 = 65535;
 
 // How many nodes and edges the graph has.
@@ -30,11 +31,7 @@ pub struct Made {
 pub fn blank(column: &mut [u16])
     ensures { column.new ≡ replicate (length column.old) 65535 }
 {
-    let mut i: usize = 0;
-    while i < column.len() {
-        column[i] = NONE;
-        i += 1;
-    }
+    column.fill(NONE);
 }
 
 // "Units count by first split."
@@ -42,17 +39,13 @@ fn count_units(us: &[u16], column: &mut [u16], nodes: &mut [u16]) -> usize
     requires { Countable us.now column.old nodes.old }
     ensures { Counted us.now column.new nodes.new result }
 {
-    let mut i: usize = 0;
     let mut m: usize = 0;
-    while i < us.len() {
-        let unit = us[i] as usize;
+    for &name in us {
+        let unit = name as usize;
         if column[unit] == NONE {
             column[unit] = m as u16;
-            nodes[m] = us[i];
+            nodes[m] = name;
             m += 1;
-            i += 1;
-        } else {
-            i += 1;
         }
     }
     m
@@ -190,10 +183,9 @@ fn split_edges(
         (rows (columns starts.now ends.now units.now rest.now) n))
         from.new to.new n result }
 {
-    let mut i: usize = 0;
     let mut e: usize = 0;
-    while i + 1 < n {
-        if apart(
+    for i in 0..n.saturating_sub(1) {
+        if !apart(
             starts,
             ends,
             units,
@@ -206,12 +198,9 @@ fn split_edges(
             name_lengths,
             i,
         ) {
-            i += 1;
-        } else {
             from[e] = column[units[i] as usize];
             to[e] = column[units[i + 1] as usize];
             e += 1;
-            i += 1;
         }
     }
     e
@@ -219,13 +208,17 @@ fn split_edges(
 
 // ---- the chain of order numbers
 
-// The node of unit record k, or none.
-fn node_at(unit_bytes: &[u8], unit_places: &[u32], column: &[u16], k: usize) -> u16
+// The node of unit record k.
+fn node_at(unit_bytes: &[u8], unit_places: &[u32], column: &[u16], k: usize) -> Option<u16>
     requires { Units unit_bytes.now unit_places.now column.now × (k < length unit_places.now) }
-    ensures { result ≡ get_or column.now (unit_of unit_bytes.now unit_places.now k).name 0 }
+    ensures { MatchOption result (get_or column.now (unit_of unit_bytes.now unit_places.now k).name 0 ≡ 65535)
+        (λ v. (v ≡ get_or column.now (unit_of unit_bytes.now unit_places.now k).name 0) × (v ≢ 65535)) }
 {
     let u = unit_at(unit_bytes, unit_places, k);
-    column[u.name as usize]
+    match column[u.name as usize] {
+        NONE => None,
+        v => Some(v),
+    }
 }
 
 // "chain those that have splits": the records' numbers become nodes, and those without a node go.
@@ -235,16 +228,11 @@ fn keep_nodes(unit_bytes: &[u8], unit_places: &[u32], column: &[u16], s: &mut [u
         (keep_if (λ v. not (eqb v 65535)) (map (λ k. get_or column.now (unit_of unit_bytes.now unit_places.now k).name 0) s.old))
         (length s.old) result }
 {
-    let mut i: usize = 0;
     let mut k: usize = 0;
-    while i < s.len() {
-        let v = node_at(unit_bytes, unit_places, column, s[i] as usize);
-        if v == NONE {
-            i += 1;
-        } else {
+    for i in 0..s.len() {
+        if let Some(v) = node_at(unit_bytes, unit_places, column, s[i] as usize) {
             s[k] = v;
             k += 1;
-            i += 1;
         }
     }
     k
@@ -257,15 +245,12 @@ fn link_nodes(s: &[u16], from: &mut [u16], to: &mut [u16], e: usize) -> usize
         × (take result to.new ≡ take e to.old ++ map (λ (x : UnitEdge). x.to) (links s.now))
         × (result ≤ e + length s.now) }
 {
-    let mut i: usize = 0;
-    let mut k = e;
-    while i + 1 < s.len() {
-        from[k] = s[i];
-        to[k] = s[i + 1];
-        k += 1;
-        i += 1;
+    let more = s.len().saturating_sub(1);
+    for i in 0..more {
+        from[e + i] = s[i];
+        to[e + i] = s[i + 1];
     }
-    k
+    e + more
 }
 
 // ---- the graph
