@@ -9,7 +9,7 @@ use native.Mathlib.Nat.{le_of_suc-le-suc, not-suc-le-zero}
 use native.Mathlib.Omega.{arith}
 use borrow.Author.Tests.{lt-ltb, ltb-true, eq-eqb, ne_eqb}
 use lib.Dec.{eqb}
-use lib.ListN.{length, get_or, take, length-map, length-append}
+use lib.ListN.{length, get_or, take, length-map, length-append, length-take}
 use Rattle.lists.specs.Rows.{keep_if, tabulate, any_of}
 use Rattle.lists.specs.Sort.{sort_by, All, none, each}
 use Rattle.lists.specs.Members.{In}
@@ -28,7 +28,7 @@ use Rattle.order_numbers.proofs.Parts.{ordered_readable}
 use Rattle.splits.specs.Columns.{Columns, rows, row_at}
 use Rattle.splits.specs.Questions.{is_common}
 use Rattle.link_graph.specs.Graph.{Given, UnitEdge, node_of, has_node, units_of, counted, nodes, split_at, is_first, apart, edge_at, split_edges, chained, links, edges, graph_of}
-use Rattle.link_graph.specs.Columns.{given_of, Splits, mark, Marked, Listed, Edgeable, Edged}
+use Rattle.link_graph.specs.Columns.{given_of, Splits, mark, Marked, Listed, Front, Edgeable, Edged}
 use Rattle.link_graph.proofs.Nodes.{in_has, counted_in, length-counted, mark_is, no_mark}
 use Rattle.link_graph.proofs.Rows.{row_at_lem, units_of_rows}
 use Rattle.link_graph.proofs.Edges.{start_in, goal_in}
@@ -207,9 +207,6 @@ module _ {c : Columns} {n : ℕ} {heads head_places name_bytes name_places name_
   abbrev G : Given
   G = given_of c n heads head_places name_bytes name_places name_lengths ub up
 
-  pub few_numbers : length numbers ≤ 1024
-  few_numbers = omega (arith, ap length lent.numbers_are, length-ordered ub up, lent.units.few)
-
   pub numbers_inside : All (λ k. k < length up) numbers
   numbers_inside = (ordered_readable ub up numbers lent.units.whole lent.numbers_are).inside
 
@@ -221,23 +218,27 @@ module _ {c : Columns} {n : ℕ} {heads head_places name_bytes name_places name_
       let q : k < n = omega (arith, length-tabulate (row_at c) 0 n) in
       rw (ap (λ (s : Split). s.unit) (row_at_lem c n k q)) (lent.named k q)
 
-  -- the edges of neighbours, and then those of the nodes that are kept
-  pub edged : {from₁ from₂ to₁ to₂ kept : List ℕ} {e r : ℕ} → Listed (start_in column) (goal_in column) (split_edges G.pointers (rows c n)) from₁ to₁ n e
-      → kept ≡ keep_if (λ v. not (eqb v 65535)) (map (λ k. get_or column (unit_of ub up k).name 0) numbers) → length kept ≤ 1024
-      → take r from₂ ≡ take e from₁ ++ map (λ (x : UnitEdge). x.from) (links kept)
-      → take r to₂ ≡ take e to₁ ++ map (λ (x : UnitEdge). x.to) (links kept) → r ≤ e + length kept → Edged G from₂ to₂ r
-  edged {from₁} {from₂} {to₁} {to₂} {kept} {e} {r} l k short f t small =
-      let chain : kept ≡ map (node_of (nodes (rows c n))) (chained G) =
-      k ∙ ap (λ (m : List ℕ). keep_if (λ v. not (eqb v 65535)) (map (λ k. get_or column (unit_of ub up k).name 0) m)) lent.numbers_are
-      ∙ chain_kept G ub up column refl lent.marked few_nodes
-      (all_map (λ k h. lent.units.named k h) (ordered_readable ub up (ordered_numbers ub up) lent.units.whole refl).inside) in
-      let starts = l.starts ∙ starts-marked (rows c n) column lent.marked named G.pointers in
-      let goals = l.goals ∙ goals_marked (rows c n) column lent.marked named G.pointers in
-      record {
-        starts = all_starts G from₁ from₂ to₁ to₂ kept e r starts goals chain f;
-        goals = all_goals G from₁ from₂ to₁ to₂ kept e r starts goals chain t;
-        small = omega (arith, l.small, given.few);
-      }
+  module _ {kept : List ℕ} {k : ℕ} (front : Front kept (keep_if (λ v. not (eqb v 65535)) (map (λ k. get_or column (unit_of ub up k).name 0) numbers)) (length numbers) k) where
+    -- no more are kept than units have an order
+    pub few_kept : length (take k kept) ≤ 1024
+    few_kept = omega (arith, length-take k kept, front.small, ap length lent.numbers_are, length-ordered ub up, lent.units.few)
+
+    -- the edges of neighbours, and then those of the nodes that are kept
+    pub edged : {from₁ from₂ to₁ to₂ : List ℕ} {e r : ℕ} → Listed (start_in column) (goal_in column) (split_edges G.pointers (rows c n)) from₁ to₁ n e
+        → take r from₂ ≡ take e from₁ ++ map (λ (x : UnitEdge). x.from) (links (take k kept))
+        → take r to₂ ≡ take e to₁ ++ map (λ (x : UnitEdge). x.to) (links (take k kept)) → r ≤ e + length (take k kept) → Edged G from₂ to₂ r
+    edged {from₁} {from₂} {to₁} {to₂} {e} {r} l f t small =
+        let chain : take k kept ≡ map (node_of (nodes (rows c n))) (chained G) =
+        front.is ∙ ap (λ (m : List ℕ). keep_if (λ v. not (eqb v 65535)) (map (λ k. get_or column (unit_of ub up k).name 0) m)) lent.numbers_are
+        ∙ chain_kept G ub up column refl lent.marked few_nodes
+        (all_map (λ k h. lent.units.named k h) (ordered_readable ub up (ordered_numbers ub up) lent.units.whole refl).inside) in
+        let starts = l.starts ∙ starts-marked (rows c n) column lent.marked named G.pointers in
+        let goals = l.goals ∙ goals_marked (rows c n) column lent.marked named G.pointers in
+        record {
+          starts = all_starts G from₁ from₂ to₁ to₂ (take k kept) e r starts goals chain f;
+          goals = all_goals G from₁ from₂ to₁ to₂ (take k kept) e r starts goals chain t;
+          small = omega (arith, l.small, given.few, few_kept);
+        }
 
 -- the nodes counted of the units' column are those of the splits
 pub counted-nodes : (c : Columns) (n : ℕ) → n ≤ length c.units → counted [] (take n c.units) ≡ nodes (rows c n)

@@ -28,27 +28,28 @@ pub row_at_lem : (c : Columns) (n i : ℕ) → i < n → split_at (rows c n) i �
 row_at_lem c n i h = get_d_tabulate (row_at c) 0 n i no_split h ∙ ap (row_at c) (zero-add i)
 
 -- the first split of a section: the first of all, or one whose section is not that of the one before
-module _ (splits : List Split) (i : ℕ) where
-  pub first_of_all : i ≡ 0 → is_first splits i ≡ true
-  unfolding is_first
-  first_of_all e = ap (λ (t : Bool). t || not (eqb (split_at splits (i - 1)).section (split_at splits i).section)) (eq-eqb i 0 e)
+pub first_of_all : (splits : List Split) (i : ℕ) → i ≡ 0 → is_first splits i ≡ true
+unfolding is_first
+first_of_all splits i e = rw (eq-eqb i 0 e)
 
-  pub first_by_section : (i ≡ 0 → ⊥) → is_first splits i ≡ not (eqb (split_at splits (i - 1)).section (split_at splits i).section)
-  unfolding is_first
-  first_by_section e = ap (λ (t : Bool). t || not (eqb (split_at splits (i - 1)).section (split_at splits i).section)) (ne_eqb i 0 e)
+pub first_by_section : (splits : List Split) (i : ℕ) → (i ≡ 0 → ⊥) → is_first splits i ≡ not (eqb (split_at splits (i - 1)).section (split_at splits i).section)
+unfolding is_first
+first_by_section splits i later = rw (ne_eqb i 0 later)
+
+pub first_by_rows : (c : Columns) (n i : ℕ) {s t : Split} → i < n → (i ≡ 0 → ⊥) → s ≡ row_at c (i - 1) → t ≡ row_at c i → not (eqb s.section t.section) ≡ is_first (rows c n) i
+first_by_rows c n i h later es et = rw (first_by_section (rows c n) i later, row_at_lem c n (i - 1) (omega arith), row_at_lem c n i h, es, et)
 
 -- the first test fails, so both together do
 pub first_fails : {a : Bool} (b : Bool) → a ≡ false → (a && b) ≡ false
 first_fails b e = ap (λ (t : Bool). t && b) e
 
 -- the code's four tests are those that keep two neighbours apart
-pub apart_is : (pointers : ℕ → Bool) (splits : List Split) (i : ℕ) {s t : Split} {first second passed : Bool}
-    → s ≡ split_at splits i → t ≡ split_at splits (i + 1) → second ≡ is_common t → first ≡ is_common s
-    → passed ≡ (is_first splits i && pointers (split_at splits i).section)
-    → (((not (eqb s.section t.section) || eqb s.unit t.unit) || (second && not first)) || passed) ≡ apart pointers splits i
+pub apart_by_rows : (pointers : ℕ → Bool) (c : Columns) (n i : ℕ) {s t : Split} {first second passed : Bool} → i + 1 < n
+    → s ≡ row_at c i → t ≡ row_at c (i + 1) → second ≡ is_common t → first ≡ is_common s
+    → passed ≡ (is_first (rows c n) i && pointers (row_at c i).section)
+    → (((not (eqb s.section t.section) || eqb s.unit t.unit) || (second && not first)) || passed) ≡ apart pointers (rows c n) i
 unfolding apart any_of any_from
-apart_is pointers splits i es et e2 e1 ep =
-    λ z. ((not (eqb (es z).section (et z).section) || eqb (es z).unit (et z).unit) || ((e2 ∙ ap is_common et) z && not ((e1 ∙ ap is_common es) z))) || ep z
+apart_by_rows pointers c n i h es et e2 e1 ep = rw (row_at_lem c n i (omega arith), row_at_lem c n (i + 1) h, ep, e2, e1, es, et)
 
 -- ---- the units of the rows are those of their column
 module _ (c : Columns) (n : ℕ) (h : n ≤ length c.units) where

@@ -1,11 +1,8 @@
 -- `link_graph::keep_nodes`: a turn at a number with a node or without, and after the last one.
-use Rattle.std.proofs.Common.{arith, refl}
+use Rattle.std.proofs.Common.{arith}
 use Rattle.link_graph.proofs.Chain.{keeping_next, keeping_node, keeping_none, keeping_done}
 use Rattle.link_graph.proofs.keep_nodes.Goals as goal
 use Rattle.link_graph.proofs.keep_nodes.Goals.{in-Some, in_default}
-
-pub loop-i-init : goal.loop-i-init
-loop-i-init c = record { few = omega arith; kept = refl; there = c.requires.1 }
 
 pub node_at-requires : goal.node_at-requires
 node_at-requires c = (c.requires.0, keeping_next c.loop-i.invariant (omega arith))

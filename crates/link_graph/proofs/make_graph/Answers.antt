@@ -13,9 +13,9 @@ count_units-m-requires c =
     let b = c.blank in
     let long = length-take-le a.n a.units.now c.requires.0.long.units in
     record {
-      few = omega (arith, c.requires.0.few);
-      room = omega (arith, c.requires.0.few, c.requires.1.nodes_long);
-      named = units_named (columns a.starts.now a.ends.now a.units.now a.rest.now) a.n c.requires.0.long.units (length b.new.column) (λ i h. omega (arith, c.requires.1.named i h, b.auto.column));
+      few = omega arith;
+      room = omega arith;
+      named = units_named (columns a.starts.now a.ends.now a.units.now a.rest.now) a.n c.requires.0.long.units (length b.new.column) (λ i h. omega (arith, c.requires.1.named i h));
       blank = b.ensures ∙ ap (λ (k : ℕ). replicate k 65535) (sym b.auto.column);
     }
 
@@ -26,8 +26,8 @@ make_edges-e-requires c =
     let same : length u.new.column ≡ length a.column.now = u.auto.column ∙ c.blank.auto.column in (
       c.requires.0,
       record {
-        units = record { whole = c.requires.1.units.whole; few = c.requires.1.units.few; named = λ k h. omega (arith, c.requires.1.units.named k h, same) };
-        named = λ i h. omega (arith, c.requires.1.named i h, same);
+        units = record { whole = c.requires.1.units.whole; few = c.requires.1.units.few; named = λ k h. omega (arith, c.requires.1.units.named k h) };
+        named = λ i h. omega (arith, c.requires.1.named i h);
         marked = subst (Marked u.new.column) (counted-nodes (columns a.starts.now a.ends.now a.units.now a.rest.now) a.n c.requires.0.long.units) u.ensures.marked;
         numbers_are = c.requires.1.numbers_are;
         from_long = c.requires.1.from_long;
@@ -44,6 +44,6 @@ returns c =
       nodes_are = u.ensures.is ∙ counted-nodes (columns a.starts.now a.ends.now a.units.now a.rest.now) a.n c.requires.0.long.units;
       starts = e.ensures.starts;
       goals = e.ensures.goals;
-      few_nodes = omega (arith, u.ensures.small, length-take-le a.n a.units.now c.requires.0.long.units, c.requires.0.few);
+      few_nodes = let long = length-take-le a.n a.units.now c.requires.0.long.units in omega arith;
       few_edges = e.ensures.small;
     }
