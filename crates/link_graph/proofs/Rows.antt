@@ -2,7 +2,7 @@
 use Prim.Native.Nat.{ℕ, suc, ◌+◌, ◌-◌, ◌≤◌, ◌<◌, zero-le, suc-le-suc}
 use mathlib.Core.Path.{◌≡◌, sym, ap, ◌∙◌}
 use mathlib.Core.List.{List, [], ◌∷◌}
-use mathlib.Core.Bool.{Bool, true, false, not, ◌&&◌, ◌||◌}
+use mathlib.Core.Bool.{Bool, true, not, ◌&&◌, ◌||◌}
 use native.Mathlib.Nat.{zero-add}
 use native.Mathlib.Omega.{arith}
 use borrow.Author.Tests.{eq-eqb, ne_eqb}
@@ -38,10 +38,6 @@ first_by_section splits i later = rw (ne_eqb i 0 later)
 
 pub first_by_rows : (c : Columns) (n i : ℕ) {s t : Split} → i < n → (i ≡ 0 → ⊥) → s ≡ row_at c (i - 1) → t ≡ row_at c i → not (eqb s.section t.section) ≡ is_first (rows c n) i
 first_by_rows c n i h later es et = rw (first_by_section (rows c n) i later, row_at_lem c n (i - 1) (omega arith), row_at_lem c n i h, es, et)
-
--- the first test fails, so both together do
-pub first_fails : {a : Bool} (b : Bool) → a ≡ false → (a && b) ≡ false
-first_fails b e = ap (λ (t : Bool). t && b) e
 
 -- the code's four tests are those that keep two neighbours apart
 pub apart_by_rows : (pointers : ℕ → Bool) (c : Columns) (n i : ℕ) {s t : Split} {first second passed : Bool} → i + 1 < n
