@@ -17,7 +17,7 @@ use Rattle.listing.specs.declared.Cursor.TheVariants.{Units, Pieces, Symbols, Re
 use Rattle.listing.specs.declared.Line.{Line}
 use Rattle.listing.specs.Listing.{Run, figure}
 use Rattle.listing.specs.Cursor.{rest, most, Valid, Before, goes_on, piece_is, symbol_is, reloc_is, Sought, piece_text, symbol_text, reloc_text, Wrote, Next}
-use Rattle.listing.specs.Tables.{Tables, run_of}
+use Rattle.listing.specs.Tables.{Tables, Readable, run_of}
 use Rattle.listing.proofs.First.{listed}
 use Rattle.listing.proofs.Rest.{unit_step, piece_step, symbol_step, reloc_step}
 
@@ -49,7 +49,8 @@ rest_shorter t c {before} {after} {r} n h g =
     let l = n.long in
     omega arith
 
-module _ (t : Tables) {c ready : Cursor}
+-- the tables are those that can be read
+module _ {t : Tables} (known : Readable t) {c ready : Cursor}
     (q : Sought (length t.units.places) (pieces_in t.pieces.bytes t.pieces.count) (symbols_in t.piece_symbols.bytes t.piece_symbols.count)
     (relocs_in t.piece_relocs.bytes t.piece_relocs.count) c ready)
   where
