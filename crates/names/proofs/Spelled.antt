@@ -3,16 +3,16 @@
 use mathlib.Core.Path.{◌≡◌, refl, sym, ap, ap₂, ◌∙◌}
 use mathlib.Core.List.{List, [], ◌∷◌, map}
 use mathlib.Core.Bool.{Bool, true, false, cond, ◌&&◌, ◌||◌}
-use Prim.Native.Nat.{ℕ}
+use Prim.Native.Nat.{ℕ, ◌≤◌}
 use Prim.Native.String.{String, [] as []ˢ, ◌∷◌ as ◌∷ˢ◌}
 use Prim.Native.Char.{code}
 use native.Mathlib.Omega.{arith}
-use lib.Dec.{eqb}
+use lib.Dec.{eqb, leb}
 use lib.ListN.{length}
-use borrow.Author.Tests.{eqb-true, eqb-false, eq-eqb, ne_eqb}
+use borrow.Author.Tests.{eqb-true, eqb-false, eq-eqb, ne_eqb, leb-true}
 use Rattle.lists.specs.Rows.{some, keep_if}
 use Rattle.names.specs.Names.{same_name}
-use Rattle.names.specs.Fixed.{codes, spells, spells_one, of_length}
+use Rattle.names.specs.Fixed.{codes, spells, spells_one, of_length, linker_labels, is_linker_label}
 use Rattle.names.proofs.Laws.{both, other_lengths}
 
 eqb_sym : (a b : ℕ) → eqb a b ≡ eqb b a
@@ -53,35 +53,26 @@ by_length (text ∷ texts) name n e = go (eqb (length (codes text)) n) refl (by_
     go true q ih = ap (λ (s : Bool). spells text name || s) ih
     go false q ih = ih ∙ sym (rw (not_spelled text name (λ p. eqb-false (length (codes text)) n q (p ∙ e))))
 
--- a name of none of these lengths, the last first
-abbrev pub NoneOf : List ℕ → ℕ → Type 0
-NoneOf [] n = Unit {0}
-NoneOf (k ∷ lengths) n = NoneOf lengths n × (n ≡ k → ⊥)
+-- so a name of n bytes is a linker label if it is one of those of n bytes
+pub labelled : (name : List ℕ) (n : ℕ) {r : Bool} → r ≡ some (same_name name) (map codes (of_length n linker_labels)) → length name ≡ n
+    → r ≡ is_linker_label name
+unfolding is_linker_label
+labelled name n e k = e ∙ spelled_one (of_length n linker_labels) name ∙ by_length linker_labels name n k
 
--- each text has one of these lengths
-unfoldable pub has_length : List ℕ → ℕ → Bool
-has_length [] n = false
-has_length (k ∷ lengths) n = eqb n k || has_length lengths n
-
-unfoldable pub have_lengths : List ℕ → List String → Bool
-have_lengths lengths [] = true
-have_lengths lengths (text ∷ texts) = has_length lengths (length (codes text)) && have_lengths lengths texts
-
--- a length that is none of these is no text's
-other_length : (lengths : List ℕ) (m n : ℕ) → has_length lengths m ≡ true → NoneOf lengths n → m ≡ n → ⊥
-unfolding has_length
-other_length [] m n e h q = let z : ◌≡◌ {A = ℕ} 0 1 = cc in omega arith
-other_length (k ∷ lengths) m n e h q = go (eqb m k) refl (λ r. other_length lengths m n r h.0 q)
-  where
-    go : (t : Bool) → eqb m k ≡ t → (has_length lengths m ≡ true → ⊥) → ⊥
-    go true p later = h.1 (sym q ∙ eqb-true m k p)
-    go false p later = later (sym (rw p) ∙ e)
+-- each text has from `least` to `most` bytes
+unfoldable pub have_lengths : (least most : ℕ) → List String → Bool
+have_lengths least most [] = true
+have_lengths least most (text ∷ texts) = (leb least (length (codes text)) && leb (length (codes text)) most) && have_lengths least most texts
 
 -- no text has the name's length
-pub no_length : (lengths : List ℕ) (texts : List String) (name : List ℕ) → have_lengths lengths texts ≡ true → NoneOf lengths (length name)
-    → spells_one texts name ≡ false
+pub no_length : (least most : ℕ) (texts : List String) (name : List ℕ) → have_lengths least most texts ≡ true
+    → (least ≤ length name → length name ≤ most → ⊥) → spells_one texts name ≡ false
 unfolding have_lengths spells_one
-no_length lengths [] name e h = refl
-no_length lengths (text ∷ texts) name e h =
-    let p = both (has_length lengths (length (codes text))) (have_lengths lengths texts) e in
-    rw (not_spelled text name (other_length lengths (length (codes text)) (length name) p.0 h)) (no_length lengths texts name p.1 h)
+no_length least most [] name e h = refl
+no_length least most (text ∷ texts) name e h =
+    let n = length (codes text) in
+    let p = both (leb least n && leb n most) (have_lengths least most texts) e in
+    let q = both (leb least n) (leb n most) p.0 in
+    let low = leb-true least n q.0 in
+    let high = leb-true n most q.1 in
+    rw (not_spelled text name (λ k. h (omega arith) (omega arith))) (no_length least most texts name p.1 h)
