@@ -85,48 +85,49 @@ pub record Step (a b : List ℕ) (i j most : ℕ) : Type 0 where
   pub few : j ≤ i + most
   pub long : length b ≡ length a
 
-pub text_step : {a b : List ℕ} {i j : ℕ} (text : List ℕ) (byte : ℕ) (most : ℕ) → length text ≤ most → Put a b i (text ++ (byte ∷ [])) j → Step a b i j (most + 1)
-text_step text byte most h p = record { few = let e = put_end text byte p in omega arith; long = p.long }
+-- how long a field is at most
+pub decimal_few : (n : ℕ) → length (decimal n) ≤ 20
+decimal_few = digits_few 20
 
-pub decimal_step : {a b : List ℕ} {i j : ℕ} (n byte : ℕ) → Put a b i (decimal n ++ (byte ∷ [])) j → Step a b i j 21
-decimal_step n byte p = text_step (decimal n) byte 20 (digits_few 20 n) p
-
--- numbers of 16 and of 32 bits
-pub short_step : {a b : List ℕ} {i j : ℕ} (n byte : ℕ) → n < 65536 → Put a b i (decimal n ++ (byte ∷ [])) j → Step a b i j 6
+-- .. a number of 16 and of 32 bits
+pub decimal16_few : (n : ℕ) → n < 65536 → length (decimal n) ≤ 5
 unfolding pow10
-short_step n byte h p = text_step (decimal n) byte 5 (digits-below 20 4 n (omega arith)) p
+decimal16_few n h = digits-below 20 4 n (omega arith)
 
-pub word-step : {a b : List ℕ} {i j : ℕ} (n byte : ℕ) → n < 4294967296 → Put a b i (decimal n ++ (byte ∷ [])) j → Step a b i j 11
+pub decimal32_few : (n : ℕ) → n < 4294967296 → length (decimal n) ≤ 10
 unfolding pow10
-word-step n byte h p = text_step (decimal n) byte 10 (digits-below 20 9 n (omega arith)) p
+decimal32_few n h = digits-below 20 9 n (omega arith)
 
-pub hex_step : {a b : List ℕ} {i j : ℕ} (v byte : ℕ) → Put a b i (hex8 v ++ (byte ∷ [])) j → Step a b i j 9
+pub hex_long : (v : ℕ) → length (hex8 v) ≡ 8
 unfolding hex8
-hex_step v byte p = text_step (hex8 v) byte 8 (omega arith) p
+hex_long v = refl
 
-signed_few : (v : ℤ) → length (signed_decimal v) ≤ 21
+pub signed_few : (v : ℤ) → length (signed_decimal v) ≤ 21
 unfolding signed_decimal
 signed_few (pos n) = let k = digits_few 20 n in omega arith
 signed_few (negsuc n) = let k = digits_few 20 (suc n) in omega arith
 
-pub signed_step : {a b : List ℕ} {i j : ℕ} (v : ℤ) (byte : ℕ) → Put a b i (signed_decimal v ++ (byte ∷ [])) j → Step a b i j 22
-signed_step v byte p = text_step (signed_decimal v) byte 21 (signed_few v) p
-
-shown_few : (name : List ℕ) (most : ℕ) → length name ≤ suc most → length (shown name) ≤ suc most
+pub shown_few : (name : List ℕ) → length (shown name) ≤ length name + 1
 unfolding shown codes
-shown_few [] most h = omega arith
-shown_few (b ∷ name) most h = h
+shown_few [] = omega arith
+shown_few (b ∷ name) = omega arith
 
-pub shown-step : {a b : List ℕ} {i j : ℕ} (name : List ℕ) (byte most : ℕ) → length name ≤ suc most → Put a b i (shown name ++ (byte ∷ [])) j → Step a b i j (suc most + 1)
-shown-step name byte most h p = text_step (shown name) byte (suc most) (shown_few name most h) p
-
-owner_few : (o : Owner) → length (owner_of o) ≤ 20
+pub owner_few : (o : Owner) → length (owner_of o) ≤ 20
 unfolding codes
 owner_few Common = omega arith
 owner_few (Piece n) = digits_few 20 n
 
-pub owner_step : {a b : List ℕ} {i j : ℕ} (o : Owner) (byte : ℕ) → Put a b i (owner_of o ++ (byte ∷ [])) j → Step a b i j 21
-owner_step o byte p = text_step (owner_of o) byte 20 (owner_few o) p
+-- where a field ends, by its text's length
+pub ruleset fields = (length-append, decimal_few, decimal16_few, decimal32_few, hex_long, signed_few, shown_few, owner_few)
+
+text_step : {a b : List ℕ} {i j : ℕ} (text : List ℕ) (byte : ℕ) (most : ℕ) → length text ≤ most → Put a b i (text ++ (byte ∷ [])) j → Step a b i j (most + 1)
+text_step text byte most h p = record { few = let e = put_end text byte p in omega arith; long = p.long }
+
+pub decimal_step : {a b : List ℕ} {i j : ℕ} (n byte : ℕ) → Put a b i (decimal n ++ (byte ∷ [])) j → Step a b i j 21
+decimal_step n byte p = text_step (decimal n) byte 20 (decimal_few n) p
+
+pub hex_step : {a b : List ℕ} {i j : ℕ} (v byte : ℕ) → Put a b i (hex8 v ++ (byte ∷ [])) j → Step a b i j 9
+hex_step v byte p = text_step (hex8 v) byte 8 (let e = hex_long v in omega arith) p
 
 -- a number handed on is that number
 pub signed_as : {a b : List ℕ} {i r : ℕ} {y : ℤ} (z : ℤ) (byte : ℕ) → y ≡ z → Put a b i (signed_decimal y ++ (byte ∷ [])) r

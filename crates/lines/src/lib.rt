@@ -1,5 +1,6 @@
 // The lines of the listing, each written into a small lent buffer: no buffer holds the whole listing.
-#![tactic(auto)]
+// Where a field ends, and that there is room for it, follows from the lengths of the texts before it.
+#![tactic(auto, using(crate::proofs::Puts::fields), unfolding(names::specs::Fixed::codes))]
 
 mod numbers;
 

@@ -3,45 +3,15 @@
 use native.Mathlib.Omega.{arith}
 use Rattle.names.specs.Fixed.{codes}
 use Rattle.lines.specs.Lines.{line, decimal}
-use Rattle.lines.proofs.Puts.{put_more, written, text_step, decimal_step, hex_step}
+use Rattle.lines.proofs.Puts.{put_more, written, fields}
 use Rattle.lines.proofs.write_refused.Goals as goal
-
-pub put_decimal-at-requires-2 : goal.put_decimal-at-requires-2
-unfolding codes
-put_decimal-at-requires-2 c =
-    let h = c.requires in
-    let q0 = text_step (codes "refused") 32 7 (omega arith) c.put_field-at.ensures in
-    let q1 = decimal_step c.args.number 32 c.put_decimal-at.ensures in
-    let f0 = q0.few in let l0 = q0.long in
-    let f1 = q1.few in let l1 = q1.long in
-    omega arith
-
-pub put_hex8-requires : goal.put_hex8-requires
-unfolding codes
-put_hex8-requires c =
-    let h = c.requires in
-    let q0 = text_step (codes "refused") 32 7 (omega arith) c.put_field-at.ensures in
-    let q1 = decimal_step c.args.number 32 c.put_decimal-at.ensures in
-    let q2 = decimal_step c.args.section 32 c.put_decimal-at-2.ensures in
-    let f0 = q0.few in let l0 = q0.long in
-    let f1 = q1.few in let l1 = q1.long in
-    let f2 = q2.few in let l2 = q2.long in
-    omega arith
 
 pub returns : goal.returns
 unfolding codes line
 returns c =
-    let q0 = text_step (codes "refused") 32 7 (omega arith) c.put_field-at.ensures in
-    let q1 = decimal_step c.args.number 32 c.put_decimal-at.ensures in
-    let q2 = decimal_step c.args.section 32 c.put_decimal-at-2.ensures in
-    let q3 = hex_step c.args.address 10 c.put_hex8.ensures in
-    let f0 = q0.few in
-    let f1 = q1.few in
-    let f2 = q2.few in
-    let f3 = q3.few in
     written _
     (put_more (codes "refused") 32 c.put_field-at.ensures
     (put_more (decimal c.args.number) 32 c.put_decimal-at.ensures
     (put_more (decimal c.args.section) 32 c.put_decimal-at-2.ensures
     c.put_hex8.ensures)))
-    (omega arith)
+    (grind (arith, fields))
