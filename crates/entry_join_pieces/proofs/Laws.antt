@@ -1,89 +1,35 @@
 -- From the answers of the entry's steps to its outcome and its outputs. Assumes nothing.
-use Prim.Native.Nat.{ℕ, ◌-◌, ◌/◌, ◌≤◌}
+use Prim.Native.Nat.{ℕ}
 use mathlib.Core.Path.{◌≡◌, refl, sym, ap, subst, ◌∙◌}
 use mathlib.Core.List.{List}
-use native.Mathlib.Omega.{arith}
 use lib.ListN.{length, replicate}
 use Rattle.lists.specs.Outcome.{Outcome, accepted, refused}
-use Rattle.lists.proofs.Binds.{bind_goes, bind_stops, after_goes, after-stops}
-use Rattle.lists.proofs.Outcomes.{then_both, not_both, same_accepted, then_inv}
+use Rattle.lists.proofs.Binds.{bind_goes, bind_stops}
+use Rattle.lists.proofs.Outcomes.{not_both, same_accepted, then_inv}
 use Rattle.obj.specs.Answers.{outcome_word}
 use Rattle.obj.specs.Answers.{Answer}
 use Rattle.std.specs.Prelude.{Ok, Err}
-use Rattle.tables.specs.Records.{section_fault}
-use Rattle.name_table.specs.Stored.{stage_lengths}
-use Rattle.stage_tables.specs.StageTables.{stage_sections}
-use Rattle.stage_tables.proofs.Laws.{table_passed}
+use Rattle.obj.specs.declared.Section.{Section}
 use Rattle.join.specs.Join.{Part, held, join_of}
 use Rattle.join.proofs.Sizes.{length-joined}
-use Rattle.piece_records.specs.Records.{count_from, parts_at, parts_of, Whole}
-use Rattle.piece_records.proofs.Laws.{counted_whole}
 use Rattle.join_pieces.specs.Joins.{Joins}
-use Rattle.head_tables.specs.HeadTables.{head_tables}
 use Rattle.kept_output.specs.Kept.{Leaves, sized_of, Settles}
 use Rattle.obj.specs.declared.Refusal.{Refusal}
-use Rattle.entry_join_pieces.specs.Entry.{join_pieces, from_pieces, Writes}
-
--- ---- the pieces
-
-module _ (b : List ℕ) where
-  pub parts_refused : {r : Refusal} → refused r.number r.section r.address ≡ count_from 1024 b 0 0 → parts_of b ≡ refused r.number r.section r.address
-  unfolding parts_of
-  parts_refused is = bind_stops _ _ _ _ _ (sym is)
-
-  module _ {n : ℕ} (is : accepted n ≡ count_from 1024 b 0 0) where
-    pub parts_accepted : parts_of b ≡ accepted (parts_at n b 0)
-    unfolding parts_of
-    parts_accepted = bind_goes _ _ _ (sym is)
-
-    pub parts_whole : Whole n b 0
-    parts_whole =
-        let w = counted_whole 1024 b 0 0 n (sym is) in
-        subst (λ (k : ℕ). Whole k b 0) (let z : n - 0 ≡ n = omega arith in z) w.whole
-
-    -- "up to 1,024 pieces"
-    pub parts_few : n ≤ 1024
-    parts_few = let w = (counted_whole 1024 b 0 0 n (sym is)).most in omega arith
+use Rattle.entry_join_pieces.specs.Entry.{Writes}
 
 -- ---- the joiner's outcome
 
 pub joins_as : {o p : Outcome (List ℕ)} {before after : List ℕ} {a : Answer} → o ≡ p → Joins o before a after → Joins p before a after
 joins_as {before = before} {after} {a} e j = subst (λ (x : Outcome (List ℕ)). Joins x before a after) e j
 
-pub from_stops : (sections pieces : List ℕ) (room : ℕ) {number section address : ℕ} → parts_of pieces ≡ refused number section address
-    → from_pieces sections pieces room ≡ refused number section address
-from_stops sections pieces room e = bind_stops _ _ _ _ _ e
-
-pub from_goes : (sections pieces : List ℕ) (room : ℕ) (parts : List Part) → parts_of pieces ≡ accepted parts
-    → join_of (stage_sections sections) room parts ≡ from_pieces sections pieces room
-from_goes sections pieces room parts e = sym (bind_goes _ _ _ e)
-
--- ---- the tables before
-
-module _ (ends bytes sections pieces : List ℕ) (room : ℕ) where
-  pub tables_stop : {number section address : ℕ} → head_tables ends bytes sections ≡ refused number section address
-      → join_pieces ends bytes sections pieces room ≡ refused number section address
-  unfolding join_pieces
-  tables_stop e = after-stops _ _ _ _ _ e
-
-  pub tables_go : head_tables ends bytes sections ≡ accepted tt → from_pieces sections pieces room ≡ join_pieces ends bytes sections pieces room
-  unfolding join_pieces
-  tables_go e = sym (after_goes _ _ e)
-
--- "64 sections"
-pub tables_few : (ends bytes sections : List ℕ) → head_tables ends bytes sections ≡ accepted tt → length sections / 15 ≤ 64
-unfolding head_tables
-tables_few ends bytes sections e = (table_passed 15 64 sections (section_fault (stage_lengths ends bytes) (stage_sections sections)) (then_both _ _ _ e).1).1
-
--- an accepted outcome holds the sections' bytes
-pub from_size : (sections pieces : List ℕ) (room : ℕ) (bytes : List ℕ) → from_pieces sections pieces room ≡ accepted bytes → length bytes ≡ held (stage_sections sections)
+-- joined bytes are those of the sections
+pub join_size : (heads : List Section) (room : ℕ) (parts : List Part) (bytes : List ℕ) → join_of heads room parts ≡ accepted bytes → length bytes ≡ held heads
 unfolding join_of
-from_size sections pieces room bytes e =
-    let r = Rattle.lists.proofs.Outcomes.bind_inv _ _ _ e in
-    let a = then_inv _ _ _ _ _ _ r.2 in
+join_size heads room parts bytes e =
+    let a = then_inv _ _ _ _ _ _ e in
     let b = then_inv _ _ _ _ _ _ a.1 in
     let d = then_inv _ _ _ _ _ _ b.1 in
-    ap length (sym (same_accepted d.1)) ∙ length-joined (stage_sections sections) r.0
+    ap length (sym (same_accepted d.1)) ∙ length-joined heads parts
 
 -- ---- what the entry leaves
 

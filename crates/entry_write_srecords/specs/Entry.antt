@@ -17,10 +17,6 @@ write_srecords ends bytes sections pieces room = do
   -- "87 .., right after the table checks; then 82 and 83; 80 if the lines don't fit, last"
   write_of (stage_sections sections) room parts
 
--- from the pieces on
-abbrev pub from_pieces : (sections pieces : List ℕ) → (room : ℕ) → Outcome (List ℕ)
-from_pieces sections pieces room = parts_of pieces >>= λ parts. write_of (stage_sections sections) room parts
-
 -- a call: the answer and every byte of the outputs are those of the outcome; and what was lent as pieces is bytes, as each slice of `u8` is
 pub record Called (ends bytes sections pieces lines size : List ℕ) (answer : ℕ) (lines' size' : List ℕ) : Type 0 where
   pub leaves : Leaves (write_srecords ends bytes sections pieces (length lines)) lines size answer lines' size'

@@ -1,29 +1,16 @@
 // The entry `write_srecords` behind its C name: names, section heads and pieces are checked, and the joined bytes are written as S-record lines. Document 02, (n).
 #![tactic(auto)]
 
-ghost use Rattle.std.specs.Prelude.{◌≤◌, ◌/◌, length};
-ghost use Rattle.stage_tables.specs.StageTables.{stage_sections};
-ghost use Rattle.join_pieces.specs.Joins.{Joins};
-ghost use Rattle.write_srecords.specs.Along.{Ended};
+ghost use Rattle.std.specs.Prelude.{length};
 ghost use Rattle.entry_join_pieces.specs.Entry.{Writes};
-ghost use Rattle.entry_write_srecords.specs.Entry.{write_srecords, from_pieces, Called};
+ghost use Rattle.entry_write_srecords.specs.Entry.{write_srecords, Called};
 
-use head_tables::check_head_tables;
+use head_tables::count_checked;
 use kept_output::settle;
 use obj::Refusal;
-use piece_records::count_pieces;
 use write_srecords::{lines_room, write};
 
-// The pieces, counted and written as lines.
-fn write_records(sections: &[u8], pieces: &[u8], lines: &mut [u8]) -> Result<(), Refusal>
-    requires { (length sections.now / 15 ≤ 64) × Ended (stage_sections sections.now) }
-    ensures { Joins (from_pieces sections.now pieces.now (length lines.old)) lines.old result lines.new }
-{
-    let n = count_pieces(pieces)?;
-    write(sections, pieces, n, lines)
-}
-
-// The same after the names and the section heads: how many bytes the lines are.
+// The lines, if nothing was refused: how many bytes they are.
 fn write_tables(
     name_ends: &[u8],
     name_bytes: &[u8],
@@ -33,9 +20,9 @@ fn write_tables(
 ) -> Result<u64, Refusal>
     ensures { Writes (write_srecords name_ends.now name_bytes.now sections.now pieces.now (length lines.old)) lines.old result lines.new }
 {
-    check_head_tables(name_ends, name_bytes, sections)?;
+    let n = count_checked(name_ends, name_bytes, sections, pieces)?;
+    write(sections, pieces, n, lines)?;
     let total = lines_room(sections) as u64;
-    write_records(sections, pieces, lines)?;
     Ok(total)
 }
 

@@ -33,7 +33,7 @@ use Rattle.srecords.specs.Reader.{ReadsBack}
 use Rattle.srecords.proofs.Theorem.{Small, reads_back}
 use Rattle.entry_join_pieces.specs.Entry.{join_pieces}
 use Rattle.entry_write_srecords.specs.Entry.{write_srecords}
-use Rattle.entry_join_pieces.proofs.Laws.{tables_few}
+use Rattle.head_tables.proofs.Laws.{tables_few}
 use Rattle.write_srecords.specs.Along.{room_along, Ended}
 use Rattle.write_srecords.proofs.Laws.{room_is, section_ends}
 use Rattle.entry_write_srecords.proofs.Laws.{tables_ended}
