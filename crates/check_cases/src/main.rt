@@ -3,10 +3,8 @@
 // sections, symbols, relocations, splits and units. `stdout` has what must come out, by document 01 and the decisions.
 #![tactic(auto)]
 
-ghost use Rattle.std.specs.Prelude.{◌≤◌, length, IfOk};
-
+use program_input::{digit, longer, push, read_full};
 use std::io;
-use std::io::Read;
 
 // ---- what is read
 
@@ -53,32 +51,6 @@ fn with_mode(s: Reading, mode: u8) -> Reading {
     let mut r = s;
     r.mode = mode;
     r
-}
-
-// The value of a digit, 16 if it is none.
-fn digit(c: u8) -> u8 {
-    if c < b'0' {
-        return 16;
-    }
-    if c <= b'9' {
-        return c - b'0';
-    }
-    if c < b'A' {
-        return 16;
-    }
-    if c <= b'F' {
-        return c - b'A' + 10;
-    }
-    16
-}
-
-// A byte more, where there is room.
-fn push(bytes: &mut [u8], used: usize, v: u8) -> usize {
-    if used < bytes.len() {
-        bytes[used] = v;
-        return used + 1;
-    }
-    used
 }
 
 // The byte `width` before the end, 0 if there is none.
@@ -163,14 +135,6 @@ fn in_text(s: Reading, c: u8, bytes: &mut [u8]) -> Reading {
         return with_mode(s, BYTES);
     }
     with_used(s, push(bytes, s.used, c), TEXT)
-}
-
-// A decimal digit more; numbers stay below a million.
-fn longer(n: usize, d: u8) -> usize {
-    if n < 100000 {
-        return n * 10 + (d as usize);
-    }
-    n
 }
 
 fn in_width(s: Reading, c: u8) -> Reading {
@@ -281,7 +245,7 @@ fn turn(rt: &impl Print, s: Reading, c: u8, bytes: &mut [u8]) -> io::Result<Read
 
 // ---- a case is run
 
-// Number, section and address of an answer word.
+// Number, section and address of an answer word. `cases` prints the same and ends its line there; no contract can say what is printed, so neither shares it.
 fn show_word(rt: &impl Print, word: u64) -> io::Result<()> {
     let number = word / 0x1_0000_0000_0000;
     let section = word / 0x1_0000_0000 % 0x1_0000;
@@ -363,21 +327,6 @@ fn run(rt: &impl Print, text: &[u8], bytes: &mut [u8]) -> io::Result<()> {
         s = turn(rt, s, *c, bytes)?;
     }
     Ok(())
-}
-
-// Reads until the buffer is full or the input ends, and says how many bytes of the buffer were read.
-fn read_full(input: &mut impl Read, buf: &mut [u8]) -> io::Result<usize>
-    ensures { IfOk result (λ n. n ≤ length buf.new) }
-{
-    let mut done = 0;
-    while done < buf.len() {
-        let n = input.read(&mut buf[done..])?;
-        if n == 0 {
-            break;
-        }
-        done += n;
-    }
-    Ok(done)
 }
 
 fn read(rt: &(impl Input + Print), text: &mut [u8], bytes: &mut [u8]) -> io::Result<()> {

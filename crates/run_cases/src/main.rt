@@ -2,6 +2,7 @@
 // then what `splitlist` prints for it: the Rust's listing, or document 01's refusal.
 #![tactic(auto)]
 
+use program_input::{digit, longer, push};
 use std::io;
 use std::io::Read;
 
@@ -49,32 +50,6 @@ fn with_used(s: Reading, used: usize) -> Reading {
     r.high = 16;
     r.used = used;
     r
-}
-
-// The value of a digit, 16 if it is none.
-fn digit(c: u8) -> u8 {
-    if c < b'0' {
-        return 16;
-    }
-    if c <= b'9' {
-        return c - b'0';
-    }
-    if c < b'A' {
-        return 16;
-    }
-    if c <= b'F' {
-        return c - b'A' + 10;
-    }
-    16
-}
-
-// A byte more, where there is room.
-fn push(bytes: &mut [u8], used: usize, v: u8) -> usize {
-    if used < bytes.len() {
-        bytes[used] = v;
-        return used + 1;
-    }
-    used
 }
 
 // The last byte, 0 if there is none.
@@ -142,14 +117,6 @@ fn in_comment(s: Reading, c: u8) -> Reading {
         return with_mode(s, BYTES);
     }
     s
-}
-
-// A decimal digit more; numbers stay below a million.
-fn longer(n: usize, d: u8) -> usize {
-    if n < 100000 {
-        return n * 10 + (d as usize);
-    }
-    n
 }
 
 fn in_count(s: Reading, c: u8, bytes: &mut [u8]) -> Reading {

@@ -1,0 +1,63 @@
+// What more than one of the programs needs to read its input: a buffer filled from a reader, and the digits and bytes of cases that stand in text.
+#![tactic(auto)]
+
+ghost use Rattle.std.specs.Prelude.{◌≡◌, ℕ, ◌+◌, ◌*◌, ◌≤◌, ◌<◌, length, take, IfOk};
+ghost use Rattle.std.proofs.Common.{set};
+ghost use Rattle.std.specs.Io.KnownBytes.{Consumes, IsAtEnd};
+ghost use Rattle.names.specs.GapName.{digit};
+
+use std::io;
+use std::io::Read;
+
+// Reads until the buffer is full or the input ends, and says how many bytes of the buffer were read.
+pub fn read_full<R: Read>(input: &mut R, buf: &mut [u8]) -> io::Result<usize>
+    ensures inside { IfOk result (λ n. n ≤ length buf.new) }
+    ensures bytes { IfOk result (λ n. Consumes (R.remaining input.old) (R.remaining input.new) (take n buf.new)) }
+    ensures end { IfOk result (λ n. n < length buf.new → IsAtEnd (R.remaining input.new)) }
+{
+    let mut done = 0;
+    while done < buf.len() {
+        let n = input.read(&mut buf[done..])?;
+        if n == 0 {
+            return Ok(done);
+        }
+        done += n;
+    }
+    Ok(done)
+}
+
+// The value of a digit, 0 to 9 and A to F; 16 if it is none.
+pub fn digit(c: u8) -> u8
+    ensures inside { result ≤ 16 }
+    ensures is { result < 16 → digit result ≡ c }
+    ensures each { (k : ℕ) → k < 16 → digit k ≡ c → result ≡ k }
+{
+    match c {
+        b'0'..=b'9' => c - b'0',
+        b'A'..=b'F' => c - b'A' + 10,
+        _ => 16,
+    }
+}
+
+// A decimal digit more; numbers stay below a million.
+pub fn longer(n: usize, d: u8) -> usize
+    ensures more { n < 100000 → result ≡ n * 10 + d }
+    ensures stays { 100000 ≤ n → result ≡ n }
+{
+    if n < 100000 {
+        return n * 10 + (d as usize);
+    }
+    n
+}
+
+// A byte more behind those that are used, where there is room: how many are used then.
+pub fn push(bytes: &mut [u8], used: usize, v: u8) -> usize
+    ensures room { used < length bytes.old → (bytes.new ≡ set bytes.old used v) × (result ≡ used + 1) }
+    ensures none { length bytes.old ≤ used → (bytes.new ≡ bytes.old) × (result ≡ used) }
+{
+    if used < bytes.len() {
+        bytes[used] = v;
+        return used + 1;
+    }
+    used
+}
