@@ -1,7 +1,7 @@
 -- The joiner's answers: each refusal in its order, and what was laid over zeros, where it is accepted. Assumes nothing.
 use mathlib.Core.Path.{◌≡◌, sym, ap, ap₂, ◌∙◌}
 use mathlib.Core.List.{List, ◌++◌}
-use mathlib.Core.Bool.{true, false}
+use mathlib.Core.Bool.{Bool, true, false}
 use Prim.Native.Nat.{ℕ, ◌≤◌, ◌<◌}
 use native.Mathlib.Omega.{arith}
 use lib.ListN.{length, get_or, drop, replicate, length-append, length-replicate, length-drop, get_or-replicate, get_or-append, take-append-drop}
@@ -57,10 +57,10 @@ module _ (heads : List Section) (parts : List Part) (out : List ℕ) (total : �
       get_or-append (replicate total 0) (drop total out) 0 k (omega arith) ∙ get_or-replicate total k 0 0 (omega arith)
 
   -- comparing with it finds 83
-  pub found : some_unlike heads (laid_over heads parts (zeroed total out)) parts ≡ differ parts
+  found : some_unlike heads (laid_over heads parts (zeroed total out)) parts ≡ differ parts
   found = laying_finds heads parts (zeroed total out) all_in roomy
 
-  pub found-length : length (laid_over heads parts (zeroed total out)) ≡ length out
+  found-length : length (laid_over heads parts (zeroed total out)) ≡ length out
   found-length = laid-length heads parts (zeroed total out) ∙ zeroed-length
 
   -- it is the joined bytes, and those past them stay
@@ -72,6 +72,16 @@ module _ (heads : List Section) (parts : List Part) (out : List ℕ) (total : �
       (laying_keeps heads parts (zeroed total out) all_in roomy
       ∙ drop_at (replicate total 0) (drop total out) (held heads) (length-replicate total 0 ∙ is)
       ∙ ap (λ (k : ℕ). drop k out) (is ∙ sym (length-joined heads parts)))
+
+  module _ {after : List ℕ} (laid : after ≡ laid_over heads parts (zeroed total out)) where
+    pub after_long : length after ≡ length out
+    after_long = ap length laid ∙ found-length
+
+    pub after_roomy : held heads ≤ length after
+    after_roomy = let l = after_long in omega arith
+
+    pub after_differ : {r : Bool} → r ≡ some_unlike heads after parts → differ parts ≡ r
+    after_differ e = sym found ∙ ap (λ (l : List ℕ). some_unlike heads l parts) (sym laid) ∙ sym e
 
 -- ---- what the joiner leaves
 

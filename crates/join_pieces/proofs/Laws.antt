@@ -21,6 +21,7 @@ use Rattle.join.specs.Laying.{spot_of, laid_over}
 use Rattle.stage_tables.specs.StageTables.{stage_sections}
 use Rattle.piece_records.specs.Records.{part_at, next_at, parts_at}
 use Rattle.piece_records.proofs.Laws.{parts_turn, parts_end}
+use Rattle.join_pieces.specs.Joins.{Base}
 
 -- 82 as the code asks it
 abbrev test : (start size : ℕ) → Section → Bool
@@ -67,6 +68,10 @@ module _ (b : List ℕ) where
   -- .. whose record is read there
   pub home_there : (p : Part) {s : Section} {n : ℕ} → outside (stage_sections b) p ≡ false → n ≡ p.section → s ≡ section_at b (15 * n) → s ≡ home_of (stage_sections b) p
   home_there p e i r = r ∙ ap (λ (k : ℕ). section_at b (15 * k)) i ∙ sym (head_there p.section (section_there p e))
+
+-- the sections' bytes, summed
+pub base_all : {sections : List ℕ} {r : ℕ} → Base sections (length sections / 15) r → r ≡ held (stage_sections sections)
+base_all {sections} base = base.is ∙ held_all sections
 
 -- ---- a pass that lays: what is left at record i, which starts at `at`
 module _ (heads : List Section) (b : List ℕ) (at i n : ℕ) (out : List ℕ) where

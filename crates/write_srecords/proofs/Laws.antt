@@ -13,6 +13,8 @@ use Rattle.obj.specs.declared.Section.{Section}
 use Rattle.join.specs.Join.{Part, nowhere, outside, differ, joined_section, joined_from, joined, held_by, held}
 use Rattle.join.proofs.Sizes.{joined_section-held, length-joined, held_by_is, held_by-none}
 use Rattle.lists.specs.Rows.{some}
+use Rattle.stage_tables.specs.StageTables.{stage_sections}
+use Rattle.piece_records.specs.Records.{parts_at}
 use mathlib.Core.Bool.{true, false, ◌||◌}
 use borrow.Author.Tests.{lt-ltb, le-ltb}
 use Rattle.lists.specs.Outcome.{accepted, refused}
@@ -23,7 +25,7 @@ use Rattle.join_pieces.proofs.Joining.{laid_is}
 use Rattle.srecords.specs.Lines.{S7, line_of, section_lines, lines_from, lines_of, share_address, some_share, write_of}
 use Rattle.srecord_text.specs.Room.{lines_size, Fits}
 use Rattle.srecord_text.proofs.Laws.{line-length, lines_length}
-use Rattle.write_srecords.specs.Along.{lines_along, room_along, all_lines, Ended}
+use Rattle.write_srecords.specs.Along.{lines_along, room_along, all_lines, Ended, Laying}
 
 -- ---- the lines of the definition
 
@@ -198,8 +200,13 @@ room_none heads k h = ap room_along (drop_of_length-le heads h)
 
 -- ---- the pieces laid at the end of the room, and the lines written over it
 
-module _ (heads : List Section) (parts : List Part) (out : List ℕ) (room total : ℕ) (total_is : total ≡ held heads) (room_at : room ≡ room_along heads + 15)
-    (fits : room ≤ length out) (all_in : some (outside heads) parts ≡ false) (agree : differ parts ≡ false) where
+module _ {sections b : List ℕ} {n room : ℕ} {out : List ℕ} (w : Laying sections b n room out) {total : ℕ} (total_is : total ≡ held (stage_sections sections)) where
+  abbrev heads : List Section
+  heads = stage_sections sections
+
+  abbrev parts : List Part
+  parts = parts_at n b 0
+
   abbrev from : ℕ
   from = room - total
 
@@ -220,7 +227,7 @@ module _ (heads : List Section) (parts : List Part) (out : List ℕ) (room total
     laid-joined : laid ≡ joined heads parts
     laid-joined =
         is
-        ∙ laid_is heads parts lent total total_is lent_room all_in agree
+        ∙ laid_is heads parts lent total total_is lent_room w.all_in w.agree
         ∙ ap (λ (x : List ℕ). joined heads parts ++ x) (drop_of_length-le lent {i = length (joined heads parts)} (let l = lent_length in let j = length-joined heads parts in omega arith))
         ∙ append-nil (joined heads parts)
 

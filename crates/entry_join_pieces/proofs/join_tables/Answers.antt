@@ -6,7 +6,7 @@ use Rattle.std.proofs.lemmas.Result.{err_from_is_err_and}
 use Rattle.stage_tables.specs.StageTables.{stage_sections}
 use Rattle.join.specs.Join.{join_of}
 use Rattle.head_tables.proofs.Laws.{sections_few, count_stops, count_goes, parts_whole}
-use Rattle.join_pieces.proofs.Laws.{held_all}
+use Rattle.join_pieces.proofs.Laws.{base_all}
 use Rattle.entry_join_pieces.specs.Entry.{join_pieces}
 use Rattle.entry_join_pieces.proofs.Laws.{joins_as, join_size, writes_refused, writes_stopped, writes_made}
 use Rattle.entry_join_pieces.proofs.join_tables.Goals as goal
@@ -44,4 +44,4 @@ returns c =
     let a = c.args in
     let heads = stage_sections a.sections.now in
     let same = count_goes a.name_ends.now a.name_bytes.now a.sections.now a.pieces.now (join_of heads (length a.joined.now)) c.in_ok-n.ensures in
-    writes_made _ (joins_as same c.in_ok-join.ensures) (λ bytes q. c.base_of-total.ensures.is ∙ held_all a.sections.now ∙ sym (join_size heads _ _ bytes (same ∙ q)))
+    writes_made _ (joins_as same c.in_ok-join.ensures) (λ bytes q. base_all c.base_of-total.ensures ∙ sym (join_size heads _ _ bytes (same ∙ q)))
