@@ -14,7 +14,7 @@ use Rattle.lists.proofs.Outcomes.{fails, passes}
 use Rattle.lists.proofs.Tests.{or_false}
 use Rattle.names.specs.Names.{names_of, same_name, number_of}
 use Rattle.names.specs.Append.{Columns as Beside, table_full, Appended}
-use Rattle.names.specs.Index.{Found}
+use Rattle.names.specs.Index.{Sought}
 use Rattle.names.proofs.Laws.{length-names}
 use Rattle.gap_splits.specs.Entering.{Ceilings, Named, bytes_of, full, named}
 use Rattle.gap_splits.specs.Answers.{added, Room, Stand, ceilings, Absent, Numbered}
@@ -215,5 +215,5 @@ module _ (base : List (List ℕ)) (x : List ℕ) (c c' : Beside) (names used mos
           absurd (let y : ◌≡◌ {A = ℕ} 0 1 = cc in omega arith)
 
 -- a search among the names of the tables that found none
-pub far_away : (bytes places lengths : List ℕ) (n : ℕ) (x : List ℕ) {k : ℕ} → Found (names_of bytes places lengths n) x k → n ≤ k → Absent (names_of bytes places lengths n) x
-far_away bytes places lengths n x f h = let e = length-names bytes places lengths n in omega (arith, f.is, f.few)
+pub far_away : (names : List (List ℕ)) (x : List ℕ) → Sought names x None → Absent names x
+far_away names x s = sym s.is

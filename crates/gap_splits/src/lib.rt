@@ -63,8 +63,7 @@ fn number_of_name(
         (beside added_bytes.new added_places.new added_lengths.new) most most_bytes result }
 {
     let n = name_places.len();
-    let k = find(name_bytes, name_places, name_lengths, n, buckets, chain, x);
-    if k < n {
+    if let Some(k) = find(name_bytes, name_places, name_lengths, n, buckets, chain, x) {
         return Some(UnitName {
             unit: k as u16,
             names,

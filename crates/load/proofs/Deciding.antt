@@ -9,6 +9,7 @@ use borrow.Author.Tests.{lt-ltb, le-ltb, le-leb, lt-leb, eq-eqb, ne_eqb}
 use lib.Dec.{eqb}
 use lib.ListN.{length, get_or, take, drop}
 use lib.Seq.{length-take-le}
+use Rattle.std.specs.Prelude.{Option, is_some}
 use Rattle.fields.specs.Fields.{le16, le32}
 use Rattle.obj.specs.declared.Section.{Section}
 use Rattle.obj.specs.declared.Symbol.{Symbol}
@@ -17,7 +18,7 @@ use Rattle.obj.specs.declared.Split.{Split}
 use Rattle.obj.specs.declared.Unit as units
 use Rattle.obj.specs.Records.{section_at, symbol_at, reloc_at, partial_at, unit_at, partial_width}
 use Rattle.names.specs.Names.{names_of, name_bad, Named}
-use Rattle.names.specs.Index.{Indexed, Found}
+use Rattle.names.specs.Index.{Indexed, Sought}
 use Rattle.names.proofs.Laws.{part_is}
 use Rattle.faults.specs.Faults.{section_bad, symbol_bad, reloc_bad, split_bad, unit_bad}
 use Rattle.tables.specs.declared.Ceilings.{Ceilings}
@@ -184,23 +185,23 @@ module _ (c : Ceilings) (file : List ℕ) (at len : ℕ) (n : Counts) (places le
 
 -- ---- name_number
 module _ (c : Ceilings) (file : List ℕ) (at len : ℕ) (n : Counts) (places lengths heads chain : List ℕ)
-    (ready : Ready c file n places lengths heads chain) (fits : at + len ≤ length file) {r : ℕ}
-    (found : Found (names_in file (tables_in n places lengths)) (take len (drop at file)) r) where
-  name_new : n.names ≤ r → repeated c file at len (tables_in n places lengths) ≡ false
-  name_new h = is_new c file at len n places lengths heads chain ready fits found h
+    (ready : Ready c file n places lengths heads chain) (fits : at + len ≤ length file) (r : Option ℕ)
+    (found : Sought (names_in file (tables_in n places lengths)) (take len (drop at file)) r) where
+  name_new : is_some r ≡ false → repeated c file at len (tables_in n places lengths) ≡ false
+  name_new h = is_new c file at len n places lengths heads chain ready fits r found h
 
   counts_here : length (tables_in n places lengths).names ≡ n.names
   counts_here = names-count n places lengths ready.tabled.long_places (counted ready.tabled.allowed ready.tabled.few)
 
-  pub name_again : r < n.names → 0 ≡ name_number c file at len (tables_in n places lengths)
+  pub name_again : is_some r ≡ true → 0 ≡ name_number c file at len (tables_in n places lengths)
   unfolding name_number
-  name_again h = rw (is_repeated c file at len n places lengths heads chain ready fits found h)
+  name_again h = rw (← is_repeated c file at len n places lengths heads chain ready fits r found, h)
 
-  pub name_over : n.names ≤ r → c.names ≤ n.names → 2 ≡ name_number c file at len (tables_in n places lengths)
+  pub name_over : is_some r ≡ false → c.names ≤ n.names → 2 ≡ name_number c file at len (tables_in n places lengths)
   unfolding name_number
   name_over h f = rw (name_new h, counts_here, le-leb c.names n.names f)
 
-  module _ (h : n.names ≤ r) (f : n.names < c.names) {bad : Bool} (tested : bad ≡ name_bad (take len (drop at file))) where
+  module _ (h : is_some r ≡ false) (f : n.names < c.names) {bad : Bool} (tested : bad ≡ name_bad (take len (drop at file))) where
     pub name_faulty : bad ≡ true → 3 ≡ name_number c file at len (tables_in n places lengths)
     unfolding name_number
     name_faulty e = rw (name_new h, counts_here, lt-leb c.names n.names f, ← tested, e)
@@ -244,10 +245,10 @@ module _ (file : List ℕ) (n : Counts) (places lengths heads chain : List ℕ) 
   pub lent_indexed : Indexed (names_of file (take (10304 + n.names - 10304) (drop 10304 places)) (take n.names lengths) n.names) heads chain
   lent_indexed = rw (part-lent 10304 n.names places, names_are) ready.indexed
 
-  pub lent_found : (at len : ℕ) {r : ℕ}
-      → Found (names_of file (take (10304 + n.names - 10304) (drop 10304 places)) (take n.names lengths) n.names) (take (at + len - at) (drop at file)) r
-      → Found (names_in file (tables_in n places lengths)) (take len (drop at file)) r
-  lent_found at len f = rw (part-lent 10304 n.names places, names_are, part_is file {a = at} {b = len} at len refl refl) at f
+  pub lent_found : (at len : ℕ) (r : Option ℕ)
+      → Sought (names_of file (take (10304 + n.names - 10304) (drop 10304 places)) (take n.names lengths) n.names) (take (at + len - at) (drop at file)) r
+      → Sought (names_in file (tables_in n places lengths)) (take len (drop at file)) r
+  lent_found at len r f = rw (part-lent 10304 n.names places, names_are, part_is file {a = at} {b = len} at len refl refl) at f
 
 -- ---- by kind
 module _ (c : Ceilings) (file : List ℕ) (at len : ℕ) (t : Loaded) (kind : ℕ) where

@@ -7,17 +7,18 @@ use mathlib.Core.List.{List, [], ◌∷◌, ◌++◌, map-append}
 use native.Mathlib.Nat.{add-zero}
 use native.Mathlib.Numerals.{add-one}
 use native.Mathlib.Omega.{arith}
-use borrow.Author.Tests.{ltb-false, lt-ltb, le-ltb, ne_eqb}
+use borrow.Author.Tests.{ltb-false, ne_eqb}
 use lib.Dec.{eqb}
 use lib.ListN.{length, get_or, take, drop, set, length-set, length-append, length-drop}
 use lib.Seq.{length-take-le, take_all, take-append_seam, take-suc-set, get_or-append_seam}
 use Rattle.obj.specs.declared.Reloc.{Reloc}
+use Rattle.std.specs.Prelude.{Option, is_some, ltb}
 use Rattle.lists.proofs.Rows.{get_d_map}
 use Rattle.lists.proofs.Tests.{none_of}
 use Rattle.obj.specs.Records.{section_at, reloc_at}
 use Rattle.names.specs.Names.{number_of, name_bad}
-use Rattle.names.specs.Index.{InBucket, Found}
-use Rattle.names.proofs.Indexes.{indexed_entered}
+use Rattle.names.specs.Index.{InBucket, Sought}
+use Rattle.names.proofs.Indexes.{indexed_entered, sought_asked, sought_new}
 use Rattle.names.proofs.Laws.{length-names}
 use Rattle.faults.proofs.Laws.{reloc_section, reloc_inside}
 use Rattle.tables.specs.declared.Ceilings.{Ceilings}
@@ -454,8 +455,8 @@ kept_as {c} {file} {at} {len} {kind} {other} {t} {n} {places} {lengths} {heads} 
     subst (λ (j : ℕ). Kept c file at len j t n places lengths heads chain) (sym e) k
 
 module _ (c : Ceilings) (file : List ℕ) (at len : ℕ) (n : Counts) (places lengths heads chain : List ℕ)
-    (ready : Ready c file n places lengths heads chain) (fits : at + len ≤ length file) {r : ℕ}
-    (found : Found (names_in file (tables_in n places lengths)) (take len (drop at file)) r) where
+    (ready : Ready c file n places lengths heads chain) (fits : at + len ≤ length file) (r : Option ℕ)
+    (found : Sought (names_in file (tables_in n places lengths)) (take len (drop at file)) r) where
   tabled : Tabled c file n places lengths
   tabled = ready.tabled
 
@@ -470,27 +471,24 @@ module _ (c : Ceilings) (file : List ℕ) (at len : ℕ) (n : Counts) (places le
   names_size = length-names file (tables_in n places lengths).names (tables_in n places lengths).lengths (length (tables_in n places lengths).names) ∙ names_long
 
   -- the name that was found is repeated, another one is not
-  pub is_repeated : r < n.names → repeated c file at len (tables_in n places lengths) ≡ true
+  pub is_repeated : is_some r ≡ repeated c file at len (tables_in n places lengths)
   unfolding repeated
-  is_repeated h =
-      lt-ltb (number_of (names_in file (tables_in n places lengths)) (take len (drop at file))) (length (tables_in n places lengths).names)
-      (omega (arith, found.is, names_long))
+  is_repeated =
+      sought_asked (names_in file (tables_in n places lengths)) (take len (drop at file)) r found
+      ∙ ap (ltb (number_of (names_in file (tables_in n places lengths)) (take len (drop at file)))) (names_size ∙ sym names_long)
 
-  pub is_new : n.names ≤ r → repeated c file at len (tables_in n places lengths) ≡ false
-  unfolding repeated
-  is_new h =
-      le-ltb (number_of (names_in file (tables_in n places lengths)) (take len (drop at file))) (length (tables_in n places lengths).names)
-      (omega (arith, found.is, names_long))
+  pub is_new : is_some r ≡ false → repeated c file at len (tables_in n places lengths) ≡ false
+  is_new h = sym is_repeated ∙ h
 
   -- a repeated name adds nothing
   with_repeated : repeated c file at len (tables_in n places lengths) ≡ true → with_record c file at len (tables_in n places lengths) 1 ≡ tables_in n places lengths
   unfolding with_record
   with_repeated e = rw e
 
-  pub kept_repeated : r < n.names → Kept c file at len 1 (tables_in n places lengths) n places lengths heads chain
-  kept_repeated h = record { ready = ready; tables = sym (with_repeated (is_repeated h)) }
+  pub kept_repeated : is_some r ≡ true → Kept c file at len 1 (tables_in n places lengths) n places lengths heads chain
+  kept_repeated h = record { ready = ready; tables = sym (with_repeated (sym is_repeated ∙ h)) }
 
-  module _ (none : n.names ≤ r) (number : name_number c file at len (tables_in n places lengths) ≡ 0) where
+  module _ (none : is_some r ≡ false) (number : name_number c file at len (tables_in n places lengths) ≡ 0) where
     passed_name : NewName c file at len (tables_in n places lengths)
     passed_name = name_passed c file at len (tables_in n places lengths) number (is_new none)
 
@@ -546,7 +544,7 @@ module _ (c : Ceilings) (file : List ℕ) (at len : ℕ) (n : Counts) (places le
           floors = new_floors;
         };
         indexed = rw new_tables
-            (indexed_entered ready.indexed names_size found none name_below new_names b h k);
+            (indexed_entered ready.indexed names_size (sought_new (names_in file (tables_in n places lengths)) (take len (drop at file)) r found none) (omega (arith, names_size)) name_below new_names b h k);
       };
       tables = new_tables;
     })

@@ -7,7 +7,7 @@ ghost use Rattle.std.specs.Prelude.{◌≡◌, ◌+◌, ◌≤◌, ◌<◌, leng
 ghost use Rattle.lists.specs.Rows.{clear_from};
 ghost use Rattle.fields.specs.Fields.{le16, le32};
 ghost use Rattle.obj.specs.Records.{reloc_at};
-ghost use Rattle.names.specs.Index.{Found};
+ghost use Rattle.names.specs.Index.{Sought};
 ghost use Rattle.tables.specs.Tables.{AllHeld};
 ghost use Rattle.tables.specs.Records.{sections_in, no_section};
 ghost use Rattle.load.specs.Load.{nothing, names_in, name_number, section_length, section_number, symbol_number, reloc_number, split_number, unit_number, kind_number, record_number, load_from, load_of};
@@ -95,7 +95,7 @@ fn floor_of(places: &[u32], k: u16) -> u32
     0
 }
 
-// The number of the name of `len` bytes at `at`, n if none of the n names so far is the same.
+// The number of the name of `len` bytes at `at` among the names so far, if it is one of them.
 fn find_name(
     file: &[u8],
     at: usize,
@@ -105,9 +105,9 @@ fn find_name(
     lengths: &[u8],
     heads: &[u16],
     chain: &[u16],
-) -> usize
+) -> Option<usize>
     requires { (at + len ≤ length file.now) × NamesReady file.now n places.now lengths.now heads.now chain.now }
-    ensures { Found (names_in file.now (tables_in n places.now lengths.now)) (take len (drop at file.now)) result }
+    ensures { Sought (names_in file.now (tables_in n places.now lengths.now)) (take len (drop at file.now)) result }
 {
     let known = n.names;
     let end = NAMES + known;
@@ -143,7 +143,7 @@ fn name_number(
     ensures { result ≡ fault_as (name_number c file.now at len (tables_in n places.now lengths.now)) }
 {
     let past = at + len;
-    if find_name(file, at, len, n, places, lengths, heads, chain) < n.names {
+    if find_name(file, at, len, n, places, lengths, heads, chain).is_some() {
         return Ok(());
     }
     if c.names <= n.names {
@@ -459,7 +459,7 @@ fn keep_name(
     ensures { Kept c file.now at len 1 (tables_in n places.old lengths.old) result places.new lengths.new heads.new chain.new }
 {
     let known = n.names;
-    if find_name(file, at, len, n, places, lengths, heads, chain) < known {
+    if find_name(file, at, len, n, places, lengths, heads, chain).is_some() {
         return n;
     }
     let past = at + len;

@@ -72,6 +72,10 @@ module _ (ends bytes : List ℕ) where
   unfolding name_in
   name_part k es ee = ap₂ (λ (a e : ℕ). take (e - a) (drop a bytes)) es ee
 
+  pub length-stage_names : (n : ℕ) → length (stage_names ends bytes n) ≡ n
+  unfolding stage_names
+  length-stage_names n = length-tabulate (name_in ends bytes) 0 n
+
   -- ---- the fault of name k, as the code asks for it
   module _ (k : ℕ) {start end : ℕ} (es : start ≡ start_of ends k) (ee : end ≡ end_of ends k) where
     cut_asked : {t : Bool} → any_of (ltb end start ∷ ltb (length bytes) end ∷ []) ≡ t → name_cut ends bytes k ≡ t
@@ -82,26 +86,23 @@ module _ (ends bytes : List ℕ) where
     unfolding name_fault
     fault_cut e = rw (cut_asked e)
 
-    -- it is not cut: whether it is bad, or its number among the names before it is below theirs
-    pub fault_asked : {names : List (List ℕ)} {bad : Bool} {r : ℕ} (t : Bool)
+    -- it is not cut: whether it is bad, or is one of the names before it
+    pub fault_asked : {names : List (List ℕ)} {bad found : Bool} (t : Bool)
         → any_of (ltb end start ∷ ltb (length bytes) end ∷ []) ≡ false
         → names ≡ stage_names ends bytes k
         → bad ≡ name_bad (take (end - start) (drop start bytes))
-        → r ≡ number_of names (take (end - start) (drop start bytes))
-        → any_of (bad ∷ ltb r k ∷ []) ≡ t
+        → found ≡ ltb (number_of names (take (end - start) (drop start bytes))) (length names)
+        → any_of (bad ∷ found ∷ []) ≡ t
         → cond t 3 0 ≡ name_fault ends bytes k
     unfolding name_fault name_wrong
-    fault_asked {names} {bad} {r} t c en eb er e =
+    fault_asked {names} {bad} {found} t c en eb er e =
         let same = name_part k es ee in
         let bad_is : bad ≡ name_bad (name_in ends bytes k) = eb ∙ ap name_bad same in
-        let number_is : r ≡ number_of (stage_names ends bytes k) (name_in ends bytes k) = er ∙ ap₂ number_of en same in
-        rw (cut_asked c, ← bad_is, ← number_is, e)
+        let found_is : found ≡ ltb (number_of (stage_names ends bytes k) (name_in ends bytes k)) k =
+        er ∙ ap₂ ltb (ap₂ number_of en same) (ap length en ∙ length-stage_names k) in
+        rw (cut_asked c, ← bad_is, ← found_is, e)
 
   -- ---- the names by number
-  pub length-stage_names : (n : ℕ) → length (stage_names ends bytes n) ≡ n
-  unfolding stage_names
-  length-stage_names n = length-tabulate (name_in ends bytes) 0 n
-
   pub stage_name : (n k : ℕ) → k < n → get_or (stage_names ends bytes n) k [] ≡ name_in ends bytes k
   unfolding stage_names
   stage_name n k h = get_d_tabulate (name_in ends bytes) 0 n k [] h ∙ ap (name_in ends bytes) (zero-add k)

@@ -51,7 +51,7 @@ fn name_fault(
         return refuse(1, 0, k as u32);
     }
     let name = &bytes[start..end];
-    if bad_name(name) | (find(bytes, places, lengths, k, heads, chain, name) < k) {
+    if bad_name(name) | find(bytes, places, lengths, k, heads, chain, name).is_some() {
         return refuse(3, 0, k as u32);
     }
     Ok(())

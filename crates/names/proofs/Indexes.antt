@@ -1,5 +1,5 @@
 -- The index of the names: what the last name of a bucket tells, the search along a chain, and an index that a name is entered into.
--- Callers use `indexed_none`, `indexed_cleared`, `indexed_entered` (or `indexed_more`), `bucket_small`. Assumes nothing.
+-- Callers use `indexed_none`, `indexed_cleared`, `indexed_entered` (or `indexed_more`), `bucket_small`, `sought_asked`, `sought_new`, `sought_or`. Assumes nothing.
 use mathlib.Core.Path.{◌≡◌, refl, sym, ap, ap₂, subst, ◌∙◌}
 use mathlib.Core.List.{List, [], ◌∷◌, ◌++◌}
 use mathlib.Core.Bool.{Bool, true, false, cond}
@@ -7,13 +7,14 @@ use Prim.Native.Nat.{ℕ, zero, suc, ◌+◌, ◌-◌, ◌≤◌, ◌<◌, zero-
 use native.Mathlib.Nat.{not-suc-le-zero, add-zero, zero-add, add-suc, suc-add}
 use native.Mathlib.Numerals.{add-one}
 use native.Mathlib.Omega.{arith}
-use borrow.Author.Tests.{eqb-true, eqb-false, leb-true, leb-false}
-use lib.Dec.{eqb, leb}
+use borrow.Author.Tests.{eqb-true, eqb-false, leb-true, leb-false, lt-ltb, le-ltb}
+use lib.Dec.{eqb, leb, ltb}
 use lib.ListN.{length, get_or, take, drop, set, replicate, length-append, length-set, length-take, length-replicate, get_or-replicate, drop_of_length-le, get_or-append}
 use lib.Seq.{take-suc, take_all, drop-cons, take-append-le, take-append_seam, get_or-append_seam, get_or-set_same, get_or-set_other}
+use Rattle.std.specs.Prelude.{Option, Some, None, is_some, unwrap_or}
 use Rattle.lists.proofs.FirstIn.{first_in_is}
 use Rattle.names.specs.Names.{name_at, names_of, Named, same_name, number_of}
-use Rattle.names.specs.Index.{mix, hash_from, bucket_of, InBucket, last_from, last_in, Different, Indexed, Found}
+use Rattle.names.specs.Index.{mix, hash_from, bucket_of, InBucket, last_from, last_in, Different, Indexed, Found, Sought}
 use Rattle.names.proofs.Laws.{length-names, name_asked, same_equal, other_sym, number_le, number_none, none_number}
 
 -- ---- the hash
@@ -163,11 +164,29 @@ module _ (names : List (List ℕ)) (x : List ℕ) where
       step j h true b = s.passed j (leb-true s.upto j b) h
       step j h false b = other_bucket x (get_or names j []) ((place 0 s).after j zero-le (leb-false s.upto j b))
 
+  pub search_none : {cur : ℕ} → Search names x cur → cur ≡ 0 → Sought names x None
+  search_none s e = record { is = sym (search_ends (subst (Search names x) e s)); few = omega arith }
+
   -- it finds: a name that is the same is the only one
   pub search_finds : Different names → (k : ℕ) → k < length names → same_name x (get_or names k []) ≡ true → number_of names x ≡ k
   unfolding number_of
   search_finds different k h e =
       first_in_is (same_name x) names k [] h e (λ j q. subst (λ (y : List ℕ). same_name y (get_or names j []) ≡ false) (sym (same_equal x (get_or names k []) e)) (other_sym _ _ (different j k q h)))
+
+-- whether it finds x
+pub sought_asked : (names : List (List ℕ)) (x : List ℕ) (r : Option ℕ) → Sought names x r → is_some r ≡ ltb (number_of names x) (length names)
+sought_asked names x (Some k) s = sym (lt-ltb (number_of names x) (length names) (omega (arith, s.0.is, s.1)))
+sought_asked names x None s = sym (le-ltb (number_of names x) (length names) (omega (arith, s.is)))
+
+-- it does not: the number that x gets where it is added
+pub sought_new : (names : List (List ℕ)) (x : List ℕ) (r : Option ℕ) → Sought names x r → is_some r ≡ false → Found names x (length names)
+sought_new names x (Some k) s e = absurd (let z : true ≡ false = e in let y : ◌≡◌ {A = ℕ} 1 0 = cc in omega arith)
+sought_new names x None s e = s
+
+-- the number with which x goes on, whether it is there or not
+pub sought_or : (names : List (List ℕ)) (x : List ℕ) (r : Option ℕ) → Sought names x r → unwrap_or r (length names) ≡ number_of names x
+sought_or names x (Some k) s = s.0.is
+sought_or names x None s = s.is
 
 -- ---- a turn of `find`: name cur - 1 is the last that is left in the bucket
 
@@ -185,11 +204,14 @@ module _ {bytes places lengths heads chain x : List ℕ} {n cur : ℕ} (named : 
   left_chain = omega (arith, left_number, ix.few, ix.room)
 
   -- the name is x: its number
-  pub left_found : {r : Bool} → r ≡ same_name x (name_at bytes places lengths (cur - 1)) → r ≡ true → Found (names_of bytes places lengths n) x (cur - 1)
-  left_found e t = record {
-    is = sym (search_finds (names_of bytes places lengths n) x ix.different (cur - 1) left_number (name_asked bytes places lengths n (cur - 1) x true left_count e t));
-    few = omega (arith, left_number);
-  }
+  pub left_found : {r : Bool} → r ≡ same_name x (name_at bytes places lengths (cur - 1)) → r ≡ true → Sought (names_of bytes places lengths n) x (Some (cur - 1))
+  left_found e t = (
+    record {
+      is = sym (search_finds (names_of bytes places lengths n) x ix.different (cur - 1) left_number (name_asked bytes places lengths n (cur - 1) x true left_count e t));
+      few = omega (arith, left_number);
+    },
+    left_number,
+  )
 
   module _ {next : ℕ} (q : next ≡ get_or chain (cur - 1) 0) where
     -- the chain goes down

@@ -1,6 +1,6 @@
 -- The index of the names: each name's number is chained behind the later names of the same hash, so that a name is found without
 -- looking at all names. What is found does not depend on the hash (`number_of`); only the time does.
-use Rattle.std.specs.Prelude.{ℕ, suc, ◌+◌, ◌*◌, ◌/◌, ◌%◌, ◌≤◌, ◌<◌, ◌≡◌, List, [], ◌∷◌, false, cond, length, get_or, take, eqb}
+use Rattle.std.specs.Prelude.{ℕ, suc, ◌+◌, ◌*◌, ◌/◌, ◌%◌, ◌≤◌, ◌<◌, ◌≡◌, List, [], ◌∷◌, false, cond, length, get_or, take, eqb, Option, MatchOption}
 use Rattle.names.specs.Names.{same_name, number_of}
 
 -- one byte more
@@ -45,3 +45,7 @@ pub record Indexed (names : List (List ℕ)) (heads chain : List ℕ) : Type 0 w
 pub record Found (names : List (List ℕ)) (x : List ℕ) (r : ℕ) : Type 0 where
   pub is : r ≡ number_of names x
   pub few : r ≤ length names
+
+-- what a search for x gives: its number among the names, None if it is none of them
+abbrev pub Sought : (names : List (List ℕ)) → (x : List ℕ) → Option ℕ → Type 0
+Sought names x r = MatchOption r (Found names x (length names)) (λ k. Found names x k × (k < length names))

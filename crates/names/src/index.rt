@@ -1,7 +1,7 @@
 // The index of the names: "Names number from 0 in file order; a repeated name adds none", so each name is looked up before it is added.
 ghost use Rattle.std.specs.Prelude.{◌≡◌, ◌+◌, ◌≤◌, ◌<◌, length, get_or, set, replicate};
 ghost use Rattle.names.specs.Names.{name_at, names_of, Named, same_name};
-ghost use Rattle.names.specs.Index.{InBucket, Indexed, Found};
+ghost use Rattle.names.specs.Index.{InBucket, Indexed, Sought};
 
 use crate::{name_at, same};
 
@@ -32,8 +32,7 @@ fn is_name(bytes: &[u8], places: &[u32], lengths: &[u8], k: usize, x: &[u8]) -> 
     same(x, name_at(bytes, places, lengths, k))
 }
 
-// The number of the name x, n if none of the n names is x (the number that x gets where it is then added): along the chain of its bucket,
-// from the last name to the first.
+// The number of the name x among the n names, if it is one of them: along the chain of its bucket, from the last name to the first.
 pub fn find(
     bytes: &[u8],
     places: &[u32],
@@ -42,20 +41,20 @@ pub fn find(
     heads: &[u16],
     chain: &[u16],
     x: &[u8],
-) -> usize
+) -> Option<usize>
     requires { Named bytes.now places.now lengths.now n × Indexed (names_of bytes.now places.now lengths.now n) heads.now chain.now }
-    ensures { Found (names_of bytes.now places.now lengths.now n) x.now result }
+    ensures { Sought (names_of bytes.now places.now lengths.now n) x.now result }
 {
     let mut cur = number_at(heads, bucket_of(x));
     // A walk along a chain, which is no count.
     while cur != 0 {
         let k = cur - 1;
         if is_name(bytes, places, lengths, k, x) {
-            return k;
+            return Some(k);
         }
         cur = number_at(chain, k);
     }
-    n
+    None
 }
 
 // Enters name k into its bucket, before the last name that was entered there.

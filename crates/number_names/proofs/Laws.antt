@@ -1,8 +1,8 @@
 -- Names looked up along the chain of their bucket, and entered one after another. Assumes nothing.
-use mathlib.Core.Path.{◌≡◌, refl, sym, ap, ap₂, subst, ◌∙◌}
+use mathlib.Core.Path.{◌≡◌, refl, sym, ap, ap₂, ◌∙◌}
 use mathlib.Core.List.{List, [], ◌∷◌, ◌++◌, append-nil}
 use mathlib.Core.Bool.{Bool, true, false}
-use Prim.Native.Nat.{ℕ, ◌+◌, ◌*◌, ◌-◌, ◌/◌, ◌≤◌, ◌<◌}
+use Prim.Native.Nat.{ℕ, ◌+◌, ◌*◌, ◌-◌, ◌≤◌, ◌<◌}
 use native.Mathlib.Omega.{arith}
 use borrow.Author.Tests.{lt-ltb, le-ltb, leb-false, ltb-true, ltb-false}
 use lib.ListN.{length, get_or, take, set, length-append}
@@ -18,15 +18,15 @@ use Rattle.outputs.specs.Outputs.{halves}
 use Rattle.stage_names.specs.StageNames.{ends_from, flat}
 use Rattle.stage_names.proofs.Fits.{flat_append}
 use Rattle.names.specs.Names.{same_name, number_of}
-use Rattle.names.specs.Index.{bucket_of, Found, InBucket}
+use Rattle.names.specs.Index.{bucket_of, Sought, InBucket}
 use Rattle.names.proofs.Laws.{number_le}
-use Rattle.names.proofs.Indexes.{Search, search_ends, search_bound, search_turn, search_finds, last_below, indexed_entered}
+use Rattle.names.proofs.Indexes.{Search, search_bound, search_turn, search_finds, last_below, indexed_entered}
 use Rattle.name_table.specs.NameTable.{name_in}
 use Rattle.number_names.specs.Numbers.{Room, no_place, enter_name, enter_names, name_ends, Laid, Known, Held, Within, Whole, Short, Entered, Going, InTable, Fits}
-use Rattle.std.specs.Prelude.{Result, Ok, Err}
+use Rattle.std.specs.Prelude.{Result, Ok, Err, Some}
 use Rattle.obj.specs.declared.Refusal.{Refusal}
 use Rattle.number_names.specs.declared.Count.{Count}
-use Rattle.number_names.proofs.Laid.{name_back, count_back, start_back, end_back, length-name_ends}
+use Rattle.number_names.proofs.Laid.{name_back, start_back, end_back, length-name_ends}
 
 -- ---- a turn of the search: name cur - 1 is the last that is left in the bucket
 
@@ -48,11 +48,14 @@ module _ {names : List (List ℕ)} {ends bytes heads chain x : List ℕ} {cur : 
   asked t e q = ap (same_name x) (sym (name_back k.laid (cur - 1) left_number)) ∙ sym e ∙ q
 
   -- the name is x: its number
-  pub left_found : {r : Bool} → r ≡ same_name x (name_in ends bytes (cur - 1)) → r ≡ true → Found names x (cur - 1)
-  left_found e t = record {
-    is = sym (search_finds names x k.index.different (cur - 1) left_number (asked true e t));
-    few = omega (arith, left_number);
-  }
+  pub left_found : {r : Bool} → r ≡ same_name x (name_in ends bytes (cur - 1)) → r ≡ true → Sought names x (Some (cur - 1))
+  left_found e t = (
+    record {
+      is = sym (search_finds names x k.index.different (cur - 1) left_number (asked true e t));
+      few = omega (arith, left_number);
+    },
+    left_number,
+  )
 
   module _ {next : ℕ} (q : next ≡ get_or chain (cur - 1) 0) where
     -- the chain goes down
@@ -62,12 +65,6 @@ module _ {names : List (List ℕ)} {ends bytes heads chain x : List ℕ} {cur : 
     -- the name is another one
     pub left_other : {r : Bool} → r ≡ same_name x (name_in ends bytes (cur - 1)) → r ≡ false → Search names x next
     left_other e t = search_turn names x cur s (cur - 1) next (omega arith) (asked false e t) (q ∙ k.index.next (cur - 1) left_number)
-
--- none is left
-pub left_none : {names : List (List ℕ)} {ends bytes heads chain x : List ℕ} {cur : ℕ} → Known names ends bytes heads chain → Search names x cur → cur ≡ 0 → Found names x (length ends / 2)
-left_none {names} {ends} {bytes} {heads} {chain} {x} k s e =
-    let none = search_ends names x (subst (Search names x) e s) in
-    record { is = count_back k.laid ∙ sym none; few = omega (arith, count_back k.laid) }
 
 -- ---- one name more, as bytes
 

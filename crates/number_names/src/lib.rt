@@ -3,7 +3,7 @@
 
 ghost use Rattle.std.specs.Prelude.{◌≡◌, List, ◌∷◌, [], ◌++◌, ℕ, ◌+◌, ◌*◌, ◌/◌, ◌≤◌, ◌<◌, length};
 ghost use Rattle.names.specs.Names.{same_name, number_of};
-ghost use Rattle.names.specs.Index.{Found};
+ghost use Rattle.names.specs.Index.{Sought};
 ghost use Rattle.name_table.specs.NameTable.{name_in};
 ghost use Rattle.number_names.specs.Numbers.{Room, enter_name, Known, Knows, Held, Holds, Within, Entered, InTable, Fits};
 
@@ -31,21 +31,21 @@ fn is_name(ends: &[u8], bytes: &[u8], k: usize, x: &[u8]) -> bool
     same(x, &bytes[start..end])
 }
 
-// The number of the name x, their count if none of the names is x, as `number_of` says: along the chain of its bucket, from the last name to the first.
-pub fn find_name(ends: &[u8], bytes: &[u8], heads: &[u16], chain: &[u16], x: &[u8]) -> usize
+// The number of the name x, if it is one of the names: along the chain of its bucket, from the last name to the first.
+pub fn find_name(ends: &[u8], bytes: &[u8], heads: &[u16], chain: &[u16], x: &[u8]) -> Option<usize>
     requires { Knows ends.now bytes.now heads.now chain.now }
-    ensures { (names : List (List ℕ)) → Known names ends.now bytes.now heads.now chain.now → Found names x.now result }
+    ensures { (names : List (List ℕ)) → Known names ends.now bytes.now heads.now chain.now → Sought names x.now result }
 {
     let mut cur = number_at(heads, bucket_of(x));
     // no count: the chain says which name is next
     while cur != 0 {
         let k = cur - 1;
         if is_name(ends, bytes, k, x) {
-            return k;
+            return Some(k);
         }
         cur = number_at(chain, k);
     }
-    ends.len() / 2
+    None
 }
 
 // ---- a name more
@@ -92,8 +92,7 @@ pub fn enter_name(
     let n = at.names;
     let used = at.used;
     let m = 2 * n;
-    let k = find_name(&name_ends[..m], &name_bytes[..used], heads, chain, x);
-    if k < n {
+    if find_name(&name_ends[..m], &name_bytes[..used], heads, chain, x).is_some() {
         return Ok(at);
     }
     let end = used + x.len();

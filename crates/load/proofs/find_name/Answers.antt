@@ -11,4 +11,4 @@ find-requires c =
 pub returns : goal.returns
 returns c =
     let a = c.args in
-    lent_found a.file.now a.n a.places.now a.lengths.now a.heads.now a.chain.now c.requires.1 a.at a.len c.find.ensures
+    lent_found a.file.now a.n a.places.now a.lengths.now a.heads.now a.chain.now c.requires.1 a.at a.len _ c.find.ensures

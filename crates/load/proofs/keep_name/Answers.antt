@@ -1,30 +1,30 @@
 -- `load::keep_name` meets its contract: nothing for a name that was found, else its place, its length and its entry in the index.
 -- Assumes nothing.
-use mathlib.Core.Path.{refl}
+use mathlib.Core.Path.{refl, sym, ◌∙◌}
 use native.Mathlib.Omega.{arith}
 use Rattle.names.proofs.Laws.{part_is}
 use Rattle.load.proofs.Keeping.{counted, slot_low, kept_repeated, name_short, name_below, kept_name}
 use Rattle.load.proofs.keep_name.Goals as goal
 
-pub returns-then-find_name-known : goal.returns-then-find_name-known
-returns-then-find_name-known c =
+pub returns-then-is_some : goal.returns-then-is_some
+returns-then-is_some c =
     let a = c.args in
-    kept_repeated a.c a.file.now a.at a.len a.n a.places.now a.lengths.now a.heads.now a.chain.now c.requires.1 c.requires.0 c.find_name.ensures c.if-find_name-known.true
+    kept_repeated a.c a.file.now a.at a.len a.n a.places.now a.lengths.now a.heads.now a.chain.now c.requires.1 c.requires.0 _ c.find_name.ensures (sym c.is_some.ensures ∙ c.if-is_some.true)
 
 pub overflow_cast-lengths : goal.overflow_cast-lengths
 overflow_cast-lengths c =
     let a = c.args in
-    omega (arith, name_short a.c a.file.now a.at a.len a.n a.places.now a.lengths.now a.heads.now a.chain.now c.requires.1 c.requires.0 c.find_name.ensures c.if-find_name-known.false c.requires.2)
+    omega (arith, name_short a.c a.file.now a.at a.len a.n a.places.now a.lengths.now a.heads.now a.chain.now c.requires.1 c.requires.0 _ c.find_name.ensures (sym c.is_some.ensures ∙ c.if-is_some.false) c.requires.2)
 
 pub bounds-lengths-known : goal.bounds-lengths-known
 bounds-lengths-known c =
     let a = c.args in
-    omega (arith, name_below a.c a.file.now a.at a.len a.n a.places.now a.lengths.now a.heads.now a.chain.now c.requires.1 c.requires.0 c.find_name.ensures c.if-find_name-known.false c.requires.2, c.requires.1.tabled.long_lengths)
+    omega (arith, name_below a.c a.file.now a.at a.len a.n a.places.now a.lengths.now a.heads.now a.chain.now c.requires.1 c.requires.0 _ c.find_name.ensures (sym c.is_some.ensures ∙ c.if-is_some.false) c.requires.2, c.requires.1.tabled.long_lengths)
 
 pub enter-requires : goal.enter-requires
 enter-requires c =
     let a = c.args in
-    let below = name_below a.c a.file.now a.at a.len a.n a.places.now a.lengths.now a.heads.now a.chain.now c.requires.1 c.requires.0 c.find_name.ensures c.if-find_name-known.false c.requires.2 in
+    let below = name_below a.c a.file.now a.at a.len a.n a.places.now a.lengths.now a.heads.now a.chain.now c.requires.1 c.requires.0 _ c.find_name.ensures (sym c.is_some.ensures ∙ c.if-is_some.false) c.requires.2 in
     (omega (arith, c.bucket_of-bucket.ensures.small, c.requires.1.indexed.buckets), omega (arith, c.requires.1.indexed.room), omega arith)
 
 pub keep_place-requires : goal.keep_place-requires
@@ -36,6 +36,6 @@ keep_place-requires c =
 pub returns : goal.returns
 returns c =
     let a = c.args in
-    kept_name a.c a.file.now a.at a.len a.n a.places.now a.lengths.now a.heads.now a.chain.now c.requires.1 c.requires.0 c.find_name.ensures c.if-find_name-known.false c.requires.2
+    kept_name a.c a.file.now a.at a.len a.n a.places.now a.lengths.now a.heads.now a.chain.now c.requires.1 c.requires.0 _ c.find_name.ensures (sym c.is_some.ensures ∙ c.if-is_some.false) c.requires.2
     (rw (part_is a.file.now {a = a.at} {b = a.len} a.at a.len refl refl) at c.bucket_of-bucket.ensures) c.keep_place.ensures.0 c.keep_place.ensures.1 refl
     c.enter.ensures.0 c.enter.ensures.1

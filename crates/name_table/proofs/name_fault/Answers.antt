@@ -3,6 +3,7 @@
 use Rattle.std.proofs.Common.{ℕ, ◌≤◌, ◌∙◌, ap, arith, length, true, false}
 use Rattle.lists.specs.Rows.{any_of, any_from}
 use Rattle.obj.specs.Answers.{meaning}
+use Rattle.names.proofs.Indexes.{sought_asked}
 use Rattle.tables.specs.Tables.{record_check}
 use Rattle.tables.proofs.Loops.{no_fault, some_fault}
 use Rattle.name_table.proofs.Laws.{not_cut, searched, fault_cut, fault_asked}
@@ -35,14 +36,14 @@ slice_bounds-name-end c = (whole c).1
 pub find-requires : goal.find-requires
 find-requires c = searched c.requires.2
 
-pub returns-then-bad_name-find : goal.returns-then-bad_name-find
+pub returns-then-bad_name-is_some : goal.returns-then-bad_name-is_some
 unfolding any_of any_from
-returns-then-bad_name-find c =
-    ap meaning c.refuse-then-bad_name-find.ensures
+returns-then-bad_name-is_some c =
+    ap meaning c.refuse-then-bad_name-is_some.ensures
     ∙ some_fault 3 c.args.k (omega arith)
     ∙ ap (λ (f : ℕ). record_check f c.args.k)
     (fault_asked _ _ _ c.start_of-start.ensures.is c.end_of-end.ensures.is
-    true c.if-end-start.false c.requires.2.names c.bad_name.ensures c.find.ensures.is c.if-bad_name-find.true)
+    true c.if-end-start.false c.requires.2.names c.bad_name.ensures (c.is_some.ensures ∙ sought_asked _ _ _ c.find.ensures) c.if-bad_name-is_some.true)
 
 pub returns : goal.returns
 unfolding any_of any_from
@@ -50,4 +51,4 @@ returns c =
     no_fault c.args.k
     ∙ ap (λ (f : ℕ). record_check f c.args.k)
     (fault_asked _ _ _ c.start_of-start.ensures.is c.end_of-end.ensures.is
-    false c.if-end-start.false c.requires.2.names c.bad_name.ensures c.find.ensures.is c.if-bad_name-find.false)
+    false c.if-end-start.false c.requires.2.names c.bad_name.ensures (c.is_some.ensures ∙ sought_asked _ _ _ c.find.ensures) c.if-bad_name-is_some.false)

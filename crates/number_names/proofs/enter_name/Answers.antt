@@ -1,7 +1,9 @@
 -- What the index finds is the name's number among the names that stand there.
-use Rattle.std.proofs.Common.{◌≤◌, [], ◌∷◌, ◌++◌, true, false, sym, arith, length, length-take-le}
+use Rattle.std.proofs.Common.{◌≤◌, ◌∙◌, [], ◌∷◌, ◌++◌, true, false, sym, arith, length, length-take-le}
+use borrow.Author.Tests.{ltb-true, ltb-false}
 use Rattle.lists.specs.Rows.{any_of}
 use Rattle.names.specs.Names.{number_of}
+use Rattle.names.proofs.Indexes.{sought_asked}
 use Rattle.number_names.proofs.Laws.{held_ends, held_bytes, held_known, enter_there, enter_full, enter_new, place_asked, place_free, short_held}
 use Rattle.number_names.proofs.enter_name.Goals as goal
 
@@ -17,14 +19,14 @@ slice_bounds-find_name-end-3 c = let h = c.requires.0.held in omega (arith, h.by
 pub slice_bounds-find_name-end-4 : goal.slice_bounds-find_name-end-4
 slice_bounds-find_name-end-4 c = let h = c.requires.0.held in sym (length-take-le _ _ (omega (arith, h.bytes_fit, held_bytes h)))
 
-pub find_name-k-requires : goal.find_name-k-requires
-find_name-k-requires c = record { names = c.requires.0.names; known = held_known c.requires.0.held }
+pub find_name-requires : goal.find_name-requires
+find_name-requires c = record { names = c.requires.0.names; known = held_known c.requires.0.held }
 
-pub returns-then-k-n : goal.returns-then-k-n
-returns-then-k-n c =
+pub returns-then-is_some : goal.returns-then-is_some
+returns-then-is_some c =
     λ names ends₀ bytes₀ h.
-    let f = c.find_name-k.ensures names (held_known h) in
-    record { names = names; is = enter_there _ names _ (omega (arith, f.is, h.counted, c.if-k-n.true)); held = h }
+    let there = sym (sought_asked names _ _ (c.find_name.ensures names (held_known h))) ∙ sym c.is_some.ensures ∙ c.if-is_some.true in
+    record { names = names; is = enter_there _ names _ (ltb-true _ _ there); held = h }
 
 pub overflow_cast-n : goal.overflow_cast-n
 overflow_cast-n c = let h = c.requires.0.held in omega (arith, h.counted, h.index.few)
@@ -33,8 +35,8 @@ pub returns-then-most-n : goal.returns-then-most-n
 unfolding any_of
 returns-then-most-n c =
     λ names ends₀ bytes₀ h.
-    let f = c.find_name-k.ensures names (held_known h) in
-    let full = enter_full _ names _ (omega (arith, f.is, h.counted, c.if-k-n.false)) (place_asked _ _ _ true h c.if-most-n.true) in
+    let new = sym (sought_asked names _ _ (c.find_name.ensures names (held_known h))) ∙ sym c.is_some.ensures ∙ c.if-is_some.false in
+    let full = enter_full _ names _ (ltb-false _ _ new) (place_asked _ _ _ true h c.if-most-n.true) in
     rw c.refuse.ensures (short_held full h)
 
 pub add_name-requires : goal.add_name-requires
@@ -45,8 +47,8 @@ pub returns : goal.returns
 unfolding any_of
 returns c =
     λ names ends₀ bytes₀ h.
-    let f = c.find_name-k.ensures names (held_known h) in
-    let new : length names ≤ number_of names c.args.x.now = omega (arith, f.is, h.counted, c.if-k-n.false) in
+    let asked = sym (sought_asked names _ _ (c.find_name.ensures names (held_known h))) ∙ sym c.is_some.ensures ∙ c.if-is_some.false in
+    let new : length names ≤ number_of names c.args.x.now = ltb-false _ _ asked in
     record {
       names = names ++ (c.args.x.now ∷ []);
       is = enter_new _ names _ new (place_asked _ _ _ false h c.if-most-n.false);

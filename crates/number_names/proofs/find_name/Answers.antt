@@ -3,8 +3,8 @@
 use mathlib.Core.Path.{ap, ◌∙◌}
 use Prim.Native.Nat.{ℕ}
 use Rattle.names.specs.Index.{last_in}
-use Rattle.names.proofs.Indexes.{search_starts}
-use Rattle.number_names.proofs.Laws.{left_name, left_chain, left_found, left_less, left_other, left_none}
+use Rattle.names.proofs.Indexes.{search_starts, search_none}
+use Rattle.number_names.proofs.Laws.{left_name, left_chain, left_found, left_less, left_other}
 use Rattle.number_names.proofs.find_name.Goals as goal
 
 pub loop-cur-init : goal.loop-cur-init
@@ -29,4 +29,4 @@ pub loop-cur-preserved : goal.loop-cur-preserved
 loop-cur-preserved c = λ names k. left_other k (c.loop-cur.invariant names k) c.loop-cur-test.true c.number_at-cur-in-loop-cur.ensures c.is_name.ensures c.if-is_name.false
 
 pub returns : goal.returns
-returns c = λ names k. left_none k (c.loop-cur.invariant names k) c.loop-cur-test.false
+returns c = λ names k. search_none names c.args.x.now (c.loop-cur.invariant names k) c.loop-cur-test.false

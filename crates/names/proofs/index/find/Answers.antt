@@ -1,12 +1,10 @@
 -- `names::index::find` meets its contract. Invariant: the names behind those that are left are passed, and `cur` is one more than the
 -- number of the last that is left in the bucket of x; the measure is `cur`, since a chain goes down. Assumes nothing.
-use native.Mathlib.Omega.{arith}
-use mathlib.Core.Path.{sym, ap, subst, ◌∙◌}
+use mathlib.Core.Path.{ap, ◌∙◌}
 use Prim.Native.Nat.{ℕ}
 use Rattle.names.specs.Names.{names_of}
 use Rattle.names.specs.Index.{last_in}
-use Rattle.names.proofs.Laws.{length-names}
-use Rattle.names.proofs.Indexes.{Search, search_starts, search_ends, left_name, left_chain, left_found, left_less, left_other}
+use Rattle.names.proofs.Indexes.{search_starts, search_none, left_name, left_chain, left_found, left_less, left_other}
 use Rattle.names.proofs.index.find.Goals as goal
 
 pub loop-cur-init : goal.loop-cur-init
@@ -42,6 +40,4 @@ loop-cur-preserved c =
 pub returns : goal.returns
 returns c =
     let names = names_of c.args.bytes.now c.args.places.now c.args.lengths.now c.args.n in
-    let size = length-names c.args.bytes.now c.args.places.now c.args.lengths.now c.args.n in
-    let none = search_ends names c.args.x.now (subst (Search names c.args.x.now) c.loop-cur-test.false c.loop-cur.invariant) in
-    record { is = sym (none ∙ size); few = omega arith }
+    search_none names c.args.x.now c.loop-cur.invariant c.loop-cur-test.false
