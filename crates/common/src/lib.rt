@@ -2,7 +2,7 @@
 // `update_common_splits` works on the split table's columns. `mark_common_splits` is document 01's own form, "on a lent slice of split records".
 #![tactic(auto)]
 
-ghost use Rattle.std.specs.Prelude.{◌≡◌, map, ◌&&◌, eqb, ℕ, ◌/◌, ◌%◌, ◌<◌, ◌≤◌, length, take};
+ghost use Rattle.std.specs.Prelude.{◌≡◌, map, ◌&&◌, eqb, ℕ, ◌/◌, ◌%◌, ◌<◌, ◌≤◌, length, take, is_some, unwrap_or};
 ghost use Rattle.lists.specs.Rows.{keep_if};
 ghost use Rattle.lists.specs.Outcome.{accepted};
 ghost use Rattle.splits.specs.Columns.{columns, row_of, row_at, rows, Long};
@@ -176,19 +176,18 @@ pub fn common_start(
     units: &[u16],
     rest: &[u64],
     n: usize,
-    has_start: bool,
-    start: u32,
+    given: Option<u32>,
 ) -> Result<Option<(u16, u32)>, Refusal>
     requires { Sections name_bytes.now name_places.now name_lengths.now heads.now places.now × Long (columns starts.now ends.now units.now rest.now) n }
     ensures { start_meaning result
-        ≡ common_start has_start start (bss_in name_bytes.now name_places.now name_lengths.now heads.now places.now)
+        ≡ common_start (is_some given) (unwrap_or given 0) (bss_in name_bytes.now name_places.now name_lengths.now heads.now places.now)
         (rows (columns starts.now ends.now units.now rest.now) n) }
 {
     let bss = by_name(name_bytes, name_places, name_lengths, heads, places);
-    if has_start {
-        return given_start(bss, start);
+    match given {
+        Some(start) => given_start(bss, start),
+        None => Ok(common_bss_start(bss, starts, ends, units, rest, n)),
     }
-    Ok(common_bss_start(bss, starts, ends, units, rest, n))
 }
 
 // ---- the marking, in the columns
@@ -326,12 +325,11 @@ pub fn update_common_splits(
     units: &[u16],
     rest: &mut [u64],
     n: usize,
-    has_start: bool,
-    start: u32,
+    given: Option<u32>,
 ) -> Result<(), Refusal>
     requires { Sections name_bytes.now name_places.now name_lengths.now heads.now places.now × Long (columns starts.now ends.now units.now rest.old) n }
     ensures { answered result (rows (columns starts.now ends.now units.now rest.new) n)
-        ≡ common_of has_start start (bss_in name_bytes.now name_places.now name_lengths.now heads.now places.now)
+        ≡ common_of (is_some given) (unwrap_or given 0) (bss_in name_bytes.now name_places.now name_lengths.now heads.now places.now)
         (rows (columns starts.now ends.now units.now rest.old) n) }
 {
     let from = common_start(
@@ -345,8 +343,7 @@ pub fn update_common_splits(
         units,
         rest,
         n,
-        has_start,
-        start,
+        given,
     )?;
     if let Some((section, address)) = from {
         mark_columns(starts, ends, units, rest, n, section, address);
@@ -366,12 +363,11 @@ pub fn update_common_records(
     units: &[u16],
     rest: &mut [u64],
     n: usize,
-    has_start: bool,
-    start: u32,
+    given: Option<u32>,
 ) -> Result<(), Refusal>
     requires { Sections name_bytes.now name_places.now name_lengths.now heads.now places.now × Long (columns starts.now ends.now units.now rest.old) n × (n ≤ 1024) }
     ensures { answered result (rows (columns starts.now ends.now units.now rest.new) n)
-        ≡ common_of has_start start (bss_in name_bytes.now name_places.now name_lengths.now heads.now places.now)
+        ≡ common_of (is_some given) (unwrap_or given 0) (bss_in name_bytes.now name_places.now name_lengths.now heads.now places.now)
         (rows (columns starts.now ends.now units.now rest.old) n) }
 {
     let from = common_start(
@@ -385,8 +381,7 @@ pub fn update_common_records(
         units,
         rest,
         n,
-        has_start,
-        start,
+        given,
     )?;
     if let Some((section, address)) = from {
         mark_records(starts, ends, units, rest, n, section, address);

@@ -3,7 +3,7 @@
 use Prim.Native.Nat.{ℕ, ◌/◌, ◌≤◌, ◌<◌}
 use mathlib.Core.Path.{◌≡◌, sym, ap, ap₂, subst, ◌∙◌}
 use mathlib.Core.List.{List, []}
-use mathlib.Core.Bool.{Bool}
+use mathlib.Core.Bool.{Bool, true, false}
 use mathlib.Core.Logic.{◌⊎◌, inl, inr}
 use native.Mathlib.Omega.{arith}
 use lib.ListN.{length, get_or, take, drop, get_or-eq_default}
@@ -18,7 +18,8 @@ use Rattle.lists.proofs.Rows.{get_d_map}
 use Rattle.obj.specs.Answers.{meaning}
 use Rattle.obj.specs.Records.{section_at, stage_places}
 use Rattle.obj.specs.Answers.{Answer}
-use Rattle.std.specs.Prelude.{Ok, Err}
+use Rattle.std.specs.Prelude.{Option, Ok, Err, is_some, unwrap_or}
+use Rattle.std.specs.Bool.{then_some}
 use Rattle.obj.specs.declared.Refusal.{Refusal}
 use Rattle.obj.specs.declared.Section.{Section}
 use Rattle.obj.specs.declared.Split.{Split}
@@ -36,7 +37,7 @@ use Rattle.stage_tables.specs.StageTables.{stage_sections, stage_splits, section
 use Rattle.stage_tables.proofs.Laws.{table_passed, taken_few, taken_places, taken-count, taken-held}
 use Rattle.stage_splits.specs.StageSplits.{room_of, Laid, Gives, Leaves}
 use Rattle.stage_splits.proofs.Laws.{gives_as}
-use Rattle.common.specs.Common.{bss_sections, common_of, answered}
+use Rattle.common.specs.Common.{bss_sections, common_start, common_of, answered}
 use Rattle.common.specs.Sections.{bss_at, bss_in, Sections}
 use Rattle.entry_update_common_splits.specs.Entry.{stage_bss, from_splits, from_sections, Names}
 
@@ -139,6 +140,14 @@ unfolding from_sections from_splits
 names_as sections splits given start size s =
     ap₂ (λ (l bss : List ℕ). sections_check 64 l sections >> (splits_check (room_of size) l (stage_sections sections) splits >> common_of given start bss (stage_splits splits)))
     s.sizes (bss_as sections s)
+
+-- a start that is not given is not asked
+pub start_as : (name_bytes name_places name_lengths sections splits : List ℕ) (t : Bool) (start size : ℕ) {given : Option ℕ} → given ≡ then_some t start
+    → from_sections name_bytes name_places name_lengths sections splits (is_some given) (unwrap_or given 0) size
+    ≡ from_sections name_bytes name_places name_lengths sections splits t start size
+unfolding from_sections from_splits common_of common_start
+start_as name_bytes name_places name_lengths sections splits true start size e = rw e
+start_as name_bytes name_places name_lengths sections splits false start size e = rw e
 
 -- the fronts of the columns have a place and a length for each name
 pub names_front : {ends bytes places lengths heads chain : List ℕ} {n : ℕ} → Stored ends bytes places lengths heads chain n → Names bytes (take n places) (take n lengths)

@@ -2,7 +2,7 @@
 // fill are local; each function lends them on whole.
 #![tactic(auto)]
 
-ghost use Rattle.std.specs.Prelude.{◌≡◌, ◌*◌, ◌≤◌, length};
+ghost use Rattle.std.specs.Prelude.{◌≡◌, ◌*◌, ◌≤◌, length, is_some, unwrap_or};
 ghost use Rattle.tables.specs.Tables.{AllHeld};
 ghost use Rattle.tables.specs.Records.{sections_in};
 ghost use Rattle.name_table.specs.Stored.{Room};
@@ -31,8 +31,7 @@ fn update(
     units: &[u16],
     rest: &mut [u64],
     n: usize,
-    has_start: bool,
-    start: u32,
+    given: Option<u32>,
     out: &mut [u8],
     counts: &mut [u8],
 ) -> Result<(), Refusal>
@@ -41,7 +40,7 @@ fn update(
         × (n ≤ 1024)
         × (split_width * n ≤ length out.old) }
     ensures { Gives
-        (common_of has_start start (bss_in name_bytes.now name_places.now name_lengths.now heads.now head_places.now)
+        (common_of (is_some given) (unwrap_or given 0) (bss_in name_bytes.now name_places.now name_lengths.now heads.now head_places.now)
         (rows (columns starts.now ends.now units.now rest.old) n))
         result (length out.old) (length counts.old) out.new counts.new }
 {
@@ -56,8 +55,7 @@ fn update(
         units,
         rest,
         n,
-        has_start,
-        start,
+        given,
     )?;
     give_splits(starts, ends, units, rest, n, out, counts);
     Ok(())
@@ -71,8 +69,7 @@ fn from_splits(
     heads: &[u8],
     head_places: &[u32],
     splits: &[u8],
-    has_start: bool,
-    start: u32,
+    given: Option<u32>,
     places: &mut [u32],
     starts: &mut [u32],
     ends: &mut [u32],
@@ -87,7 +84,7 @@ fn from_splits(
     ensures { Gives
         (from_splits name_lengths.now (sections_in heads.now head_places.now)
         (bss_in name_bytes.now name_places.now name_lengths.now heads.now head_places.now)
-        splits.now has_start start (length out.old))
+        splits.now (is_some given) (unwrap_or given 0) (length out.old))
         result (length out.old) (length counts.old) out.new counts.new }
 {
     let room = room_of(out.len());
@@ -115,8 +112,7 @@ fn from_splits(
         units,
         rest,
         n,
-        has_start,
-        start,
+        given,
         out,
         counts,
     )
@@ -130,8 +126,7 @@ fn with_columns(
     heads: &[u8],
     head_places: &[u32],
     splits: &[u8],
-    has_start: bool,
-    start: u32,
+    given: Option<u32>,
     out: &mut [u8],
     counts: &mut [u8],
 ) -> Result<(), Refusal>
@@ -140,7 +135,7 @@ fn with_columns(
     ensures { Gives
         (from_splits name_lengths.now (sections_in heads.now head_places.now)
         (bss_in name_bytes.now name_places.now name_lengths.now heads.now head_places.now)
-        splits.now has_start start (length out.old))
+        splits.now (is_some given) (unwrap_or given 0) (length out.old))
         result (length out.old) (length counts.old) out.new counts.new }
 {
     let mut places = [0u32; 1024];
@@ -155,8 +150,7 @@ fn with_columns(
         heads,
         head_places,
         splits,
-        has_start,
-        start,
+        given,
         &mut places,
         &mut starts,
         &mut ends,
@@ -174,15 +168,14 @@ fn from_sections(
     name_lengths: &[u8],
     sections: &[u8],
     splits: &[u8],
-    has_start: bool,
-    start: u32,
+    given: Option<u32>,
     places: &mut [u32],
     out: &mut [u8],
     counts: &mut [u8],
 ) -> Result<(), Refusal>
     requires { Names name_bytes.now name_places.now name_lengths.now × (length places.old ≡ 64) }
     ensures { Gives
-        (from_sections name_bytes.now name_places.now name_lengths.now sections.now splits.now has_start start (length out.old))
+        (from_sections name_bytes.now name_places.now name_lengths.now sections.now splits.now (is_some given) (unwrap_or given 0) (length out.old))
         result (length out.old) (length counts.old) out.new counts.new }
 {
     take_sections(name_lengths, sections, 64, places)?;
@@ -194,8 +187,7 @@ fn from_sections(
         sections,
         &places[..n],
         splits,
-        has_start,
-        start,
+        given,
         out,
         counts,
     )
@@ -208,14 +200,13 @@ fn named_tables(
     name_lengths: &[u8],
     sections: &[u8],
     splits: &[u8],
-    has_start: bool,
-    start: u32,
+    given: Option<u32>,
     out: &mut [u8],
     counts: &mut [u8],
 ) -> Result<(), Refusal>
     requires { Names name_bytes.now name_places.now name_lengths.now }
     ensures { Gives
-        (from_sections name_bytes.now name_places.now name_lengths.now sections.now splits.now has_start start (length out.old))
+        (from_sections name_bytes.now name_places.now name_lengths.now sections.now splits.now (is_some given) (unwrap_or given 0) (length out.old))
         result (length out.old) (length counts.old) out.new counts.new }
 {
     let mut places = [0u32; 64];
@@ -225,8 +216,7 @@ fn named_tables(
         name_lengths,
         sections,
         splits,
-        has_start,
-        start,
+        given,
         &mut places,
         out,
         counts,
@@ -260,8 +250,7 @@ fn all_tables(
         &lengths[..n],
         sections,
         splits,
-        has_start != 0,
-        start,
+        (has_start != 0).then_some(start),
         out,
         counts,
     )

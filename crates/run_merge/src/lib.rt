@@ -43,7 +43,7 @@ pub fn merge_partials(
     )?;
     // without a start nothing is refused
     let _ = update_common_splits(
-        file, names, lengths, file, sections, starts, ends, units, rest, n, false, 0,
+        file, names, lengths, file, sections, starts, ends, units, rest, n, None,
     );
     Ok(n)
 }

@@ -8,17 +8,17 @@ use Rattle.common.specs.Sections.{bss_in, first_of, given_of}
 use Rattle.common.proofs.Laws.{given_is, first_is}
 use Rattle.common.proofs.common_start.Goals as goal
 
-pub returns-then-has_start : goal.returns-then-has_start
+pub returns-in-Some : goal.returns-in-Some
 unfolding common_start
-returns-then-has_start c =
+returns-in-Some c =
     let a = c.args in
-    rw c.if-has_start.true (ap start_meaning c.given_start.ensures ∙ ap (λ (b : Bss). start_meaning (given_of a.start b)) c.by_name-bss.ensures ∙ given_is a.start (bss_in a.name_bytes.now a.name_places.now a.name_lengths.now a.heads.now a.places.now))
+    rw c.in-Some.is (ap start_meaning c.given_start.ensures ∙ ap (λ (b : Bss). start_meaning (given_of c.in-Some.start b)) c.by_name-bss.ensures ∙ given_is c.in-Some.start (bss_in a.name_bytes.now a.name_places.now a.name_lengths.now a.heads.now a.places.now))
 
-pub returns : goal.returns
+pub returns-in-None : goal.returns-in-None
 unfolding common_start
-returns c =
+returns-in-None c =
     let a = c.args in
     let l = rows (columns a.starts.now a.ends.now a.units.now a.rest.now) a.n in
-    rw c.if-has_start.false
+    rw c.in-None.is
     (ap accepted
     (c.common_bss_start.ensures ∙ ap (λ (b : Bss). first_of b l) c.by_name-bss.ensures ∙ first_is (bss_in a.name_bytes.now a.name_places.now a.name_lengths.now a.heads.now a.places.now) l))

@@ -9,7 +9,7 @@ use Rattle.obj.specs.Answers.{meaning}
 use Rattle.obj.proofs.Errors.{same_err}
 use Rattle.stage_splits.proofs.Laws.{gives_as, gives_stops, gives_goes}
 use Rattle.entry_update_common_splits.specs.Entry.{update_of}
-use Rattle.entry_update_common_splits.proofs.Laws.{names_as, names_front}
+use Rattle.entry_update_common_splits.proofs.Laws.{start_as, names_as, names_front}
 use Rattle.entry_update_common_splits.proofs.all_tables.Goals as goal
 
 pub returns-in_err-check_names : goal.returns-in_err-check_names
@@ -55,4 +55,7 @@ returns c =
     let told = sym s.said ∙ ap meaning c.in_ok-check_names.was in
     let a = c.args in
     gives_goes told
-    (gives_as (names_as a.sections.now a.splits.now (not (eqb a.has_start 0)) a.start (length a.out.now) (s.stored told)) c.named_tables.ensures)
+    (gives_as
+    (start_as _ _ _ a.sections.now a.splits.now (not (eqb a.has_start 0)) a.start (length a.out.now) c.then_some.ensures
+    ∙ names_as a.sections.now a.splits.now (not (eqb a.has_start 0)) a.start (length a.out.now) (s.stored told))
+    c.named_tables.ensures)

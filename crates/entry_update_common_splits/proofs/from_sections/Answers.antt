@@ -5,6 +5,7 @@ use mathlib.Core.Path.{sym, ap, ◌∙◌}
 use mathlib.Core.List.{List}
 use Prim.Native.Nat.{ℕ}
 use lib.ListN.{length}
+use Rattle.std.specs.Prelude.{is_some, unwrap_or}
 use Rattle.obj.specs.Answers.{meaning}
 use Rattle.obj.proofs.Errors.{same_err}
 use Rattle.tables.specs.Records.{sections_in}
@@ -46,6 +47,6 @@ returns c =
     let e = ap meaning c.in_ok-take_sections.was in
     gives_goes (sym t.ensures.said ∙ e)
     (gives_as
-    (ap (λ (l : List ℕ). from_splits a.name_lengths.now (sections_in a.sections.now l) (bss_in a.name_bytes.now a.name_places.now a.name_lengths.now a.sections.now l) a.splits.now a.has_start a.start (length a.out.now))
+    (ap (λ (l : List ℕ). from_splits a.name_lengths.now (sections_in a.sections.now l) (bss_in a.name_bytes.now a.name_places.now a.name_lengths.now a.sections.now l) a.splits.now (is_some a.given) (unwrap_or a.given 0) (length a.out.now))
     (taken_places 15 64 a.sections.now _ _ t.ensures e))
     c.with_columns.ensures)

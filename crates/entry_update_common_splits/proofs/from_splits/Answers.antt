@@ -4,6 +4,7 @@ use native.Mathlib.Omega.{arith}
 use mathlib.Core.Path.{sym, ap, ◌∙◌}
 use Prim.Native.Nat.{ℕ}
 use lib.ListN.{length}
+use Rattle.std.specs.Prelude.{is_some, unwrap_or}
 use Rattle.obj.specs.Answers.{meaning}
 use Rattle.obj.proofs.Errors.{same_err}
 use Rattle.tables.specs.Records.{sections_in}
@@ -72,5 +73,5 @@ returns c =
     let e = ap meaning c.in_ok-take_split_columns.was in
     gives_goes (sym said ∙ e)
     (gives_as
-    (ap (common_of a.has_start a.start (bss_in a.name_bytes.now a.name_places.now a.name_lengths.now a.heads.now a.head_places.now)) (t.ensures.taken (sym t.ensures.said ∙ e)))
+    (ap (common_of (is_some a.given) (unwrap_or a.given 0) (bss_in a.name_bytes.now a.name_places.now a.name_lengths.now a.heads.now a.head_places.now)) (t.ensures.taken (sym t.ensures.said ∙ e)))
     c.update.ensures)
