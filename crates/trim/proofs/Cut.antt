@@ -69,35 +69,31 @@ module _ (section end : ℕ) where
     none_end = ap (some of_section) (rest-none row n n (omega arith))
 
     -- the rows as they are left
-    module _ (r : ℕ) (after : some of_section (tabulate row r (n - r)) ≡ false) where
-      pub cut_none : r ≡ 0 → tabulate row 0 n ≡ cut_last section end (tabulate row 0 n)
-      cut_none e =
-          sym (cut_nothing (tabulate row 0 n) (ap (λ (m : ℕ). some of_section (tabulate row 0 m)) (let z : n ≡ n - 0 = omega arith in z)
-          ∙ ap (λ (m : ℕ). some of_section (tabulate row m (n - m))) (sym e) ∙ after))
+    pub cut_none : some of_section (tabulate row 0 n) ≡ false → tabulate row 0 n ≡ cut_last section end (tabulate row 0 n)
+    cut_none e = sym (cut_nothing (tabulate row 0 n) e)
 
-      module _ (some_row : 0 < r) (small : r ≤ n) (is : (row (r - 1)).section ≡ section) where
-        at_row : get_or (tabulate row 0 n) (r - 1) no_split ≡ row (r - 1)
-        at_row = get_d_tabulate row 0 n (r - 1) no_split (omega arith) ∙ ap row (zero-add (r - 1))
+    module _ (k : ℕ) (small : k < n) (after : some of_section (tabulate row (k + 1) (n - (k + 1))) ≡ false) (is : (row k).section ≡ section) where
+      at_row : get_or (tabulate row 0 n) k no_split ≡ row k
+      at_row = get_d_tabulate row 0 n k no_split small ∙ ap row (zero-add k)
 
-        cut_row : cut_last section end (tabulate row 0 n) ≡ set (tabulate row 0 n) (r - 1) (cut_to end (row (r - 1)))
-        cut_row =
-            cut_at (tabulate row 0 n) (r - 1) no_split (omega (arith, length-tabulate row 0 n)) (ap of_section at_row ∙ eq-eqb _ _ is)
-            (ap (some of_section) (drop-rows row (suc (r - 1)) n ∙ ap (λ (m : ℕ). tabulate row m (n - m)) (let z : suc (r - 1) ≡ r = omega arith in z)) ∙ after)
-            ∙ ap (λ (y : Split). set (tabulate row 0 n) (r - 1) (cut_to end y)) at_row
+      cut_row : cut_last section end (tabulate row 0 n) ≡ set (tabulate row 0 n) k (cut_to end (row k))
+      cut_row =
+          cut_at (tabulate row 0 n) k no_split (omega (arith, length-tabulate row 0 n)) (ap of_section at_row ∙ eq-eqb _ _ is)
+          (ap (some of_section) (drop-rows row (suc k) n ∙ ap (λ (m : ℕ). tabulate row m (n - m)) (let z : suc k ≡ k + 1 = omega arith in z)) ∙ after)
+          ∙ ap (λ (y : Split). set (tabulate row 0 n) k (cut_to end y)) at_row
 
-        -- it does not end above
-        pub cut_stays : (row (r - 1)).end ≤ end → tabulate row 0 n ≡ cut_last section end (tabulate row 0 n)
-        unfolding cut_to
-        cut_stays h =
-            sym (cut_row
-            ∙ ap (λ (t : Bool). set (tabulate row 0 n) (r - 1) (cond t (with_end end (row (r - 1))) (row (r - 1)))) (le-ltb _ _ h)
-            ∙ ap (set (tabulate row 0 n) (r - 1)) (sym at_row)
-            ∙ set_itself (tabulate row 0 n) (r - 1) no_split)
+      -- it does not end above
+      pub cut_stays : (row k).end ≤ end → tabulate row 0 n ≡ cut_last section end (tabulate row 0 n)
+      unfolding cut_to
+      cut_stays h =
+          sym (cut_row
+          ∙ ap (λ (t : Bool). set (tabulate row 0 n) k (cond t (with_end end (row k)) (row k))) (le-ltb _ _ h)
+          ∙ ap (set (tabulate row 0 n) k) (sym at_row)
+          ∙ set_itself (tabulate row 0 n) k no_split)
 
-        pub cut_falls : end < (row (r - 1)).end → set (tabulate row 0 n) (r - 1) (with_end end (row (r - 1))) ≡ cut_last section end (tabulate row 0 n)
-        unfolding cut_to
-        cut_falls h =
-            sym (cut_row ∙ ap (λ (t : Bool). set (tabulate row 0 n) (r - 1) (cond t (with_end end (row (r - 1))) (row (r - 1)))) (lt-ltb _ _ h))
+      pub cut_falls : end < (row k).end → set (tabulate row 0 n) k (with_end end (row k)) ≡ cut_last section end (tabulate row 0 n)
+      unfolding cut_to
+      cut_falls h = sym (cut_row ∙ ap (λ (t : Bool). set (tabulate row 0 n) k (cond t (with_end end (row k)) (row k))) (lt-ltb _ _ h))
 
 -- ---- a section
 module _ (g : Image) (sections : Sections) (n : ℕ) (l : List Split) where

@@ -55,8 +55,8 @@ pub record Past (s : Split) (c : Columns) (n from r : ℕ) : Type 0 where
   pub past : from ≤ r
   pub small : r ≤ n
 
--- the section's last row is the one before place r; it has none where r is 0
-pub record LastOf (section : ℕ) (c : Columns) (n r : ℕ) : Type 0 where
-  pub small : r ≤ n
-  pub none_after : some (λ y. eqb y.section section) (tabulate (row_at c) r (n - r)) ≡ false
-  pub is : 0 < r → (row_at c (r - 1)).section ≡ section
+-- the section's last row is the one at place k
+pub record LastOf (section : ℕ) (c : Columns) (n k : ℕ) : Type 0 where
+  pub small : k < n
+  pub none_after : some (λ y. eqb y.section section) (tabulate (row_at c) (k + 1) (n - (k + 1))) ≡ false
+  pub is : (row_at c k).section ≡ section

@@ -2,8 +2,8 @@
 // last splits are cut. Only ends change; starts, units and the rest stay as they are.
 #![tactic(auto)]
 
-ghost use Rattle.std.specs.Prelude.{◌≡◌, true, false, ℕ, ◌+◌, ◌-◌, ◌<◌, ◌≤◌, length, take};
-ghost use Rattle.lists.specs.Rows.{tabulate};
+ghost use Rattle.std.specs.Prelude.{◌≡◌, true, false, ℕ, ◌+◌, ◌-◌, ◌<◌, ◌≤◌, length, take, eqb, MatchOption};
+ghost use Rattle.lists.specs.Rows.{tabulate, some};
 ghost use Rattle.align.specs.Align.{bad_align};
 ghost use Rattle.symbol_order.specs.Order.{symbol_of, Whole};
 ghost use Rattle.symbols.specs.Ranges.{Within};
@@ -312,25 +312,27 @@ fn carry_out(
 
 // ---- trim_linker_generated_symbols
 
-// The place after the section's last row, 0 if it has none.
-fn after_last(
+// The section's last row.
+fn last_of(
     starts: &[u32],
     ends: &[u32],
     units: &[u16],
     rest: &[u64],
     n: usize,
     section: u16,
-) -> usize
+) -> Option<usize>
     requires { Long (columns starts.now ends.now units.now rest.now) n }
-    ensures { LastOf section (columns starts.now ends.now units.now rest.now) n result }
+    ensures { MatchOption result
+        (some (λ (y : Split). eqb y.section section) (rows (columns starts.now ends.now units.now rest.now) n) ≡ false)
+        (LastOf section (columns starts.now ends.now units.now rest.now) n) }
 {
     for j in (0..n).rev() {
         let y = row(starts, ends, units, rest, j);
         if y.section == section {
-            return j + 1;
+            return Some(j);
         }
     }
-    0
+    None
 }
 
 // "a last split that ends above it is cut to it"
@@ -347,14 +349,13 @@ fn cut_last(
     ensures { rows (columns starts.now ends.new units.now rest.now) n
         ≡ cut_last section end (rows (columns starts.now ends.old units.now rest.now) n) }
 {
-    let after = after_last(starts, ends, units, rest, n, section);
-    if after == 0 {
+    let Some(k) = last_of(starts, ends, units, rest, n, section) else {
+        return;
+    };
+    if ends[k] <= end {
         return;
     }
-    if ends[after - 1] <= end {
-        return;
-    }
-    set_end(starts, ends, units, rest, n, after - 1, end);
+    set_end(starts, ends, units, rest, n, k, end);
 }
 
 // The splitting end of section k, which has this head.

@@ -1,11 +1,11 @@
--- `trim::after_last` meets its contract. Invariant: no row from place j on is the section's.
+-- `trim::last_of` meets its contract. Invariant: no row from place j on is the section's.
 use mathlib.Core.Path.{◌≡◌}
 use mathlib.Core.Bool.{false}
 use Prim.Native.Nat.{◌-◌, ◌≤◌}
 use lib.Dec.{eqb}
 use Rattle.lists.specs.Rows.{tabulate, some}
 use Rattle.splits.specs.Columns.{columns, row_at}
-use Rattle.trim.proofs.after_last.Given as goal
+use Rattle.trim.proofs.last_of.Given as goal
 
 abbrev pub invariant-loop-j : goal.invariant-loop-j
 invariant-loop-j l = (l.j ≤ l.n) × (some (λ y. eqb y.section l.section) (tabulate (row_at (columns l.starts l.ends l.units l.rest)) l.j (l.n - l.j)) ≡ false)

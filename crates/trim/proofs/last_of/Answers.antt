@@ -1,8 +1,8 @@
--- `trim::after_last` meets its contract. Invariant: no row from place j on is the section's.
+-- `trim::last_of` meets its contract. Invariant: no row from place j on is the section's.
 use native.Mathlib.Omega.{arith}
 use Rattle.splits.specs.Columns.{columns, row_at}
 use Rattle.trim.proofs.Cut.{none_down, none_end}
-use Rattle.trim.proofs.after_last.Goals as goal
+use Rattle.trim.proofs.last_of.Goals as goal
 
 pub loop-j-init : goal.loop-j-init
 loop-j-init c =
