@@ -223,10 +223,7 @@ fn join_at_once(
     if (joint.end != 0) & (limit < joint.end as u64) {
         return None;
     }
-    match join_and_push(starts, ends, units, rest, n, joint) {
-        0 => None,
-        made => Some(made),
-    }
+    join_and_push(starts, ends, units, rest, n, joint)
 }
 
 // One split, by rounds: "then the merge begins again with the joint split".

@@ -2,7 +2,7 @@
 // equal to the two edits one after the other (specs/Joins.antt).
 #![tactic(auto)]
 
-ghost use Rattle.std.specs.Prelude.{◌≡◌, true, eqb, ℕ, ◌-◌, ◌<◌, ◌≤◌, length, get_or};
+ghost use Rattle.std.specs.Prelude.{◌≡◌, true, eqb, ℕ, ◌-◌, ◌≤◌, length, get_or, MatchOption};
 ghost use Rattle.lists.specs.Rows.{tabulate, some};
 ghost use Rattle.splits.specs.Columns.{Good, columns, Long};
 ghost use Rattle.split_joins.specs.Joins.{Apart, Between, TakesPlace, AtOnce};
@@ -104,8 +104,8 @@ fn takes_place(
     lies_between(starts, ends, units, rest, n, first, stop, s)
 }
 
-// A join over the range of s and a push of s, where s can take the place of the rows in it: the rows behind move once. How many rows there are then, or 0 and
-// nothing changed: a count, since the caller goes on with it as with every other count of rows.
+// A join over the range of s and a push of s, where s can take the place of the rows in it: the rows behind move once. How many rows there are then, or None and
+// nothing changed.
 pub fn join_and_push(
     starts: &mut [u32],
     ends: &mut [u32],
@@ -113,17 +113,18 @@ pub fn join_and_push(
     rest: &mut [u64],
     n: usize,
     s: Split,
-) -> usize
+) -> Option<usize>
     requires { Long (columns starts.old ends.old units.old rest.old) n × Good s.alignment }
-    ensures { (result ≡ 0 → (starts.new ≡ starts.old) × (ends.new ≡ ends.old) × (units.new ≡ units.old) × (rest.new ≡ rest.old))
-        × (0 < result → AtOnce s (columns starts.old ends.old units.old rest.old) (columns starts.new ends.new units.new rest.new) n result) }
+    ensures { MatchOption result
+        ((starts.new ≡ starts.old) × (ends.new ≡ ends.old) × (units.new ≡ units.old) × (rest.new ≡ rest.old))
+        (AtOnce s (columns starts.old ends.old units.old rest.old) (columns starts.new ends.new units.new rest.new) n) }
 {
     let first = next_within(starts, ends, units, rest, n, s.section, s.start, s.end, 0);
     let stop = next_outside(
         starts, ends, units, rest, n, s.section, s.start, s.end, first,
     );
     if !takes_place(starts, ends, units, rest, n, first, stop, s) {
-        return 0;
+        return None;
     }
     let packed = rest_of(s);
     shift_rows_down(starts, ends, units, rest, first + 1, stop, n - stop);
@@ -131,5 +132,5 @@ pub fn join_and_push(
     ends[first] = s.end;
     units[first] = s.unit;
     rest[first] = packed;
-    n - stop + (first + 1)
+    Some(n - stop + (first + 1))
 }

@@ -36,15 +36,13 @@ returns c =
     let k = c.next_within-first.result in
     let l = c.shift_rows_down.new in
     let put = stored l.starts l.ends l.units l.rest k s.start s.end s.unit c.rest_of-packed.result in
-    let other = row_other l.starts l.ends l.units l.rest k s.start s.end s.unit c.rest_of-packed.result in (
-      λ z. absurd (let w : ⊥ = omega arith in w),
-      λ z. at_once s (columns a.starts.now a.ends.now a.units.now a.rest.now) put a.n k c.next_outside-stop.result c.next_outside-stop.ensures.1
-          (λ j h. c.next_within-first.ensures.2 j zero-le h)
-          c.next_outside-stop.ensures.2
-          take
-          (λ j h. other j (λ w. omega (arith, h, w)) ∙ c.shift_rows_down.ensures.below j (omega (arith, h)))
-          (row_stored l.starts l.ends l.units l.rest k s.start s.end s.unit c.rest_of-packed.result
-          long.starts long.ends long.units long.rest
-          ∙ c.rest_of-packed.ensures)
-          (λ j h. other (k + 1 + j) (λ w. omega (arith, w)) ∙ c.shift_rows_down.ensures.moved j h),
-    )
+    let other = row_other l.starts l.ends l.units l.rest k s.start s.end s.unit c.rest_of-packed.result in
+    at_once s (columns a.starts.now a.ends.now a.units.now a.rest.now) put a.n k c.next_outside-stop.result c.next_outside-stop.ensures.1
+    (λ j h. c.next_within-first.ensures.2 j zero-le h)
+    c.next_outside-stop.ensures.2
+    take
+    (λ j h. other j (λ w. omega (arith, h, w)) ∙ c.shift_rows_down.ensures.below j (omega (arith, h)))
+    (row_stored l.starts l.ends l.units l.rest k s.start s.end s.unit c.rest_of-packed.result
+    long.starts long.ends long.units long.rest
+    ∙ c.rest_of-packed.ensures)
+    (λ j h. other (k + 1 + j) (λ w. omega (arith, w)) ∙ c.shift_rows_down.ensures.moved j h)
