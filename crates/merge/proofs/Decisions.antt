@@ -17,12 +17,12 @@ use Rattle.obj.specs.declared.Split.{Split}
 use Rattle.obj.specs.Records.{section_at}
 use Rattle.tables.specs.Records.{sections_in, no_section}
 use Rattle.splits.specs.Columns.{Good, Columns, row_at, rows}
-use Rattle.splits.specs.Questions.{is_auto, of_unit, from_hit, Hit, Meets}
+use Rattle.splits.specs.Questions.{is_auto, of_unit, from_hit, Hit, NextHit, Meets}
 use Rattle.splits.specs.declared.Met.{Met}
 use Rattle.split_edits.specs.Edits.{joined}
 use Rattle.merge.specs.Merge.{Given, given, section_end, Step, keep, push, join, unchanged_if, joint_of, two_alignments, inside_old, in_range, on_joint, on_old, on_own, decide}
 use Rattle.merge.specs.Answers.{decided, HandsGood}
-use Rattle.std.specs.Prelude.{Result, Ok, Err}
+use Rattle.std.specs.Prelude.{Result, Ok, Err, Option, Some, None, is_some}
 use Rattle.obj.specs.declared.Refusal.{Refusal}
 use Rattle.std.specs.Prelude.{min, max}
 use Rattle.std.proofs.lemmas.Bool.Decides.{nat_tests}
@@ -110,45 +110,46 @@ module _ (room : ℕ) (c : Columns) (n : ℕ) (new : Split) where
   abbrev own : List Split
   own = keep_if (of_unit new.section new.unit) (rows c n)
 
-  module _ (i : ℕ) (first : Hit (of_unit new.section new.unit) c n 0 i) where
-    own_is : own ≡ from_hit (of_unit new.section new.unit) c n i
-    own_is = ap (keep_if (of_unit new.section new.unit)) (sym (tabulate_all (row_at c) n)) ∙ first.is
+  own_is : (i : ℕ) → Hit (of_unit new.section new.unit) c n 0 i → own ≡ from_hit (of_unit new.section new.unit) c n i
+  own_is i first = ap (keep_if (of_unit new.section new.unit)) (sym (tabulate_all (row_at c) n)) ∙ first.is
 
-    own_none : i ≡ n → own ≡ []
-    own_none e =
-        own_is
-        ∙ ap (λ (t : Bool). cond t (row_at c i ∷ keep_if (of_unit new.section new.unit) (tabulate (row_at c) (i + 1) (n - (i + 1)))) []) (le-ltb i n (omega arith))
+  module _ (none : Hit (of_unit new.section new.unit) c n 0 n) where
+    own_none : own ≡ []
+    own_none =
+        own_is n none
+        ∙ ap (λ (t : Bool). cond t (row_at c n ∷ keep_if (of_unit new.section new.unit) (tabulate (row_at c) (n + 1) (n - (n + 1)))) []) (le-ltb n n (omega arith))
 
-    pub own_full : i ≡ n → room ≤ n → on_own room (rows c n) new own ≡ refused 27 new.section new.start
+    pub own_full : room ≤ n → on_own room (rows c n) new own ≡ refused 27 new.section new.start
     unfolding on_own
-    own_full e h =
-        ap (on_own room (rows c n) new) (own_none e)
+    own_full h =
+        ap (on_own room (rows c n) new) own_none
         ∙ fails 27 _ _ _ _ (ap (λ (k : ℕ). leb room k) (length-tabulate (row_at c) 0 n) ∙ le-leb _ _ h)
 
-    pub own_pushed : i ≡ n → n < room → on_own room (rows c n) new own ≡ accepted push
-    own_pushed e h = none-pushed room (rows c n) new own (own_none e) (omega (arith, length-tabulate (row_at c) 0 n))
+    pub own_pushed : n < room → on_own room (rows c n) new own ≡ accepted push
+    own_pushed h = none-pushed room (rows c n) new own own_none (omega (arith, length-tabulate (row_at c) 0 n))
 
-    module _ (j : ℕ) (there : i < n) (second : Hit (of_unit new.section new.unit) c n (i + 1) j) where
-      own_more : own ≡ row_at c i ∷ from_hit (of_unit new.section new.unit) c n j
-      own_more =
-          own_is
-          ∙ ap (λ (t : Bool). cond t (row_at c i ∷ keep_if (of_unit new.section new.unit) (tabulate (row_at c) (i + 1) (n - (i + 1)))) []) (lt-ltb i n there)
-          ∙ ap (λ (t : List Split). row_at c i ∷ t) second.is
+  module _ (i : ℕ) (first : Hit (of_unit new.section new.unit) c n 0 i) (there : i < n) where
+    by_second : (j : ℕ) → Hit (of_unit new.section new.unit) c n (i + 1) j → (t : Bool) → ltb j n ≡ t
+        → on_own room (rows c n) new own
+        ≡ on_own room (rows c n) new (row_at c i ∷ cond t (row_at c j ∷ keep_if (of_unit new.section new.unit) (tabulate (row_at c) (j + 1) (n - (j + 1)))) [])
+    by_second j second t e =
+        ap (on_own room (rows c n) new)
+        (own_is i first
+        ∙ ap (λ (t : Bool). cond t (row_at c i ∷ keep_if (of_unit new.section new.unit) (tabulate (row_at c) (i + 1) (n - (i + 1)))) []) (lt-ltb i n there)
+        ∙ ap (λ (t : List Split). row_at c i ∷ t) second.is)
+        ∙ ap (λ (u : Bool). on_own room (rows c n) new (row_at c i ∷ cond u (row_at c j ∷ keep_if (of_unit new.section new.unit) (tabulate (row_at c) (j + 1) (n - (j + 1)))) [])) e
 
-      by_second : (t : Bool) → ltb j n ≡ t
-          → on_own room (rows c n) new own
-          ≡ on_own room (rows c n) new (row_at c i ∷ cond t (row_at c j ∷ keep_if (of_unit new.section new.unit) (tabulate (row_at c) (j + 1) (n - (j + 1)))) [])
-      by_second t e =
-          ap (on_own room (rows c n) new) own_more
-          ∙ ap (λ (u : Bool). on_own room (rows c n) new (row_at c i ∷ cond u (row_at c j ∷ keep_if (of_unit new.section new.unit) (tabulate (row_at c) (j + 1) (n - (j + 1)))) [])) e
+    pub own_several : (second : Option ℕ) → NextHit (of_unit new.section new.unit) c n (i + 1) second → is_some second ≡ true
+        → on_own room (rows c n) new own ≡ refused 22 new.section new.start
+    unfolding on_own
+    own_several (Some j) s e = by_second j s.0 true (lt-ltb j n s.1)
+    own_several None s e = absurd (let z : true ≡ false = sym e in let y : ◌≡◌ {A = ℕ} 1 0 = cc in omega arith)
 
-      pub own_several : j < n → on_own room (rows c n) new own ≡ refused 22 new.section new.start
-      unfolding on_own
-      own_several h = by_second true (lt-ltb j n h)
-
-      pub own_one : n ≤ j → on_own room (rows c n) new own ≡ on_old (rows c n) new (row_at c i)
-      unfolding on_own
-      own_one h = by_second false (le-ltb j n h)
+    pub own_one : (second : Option ℕ) → NextHit (of_unit new.section new.unit) c n (i + 1) second → is_some second ≡ false
+        → on_own room (rows c n) new own ≡ on_old (rows c n) new (row_at c i)
+    unfolding on_own
+    own_one (Some j) s e = absurd (let z : true ≡ false = e in let y : ◌≡◌ {A = ℕ} 1 0 = cc in omega arith)
+    own_one None s e = by_second n s false (le-ltb n n (omega arith))
 
 -- ---- up to the splits of the unit
 module _ (heads places : List ℕ) (cap : ℕ) (l : List Split) (new : Split) where

@@ -144,15 +144,14 @@ fn decide_own(
         (keep_if (of_unit new.section new.unit) (rows (columns starts.now ends.now units.now rest.now) n)))
         × HandsGood result }
 {
-    let i = next_of_unit(starts, ends, units, rest, n, new.section, new.unit, 0);
-    if i == n {
+    let Some(i) = next_of_unit(starts, ends, units, rest, n, new.section, new.unit, 0) else {
         if cap <= n {
             return refuse_at(27, new);
         }
         return Ok(Step::Push);
-    }
-    let j = next_of_unit(starts, ends, units, rest, n, new.section, new.unit, i + 1);
-    if j < n {
+    };
+    let second = next_of_unit(starts, ends, units, rest, n, new.section, new.unit, i + 1);
+    if second.is_some() {
         return refuse_at(22, new);
     }
     let old = row(starts, ends, units, rest, i);

@@ -95,7 +95,7 @@ fn takes_place(
     );
     let own = next_of_unit(starts, ends, units, rest, first, s.section, s.unit, 0);
     let later = next_of_unit(starts, ends, units, rest, n, s.section, s.unit, stop);
-    if (other < n) | ((own < first) | (later < n)) {
+    if (other < n) | (own.is_some() | later.is_some()) {
         return false;
     }
     if !keeps_units(units, n, first, stop, s.unit) {

@@ -8,6 +8,7 @@ use native.Mathlib.Omega.{arith}
 use borrow.Author.Tests.{lt-ltb, le-ltb, ltb-true, ltb-false}
 use lib.Dec.{eqb, leb, ltb}
 use lib.ListN.{get_or}
+use Rattle.std.specs.Prelude.{Option, Some, None}
 use Rattle.lists.specs.Rows.{tabulate, keep_if, some}
 use Rattle.lists.proofs.Rows.{length-tabulate, get_d_tabulate}
 use Rattle.lists.proofs.Parts.{tabulate-append}
@@ -16,7 +17,7 @@ use Rattle.lists.proofs.SomeRows.{some_row, some_ended}
 use Rattle.lists.proofs.Filter.{keep_append}
 use Rattle.lists.proofs.FilterRows.{filter_miss, filter_none}
 use Rattle.splits.specs.Columns.{Columns, row_of, row_at}
-use Rattle.splits.specs.Questions.{within, of_unit, from_hit, Hit}
+use Rattle.splits.specs.Questions.{within, of_unit, from_hit, Hit, NextHit}
 use Rattle.obj.specs.declared.Split.{Split}
 
 -- ---- whether one of a block's numbers passes: `seen` is the answer of the first k
@@ -99,6 +100,12 @@ module _ (p : Split → Bool) (c : Columns) (n to i k : ℕ) (h : i ≤ to) (l :
   -- the block has none
   pub block_miss : to ≤ k → keep_if p (tabulate f i (n - i)) ≡ keep_if p (tabulate f to (n - to))
   block_miss q = cut i h ∙ ap (λ (t : List Split). t ++ keep_if p (tabulate f to (n - to))) (hit_not q)
+
+-- none passes from `at` up to i, so the search may begin there
+pub next_from : (p : Split → Bool) (c : Columns) (n at i : ℕ) → at ≤ i → keep_if p (tabulate (row_at c) at (n - at)) ≡ keep_if p (tabulate (row_at c) i (n - i))
+    → (r : Option ℕ) → NextHit p c n i r → NextHit p c n at r
+next_from p c n at i h e (Some k) s = (record { is = e ∙ s.0.is; past = omega (arith, s.0.past); small = s.0.small }, s.1)
+next_from p c n at i h e None s = record { is = e ∙ s.is; past = omega (arith, s.past); small = s.small }
 
 -- ---- rows in a range
 

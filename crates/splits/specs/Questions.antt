@@ -1,6 +1,6 @@
 -- What is asked of a split table: the splits that start in a range of a section, and those of a unit in a section.
 -- The "joint range" of document 01, Merge, is from the joint start up to, and without, the joint end; a split is in it by its start.
-use Rattle.std.specs.Prelude.{ℕ, ◌+◌, ◌-◌, ◌/◌, ◌%◌, ◌≤◌, ◌≡◌, List, [], ◌∷◌, Bool, cond, not, ◌&&◌, eqb, leb, ltb}
+use Rattle.std.specs.Prelude.{ℕ, ◌+◌, ◌-◌, ◌/◌, ◌%◌, ◌≤◌, ◌≡◌, List, [], ◌∷◌, Bool, cond, not, ◌&&◌, eqb, leb, ltb, ◌<◌, Option, MatchOption}
 use Rattle.lists.specs.Rows.{tabulate, keep_if, some}
 use Rattle.obj.specs.declared.Split.{Split}
 use Rattle.splits.specs.declared.Met.{Met}
@@ -38,6 +38,10 @@ pub record Hit (p : Split → Bool) (c : Columns) (n from r : ℕ) : Type 0 wher
   pub is : keep_if p (tabulate (row_at c) from (n - from)) ≡ from_hit p c n r
   pub past : from ≤ r
   pub small : r ≤ n
+
+-- r is the place of the first row from place `from` on that passes, if one does
+abbrev pub NextHit : (p : Split → Bool) (c : Columns) (n from : ℕ) → Option ℕ → Type 0
+NextHit p c n from r = MatchOption r (Hit p c n from n) (λ i. Hit p c n from i × (i < n))
 
 -- a hand split among those that pass; one of another unit
 abbrev pub is_by_hand : (Split → Bool) → Split → Bool

@@ -8,7 +8,7 @@ ghost use Rattle.lists.specs.Rows.{tabulate, some};
 ghost use Rattle.obj.specs.Records.{split_at, partial_width, split_width};
 ghost use Rattle.splits.specs.Columns.{alignment_of, Good, columns, row_of, row_at, rows, Long};
 ghost use Rattle.splits.specs.Updates.{with_end};
-ghost use Rattle.splits.specs.Questions.{within, of_unit, Hit, Meets};
+ghost use Rattle.splits.specs.Questions.{within, of_unit, NextHit, Meets};
 ghost use Rattle.splits.specs.Bytes.{partial_bytes, split_bytes, table_bytes, Loadable};
 
 use fields::{put16, put32};
@@ -195,7 +195,7 @@ fn holds_unit(units: &[u16], at: usize, unit: u16) -> bool
     any
 }
 
-// The first row from `at` on that is the unit's in the section, or n: row by row.
+// The first row from `at` on that is the unit's in the section: row by row.
 fn next_in_rows(
     starts: &[u32],
     ends: &[u32],
@@ -205,16 +205,16 @@ fn next_in_rows(
     section: u16,
     unit: u16,
     at: usize,
-) -> usize
+) -> Option<usize>
     requires { Long (columns starts.now ends.now units.now rest.now) n × (at ≤ n) }
-    ensures { Hit (of_unit section unit) (columns starts.now ends.now units.now rest.now) n at result }
+    ensures { NextHit (of_unit section unit) (columns starts.now ends.now units.now rest.now) n at result }
 {
     for i in at..n {
         if is_of_unit(section, unit, units[i], rest[i]) {
-            return i;
+            return Some(i);
         }
     }
-    n
+    None
 }
 
 // The same of the 32 rows from `at` on: row by row only where one is the unit's in some section.
@@ -226,17 +226,17 @@ fn next_in_block(
     section: u16,
     unit: u16,
     at: usize,
-) -> usize
+) -> Option<usize>
     requires { Long (columns starts.now ends.now units.now rest.now) (at + 32) }
-    ensures { Hit (of_unit section unit) (columns starts.now ends.now units.now rest.now) (at + 32) at result }
+    ensures { NextHit (of_unit section unit) (columns starts.now ends.now units.now rest.now) (at + 32) at result }
 {
     if holds_unit(units, at, unit) {
         return next_in_rows(starts, ends, units, rest, at + 32, section, unit, at);
     }
-    at + 32
+    None
 }
 
-// The first row from `at` on that is the unit's in the section, or n: by blocks of 32 rows, then the rows that are left.
+// The first row from `at` on that is the unit's in the section: by blocks of 32 rows, then the rows that are left.
 pub fn next_of_unit(
     starts: &[u32],
     ends: &[u32],
@@ -246,16 +246,15 @@ pub fn next_of_unit(
     section: u16,
     unit: u16,
     at: usize,
-) -> usize
+) -> Option<usize>
     requires { Long (columns starts.now ends.now units.now rest.now) n × (at ≤ n) }
-    ensures { Hit (of_unit section unit) (columns starts.now ends.now units.now rest.now) n at result }
+    ensures { NextHit (of_unit section unit) (columns starts.now ends.now units.now rest.now) n at result }
 {
     // by blocks, and then what is left: no count of rows
     let mut i = at;
     while 32 <= n - i {
-        let k = next_in_block(starts, ends, units, rest, section, unit, i);
-        if k < i + 32 {
-            return k;
+        if let Some(k) = next_in_block(starts, ends, units, rest, section, unit, i) {
+            return Some(k);
         }
         i += 32;
     }
@@ -324,7 +323,8 @@ fn within_in_block(
     at + 32
 }
 
-// The first row from `at` on in the range, or n: by blocks of 32 rows, then the rows that are left.
+// The first row from `at` on in the range, or n: by blocks of 32 rows, then the rows that are left. Callers take n as the end of a range of rows
+// (split_edits `remove_rows`, `remove_range`, split_joins `join_and_push`), so it is no Option.
 pub fn next_within(
     starts: &[u32],
     ends: &[u32],

@@ -1,7 +1,6 @@
 -- `merge::decide_own` meets its contract: the first and the second split of the unit say which line of the definition it is.
 -- Assumes nothing.
 use mathlib.Core.Path.{sym, ap, ◌∙◌}
-use native.Mathlib.Omega.{arith}
 use Rattle.splits.specs.Columns.{columns, rows}
 use Rattle.splits.proofs.Rows.{good_row}
 use Rattle.merge.specs.Merge.{on_old}
@@ -12,24 +11,21 @@ pub returns-then-cap-n : goal.returns-then-cap-n
 returns-then-cap-n c =
     let a = c.args in
     let k = columns a.starts.now a.ends.now a.units.now a.rest.now in
-    let i = c.next_of_unit-i in
-    answers _ c.refuse_at.ensures (own_full a.cap k a.n a.new i.result i.ensures c.if-i-n.true c.if-cap-n.true)
+    answers _ c.refuse_at.ensures (own_full a.cap k a.n a.new c.in_default.ensures c.if-cap-n.true)
 
-pub returns-then-i-n : goal.returns-then-i-n
-returns-then-i-n c =
+pub returns-in_default : goal.returns-in_default
+returns-in_default c =
     let a = c.args in
     let k = columns a.starts.now a.ends.now a.units.now a.rest.now in
-    let i = c.next_of_unit-i in
-    (sym (own_pushed a.cap k a.n a.new i.result i.ensures c.if-i-n.true c.if-cap-n.false), tt)
+    (sym (own_pushed a.cap k a.n a.new c.in_default.ensures c.if-cap-n.false), tt)
 
-pub returns-then-j-n : goal.returns-then-j-n
-returns-then-j-n c =
+pub returns-then-is_some : goal.returns-then-is_some
+returns-then-is_some c =
     let a = c.args in
     let k = columns a.starts.now a.ends.now a.units.now a.rest.now in
-    let i = c.next_of_unit-i in
-    let j = c.next_of_unit-j in
-    answers _ c.refuse_at-then-j-n.ensures
-    (own_several a.cap k a.n a.new i.result i.ensures j.result (omega (arith, i.ensures.small, c.if-i-n.false)) j.ensures c.if-j-n.true)
+    let i = c.in-Some.ensures in
+    let second = c.next_of_unit-second in
+    answers _ c.refuse_at-then-is_some.ensures (own_several a.cap k a.n a.new c.in-Some.i i.0 i.1 second.result second.ensures (sym c.is_some.ensures ∙ c.if-is_some.true))
 
 pub decide_old-requires : goal.decide_old-requires
 decide_old-requires c =
@@ -40,11 +36,11 @@ pub returns : goal.returns
 returns c =
     let a = c.args in
     let k = columns a.starts.now a.ends.now a.units.now a.rest.now in
-    let i = c.next_of_unit-i in
-    let j = c.next_of_unit-j in
+    let i = c.in-Some.ensures in
+    let second = c.next_of_unit-second in
     let d = c.decide_old.ensures in (
       d.0
           ∙ ap (on_old (rows k a.n) a.new) c.row-old.ensures
-          ∙ sym (own_one a.cap k a.n a.new i.result i.ensures j.result (omega (arith, i.ensures.small, c.if-i-n.false)) j.ensures c.if-j-n.false),
+          ∙ sym (own_one a.cap k a.n a.new c.in-Some.i i.0 i.1 second.result second.ensures (sym c.is_some.ensures ∙ c.if-is_some.false)),
       d.1,
     )

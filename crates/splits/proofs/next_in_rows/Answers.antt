@@ -14,12 +14,14 @@ returns-then-is_of_unit c =
     let l = c.loop-i in
     let a = c.args in
     let h = c.loop-i-test.true in
-    let f = row_at (columns a.starts.now a.ends.now a.units.now a.rest.now) in
-    record {
-      is = l.invariant.2 ∙ filter_hit (of_unit a.section a.unit) f a.n l.i h (sym c.is_of_unit.ensures ∙ c.if-is_of_unit.true) ∙ rw (lt-ltb l.i a.n h);
-      past = omega arith;
-      small = omega arith;
-    }
+    let f = row_at (columns a.starts.now a.ends.now a.units.now a.rest.now) in (
+      record {
+        is = l.invariant.2 ∙ filter_hit (of_unit a.section a.unit) f a.n l.i h (sym c.is_of_unit.ensures ∙ c.if-is_of_unit.true) ∙ rw (lt-ltb l.i a.n h);
+        past = omega arith;
+        small = omega arith;
+      },
+      h,
+    )
 
 pub loop-i-preserved : goal.loop-i-preserved
 unfolding row_of

@@ -5,27 +5,33 @@ use Prim.Native.Nat.{◌+◌}
 use native.Mathlib.Omega.{arith}
 use Rattle.splits.specs.Columns.{columns}
 use Rattle.splits.specs.Questions.{of_unit}
-use Rattle.splits.proofs.Blocks.{block_hit, block_miss}
+use Rattle.splits.proofs.Blocks.{block_hit, block_miss, next_from}
 use Rattle.splits.proofs.next_of_unit.Goals as goal
 
-pub returns-then-k-i : goal.returns-then-k-i
-returns-then-k-i c =
+pub returns-in-Some : goal.returns-in-Some
+returns-in-Some c =
     let l = c.loop-i in
     let a = c.args in
-    let b = c.next_in_block-k in
-    let h = b.ensures in
-    let c₀ = columns a.starts.now a.ends.now a.units.now a.rest.now in
-    record {
-      is = l.invariant.2 ∙ block_hit (of_unit a.section a.unit) c₀ a.n (l.i + 32) l.i b.result (omega arith) (omega arith) h c.if-k-i.true;
-      past = omega (arith, h.past);
-      small = omega (arith, h.small);
-    }
+    let h = c.in-Some.ensures in
+    let c₀ = columns a.starts.now a.ends.now a.units.now a.rest.now in (
+      record {
+        is = l.invariant.2 ∙ block_hit (of_unit a.section a.unit) c₀ a.n (l.i + 32) l.i _ (omega arith) (omega arith) h.0 h.1;
+        past = omega (arith, h.0.past);
+        small = omega (arith, h.1);
+      },
+      omega (arith, h.1),
+    )
 
 pub loop-i-preserved : goal.loop-i-preserved
 loop-i-preserved c =
     let l = c.loop-i in
     let a = c.args in
-    let b = c.next_in_block-k in
     let c₀ = columns a.starts.now a.ends.now a.units.now a.rest.now in
-    let miss = block_miss (of_unit a.section a.unit) c₀ a.n (l.i + 32) l.i b.result (omega arith) (omega arith) b.ensures c.if-k-i.false in
+    let miss = block_miss (of_unit a.section a.unit) c₀ a.n (l.i + 32) l.i (l.i + 32) (omega arith) (omega arith) c.in_default.ensures (omega arith) in
     (omega arith, omega arith, l.invariant.2 ∙ miss)
+
+pub returns : goal.returns
+returns c =
+    let l = c.loop-i in
+    let a = c.args in
+    next_from (of_unit a.section a.unit) (columns a.starts.now a.ends.now a.units.now a.rest.now) a.n a.at l.i l.invariant.0 l.invariant.2 _ c.next_in_rows.ensures
