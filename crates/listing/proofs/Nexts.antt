@@ -100,14 +100,17 @@ module _ {t : Tables} (known : Readable t) {c ready : Cursor}
 
     module _ {before after : List ℕ} {r : Line} where
       finish : {text : List ℕ} {behind to : Cursor} → ready ≡ to → goes_on to ≡ true → rest (run_of t) to ≡ text ++ rest (run_of t) behind → 0 < length text
-          → Valid (length t.units.places) behind → Wrote before after text behind r → Next (run_of t) c before after r
-      finish {text} {behind} {to} e g step some v w = record {
-        is = same e ∙ step ∙ ap₂ (λ (a b : List ℕ). a ++ b) (sym w.written.is) (ap (rest (run_of t)) (sym w.next));
-        valid = subst (λ (n : ℕ). Valid n r.next) (sym units_long) (subst (Valid (length t.units.places)) (sym w.next) v);
-        goes = lt-ltb 0 r.length (let k = w.written.end in omega arith) ∙ sym g ∙ (found e).goes;
-        few = w.written.few;
-        long = w.written.long;
-      }
+          → Valid (length t.units.places) behind → Wrote before after text behind r → Next (run_of t) c before after r × (0 < r.length)
+      finish {text} {behind} {to} e g step some v w = let more : 0 < r.length = let k = w.written.end in omega arith in (
+        record {
+          is = same e ∙ step ∙ ap₂ (λ (a b : List ℕ). a ++ b) (sym w.written.is) (ap (rest (run_of t)) (sym w.next));
+          valid = subst (λ (n : ℕ). Valid n r.next) (sym units_long) (subst (Valid (length t.units.places)) (sym w.next) v);
+          goes = lt-ltb 0 r.length more ∙ sym g ∙ (found e).goes;
+          few = w.written.few;
+          long = w.written.long;
+        },
+        more,
+      )
 
       pub next_unit : (unit bytes : ℕ) → ready ≡ Units unit bytes
           → figure (run_of t) unit ≤ most
@@ -115,7 +118,7 @@ module _ {t : Tables} (known : Readable t) {c ready : Cursor}
           (unit_line unit ((run_of t).name (unit_at t.units.bytes (get_or t.units.places unit 0)).name)
           (figure (run_of t) unit))
           (Pieces unit 0 (bytes + figure (run_of t) unit)) r
-          → Next (run_of t) c before after r
+          → Next (run_of t) c before after r × (0 < r.length)
       next_unit unit bytes e small w =
           finish e refl
           (unit_step (run_of t) unit bytes (let h = (found e).ready in let k = units_long in omega arith)
@@ -129,7 +132,7 @@ module _ {t : Tables} (known : Readable t) {c ready : Cursor}
           w
 
       pub next_piece : (unit at bytes : ℕ) → ready ≡ Pieces unit at bytes
-          → Wrote before after (piece_text (run_of t).name (piece_at t.pieces.bytes (piece_width * at))) (Pieces unit (at + 1) bytes) r → Next (run_of t) c before after r
+          → Wrote before after (piece_text (run_of t).name (piece_at t.pieces.bytes (piece_width * at))) (Pieces unit (at + 1) bytes) r → Next (run_of t) c before after r × (0 < r.length)
       unfolding pieces_in
       next_piece unit at bytes e w =
           let d = piece_at t.pieces.bytes (piece_width * at) in
@@ -143,7 +146,7 @@ module _ {t : Tables} (known : Readable t) {c ready : Cursor}
           → Wrote before after
           (symbol_text (run_of t).name (run_of t).symbol (pieces_in t.pieces.bytes t.pieces.count) (symbol_at t.piece_symbols.bytes (12 * at)))
           (Symbols unit (at + 1) bytes) r
-          → Next (run_of t) c before after r
+          → Next (run_of t) c before after r × (0 < r.length)
       unfolding symbols_in
       next_symbol unit at bytes e w =
           let d = symbol_at t.piece_symbols.bytes (12 * at) in
@@ -160,7 +163,7 @@ module _ {t : Tables} (known : Readable t) {c ready : Cursor}
           → Wrote before after
           (reloc_text (run_of t).reloc (pieces_in t.pieces.bytes t.pieces.count) (reloc_at t.piece_relocs.bytes (8 * at)))
           (Relocs unit (at + 1) bytes) r
-          → Next (run_of t) c before after r
+          → Next (run_of t) c before after r × (0 < r.length)
       unfolding relocs_in
       next_reloc unit at bytes e w =
           let d = reloc_at t.piece_relocs.bytes (8 * at) in
@@ -173,7 +176,7 @@ module _ {t : Tables} (known : Readable t) {c ready : Cursor}
 
     pub next_total : {before after : List ℕ} {long : ℕ} (bytes : ℕ) → ready ≡ Total bytes
         → Written before after (total_line (length t.units.places) t.pieces.count bytes) long
-        → Next (run_of t) c before after (record { length = long; next = Done })
+        → Next (run_of t) c before after (record { length = long; next = Done }) × (0 < long)
     unfolding pieces_in
     next_total {before} {after} {long} bytes e w =
         finish e refl (sym (append-nil (rest (run_of t) (Total bytes)))) (line-some _) tt

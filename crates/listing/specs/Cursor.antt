@@ -1,6 +1,6 @@
 -- The listing line by line: a cursor is where the next line begins, and `rest` what of the listing is left there. The first cursor is unit 0 with 0 bytes, where
 -- the rest is the listing (`rest-first` of proofs/Rest.antt); each line takes its text off the front of it. `bytes` is the sum of the figures so far.
-use Rattle.std.specs.Prelude.{ℕ, ◌+◌, ◌*◌, ◌≤◌, ◌<◌, ◌≡◌, List, [], ◌++◌, Option, Some, None, Bool, true, false, cond, length, get_or, take, drop, eqb, ltb}
+use Rattle.std.specs.Prelude.{ℕ, ◌+◌, ◌*◌, ◌≤◌, ◌<◌, ◌≡◌, List, [], ◌++◌, Option, Some, None, MatchOption, Bool, true, false, cond, length, get_or, take, drop, eqb, ltb}
 use Rattle.obj.specs.declared.Symbol.{Symbol}
 use Rattle.obj.specs.declared.Reloc.{Reloc}
 use Rattle.pieces.specs.declared.Piece.{Piece}
@@ -149,3 +149,7 @@ pub record Next (t : Run) (c : Cursor) (before after : List ℕ) (r : Line) : Ty
   pub goes : ltb 0 r.length ≡ goes_on c
   pub few : r.length ≤ 208
   pub long : length after ≡ length before
+
+-- a line of some bytes, or None at the end
+abbrev pub NextLine : (t : Run) (c : Cursor) (before after : List ℕ) → Option Line → Type 0
+NextLine t c before after r = MatchOption r (Next t c before after (record { length = 0; next = Done })) (λ line. Next t c before after line × (0 < line.length))

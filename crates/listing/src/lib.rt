@@ -6,7 +6,7 @@ mod seek;
 mod text;
 
 ghost use Rattle.std.specs.Prelude.{◌≡◌, ◌≤◌, length};
-ghost use Rattle.listing.specs.Cursor.{Valid, Next};
+ghost use Rattle.listing.specs.Cursor.{Valid, NextLine};
 ghost use Rattle.listing.specs.Tables.{run_of, Readable};
 
 use crate::seek::seek;
@@ -24,14 +24,14 @@ pub enum Cursor {
     Done,
 }
 
-// A line of so many bytes was written; 0 at the end of the listing.
+// A line of so many bytes was written.
 #[derive(Clone, Copy)]
 pub struct Line {
     pub length: usize,
     pub next: Cursor,
 }
 
-// The next line of the listing.
+// The next line of the listing, if one is left.
 pub fn next_line<'a>(
     base_bytes: &'a [u8],
     base_places: &[u32],
@@ -53,7 +53,7 @@ pub fn next_line<'a>(
     piece_reloc_count: usize,
     cursor: Cursor,
     out: &mut [u8],
-) -> Line
+) -> Option<Line>
     requires { (208 ≤ length out.old)
         × Valid (length unit_places.now) cursor
         × Readable
@@ -67,7 +67,7 @@ pub fn next_line<'a>(
           piece_symbols = record { bytes = piece_symbols.now; count = piece_symbol_count };
           piece_relocs = record { bytes = piece_relocs.now; count = piece_reloc_count };
         }) }
-    ensures { Next (run_of
+    ensures { NextLine (run_of
         (record {
           base = record { bytes = base_bytes.now; places = base_places.now; lengths = base_lengths.now };
           added = record { bytes = added_bytes.now; places = added_places.now; lengths = added_lengths.now };
@@ -91,7 +91,7 @@ pub fn next_line<'a>(
         cursor,
     );
     match ready {
-        Cursor::Units { unit, bytes } => unit_line(
+        Cursor::Units { unit, bytes } => Some(unit_line(
             base_bytes,
             base_places,
             base_lengths,
@@ -109,8 +109,8 @@ pub fn next_line<'a>(
             unit,
             bytes,
             out,
-        ),
-        Cursor::Pieces { unit, at, bytes } => piece_line(
+        )),
+        Cursor::Pieces { unit, at, bytes } => Some(piece_line(
             base_bytes,
             base_places,
             base_lengths,
@@ -122,8 +122,8 @@ pub fn next_line<'a>(
             at,
             bytes,
             out,
-        ),
-        Cursor::Symbols { unit, at, bytes } => symbol_line(
+        )),
+        Cursor::Symbols { unit, at, bytes } => Some(symbol_line(
             base_bytes,
             base_places,
             base_lengths,
@@ -139,8 +139,8 @@ pub fn next_line<'a>(
             at,
             bytes,
             out,
-        ),
-        Cursor::Relocs { unit, at, bytes } => reloc_line(
+        )),
+        Cursor::Relocs { unit, at, bytes } => Some(reloc_line(
             relocs,
             reloc_places,
             pieces,
@@ -150,17 +150,14 @@ pub fn next_line<'a>(
             at,
             bytes,
             out,
-        ),
+        )),
         Cursor::Total { bytes } => {
             let length = write_total(out, unit_places.len() as u16, piece_count as u16, bytes);
-            Line {
+            Some(Line {
                 length,
                 next: Cursor::Done,
-            }
+            })
         }
-        Cursor::Done => Line {
-            length: 0,
-            next: Cursor::Done,
-        },
+        Cursor::Done => None,
     }
 }

@@ -55,7 +55,7 @@ fn print_lines<'a, W: Write>(
     let offset_count = made.relocs;
     let mut cursor = Cursor::Units { unit: 0, bytes: 0 };
     loop {
-        let next = next_line(
+        let Some(next) = next_line(
             base_bytes,
             base_places,
             base_lengths,
@@ -76,11 +76,10 @@ fn print_lines<'a, W: Write>(
             offset_count,
             cursor,
             line,
-        );
-        let n = next.length;
-        if n == 0 {
+        ) else {
             return Ok(());
-        }
+        };
+        let n = next.length;
         out.write_all(&line[..n])?;
         cursor = next.next;
     }

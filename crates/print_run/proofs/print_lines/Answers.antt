@@ -7,22 +7,23 @@ use Rattle.print_run.proofs.print_lines.Goals as goal
 pub loop-next-init : goal.loop-next-init
 loop-next-init g c = (refl, first_valid _, listed_first _ _)
 
-pub next_line-next-requires : goal.next_line-next-requires
-next_line-next-requires g c = (omega (arith, c.loop-next.invariant.0, c.requires.0), c.loop-next.invariant.1, c.requires.1)
+pub next_line-requires : goal.next_line-requires
+next_line-requires g c = (omega (arith, c.loop-next.invariant.0, c.requires.0), c.loop-next.invariant.1, c.requires.1)
 
 pub slice_bounds-write_all-end : goal.slice_bounds-write_all-end
-slice_bounds-write_all-end g c = omega (arith, c.next_line-next.ensures.few, c.next_line-next.ensures.long, c.loop-next.invariant.0, c.requires.0)
+slice_bounds-write_all-end g c = let n = c.in-Some.ensures.0 in omega (arith, n.few, n.long, c.loop-next.invariant.0, c.requires.0)
 
-pub returns-then-n-eq0 : goal.returns-then-n-eq0
-returns-then-n-eq0 g c = listed_last _ _ _ c.loop-next.cursor c.next_line-next.result c.loop-next.invariant.2 c.next_line-next.ensures c.if-n-eq0.true
+pub returns-in_default : goal.returns-in_default
+returns-in_default g c = listed_last _ _ _ c.loop-next.cursor _ c.loop-next.invariant.2 c.in_default.ensures refl
 
 pub loop-next-smaller : goal.loop-next-smaller
 loop-next-smaller g c =
-    line_less _ c.loop-next.cursor c.next_line-next.result c.next_line-next.ensures (omega (arith, c.loop-next.invariant.0, c.requires.0)) (omega (arith, c.if-n-eq0.false))
+    let n = c.in-Some.ensures in
+    line_less _ c.loop-next.cursor c.in-Some.next n.0 (omega (arith, c.loop-next.invariant.0, c.requires.0)) n.1
 
 pub loop-next-preserved : goal.loop-next-preserved
 loop-next-preserved g c = (
-  c.next_line-next.ensures.long ∙ c.loop-next.invariant.0,
-  line_valid _ c.loop-next.cursor c.next_line-next.result c.next_line-next.ensures,
-  listed_more _ _ _ _ c.loop-next.cursor c.next_line-next.result c.loop-next.invariant.2 c.next_line-next.ensures c.in_ok-write_all.ensures.bytes,
+  c.in-Some.ensures.0.long ∙ c.loop-next.invariant.0,
+  line_valid _ c.loop-next.cursor c.in-Some.next c.in-Some.ensures.0,
+  listed_more _ _ _ _ c.loop-next.cursor c.in-Some.next c.loop-next.invariant.2 c.in-Some.ensures.0 c.in_ok-write_all.ensures.bytes,
 )
