@@ -44,7 +44,7 @@ module _ (file : List ℕ) (t : Loaded) (room : Counts) (table : Columns) (names
   S = rows table splits
 
   -- an answer that is right after such an end of the link order
-  record Answers (o : Outcome End) (r : Result Ran Unlinked) : Type 0 where
+  pub record Answers (o : Outcome End) (r : Result Ran Unlinked) : Type 0 where
     pub is : (c : Beside) → ran_in c table out pieces entries offsets r ≡ (o >>= on_order file t room (entering.added c names) S)
     pub keeps : Keeps names used splits room out r
 
@@ -94,14 +94,10 @@ module _ (file : List ℕ) (t : Loaded) (room : Counts) (table : Columns) (names
 
   -- ---- after the link order
 
-  -- what an answer of the run is to be, for a unit table with this room
-  abbrev pub Right : (units : ℕ) → Result Ran Unlinked → Type 0
-  Right units r =
-      ((c : Beside) → ran_in c table out pieces entries offsets r ≡ ordered_and_walked file t units room (entering.added c names) S) × Keeps names used splits room out r
-
-  right : (units : ℕ) (r : Result Ran Unlinked) → Answers (link_order (linked file t S) units) r → Right units r
+  ordered : (units : ℕ) {r : Result Ran Unlinked} → Answers (link_order (linked file t S) units) r
+      → (c : Beside) → ran_in c table out pieces entries offsets r ≡ ordered_and_walked file t units room (entering.added c names) S
   unfolding ordered_and_walked
-  right units r a = (a.is, a.keeps)
+  ordered units a = a.is
 
   module _ (u : Usable file t) (w : Tabled (length t.sections) table splits) (size : ℕ) {a : Result ℕ Unlinked} {before : List ℕ}
       (resolves : Resolves S (units_in file t.units) (link_order (linked file t S) (size / 8)) a before out) where
@@ -113,12 +109,11 @@ module _ (file : List ℕ) (t : Loaded) (room : Counts) (table : Columns) (names
     stands = resolved_stands u S w.homed (link_order (linked file t S) (size / 8)) (left_nodes (linked file t S) (link_order (linked file t S) (size / 8)) ends) resolves
 
     -- no link order
-    pub unlinked_right : (e : Unlinked) → a ≡ Err e → Right (size / 8) (Err e)
+    pub unlinked_right : (e : Unlinked) → a ≡ Err e → Answers (link_order (linked file t S) (size / 8)) (Err e)
     unlinked_right e is =
-        right (size / 8) (Err e)
-        (unlinked_answers e (subst (λ (x : Result ℕ Unlinked). Units out (kept x)) is stands.whole) (subst NotCycle is resolves.other) (link_order (linked file t S) (size / 8)) ends
+        unlinked_answers e (subst (λ (x : Result ℕ Unlinked). Units out (kept x)) is stands.whole) (subst NotCycle is resolves.other) (link_order (linked file t S) (size / 8)) ends
         (sym (ap (λ (x : Result ℕ Unlinked). meaning (answer_of x)) is) ∙ resolves.said)
-        (sym (ap (λ (x : Result ℕ Unlinked). units_at out (kept x)) is) ∙ stands.read))
+        (sym (ap (λ (x : Result ℕ Unlinked). units_at out (kept x)) is) ∙ stands.read)
 
     -- an order of n units, and the walk in it
     module _ (n : ℕ) (is : a ≡ Ok n) where
@@ -134,14 +129,19 @@ module _ (file : List ℕ) (t : Loaded) (room : Counts) (table : Columns) (names
       pub order_named : All (λ (x : units.Unit). x.name < 4096) (units_at out n)
       order_named = subst (λ (x : Result ℕ Unlinked). All (λ (y : units.Unit). y.name < 4096) (units_at out (kept x))) is stands.named
 
-      pub refused_right : (e : Refusal) → Gives (walked file t room S (units_at out n)) room (Err e) pieces entries offsets → Right (size / 8) (Err (Refused e))
-      refused_right e g = right (size / 8) (Err (Refused e)) (refused_answers n order_whole (link_order (linked file t S) (size / 8)) ends order_said order_read e g)
+      pub refused_right : (e : Refusal) → Gives (walked file t room S (units_at out n)) room (Err e) pieces entries offsets
+          → Answers (link_order (linked file t S) (size / 8)) (Err (Refused e))
+      refused_right e g = refused_answers n order_whole (link_order (linked file t S) (size / 8)) ends order_said order_read e g
 
       pub made_right : (made : Counts) → Gives (walked file t room S (units_at out n)) room (Ok made) pieces entries offsets
-          → Right (size / 8) (Ok (record { names = names; used = used; splits = splits; units = n; made = made }))
-      made_right made g = right (size / 8) _ (made_answers n order_whole (link_order (linked file t S) (size / 8)) ends order_said order_read made g)
+          → Answers (link_order (linked file t S) (size / 8)) (Ok (record { names = names; used = used; splits = splits; units = n; made = made }))
+      made_right made g = made_answers n order_whole (link_order (linked file t S) (size / 8)) ends order_said order_read made g
 
 -- ---- after the stages before
+
+-- the rows that were entered
+pub entered_tabled : {e : Result Entered Refusal} {x : Entered} {sections : ℕ} {table : Columns} → e ≡ Ok x → Tabled sections table (entering.splits e) → Tabled sections table x.splits
+entered_tabled {sections = sections} {table = table} q w = subst (λ (y : Result Entered Refusal). Tabled sections table (entering.splits y)) q w
 
 module _ (file : List ℕ) (t : Loaded) (room : Counts) (table : Columns) (out pieces entries offsets : List ℕ) (units : ℕ) (e : Result Entered Refusal) where
   -- what an answer is to be
@@ -155,11 +155,12 @@ module _ (file : List ℕ) (t : Loaded) (room : Counts) (table : Columns) (out p
   refused_before {r} q =
       ((λ base c. sym (bind_stops _ _ r.number r.section r.address (ap (entering.meant base c table) q))), tt)
 
-  pub entered_before : {x : Entered} → e ≡ Ok x → (r : Result Ran Unlinked) → Right file t room table x.names x.used x.splits out pieces entries offsets units r → RightAfter r
-  entered_before {x} q r a = (
+  pub entered_before : {x : Entered} {r : Result Ran Unlinked} → e ≡ Ok x
+      → Answers file t room table x.names x.used x.splits out pieces entries offsets (link_order (linked file t (rows table x.splits)) units) r → RightAfter r
+  entered_before {x} {r} q a = (
     λ base c.
-        a.0 c
+        ordered file t room table x.names x.used x.splits out pieces entries offsets units a c
         ∙ ap (λ (l : List (List ℕ)). ordered_and_walked file t units room l (rows table x.splits)) (sym (drop-append_seam base (entering.added c x.names)))
         ∙ sym (bind_goes (entering.meant base c table e) _ _ (ap (entering.meant base c table) q)),
-    subst (λ (y : Result Entered Refusal). Keeps (entering.names y) (entering.used y) (entering.splits y) room out r) (sym q) a.1,
+    subst (λ (y : Result Entered Refusal). Keeps (entering.names y) (entering.used y) (entering.splits y) room out r) (sym q) a.keeps,
   )

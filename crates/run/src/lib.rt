@@ -155,83 +155,6 @@ fn walk_with_columns(
     )
 }
 
-// The link order and the walk of the rows that the stages before left.
-fn order_rows(
-    e: Entered,
-    file: &[u8],
-    names: &[u32],
-    lengths: &[u8],
-    sections: &[u32],
-    images: &[u32],
-    symbols: &[u32],
-    order: &[u16],
-    relocs: &[u32],
-    unit_places: &[u32],
-    starts: &[u32],
-    ends: &[u32],
-    units: &[u16],
-    rest: &[u64],
-    out_units: &mut [u8],
-    pieces: &mut [u8],
-    entries: &mut [u8],
-    offsets: &mut [u8],
-) -> Result<Ran, Unlinked>
-    requires { Prepared file.now names.now lengths.now sections.now images.now symbols.now order.now relocs.now unit_places.now
-        × Tabled (length sections.now) (columns starts.now ends.now units.now rest.now) e.splits }
-    ensures { ((c : Beside)
-        → ran_in c (columns starts.now ends.now units.now rest.now) out_units.new pieces.new entries.new offsets.new result
-        ≡ ordered_and_walked file.now
-        (tables_with names.now lengths.now sections.now symbols.now relocs.now [] unit_places.now)
-        (length out_units.old / 8) (room_in (length pieces.old) (length entries.old) (length offsets.old))
-        (entering.added c e.names) (rows_of (columns starts.now ends.now units.now rest.now) e.splits))
-        × Keeps e.names e.used e.splits (room_in (length pieces.old) (length entries.old) (length offsets.old)) out_units.new result }
-{
-    let linked = ordered(
-        starts,
-        ends,
-        units,
-        rest,
-        e.splits,
-        file,
-        sections,
-        file,
-        names,
-        lengths,
-        file,
-        unit_places,
-        out_units,
-    );
-    let k = linked?;
-    let made = walk_with_columns(
-        file,
-        names,
-        lengths,
-        sections,
-        images,
-        symbols,
-        order,
-        relocs,
-        unit_places,
-        starts,
-        ends,
-        units,
-        rest,
-        e.splits,
-        out_units,
-        k,
-        pieces,
-        entries,
-        offsets,
-    )?;
-    Ok(Ran {
-        names: e.names,
-        used: e.used,
-        splits: e.splits,
-        units: k,
-        made,
-    })
-}
-
 // The link order and the walk of what the stages before gave: what they refused is refused.
 pub fn order_and_walk(
     e: Result<Entered, Refusal>,
@@ -264,8 +187,23 @@ pub fn order_and_walk(
         × Keeps (entering.names e) (entering.used e) (entering.splits e) (room_in (length pieces.old) (length entries.old) (length offsets.old)) out_units.new result }
 {
     let entered = e?;
-    order_rows(
-        entered,
+    let linked = ordered(
+        starts,
+        ends,
+        units,
+        rest,
+        entered.splits,
+        file,
+        sections,
+        file,
+        names,
+        lengths,
+        file,
+        unit_places,
+        out_units,
+    );
+    let k = linked?;
+    let made = walk_with_columns(
         file,
         names,
         lengths,
@@ -279,9 +217,18 @@ pub fn order_and_walk(
         ends,
         units,
         rest,
+        entered.splits,
         out_units,
+        k,
         pieces,
         entries,
         offsets,
-    )
+    )?;
+    Ok(Ran {
+        names: entered.names,
+        used: entered.used,
+        splits: entered.splits,
+        units: k,
+        made,
+    })
 }

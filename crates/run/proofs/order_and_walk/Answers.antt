@@ -1,24 +1,14 @@
--- A refusal before is handed on, else the rows are ordered and walked.
+-- A refusal before is handed on; an order that was found is walked; a cycle, and a refusal, are the answer.
 use Prim.Native.Nat.{◌/◌}
-use mathlib.Core.Path.{subst, sym, ap, ◌∙◌}
-use mathlib.Core.List.{List, []}
+use mathlib.Core.List.{[]}
 use lib.ListN.{length}
-use Rattle.std.specs.Prelude.{Result}
 use Rattle.std.proofs.lemmas.Result.{err_from_is_err_and}
-use Rattle.obj.specs.declared.Refusal.{Refusal}
 use Rattle.loaded.specs.Tables.{tables_with}
 use Rattle.splits.specs.Columns.{columns}
-use Rattle.gap_splits.specs.declared.Entered.{Entered}
-use Rattle.gap_splits.specs.Answers.{splits}
 use Rattle.stage_walk.specs.Room.{room_in}
-use Rattle.run.specs.Answers.{Tabled}
-use Rattle.run.proofs.Answering.{refused_before, entered_before}
+use Rattle.run.proofs.Linking.{splits-taken, units_taken}
+use Rattle.run.proofs.Answering.{entered_tabled, unlinked_right, order_whole, order_named, refused_right, made_right, refused_before, entered_before}
 use Rattle.run.proofs.order_and_walk.Goals as goal
-
-pub order_rows-requires : goal.order_rows-requires
-order_rows-requires c =
-    let a = c.args in
-    (c.requires.0, subst (λ (x : Result Entered Refusal). Tabled (length a.sections.now) (columns a.starts.now a.ends.now a.units.now a.rest.now) (splits x)) c.in_ok-entered.was c.requires.1)
 
 pub returns-in_err-entered : goal.returns-in_err-entered
 returns-in_err-entered c =
@@ -29,11 +19,67 @@ returns-in_err-entered c =
     let table = columns a.starts.now a.ends.now a.units.now a.rest.now in
     rw (p.1, p.2) (refused_before a.file.now t room table a.out_units.now a.pieces.now a.entries.now a.offsets.now (length a.out_units.now / 8) a.e c.in_err-entered.was)
 
-pub returns : goal.returns
-returns c =
+pub ordered-linked-requires : goal.ordered-linked-requires
+ordered-linked-requires c =
+    let q = c.requires in
+    (splits-taken q.0.usable _ _ (entered_tabled c.in_ok-entered.was q.1), units_taken q.0.usable)
+
+pub walk_with_columns-requires : goal.walk_with_columns-requires
+walk_with_columns-requires c =
     let a = c.args in
+    let q = c.requires in
     let t = tables_with a.names.now a.lengths.now a.sections.now a.symbols.now a.relocs.now [] a.unit_places.now in
     let room = room_in (length a.pieces.now) (length a.entries.now) (length a.offsets.now) in
     let table = columns a.starts.now a.ends.now a.units.now a.rest.now in
-    let w = c.order_rows in
-    entered_before a.file.now t room table w.new.out_units w.new.pieces w.new.entries w.new.offsets (length a.out_units.now / 8) a.e c.in_ok-entered.was w.result w.ensures
+    let x = c.in_ok-entered.entered in
+    let w = entered_tabled c.in_ok-entered.was q.1 in
+    let o = c.ordered-linked in
+    let is = c.in_ok-k.was in
+    (q.0, w, order_whole a.file.now t room table x.names x.used x.splits o.new.out [] [] [] q.0.usable w (length a.out_units.now) o.ensures _ is, order_named a.file.now t room table x.names x.used x.splits o.new.out [] [] [] q.0.usable w (length a.out_units.now) o.ensures _ is)
+
+pub returns-in_err-k : goal.returns-in_err-k
+returns-in_err-k c =
+    let r = c.from_residual-in_err-k in
+    let p = err_from_is_err_and r.result r.ensures.1 in
+    let a = c.args in
+    let q = c.requires in
+    let t = tables_with a.names.now a.lengths.now a.sections.now a.symbols.now a.relocs.now [] a.unit_places.now in
+    let room = room_in (length a.pieces.now) (length a.entries.now) (length a.offsets.now) in
+    let table = columns a.starts.now a.ends.now a.units.now a.rest.now in
+    let x = c.in_ok-entered.entered in
+    let w = entered_tabled c.in_ok-entered.was q.1 in
+    let o = c.ordered-linked in
+    rw (p.1, p.2)
+    (entered_before a.file.now t room table o.new.out a.pieces.now a.entries.now a.offsets.now (length a.out_units.now / 8) a.e c.in_ok-entered.was
+    (unlinked_right a.file.now t room table x.names x.used x.splits o.new.out a.pieces.now a.entries.now a.offsets.now q.0.usable w (length a.out_units.now) o.ensures _ c.in_err-k.was))
+
+pub returns-in_err-made : goal.returns-in_err-made
+returns-in_err-made c =
+    let r = c.from_residual-in_err-made in
+    let p = err_from_is_err_and r.result r.ensures.1 in
+    let a = c.args in
+    let q = c.requires in
+    let t = tables_with a.names.now a.lengths.now a.sections.now a.symbols.now a.relocs.now [] a.unit_places.now in
+    let room = room_in (length a.pieces.now) (length a.entries.now) (length a.offsets.now) in
+    let table = columns a.starts.now a.ends.now a.units.now a.rest.now in
+    let x = c.in_ok-entered.entered in
+    let w = entered_tabled c.in_ok-entered.was q.1 in
+    let o = c.ordered-linked in
+    let k = c.walk_with_columns.new in
+    rw (p.1, p.2)
+    (entered_before a.file.now t room table o.new.out k.pieces k.entries k.offsets (length a.out_units.now / 8) a.e c.in_ok-entered.was
+    (refused_right a.file.now t room table x.names x.used x.splits o.new.out k.pieces k.entries k.offsets q.0.usable w (length a.out_units.now) o.ensures _ c.in_ok-k.was _ c.in_err-made.ensures))
+
+pub returns : goal.returns
+returns c =
+    let a = c.args in
+    let q = c.requires in
+    let t = tables_with a.names.now a.lengths.now a.sections.now a.symbols.now a.relocs.now [] a.unit_places.now in
+    let room = room_in (length a.pieces.now) (length a.entries.now) (length a.offsets.now) in
+    let table = columns a.starts.now a.ends.now a.units.now a.rest.now in
+    let x = c.in_ok-entered.entered in
+    let w = entered_tabled c.in_ok-entered.was q.1 in
+    let o = c.ordered-linked in
+    let k = c.walk_with_columns.new in
+    entered_before a.file.now t room table o.new.out k.pieces k.entries k.offsets (length a.out_units.now / 8) a.e c.in_ok-entered.was
+    (made_right a.file.now t room table x.names x.used x.splits o.new.out k.pieces k.entries k.offsets q.0.usable w (length a.out_units.now) o.ensures _ c.in_ok-k.was _ c.in_ok-made.ensures)
