@@ -21,6 +21,7 @@ use splits::{load, store};
 use stage_tables::take_splits;
 
 // How many splits a stage may hold and give back in an output of `size` bytes.
+#[tactic(auto, unfolding(crate::specs::StageSplits::room_of))]
 pub fn room_of(size: usize) -> usize
     ensures { result ≡ room_of size }
 {

@@ -1,0 +1,23 @@
+-- The rows are put, and their number is stored into the cleared counts.
+use mathlib.Core.Path.{refl, sym, ap, ◌∙◌}
+use mathlib.Core.List.{[], ◌∷◌}
+use Prim.Native.Nat.{ℕ}
+use lib.ListN.{length}
+use Rattle.lists.proofs.Rows.{length-tabulate}
+use Rattle.outputs.specs.Outputs.{counts_of, store_count}
+use Rattle.splits.specs.Columns.{columns, row_at}
+use Rattle.stage_splits.proofs.Laws.{one_count}
+use Rattle.stage_splits.proofs.give_splits.Goals as goal
+
+pub returns : goal.returns
+returns c =
+    let a = c.args in
+    let k = length-tabulate (row_at (columns a.starts.now a.ends.now a.units.now a.rest.now)) 0 a.n in
+    record {
+      splits = c.put_splits.ensures;
+      counted =
+          c.put_count.ensures
+          ∙ ap (store_count 0 a.n) c.clear_from.ensures
+          ∙ one_count _ a.n a.counts.now refl
+          ∙ ap (λ (n : ℕ). counts_of (length a.counts.now) (n ∷ [])) (sym k);
+    }
