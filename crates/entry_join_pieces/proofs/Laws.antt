@@ -8,7 +8,7 @@ use Rattle.lists.proofs.Binds.{bind_goes, bind_stops}
 use Rattle.lists.proofs.Outcomes.{not_both, same_accepted, then_inv}
 use Rattle.obj.specs.Answers.{outcome_word}
 use Rattle.obj.specs.Answers.{Answer}
-use Rattle.std.specs.Prelude.{Ok, Err}
+use Rattle.std.specs.Prelude.{Result, Ok, Err}
 use Rattle.obj.specs.declared.Section.{Section}
 use Rattle.join.specs.Join.{Part, held, join_of}
 use Rattle.join.proofs.Sizes.{length-joined}
@@ -60,19 +60,16 @@ module _ {before after : List ℕ} where
   writes_made (refused number section address) j s = absurd (not_both (sym (j.said ∙ bind_stops _ _ number section address refl)))
 
   module _ {size : List ℕ} {answer : ℕ} {out size' : List ℕ} where
-    -- what was written, settled
-    pub leaves_made : (o : Outcome (List ℕ)) {v : ℕ} → Writes o before (Ok v) after → Settles v (Ok tt) after size answer out size' → Leaves o before size answer out size'
-    leaves_made (accepted bytes) w s = record {
+    -- what was written, or refused, settled
+    pub leaves_settled : (o : Outcome (List ℕ)) (w : Result ℕ Refusal) → Writes o before w after → Settles w after size answer out size' → Leaves o before size answer out size'
+    leaves_settled (accepted bytes) (Ok v) w s = record {
       said = s.said;
       output = s.output ∙ w.laid bytes refl;
-      sized = s.sized ∙ ap (λ (n : ℕ). sized_of n size (Ok tt)) (same_accepted (w.said ∙ bind_goes _ _ bytes refl));
+      sized = s.sized ∙ ap (λ (n : ℕ). sized_of size (Ok n)) (same_accepted (w.said ∙ bind_goes _ _ bytes refl));
     }
-    leaves_made (refused number section address) w s = absurd (not_both (sym (w.said ∙ bind_stops _ _ number section address refl)))
-
-    -- .. and a refusal
-    pub leaves_refused : (o : Outcome (List ℕ)) {r : Refusal} {v : ℕ} → Writes o before (Err r) after → Settles v (Err r) after size answer out size' → Leaves o before size answer out size'
-    leaves_refused (accepted bytes) w s = absurd (not_both (w.said ∙ bind_goes _ _ bytes refl))
-    leaves_refused (refused number section address) {r} w s =
+    leaves_settled (accepted bytes) (Err r) w s = absurd (not_both (w.said ∙ bind_goes _ _ bytes refl))
+    leaves_settled (refused number section address) (Ok v) w s = absurd (not_both (sym (w.said ∙ bind_stops _ _ number section address refl)))
+    leaves_settled (refused number section address) (Err r) w s =
         record {
           said = s.said ∙ ap outcome_word (w.said ∙ bind_stops _ _ number section address refl);
           output = s.output ∙ ap (λ (n : ℕ). replicate n 0) w.long;

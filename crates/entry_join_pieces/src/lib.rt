@@ -37,8 +37,6 @@ pub fn join_pieces(
 ) -> u64
     ensures { Leaves (join_pieces name_ends.now name_bytes.now sections.now pieces.now (length joined.old)) joined.old size.old result joined.new size.new }
 {
-    match join_tables(name_ends, name_bytes, sections, pieces, joined) {
-        Ok(n) => settle(Ok(()), n, joined, size),
-        Err(r) => settle(Err(r), 0, joined, size),
-    }
+    let made = join_tables(name_ends, name_bytes, sections, pieces, joined);
+    settle(made, joined, size)
 }

@@ -37,8 +37,6 @@ pub fn write_srecords(
 ) -> u64
     ensures { Called name_ends.now name_bytes.now sections.now pieces.now lines.old size.old result lines.new size.new }
 {
-    match write_tables(name_ends, name_bytes, sections, pieces, lines) {
-        Ok(n) => settle(Ok(()), n, lines, size),
-        Err(r) => settle(Err(r), 0, lines, size),
-    }
+    let made = write_tables(name_ends, name_bytes, sections, pieces, lines);
+    settle(made, lines, size)
 }

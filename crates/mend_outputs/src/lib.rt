@@ -37,11 +37,10 @@ pub fn give_mended(
 pub fn finish(a: Result<(), Refusal>, out: &mut [u8], lines: &mut [u8], counts: &mut [u8]) -> u64
     ensures { Finishes a out.old lines.old counts.old result out.new lines.new counts.new }
 {
-    if let Err(_) = a {
+    if a.is_err() {
         clear_from(out, 0);
         clear_from(lines, 0);
         clear_from(counts, 0);
-        return word_of(a);
     }
     word_of(a)
 }
