@@ -15,11 +15,11 @@ use Rattle.toposort.specs.Search.{Graph, End, bad_edge, searched}
 use Rattle.toposort.specs.Sorting.{sort_of, Sorts, Within, Sound, Chainable}
 use Rattle.toposort.proofs.Theorems.{sound_edges}
 
-module _ (g : Graph) (b : ℕ) (within : Within g) (is : b ≡ bad_edge g.count g.from g.to) where
+module _ (g : Graph) (within : Within g) where
   -- 62
-  pub sorts_bad : b < length g.from → (table : List ℕ) → Sorts (sort_of g (length table)) (length table) (Err (NoNode b)) table
+  pub sorts_bad : (b : ℕ) → b ≡ bad_edge g.count g.from g.to → b < length g.from → (table : List ℕ) → Sorts (sort_of g (length table)) (length table) (Err (NoNode b)) table
   unfolding sort_of
-  sorts_bad h table =
+  sorts_bad b is h table =
       record {
         means = ap (refused 62 0) is ∙ sym (fails _ _ _ _ _ (lt-ltb _ _ (rw is at h)));
         long = refl;
@@ -27,13 +27,13 @@ module _ (g : Graph) (b : ℕ) (within : Within g) (is : b ≡ bad_edge g.count 
         small = omega (arith, within.edges);
       }
 
-  module _ (good : length g.from ≤ b) where
+  module _ (good : bad_edge g.count g.from g.to ≡ length g.from) where
     -- 76
     pub sorts_short : (table : List ℕ) → length table < g.count → Sorts (sort_of g (length table)) (length table) (Err Short) table
     unfolding sort_of
     sorts_short table h =
         record {
-          means = sym (passes _ _ _ _ _ (le-ltb _ _ (rw is at good)) ∙ fails _ _ _ _ _ (lt-ltb _ _ h));
+          means = sym (passes _ _ _ _ _ (le-ltb _ _ (omega arith)) ∙ fails _ _ _ _ _ (lt-ltb _ _ h));
           long = refl;
           room = omega arith;
           small = omega arith;
@@ -45,10 +45,10 @@ module _ (g : Graph) (b : ℕ) (within : Within g) (is : b ≡ bad_edge g.count 
     unfolding sort_of
     sorts_searched room h answer table s =
         subst (λ (x : Outcome End). Sorts x room answer table)
-        (sym (passes _ _ _ _ _ (le-ltb _ _ (rw is at good)) ∙ passes _ _ _ _ _ (le-ltb _ _ h))) s
+        (sym (passes _ _ _ _ _ (le-ltb _ _ (omega arith)) ∙ passes _ _ _ _ _ (le-ltb _ _ h))) s
 
     pub sound : Sound g
-    sound = sound_edges g within (rw is at good)
+    sound = sound_edges g within (omega arith)
 
     pub chainable : (heads chain : List ℕ) → length heads ≡ 1024 → length chain ≡ 2048 → Chainable g.from heads chain
     chainable heads chain h k =

@@ -45,7 +45,7 @@ pub enum Move {
 // The first edge from or to no node.
 pub fn bad_edge(n: usize, from: &[u16], to: &[u16]) -> Option<usize>
     requires { length to.now ≡ length from.now }
-    ensures { MatchOption result (length from.now ≤ bad_edge n from.now to.now) (λ e. (e ≡ bad_edge n from.now to.now) × (e < length from.now)) }
+    ensures { MatchOption result (bad_edge n from.now to.now ≡ length from.now) (λ e. (e ≡ bad_edge n from.now to.now) × (e < length from.now)) }
 {
     for e in 0..from.len() {
         if n <= from[e] as usize {

@@ -5,21 +5,21 @@ use Rattle.toposort.proofs.Sorting.{sorts_bad, sorts_short, sorts_searched, soun
 use Rattle.toposort.proofs.toposort.Goals as goal
 
 pub returns-in-Some : goal.returns-in-Some
-returns-in-Some c = sorts_bad _ _ c.requires c.in-Some.ensures.0 c.in-Some.ensures.1 _
+returns-in-Some c = sorts_bad _ c.requires _ c.in-Some.ensures.0 c.in-Some.ensures.1 _
 
 pub returns-then-table-n : goal.returns-then-table-n
-returns-then-table-n c = sorts_short _ _ c.requires refl c.in_default.ensures _ c.if-table-n.true
+returns-then-table-n c = sorts_short _ c.requires c.in_default.ensures _ c.if-table-n.true
 
 pub chain_edges-requires : goal.chain_edges-requires
-chain_edges-requires c = chainable _ _ c.requires refl c.in_default.ensures _ _ refl refl
+chain_edges-requires c = chainable _ c.requires c.in_default.ensures _ _ refl refl
 
 pub search-requires : goal.search-requires
 search-requires c =
     record {
-      sound = sound _ _ c.requires refl c.in_default.ensures;
+      sound = sound _ c.requires c.in_default.ensures;
       chained = c.chain_edges.ensures;
       room = c.if-table-n.false;
     }
 
 pub returns : goal.returns
-returns c = sorts_searched _ _ c.requires refl c.in_default.ensures _ c.if-table-n.false _ _ c.search.ensures
+returns c = sorts_searched _ c.requires c.in_default.ensures _ c.if-table-n.false _ _ c.search.ensures
