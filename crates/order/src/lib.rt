@@ -3,7 +3,7 @@
 
 mod records;
 
-ghost use Rattle.std.specs.Prelude.{◌≡◌, ◌/◌, ◌≤◌, length};
+ghost use Rattle.std.specs.Prelude.{◌≡◌, ◌/◌, ◌≤◌, length, Err};
 ghost use Rattle.tables.specs.Records.{units_in};
 ghost use Rattle.splits.specs.Columns.{columns, rows};
 ghost use Rattle.toposort.specs.Sorting as sorting;
@@ -57,6 +57,17 @@ pub fn answer_of(r: Result<usize, Unlinked>) -> Result<(), Refusal>
     }
 }
 
+// The refusal of a stage that names no section.
+fn refused(number: u16, address: u32) -> Result<usize, Unlinked>
+    ensures { result ≡ Err (Refused (record { number = number; section = 0; address = address })) }
+{
+    Err(Unlinked::Refused(Refusal {
+        number,
+        section: 0,
+        address,
+    }))
+}
+
 // What the sort says, said of the unit records.
 fn linked(r: Result<usize, Unsorted>) -> Result<usize, Unlinked>
     requires { carried r ≤ 2048 }
@@ -65,16 +76,8 @@ fn linked(r: Result<usize, Unsorted>) -> Result<usize, Unlinked>
     match r {
         Ok(n) => Ok(n),
         Err(Unsorted::Cycle(k)) => Err(Unlinked::Cycle(k)),
-        Err(Unsorted::NoNode(e)) => Err(Unlinked::Refused(Refusal {
-            number: 62,
-            section: 0,
-            address: e as u32,
-        })),
-        Err(Unsorted::Short) => Err(Unlinked::Refused(Refusal {
-            number: 76,
-            section: 0,
-            address: 0,
-        })),
+        Err(Unsorted::NoNode(e)) => refused(62, e as u32),
+        Err(Unsorted::Short) => refused(76, 0),
     }
 }
 
@@ -159,7 +162,7 @@ pub fn resolve_link_order(
 {
     let k = order_units(unit_bytes, unit_places, numbers, scratch);
     if order_twice(unit_bytes, unit_places, &numbers[..k]) {
-        return Ok(refuse(60, 0, 0)?);
+        return refused(60, 0);
     }
     let made = make_graph(
         starts,

@@ -7,7 +7,6 @@ use Rattle.splits.specs.Columns.{columns}
 use Rattle.order_numbers.specs.Numbers.{order_twice}
 use Rattle.link_graph.specs.Graph.{graph_of}
 use Rattle.link_graph.specs.Columns.{given_of}
-use Rattle.order.proofs.Errors.{refused_as}
 use Rattle.order.proofs.Stage.{order_twice_resolves, same_sort, sorted_stage, resolves_as}
 use Rattle.order.proofs.resolve_link_order.Goals as goal
 
@@ -22,10 +21,9 @@ returns c =
     (same_sort _ (graph_of g) (length a.out.now / 8) (ap length m.ensures.nodes_are) m.ensures.starts m.ensures.goals ∙ sorted_stage g (length a.out.now / 8) first)
     c.sort_graph.ensures
 
-pub returns-in_err-refuse : goal.returns-in_err-refuse
-returns-in_err-refuse c =
+pub returns-then-order_twice : goal.returns-then-order_twice
+returns-then-order_twice c =
     let a = c.args in
     let col = columns a.starts.now a.ends.now a.units.now a.rest.now in
     let g = given_of col a.n a.heads.now a.head_places.now a.name_bytes.now a.name_places.now a.name_lengths.now a.unit_bytes.now a.unit_places.now in
-    rw (refused_as c.from_residual.result c.refuse.result c.from_residual.ensures.1 c.in_err-refuse.was c.refuse.ensures)
-    (order_twice_resolves g (length a.out.now / 8) a.out.now (sym c.order_twice.ensures ∙ c.if-order_twice.true))
+    rw c.refused.ensures (order_twice_resolves g (length a.out.now / 8) a.out.now (sym c.order_twice.ensures ∙ c.if-order_twice.true))
