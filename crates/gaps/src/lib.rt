@@ -165,6 +165,7 @@ fn gaps_to(
 {
     let mut at = current;
     let mut found = count;
+    // no count: a turn begins where the gap before it ended
     loop {
         if next <= align_up(at, alignment) {
             return Ok(found);

@@ -208,6 +208,7 @@ pub fn search(
     let mut nodes = unseen();
     let mut left = n;
     let mut cur = ROOT;
+    // no count: a turn enters a node, leaves one, or passes an edge, as the graph has them
     loop {
         let State::Open { next, parent } = nodes[cur].state else {
             return Err(Unsorted::Short);
