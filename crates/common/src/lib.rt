@@ -5,14 +5,14 @@
 ghost use Rattle.std.specs.Prelude.{◌≡◌, map, ◌&&◌, eqb, ℕ, ◌/◌, ◌%◌, ◌<◌, ◌≤◌, length, take, is_some, unwrap_or};
 ghost use Rattle.lists.specs.Rows.{keep_if};
 ghost use Rattle.lists.specs.Outcome.{accepted};
-ghost use Rattle.splits.specs.Columns.{columns, row_of, row_at, rows, Long};
+ghost use Rattle.splits.specs.Columns.{columns, row_of, row_at, rows, Long, columns_of};
 ghost use Rattle.common.specs.Common.{common_in, common_start, from_of, start_meaning, start_of, marked, common_of, answered, First};
 ghost use Rattle.common.specs.Records.{Kept};
 ghost use Rattle.common.specs.Sections.{bss_at, bss_in, bss_of, first_of, given_of, Sections};
 
-use names::{is_bss, name_at};
-use obj::{Refusal, Split, refuse, section_at};
-use splits::{rest_of, row};
+use names::{Names, is_bss, name_at};
+use obj::{Refusal, Split, Table, refuse, section_at};
+use splits::{SplitColumns, rest_of, row};
 
 // The sections named `.bss`.
 #[derive(Clone, Copy)]
@@ -25,36 +25,22 @@ pub enum Bss {
 // ---- the section
 
 // Whether section k is named `.bss`.
-fn is_bss_at(
-    name_bytes: &[u8],
-    name_places: &[u32],
-    name_lengths: &[u8],
-    heads: &[u8],
-    places: &[u32],
-    k: usize,
-) -> bool
-    requires { Sections name_bytes.now name_places.now name_lengths.now heads.now places.now × (k < length places.now) }
-    ensures { result ≡ bss_at name_bytes.now name_places.now name_lengths.now heads.now places.now k }
+fn is_bss_at(names: &Names, heads: &Table, k: usize) -> bool
+    requires { Sections names.now.bytes.now names.now.places.now names.now.lengths.now heads.now.bytes.now heads.now.places.now × (k < length heads.now.places.now) }
+    ensures { result ≡ bss_at names.now.bytes.now names.now.places.now names.now.lengths.now heads.now.bytes.now heads.now.places.now k }
 {
-    let head = section_at(heads, places, k);
+    let head = section_at(heads, k);
     let name = head.name as usize;
-    is_bss(name_at(name_bytes, name_places, name_lengths, name))
+    is_bss(name_at(names, name))
 }
 
 // The first section from `from` on that is named `.bss`.
-fn next_bss(
-    name_bytes: &[u8],
-    name_places: &[u32],
-    name_lengths: &[u8],
-    heads: &[u8],
-    places: &[u32],
-    from: usize,
-) -> Option<usize>
-    requires { Sections name_bytes.now name_places.now name_lengths.now heads.now places.now × (from ≤ length places.now) }
-    ensures { First (bss_at name_bytes.now name_places.now name_lengths.now heads.now places.now) (λ k. k) (length places.now) from result }
+fn next_bss(names: &Names, heads: &Table, from: usize) -> Option<usize>
+    requires { Sections names.now.bytes.now names.now.places.now names.now.lengths.now heads.now.bytes.now heads.now.places.now × (from ≤ length heads.now.places.now) }
+    ensures { First (bss_at names.now.bytes.now names.now.places.now names.now.lengths.now heads.now.bytes.now heads.now.places.now) (λ k. k) (length heads.now.places.now) from result }
 {
-    for k in from..places.len() {
-        if is_bss_at(name_bytes, name_places, name_lengths, heads, places, k) {
+    for k in from..heads.places.len() {
+        if is_bss_at(names, heads, k) {
             return Some(k);
         }
     }
@@ -62,27 +48,14 @@ fn next_bss(
 }
 
 // `by_name(".bss")`: at most one section may have the name.
-fn by_name(
-    name_bytes: &[u8],
-    name_places: &[u32],
-    name_lengths: &[u8],
-    heads: &[u8],
-    places: &[u32],
-) -> Bss
-    requires { Sections name_bytes.now name_places.now name_lengths.now heads.now places.now }
-    ensures { result ≡ bss_of (bss_in name_bytes.now name_places.now name_lengths.now heads.now places.now) }
+fn by_name(names: &Names, heads: &Table) -> Bss
+    requires { Sections names.now.bytes.now names.now.places.now names.now.lengths.now heads.now.bytes.now heads.now.places.now }
+    ensures { result ≡ bss_of (bss_in names.now.bytes.now names.now.places.now names.now.lengths.now heads.now.bytes.now heads.now.places.now) }
 {
-    let Some(first) = next_bss(name_bytes, name_places, name_lengths, heads, places, 0) else {
+    let Some(first) = next_bss(names, heads, 0) else {
         return Bss::None;
     };
-    let second = next_bss(
-        name_bytes,
-        name_places,
-        name_lengths,
-        heads,
-        places,
-        first + 1,
-    );
+    let second = next_bss(names, heads, first + 1);
     match second {
         Some(_) => Bss::Many,
         None => Bss::One(first as u16),
@@ -99,19 +72,12 @@ fn is_common_in(section: u16, yrest: u64) -> bool
 }
 
 // The first common row of a section.
-fn first_common(
-    starts: &[u32],
-    ends: &[u32],
-    units: &[u16],
-    rest: &[u64],
-    n: usize,
-    section: u16,
-) -> Option<usize>
-    requires { Long (columns starts.now ends.now units.now rest.now) n }
-    ensures { First (common_in section) (row_at (columns starts.now ends.now units.now rest.now)) n 0 result }
+fn first_common(splits: &SplitColumns, n: usize, section: u16) -> Option<usize>
+    requires { Long (columns_of splits.now) n }
+    ensures { First (common_in section) (row_at (columns_of splits.now)) n 0 result }
 {
     for i in 0..n {
-        if is_common_in(section, rest[i]) {
+        if is_common_in(section, splits.rest[i]) {
             return Some(i);
         }
     }
@@ -119,36 +85,22 @@ fn first_common(
 }
 
 // "else from the first common one on": of the one `.bss`.
-fn first_start(
-    starts: &[u32],
-    ends: &[u32],
-    units: &[u16],
-    rest: &[u64],
-    n: usize,
-    section: u16,
-) -> Option<(u16, u32)>
-    requires { Long (columns starts.now ends.now units.now rest.now) n }
-    ensures { from_of result ≡ start_of section (keep_if (common_in section) (rows (columns starts.now ends.now units.now rest.now) n)) }
+fn first_start(splits: &SplitColumns, n: usize, section: u16) -> Option<(u16, u32)>
+    requires { Long (columns_of splits.now) n }
+    ensures { from_of result ≡ start_of section (keep_if (common_in section) (rows (columns_of splits.now) n)) }
 {
-    let i = first_common(starts, ends, units, rest, n, section)?;
-    Some((section, starts[i]))
+    let i = first_common(splits, n, section)?;
+    Some((section, splits.starts[i]))
 }
 
 // `common_bss_start`: without a start several `.bss` or none change nothing.
-fn common_bss_start(
-    bss: Bss,
-    starts: &[u32],
-    ends: &[u32],
-    units: &[u16],
-    rest: &[u64],
-    n: usize,
-) -> Option<(u16, u32)>
-    requires { Long (columns starts.now ends.now units.now rest.now) n }
-    ensures { from_of result ≡ first_of bss (rows (columns starts.now ends.now units.now rest.now) n) }
+fn common_bss_start(bss: Bss, splits: &SplitColumns, n: usize) -> Option<(u16, u32)>
+    requires { Long (columns_of splits.now) n }
+    ensures { from_of result ≡ first_of bss (rows (columns_of splits.now) n) }
 {
     match bss {
         Bss::None => None,
-        Bss::One(section) => first_start(starts, ends, units, rest, n, section),
+        Bss::One(section) => first_start(splits, n, section),
         Bss::Many => None,
     }
 }
@@ -166,27 +118,21 @@ fn given_start(bss: Bss, start: u32) -> Result<Option<(u16, u32)>, Refusal>
 
 // The section and the address where the common splits begin, if they begin anywhere: "the given address .., else .. the first common one".
 pub fn common_start(
-    name_bytes: &[u8],
-    name_places: &[u32],
-    name_lengths: &[u8],
-    heads: &[u8],
-    places: &[u32],
-    starts: &[u32],
-    ends: &[u32],
-    units: &[u16],
-    rest: &[u64],
+    names: &Names,
+    heads: &Table,
+    splits: &SplitColumns,
     n: usize,
     given: Option<u32>,
 ) -> Result<Option<(u16, u32)>, Refusal>
-    requires { Sections name_bytes.now name_places.now name_lengths.now heads.now places.now × Long (columns starts.now ends.now units.now rest.now) n }
+    requires { Sections names.now.bytes.now names.now.places.now names.now.lengths.now heads.now.bytes.now heads.now.places.now × Long (columns_of splits.now) n }
     ensures { start_meaning result
-        ≡ common_start (is_some given) (unwrap_or given 0) (bss_in name_bytes.now name_places.now name_lengths.now heads.now places.now)
-        (rows (columns starts.now ends.now units.now rest.now) n) }
+        ≡ common_start (is_some given) (unwrap_or given 0) (bss_in names.now.bytes.now names.now.places.now names.now.lengths.now heads.now.bytes.now heads.now.places.now)
+        (rows (columns_of splits.now) n) }
 {
-    let bss = by_name(name_bytes, name_places, name_lengths, heads, places);
+    let bss = by_name(names, heads);
     match given {
         Some(start) => given_start(bss, start),
-        None => Ok(common_bss_start(bss, starts, ends, units, rest, n)),
+        None => Ok(common_bss_start(bss, splits, n)),
     }
 }
 
@@ -254,9 +200,9 @@ pub fn marked_rows(rows: [Split; 1024], section: u16, address: u32) -> [Split; 1
 }
 
 // The first n rows as split records.
-fn records(starts: &[u32], ends: &[u32], units: &[u16], rest: &[u64], n: usize) -> [Split; 1024]
-    requires { Long (columns starts.now ends.now units.now rest.now) n × (n ≤ 1024) }
-    ensures { take n result ≡ rows (columns starts.now ends.now units.now rest.now) n }
+fn records(splits: &SplitColumns, n: usize) -> [Split; 1024]
+    requires { Long (columns_of splits.now) n × (n ≤ 1024) }
+    ensures { take n result ≡ rows (columns_of splits.now) n }
 {
     let none = Split {
         section: 0,
@@ -270,7 +216,7 @@ fn records(starts: &[u32], ends: &[u32], units: &[u16], rest: &[u64], n: usize) 
     };
     let mut table = [none; 1024];
     for i in 0..n {
-        table[i] = row(starts, ends, units, rest, i);
+        table[i] = row(splits, i);
     }
     table
 }
@@ -306,7 +252,15 @@ pub fn mark_records(
     ensures { rows (columns starts.now ends.now units.now rest.new) n
         ≡ map (marked section address) (rows (columns starts.now ends.now units.now rest.old) n) }
 {
-    let table = records(starts, ends, units, rest, n);
+    let table = records(
+        &SplitColumns {
+            starts,
+            ends,
+            units,
+            rest: &*rest,
+        },
+        n,
+    );
     let marked = marked_rows(table, section, address);
     put_records(marked, starts, ends, units, rest, n);
 }
@@ -315,11 +269,8 @@ pub fn mark_records(
 
 // The stage on the split table's columns.
 pub fn update_common_splits(
-    name_bytes: &[u8],
-    name_places: &[u32],
-    name_lengths: &[u8],
-    heads: &[u8],
-    places: &[u32],
+    names: &Names,
+    heads: &Table,
     starts: &[u32],
     ends: &[u32],
     units: &[u16],
@@ -327,21 +278,20 @@ pub fn update_common_splits(
     n: usize,
     given: Option<u32>,
 ) -> Result<(), Refusal>
-    requires { Sections name_bytes.now name_places.now name_lengths.now heads.now places.now × Long (columns starts.now ends.now units.now rest.old) n }
+    requires { Sections names.now.bytes.now names.now.places.now names.now.lengths.now heads.now.bytes.now heads.now.places.now × Long (columns starts.now ends.now units.now rest.old) n }
     ensures { answered result (rows (columns starts.now ends.now units.now rest.new) n)
-        ≡ common_of (is_some given) (unwrap_or given 0) (bss_in name_bytes.now name_places.now name_lengths.now heads.now places.now)
+        ≡ common_of (is_some given) (unwrap_or given 0) (bss_in names.now.bytes.now names.now.places.now names.now.lengths.now heads.now.bytes.now heads.now.places.now)
         (rows (columns starts.now ends.now units.now rest.old) n) }
 {
     let from = common_start(
-        name_bytes,
-        name_places,
-        name_lengths,
+        names,
         heads,
-        places,
-        starts,
-        ends,
-        units,
-        rest,
+        &SplitColumns {
+            starts,
+            ends,
+            units,
+            rest: &*rest,
+        },
         n,
         given,
     )?;
@@ -353,11 +303,8 @@ pub fn update_common_splits(
 
 // The same on split records.
 pub fn update_common_records(
-    name_bytes: &[u8],
-    name_places: &[u32],
-    name_lengths: &[u8],
-    heads: &[u8],
-    places: &[u32],
+    names: &Names,
+    heads: &Table,
     starts: &[u32],
     ends: &[u32],
     units: &[u16],
@@ -365,21 +312,20 @@ pub fn update_common_records(
     n: usize,
     given: Option<u32>,
 ) -> Result<(), Refusal>
-    requires { Sections name_bytes.now name_places.now name_lengths.now heads.now places.now × Long (columns starts.now ends.now units.now rest.old) n × (n ≤ 1024) }
+    requires { Sections names.now.bytes.now names.now.places.now names.now.lengths.now heads.now.bytes.now heads.now.places.now × Long (columns starts.now ends.now units.now rest.old) n × (n ≤ 1024) }
     ensures { answered result (rows (columns starts.now ends.now units.now rest.new) n)
-        ≡ common_of (is_some given) (unwrap_or given 0) (bss_in name_bytes.now name_places.now name_lengths.now heads.now places.now)
+        ≡ common_of (is_some given) (unwrap_or given 0) (bss_in names.now.bytes.now names.now.places.now names.now.lengths.now heads.now.bytes.now heads.now.places.now)
         (rows (columns starts.now ends.now units.now rest.old) n) }
 {
     let from = common_start(
-        name_bytes,
-        name_places,
-        name_lengths,
+        names,
         heads,
-        places,
-        starts,
-        ends,
-        units,
-        rest,
+        &SplitColumns {
+            starts,
+            ends,
+            units,
+            rest: &*rest,
+        },
         n,
         given,
     )?;

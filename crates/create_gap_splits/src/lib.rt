@@ -7,7 +7,7 @@ ghost use Rattle.names.specs.Index.{Indexed};
 ghost use Rattle.tables.specs.Records.{sections_in};
 ghost use Rattle.symbol_order.specs.Order.{symbol_of};
 ghost use Rattle.symbols.specs.Sound.{Sound};
-ghost use Rattle.sections.specs.Image.{image_of, Tables};
+ghost use Rattle.sections.specs.Image.{image_in, TablesIn};
 ghost use Rattle.sections.specs.Sections.{sections_of, Kept};
 ghost use Rattle.splits.specs.Columns.{columns, rows, Long};
 ghost use Rattle.merge.specs.Merge.{given};
@@ -17,22 +17,16 @@ ghost use Rattle.create_gap_splits.specs.Create.{gaps_filled, Short};
 
 use gap_splits::{Entered, enter_gaps};
 use gaps::find_gaps;
-use obj::Refusal;
+use names::NameIndex;
+use obj::{Refusal, Table};
+use sections::Obj;
+use splits::SplitColumns;
 
 // `keys` and `gap_ends` keep the gaps between the two halves; `marks` are all 0 before and after.
 pub fn create_gap_splits(
-    symbols: &[u8],
-    symbol_places: &[u32],
-    order: &[u16],
-    name_bytes: &[u8],
-    name_places: &[u32],
-    name_lengths: &[u8],
-    buckets: &[u16],
-    chain: &[u16],
-    heads: &[u8],
-    head_places: &[u32],
-    image: &[u8],
-    image_places: &[u32],
+    obj: &Obj,
+    index: &NameIndex,
+    image: &Table,
     starts: &mut [u32],
     ends: &mut [u32],
     units: &mut [u16],
@@ -48,45 +42,39 @@ pub fn create_gap_splits(
     keys: &mut [u64],
     gap_ends: &mut [u32],
 ) -> Result<Entered, Refusal>
-    requires { Tables symbols.now symbol_places.now order.now name_bytes.now name_places.now name_lengths.now
-        × Kept heads.now head_places.now image.now image_places.now name_places.now
-        × Sound (symbol_of symbols.now symbol_places.now) (length symbol_places.now)
+    requires { TablesIn obj.now
+        × Kept obj.now.heads.bytes.now obj.now.heads.places.now image.now.bytes.now image.now.places.now obj.now.names.places.now
+        × Sound (symbol_of obj.now.symbols.bytes.now obj.now.symbols.places.now) (length obj.now.symbols.places.now)
         × Long (columns starts.old ends.old units.old rest.old) cap × (n ≤ cap)
-        × Clean marks.old × (length name_places.now ≤ length marks.old)
-        × Roomy keys.old gap_ends.old (length head_places.now) n (length symbol_places.now)
-        × Indexed (names_of name_bytes.now name_places.now name_lengths.now (length name_places.now)) buckets.now chain.now
-        × Short heads.now head_places.now name_bytes.now name_places.now name_lengths.now
+        × Clean marks.old × (length obj.now.names.places.now ≤ length marks.old)
+        × Roomy keys.old gap_ends.old (length obj.now.heads.places.now) n (length obj.now.symbols.places.now)
+        × Indexed (names_of obj.now.names.bytes.now obj.now.names.places.now obj.now.names.lengths.now (length obj.now.names.places.now)) index.now.heads.now index.now.chain.now
+        × Short obj.now.heads.bytes.now obj.now.heads.places.now obj.now.names.bytes.now obj.now.names.places.now obj.now.names.lengths.now
         × Room (beside added_bytes.old added_places.old added_lengths.old) most most_bytes }
-    ensures { (meant (names_of name_bytes.now name_places.now name_lengths.now (length name_places.now))
+    ensures { (meant (names_of obj.now.names.bytes.now obj.now.names.places.now obj.now.names.lengths.now (length obj.now.names.places.now))
         (beside added_bytes.new added_places.new added_lengths.new)
         (columns starts.new ends.new units.new rest.new) result
         ≡ gaps_filled
-        (image_of symbols.now symbol_places.now name_bytes.now name_places.now name_lengths.now)
-        (sections_of heads.now head_places.now image.now image_places.now)
-        (given (sections_in heads.now head_places.now) cap)
-        (ceilings (names_of name_bytes.now name_places.now name_lengths.now (length name_places.now)) most most_bytes)
+        (image_in obj.now)
+        (sections_of obj.now.heads.bytes.now obj.now.heads.places.now image.now.bytes.now image.now.places.now)
+        (given (sections_in obj.now.heads.bytes.now obj.now.heads.places.now) cap)
+        (ceilings (names_of obj.now.names.bytes.now obj.now.names.places.now obj.now.names.lengths.now (length obj.now.names.places.now)) most most_bytes)
         (record {
-          names = names_of name_bytes.now name_places.now name_lengths.now (length name_places.now);
+          names = names_of obj.now.names.bytes.now obj.now.names.places.now obj.now.names.lengths.now (length obj.now.names.places.now);
           rows = rows (columns starts.old ends.old units.old rest.old) n;
         }))
         × Stand (beside added_bytes.new added_places.new added_lengths.new) (names result) (used result) most most_bytes
         × (splits result ≤ cap) }
 {
     let count = find_gaps(
-        symbols,
-        symbol_places,
-        order,
-        name_bytes,
-        name_places,
-        name_lengths,
-        heads,
-        head_places,
+        obj,
         image,
-        image_places,
-        starts,
-        ends,
-        units,
-        rest,
+        &SplitColumns {
+            starts: &*starts,
+            ends: &*ends,
+            units: &*units,
+            rest: &*rest,
+        },
         n,
         marks,
         keys,
@@ -99,13 +87,9 @@ pub fn create_gap_splits(
         rest,
         n,
         cap,
-        heads,
-        head_places,
-        name_bytes,
-        name_places,
-        name_lengths,
-        buckets,
-        chain,
+        &obj.heads,
+        &obj.names,
+        index,
         added_bytes,
         added_places,
         added_lengths,

@@ -11,8 +11,10 @@ ghost use Rattle.stage_splits.specs.StageSplits.{room_of, Gives, Leaves};
 ghost use Rattle.merge.specs.Answers.{merged, count};
 ghost use Rattle.entry_add_splits.specs.Entry.{add_splits_of, from_splits, Scratch};
 
+use lent_tables::StageTables;
 use name_table::check_names;
-use obj::{PARTIAL_BYTES, Refusal, SPLIT_BYTES};
+use obj::{PARTIAL_BYTES, Refusal, SPLIT_BYTES, Table};
+use splits::SplitColumns;
 use stage_splits::{finish, give_splits, room_of, take_split_columns};
 use stage_tables::{take_partials, take_sections};
 
@@ -20,10 +22,8 @@ use stage_tables::{take_partials, take_sections};
 // of the splits and, once they are in their columns, those of the partial splits.
 fn with_columns(
     lengths: &[u8],
-    heads: &[u8],
-    head_places: &[u32],
-    splits: &[u8],
-    partials: &[u8],
+    heads: &Table,
+    lent: &StageTables,
     room: usize,
     places: &mut [u32],
     starts: &mut [u32],
@@ -31,16 +31,15 @@ fn with_columns(
     units: &mut [u16],
     rest: &mut [u64],
 ) -> Result<usize, Refusal>
-    requires { AllHeld 15 heads.now head_places.now × Scratch places.old starts.old ends.old units.old rest.old × (room ≤ 1024) }
+    requires { AllHeld 15 heads.now.bytes.now heads.now.places.now × Scratch places.old starts.old ends.old units.old rest.old × (room ≤ 1024) }
     ensures { (merged result (columns starts.new ends.new units.new rest.new)
-        ≡ from_splits lengths.now (sections_in heads.now head_places.now) splits.now partials.now room)
+        ≡ from_splits lengths.now (sections_in heads.now.bytes.now heads.now.places.now) lent.now.splits.now lent.now.partials.now room)
         × (count result ≤ room) }
 {
     take_split_columns(
         lengths,
         heads,
-        head_places,
-        splits,
+        lent.splits,
         room,
         places,
         starts,
@@ -49,9 +48,9 @@ fn with_columns(
         rest,
     )?;
     // "1,024 splits"
-    take_partials(lengths, partials, 1024, places)?;
-    let n = splits.len() / SPLIT_BYTES;
-    let m = partials.len() / PARTIAL_BYTES;
+    take_partials(lengths, lent.partials, 1024, places)?;
+    let n = lent.splits.len() / SPLIT_BYTES;
+    let m = lent.partials.len() / PARTIAL_BYTES;
     merge::add_splits(
         starts,
         ends,
@@ -60,24 +59,23 @@ fn with_columns(
         n,
         room,
         heads,
-        head_places,
-        partials,
-        &places[..m],
+        &Table {
+            bytes: lent.partials,
+            places: &places[..m],
+        },
     )
 }
 
 // The split table, the partial list, the merge and its outputs, with columns of its own.
 fn from_splits(
     lengths: &[u8],
-    heads: &[u8],
-    head_places: &[u32],
-    splits: &[u8],
-    partials: &[u8],
+    heads: &Table,
+    lent: &StageTables,
     out: &mut [u8],
     counts: &mut [u8],
 ) -> Result<(), Refusal>
-    requires { AllHeld 15 heads.now head_places.now }
-    ensures { Gives (from_splits lengths.now (sections_in heads.now head_places.now) splits.now partials.now (room_of (length out.old)))
+    requires { AllHeld 15 heads.now.bytes.now heads.now.places.now }
+    ensures { Gives (from_splits lengths.now (sections_in heads.now.bytes.now heads.now.places.now) lent.now.splits.now lent.now.partials.now (room_of (length out.old)))
         result (length out.old) (length counts.old) out.new counts.new }
 {
     let room = room_of(out.len());
@@ -89,9 +87,7 @@ fn from_splits(
     let n = with_columns(
         lengths,
         heads,
-        head_places,
-        splits,
-        partials,
+        lent,
         room,
         &mut places,
         &mut starts,
@@ -99,17 +95,23 @@ fn from_splits(
         &mut units,
         &mut rest,
     )?;
-    give_splits(&starts, &ends, &units, &rest, n, out, counts);
+    give_splits(
+        &SplitColumns {
+            starts: &starts,
+            ends: &ends,
+            units: &units,
+            rest: &rest,
+        },
+        n,
+        out,
+        counts,
+    );
     Ok(())
 }
 
 // All tables, with the names in lent columns. Once they are checked only their lengths are asked, and `places` has those of the sections.
 fn all_tables(
-    ends: &[u8],
-    bytes: &[u8],
-    sections: &[u8],
-    splits: &[u8],
-    partials: &[u8],
+    lent: &StageTables,
     places: &mut [u32],
     lengths: &mut [u8],
     heads: &mut [u16],
@@ -118,29 +120,38 @@ fn all_tables(
     counts: &mut [u8],
 ) -> Result<(), Refusal>
     requires { NameRoom 4096 places.old lengths.old heads.old chain.old }
-    ensures { Gives (add_splits_of ends.now bytes.now sections.now splits.now partials.now (length out.old))
+    ensures { Gives (add_splits_of lent.now.name_ends.now lent.now.name_bytes.now lent.now.sections.now lent.now.splits.now lent.now.partials.now (length out.old))
         result (length out.old) (length counts.old) out.new counts.new }
 {
     // "4,096 names"
-    check_names(ends, bytes, 4096, places, lengths, heads, chain)?;
-    let named = &lengths[..ends.len() / 2];
+    check_names(
+        lent.name_ends,
+        lent.name_bytes,
+        4096,
+        places,
+        lengths,
+        heads,
+        chain,
+    )?;
+    let named = &lengths[..lent.name_ends.len() / 2];
     // "64 sections"
-    take_sections(named, sections, 64, places)?;
-    let n = sections.len() / 15;
-    from_splits(named, sections, &places[..n], splits, partials, out, counts)
+    take_sections(named, lent.sections, 64, places)?;
+    let n = lent.sections.len() / 15;
+    from_splits(
+        named,
+        &Table {
+            bytes: lent.sections,
+            places: &places[..n],
+        },
+        lent,
+        out,
+        counts,
+    )
 }
 
 // All tables, with columns of its own for the names: their places and lengths, and the index.
-fn checked(
-    name_ends: &[u8],
-    name_bytes: &[u8],
-    sections: &[u8],
-    splits: &[u8],
-    partials: &[u8],
-    out: &mut [u8],
-    counts: &mut [u8],
-) -> Result<(), Refusal>
-    ensures { Gives (add_splits_of name_ends.now name_bytes.now sections.now splits.now partials.now (length out.old))
+fn checked(lent: &StageTables, out: &mut [u8], counts: &mut [u8]) -> Result<(), Refusal>
+    ensures { Gives (add_splits_of lent.now.name_ends.now lent.now.name_bytes.now lent.now.sections.now lent.now.splits.now lent.now.partials.now (length out.old))
         result (length out.old) (length counts.old) out.new counts.new }
 {
     let mut places = [0u32; 4096];
@@ -148,11 +159,7 @@ fn checked(
     let mut heads = [0u16; 8192];
     let mut chain = [0u16; 4096];
     all_tables(
-        name_ends,
-        name_bytes,
-        sections,
-        splits,
-        partials,
+        lent,
         &mut places,
         &mut lengths,
         &mut heads,
@@ -176,7 +183,20 @@ pub fn add_splits(
         (length out_splits.old) (length counts.old) result out_splits.new counts.new }
 {
     let a = checked(
-        name_ends, name_bytes, sections, splits, partials, out_splits, counts,
+        &StageTables {
+            name_ends,
+            name_bytes,
+            sections,
+            section_places: &[],
+            image: &[],
+            symbols: &[],
+            relocs: &[],
+            partials,
+            splits,
+            units: &[],
+        },
+        out_splits,
+        counts,
     );
     finish(a, out_splits, counts)
 }

@@ -21,12 +21,15 @@ ghost use Rattle.gap_splits.specs.Entering.{Filled};
 ghost use Rattle.gap_splits.specs.Answers.{beside, added, ceilings, meant, names, used, splits, Stand};
 ghost use Rattle.create_gap_splits.specs.Create.{gaps_filled};
 ghost use Rattle.entry_create_gap_splits.specs.Entry.{gap_splits_of, from_symbols, from_sections, Leaves};
-ghost use Rattle.stage_gaps.specs.StageGaps.{from_splits, Gives, Names, Headed, Space};
+ghost use Rattle.stage_gaps.specs.StageGaps.{from_splits, Gives, Names as NamesRead, Headed, Space};
 
 use fields::get16;
+use lent_tables::StageTables;
 use name_table::check_names;
-use obj::{Refusal, word_of};
+use names::{NameIndex, Names};
+use obj::{Refusal, Table, word_of};
 use outputs::clear_from;
+use sections::Obj;
 use stage_gaps::with_splits;
 use stage_names::{bytes_room, fit_names, names_room};
 use stage_symbols::{take_image_places, take_symbol_order};
@@ -34,17 +37,11 @@ use stage_tables::take_image;
 
 // The symbols with their order in lent columns, and the tables after them.
 fn from_symbols(
-    name_bytes: &[u8],
-    name_places: &[u32],
-    name_lengths: &[u8],
-    buckets: &[u16],
-    chain: &[u16],
-    heads: &[u8],
-    head_places: &[u32],
-    image: &[u8],
-    image_places: &[u32],
-    symbols: &[u8],
-    splits: &[u8],
+    names: &Names,
+    index: &NameIndex,
+    heads: &Table,
+    image: &Table,
+    lent: &StageTables,
     places: &mut [u32],
     order: &mut [u16],
     scratch: &mut [u16],
@@ -55,39 +52,37 @@ fn from_symbols(
     out: &mut [u8],
     counts: &mut [u8],
 ) -> Result<(), Refusal>
-    requires { Names name_bytes.now name_places.now name_lengths.now buckets.now chain.now
-        × Headed heads.now head_places.now image.now image_places.now name_bytes.now name_places.now name_lengths.now
-        × Space (names_of name_bytes.now name_places.now name_lengths.now (length name_places.now)) most most_bytes (length out_ends.old) (length out_bytes.old)
+    requires { NamesRead names.now.bytes.now names.now.places.now names.now.lengths.now index.now.heads.now index.now.chain.now
+        × Headed heads.now.bytes.now heads.now.places.now image.now.bytes.now image.now.places.now names.now.bytes.now names.now.places.now names.now.lengths.now
+        × Space (names_of names.now.bytes.now names.now.places.now names.now.lengths.now (length names.now.places.now)) most most_bytes (length out_ends.old) (length out_bytes.old)
         × symbol_columns.Room 4096 places.old order.old scratch.old }
     ensures { Gives
-        (from_symbols name_bytes.now name_places.now name_lengths.now (sections_in heads.now head_places.now) (sections_of heads.now head_places.now image.now image_places.now) (ceilings (names_of name_bytes.now name_places.now name_lengths.now (length name_places.now)) most most_bytes) symbols.now splits.now (length out.old))
+        (from_symbols names.now.bytes.now names.now.places.now names.now.lengths.now (sections_in heads.now.bytes.now heads.now.places.now) (sections_of heads.now.bytes.now heads.now.places.now image.now.bytes.now image.now.places.now) (ceilings (names_of names.now.bytes.now names.now.places.now names.now.lengths.now (length names.now.places.now)) most most_bytes) lent.now.symbols.now lent.now.splits.now (length out.old))
         result (length out_ends.old) (length out_bytes.old) (length out.old) (length counts.old) out_ends.new out_bytes.new out.new counts.new }
 {
     let ordered = take_symbol_order(
-        name_lengths.len(),
+        names.lengths.len(),
         heads,
-        head_places,
-        symbols,
+        lent.symbols,
         4096,
         places,
         order,
         scratch,
     )?;
-    let n = symbols.len() / 20;
+    let n = lent.symbols.len() / 20;
     with_splits(
-        symbols,
-        &places[..n],
-        &order[..ordered],
-        name_bytes,
-        name_places,
-        name_lengths,
-        buckets,
-        chain,
-        heads,
-        head_places,
+        &Obj {
+            symbols: Table {
+                bytes: lent.symbols,
+                places: &places[..n],
+            },
+            order: &order[..ordered],
+            names: *names,
+            heads: *heads,
+        },
+        index,
         image,
-        image_places,
-        splits,
+        lent.splits,
         most,
         most_bytes,
         out_ends,
@@ -99,17 +94,11 @@ fn from_symbols(
 
 // The same, with columns of its own for the symbols.
 fn with_symbols(
-    name_bytes: &[u8],
-    name_places: &[u32],
-    name_lengths: &[u8],
-    buckets: &[u16],
-    chain: &[u16],
-    heads: &[u8],
-    head_places: &[u32],
-    image: &[u8],
-    image_places: &[u32],
-    symbols: &[u8],
-    splits: &[u8],
+    names: &Names,
+    index: &NameIndex,
+    heads: &Table,
+    image: &Table,
+    lent: &StageTables,
     most: usize,
     most_bytes: usize,
     out_ends: &mut [u8],
@@ -117,28 +106,22 @@ fn with_symbols(
     out: &mut [u8],
     counts: &mut [u8],
 ) -> Result<(), Refusal>
-    requires { Names name_bytes.now name_places.now name_lengths.now buckets.now chain.now
-        × Headed heads.now head_places.now image.now image_places.now name_bytes.now name_places.now name_lengths.now
-        × Space (names_of name_bytes.now name_places.now name_lengths.now (length name_places.now)) most most_bytes (length out_ends.old) (length out_bytes.old) }
+    requires { NamesRead names.now.bytes.now names.now.places.now names.now.lengths.now index.now.heads.now index.now.chain.now
+        × Headed heads.now.bytes.now heads.now.places.now image.now.bytes.now image.now.places.now names.now.bytes.now names.now.places.now names.now.lengths.now
+        × Space (names_of names.now.bytes.now names.now.places.now names.now.lengths.now (length names.now.places.now)) most most_bytes (length out_ends.old) (length out_bytes.old) }
     ensures { Gives
-        (from_symbols name_bytes.now name_places.now name_lengths.now (sections_in heads.now head_places.now) (sections_of heads.now head_places.now image.now image_places.now) (ceilings (names_of name_bytes.now name_places.now name_lengths.now (length name_places.now)) most most_bytes) symbols.now splits.now (length out.old))
+        (from_symbols names.now.bytes.now names.now.places.now names.now.lengths.now (sections_in heads.now.bytes.now heads.now.places.now) (sections_of heads.now.bytes.now heads.now.places.now image.now.bytes.now image.now.places.now) (ceilings (names_of names.now.bytes.now names.now.places.now names.now.lengths.now (length names.now.places.now)) most most_bytes) lent.now.symbols.now lent.now.splits.now (length out.old))
         result (length out_ends.old) (length out_bytes.old) (length out.old) (length counts.old) out_ends.new out_bytes.new out.new counts.new }
 {
     let mut places = [0u32; 4096];
     let mut order = [0u16; 4096];
     let mut scratch = [0u16; 4096];
     from_symbols(
-        name_bytes,
-        name_places,
-        name_lengths,
-        buckets,
-        chain,
+        names,
+        index,
         heads,
-        head_places,
         image,
-        image_places,
-        symbols,
-        splits,
+        lent,
         &mut places,
         &mut order,
         &mut scratch,
@@ -153,16 +136,9 @@ fn with_symbols(
 
 // The sections and the places of their bytes in lent columns, and the tables after them.
 fn from_sections(
-    name_bytes: &[u8],
-    name_places: &[u32],
-    name_lengths: &[u8],
-    buckets: &[u16],
-    chain: &[u16],
-    sections: &[u8],
-    section_places: &[u8],
-    image: &[u8],
-    symbols: &[u8],
-    splits: &[u8],
+    names: &Names,
+    index: &NameIndex,
+    lent: &StageTables,
     heads: &mut [u32],
     images: &mut [u32],
     most: usize,
@@ -172,36 +148,36 @@ fn from_sections(
     out: &mut [u8],
     counts: &mut [u8],
 ) -> Result<(), Refusal>
-    requires { Names name_bytes.now name_places.now name_lengths.now buckets.now chain.now
-        × Space (names_of name_bytes.now name_places.now name_lengths.now (length name_places.now)) most most_bytes (length out_ends.old) (length out_bytes.old)
+    requires { NamesRead names.now.bytes.now names.now.places.now names.now.lengths.now index.now.heads.now index.now.chain.now
+        × Space (names_of names.now.bytes.now names.now.places.now names.now.lengths.now (length names.now.places.now)) most most_bytes (length out_ends.old) (length out_bytes.old)
         × (length heads.old ≡ 64)
         × (length images.old ≡ 64) }
     ensures { Gives
-        (from_sections name_bytes.now name_places.now name_lengths.now sections.now section_places.now image.now symbols.now splits.now (ceilings (names_of name_bytes.now name_places.now name_lengths.now (length name_places.now)) most most_bytes) (length out.old))
+        (from_sections names.now.bytes.now names.now.places.now names.now.lengths.now lent.now.sections.now lent.now.section_places.now lent.now.image.now lent.now.symbols.now lent.now.splits.now (ceilings (names_of names.now.bytes.now names.now.places.now names.now.lengths.now (length names.now.places.now)) most most_bytes) (length out.old))
         result (length out_ends.old) (length out_bytes.old) (length out.old) (length counts.old) out_ends.new out_bytes.new out.new counts.new }
 {
     take_image(
-        name_lengths,
-        section_places,
-        image.len(),
-        sections,
+        names.lengths,
+        lent.section_places,
+        lent.image.len(),
+        lent.sections,
         64,
         heads,
     )?;
-    let n = sections.len() / 15;
-    let p = take_image_places(section_places, images);
+    let n = lent.sections.len() / 15;
+    let p = take_image_places(lent.section_places, images);
     with_symbols(
-        name_bytes,
-        name_places,
-        name_lengths,
-        buckets,
-        chain,
-        sections,
-        &heads[..n],
-        image,
-        &images[..p],
-        symbols,
-        splits,
+        names,
+        index,
+        &Table {
+            bytes: lent.sections,
+            places: &heads[..n],
+        },
+        &Table {
+            bytes: lent.image,
+            places: &images[..p],
+        },
+        lent,
         most,
         most_bytes,
         out_ends,
@@ -213,16 +189,9 @@ fn from_sections(
 
 // The same, with columns of its own for the sections.
 fn with_sections(
-    name_bytes: &[u8],
-    name_places: &[u32],
-    name_lengths: &[u8],
-    buckets: &[u16],
-    chain: &[u16],
-    sections: &[u8],
-    section_places: &[u8],
-    image: &[u8],
-    symbols: &[u8],
-    splits: &[u8],
+    names: &Names,
+    index: &NameIndex,
+    lent: &StageTables,
     most: usize,
     most_bytes: usize,
     out_ends: &mut [u8],
@@ -230,25 +199,18 @@ fn with_sections(
     out: &mut [u8],
     counts: &mut [u8],
 ) -> Result<(), Refusal>
-    requires { Names name_bytes.now name_places.now name_lengths.now buckets.now chain.now
-        × Space (names_of name_bytes.now name_places.now name_lengths.now (length name_places.now)) most most_bytes (length out_ends.old) (length out_bytes.old) }
+    requires { NamesRead names.now.bytes.now names.now.places.now names.now.lengths.now index.now.heads.now index.now.chain.now
+        × Space (names_of names.now.bytes.now names.now.places.now names.now.lengths.now (length names.now.places.now)) most most_bytes (length out_ends.old) (length out_bytes.old) }
     ensures { Gives
-        (from_sections name_bytes.now name_places.now name_lengths.now sections.now section_places.now image.now symbols.now splits.now (ceilings (names_of name_bytes.now name_places.now name_lengths.now (length name_places.now)) most most_bytes) (length out.old))
+        (from_sections names.now.bytes.now names.now.places.now names.now.lengths.now lent.now.sections.now lent.now.section_places.now lent.now.image.now lent.now.symbols.now lent.now.splits.now (ceilings (names_of names.now.bytes.now names.now.places.now names.now.lengths.now (length names.now.places.now)) most most_bytes) (length out.old))
         result (length out_ends.old) (length out_bytes.old) (length out.old) (length counts.old) out_ends.new out_bytes.new out.new counts.new }
 {
     let mut heads = [0u32; 64];
     let mut images = [0u32; 64];
     from_sections(
-        name_bytes,
-        name_places,
-        name_lengths,
-        buckets,
-        chain,
-        sections,
-        section_places,
-        image,
-        symbols,
-        splits,
+        names,
+        index,
+        lent,
         &mut heads,
         &mut images,
         most,
@@ -273,13 +235,7 @@ fn last_end(ends: &[u8]) -> usize
 
 // All tables, with the names in lent columns.
 fn from_names(
-    name_ends: &[u8],
-    name_bytes: &[u8],
-    sections: &[u8],
-    section_places: &[u8],
-    image: &[u8],
-    symbols: &[u8],
-    splits: &[u8],
+    lent: &StageTables,
     places: &mut [u32],
     lengths: &mut [u8],
     buckets: &mut [u16],
@@ -291,26 +247,34 @@ fn from_names(
 ) -> Result<(), Refusal>
     requires { stored.Room 4096 places.old lengths.old buckets.old chain.old }
     ensures { Gives
-        (gap_splits_of name_ends.now name_bytes.now sections.now section_places.now image.now symbols.now splits.now (length out_ends.old) (length out_bytes.old) (length out.old))
+        (gap_splits_of lent.now.name_ends.now lent.now.name_bytes.now lent.now.sections.now lent.now.section_places.now lent.now.image.now lent.now.symbols.now lent.now.splits.now (length out_ends.old) (length out_bytes.old) (length out.old))
         result (length out_ends.old) (length out_bytes.old) (length out.old) (length counts.old) out_ends.new out_bytes.new out.new counts.new }
 {
     let most = names_room(out_ends.len());
     let most_bytes = bytes_room(out_bytes.len());
-    fit_names(name_ends, most, most_bytes)?;
-    check_names(name_ends, name_bytes, 4096, places, lengths, buckets, chain)?;
-    let n = name_ends.len() / 2;
-    let end = last_end(name_ends);
-    with_sections(
-        name_bytes,
-        &places[..n],
-        &lengths[..n],
+    fit_names(lent.name_ends, most, most_bytes)?;
+    check_names(
+        lent.name_ends,
+        lent.name_bytes,
+        4096,
+        places,
+        lengths,
         buckets,
         chain,
-        sections,
-        section_places,
-        image,
-        symbols,
-        splits,
+    )?;
+    let n = lent.name_ends.len() / 2;
+    let end = last_end(lent.name_ends);
+    with_sections(
+        &Names {
+            bytes: lent.name_bytes,
+            places: &places[..n],
+            lengths: &lengths[..n],
+        },
+        &NameIndex {
+            heads: &*buckets,
+            chain: &*chain,
+        },
+        lent,
         most - n,
         most_bytes - end,
         out_ends,
@@ -322,20 +286,14 @@ fn from_names(
 
 // All tables, with columns of its own for the names: their places and lengths, and the index.
 fn checked(
-    name_ends: &[u8],
-    name_bytes: &[u8],
-    sections: &[u8],
-    section_places: &[u8],
-    image: &[u8],
-    symbols: &[u8],
-    splits: &[u8],
+    lent: &StageTables,
     out_ends: &mut [u8],
     out_bytes: &mut [u8],
     out: &mut [u8],
     counts: &mut [u8],
 ) -> Result<(), Refusal>
     ensures { Gives
-        (gap_splits_of name_ends.now name_bytes.now sections.now section_places.now image.now symbols.now splits.now (length out_ends.old) (length out_bytes.old) (length out.old))
+        (gap_splits_of lent.now.name_ends.now lent.now.name_bytes.now lent.now.sections.now lent.now.section_places.now lent.now.image.now lent.now.symbols.now lent.now.splits.now (length out_ends.old) (length out_bytes.old) (length out.old))
         result (length out_ends.old) (length out_bytes.old) (length out.old) (length counts.old) out_ends.new out_bytes.new out.new counts.new }
 {
     let mut places = [0u32; 4096];
@@ -343,13 +301,7 @@ fn checked(
     let mut buckets = [0u16; 8192];
     let mut chain = [0u16; 4096];
     from_names(
-        name_ends,
-        name_bytes,
-        sections,
-        section_places,
-        image,
-        symbols,
-        splits,
+        lent,
         &mut places,
         &mut lengths,
         &mut buckets,
@@ -400,13 +352,18 @@ pub fn create_gap_splits(
         (length out_ends.old) (length out_bytes.old) (length out.old) (length counts.old) result out_ends.new out_bytes.new out.new counts.new }
 {
     let a = checked(
-        name_ends,
-        name_bytes,
-        sections,
-        section_places,
-        image,
-        symbols,
-        splits,
+        &StageTables {
+            name_ends,
+            name_bytes,
+            sections,
+            section_places,
+            image,
+            symbols,
+            relocs: &[],
+            partials: &[],
+            splits,
+            units: &[],
+        },
         out_ends,
         out_bytes,
         out,

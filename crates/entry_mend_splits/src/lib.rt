@@ -14,7 +14,8 @@ ghost use Rattle.entry_mend_splits.specs.Entry.{mend_splits_of, from_splits, Nam
 use mend::{fill_section_ends, mend_table};
 use mend_outputs::{finish, give_mended};
 use name_table::check_names;
-use obj::{Refusal, SPLIT_BYTES};
+use obj::{Refusal, SPLIT_BYTES, Table};
+use splits::SplitColumns;
 use stage_splits::{room_of, take_split_columns};
 use stage_tables::take_sections;
 
@@ -51,23 +52,28 @@ fn take_heads(
     // "64 sections"
     take_sections(lengths, sections, 64, places)?;
     let n = sections.len() / 15;
-    fill_section_ends(sections, &places[..n], section_ends);
+    fill_section_ends(
+        &Table {
+            bytes: sections,
+            places: &places[..n],
+        },
+        section_ends,
+    );
     Ok(())
 }
 
 // The split table, its mending and the outputs. `section_ends` says where each section ends.
 fn from_splits(
     lengths: &[u8],
-    heads: &[u8],
-    head_places: &[u32],
+    heads: &Table,
     section_ends: &[u32],
     splits: &[u8],
     out: &mut [u8],
     lines: &mut [u8],
     counts: &mut [u8],
 ) -> Result<(), Refusal>
-    requires { AllHeld 15 heads.now head_places.now × (section_ends.now ≡ section_ends_of (sections_in heads.now head_places.now)) }
-    ensures { Gives (from_splits lengths.now (sections_in heads.now head_places.now) splits.now (room_of (length out.old)) (length lines.old))
+    requires { AllHeld 15 heads.now.bytes.now heads.now.places.now × (section_ends.now ≡ section_ends_of (sections_in heads.now.bytes.now heads.now.places.now)) }
+    ensures { Gives (from_splits lengths.now (sections_in heads.now.bytes.now heads.now.places.now) splits.now (room_of (length out.old)) (length lines.old))
         result (Laid out.old lines.old counts.old out.new lines.new counts.new) }
 {
     let mut places = [0u32; 1024];
@@ -78,7 +84,6 @@ fn from_splits(
     take_split_columns(
         lengths,
         heads,
-        head_places,
         splits,
         room_of(out.len()),
         &mut places,
@@ -89,7 +94,18 @@ fn from_splits(
     )?;
     let n = splits.len() / SPLIT_BYTES;
     let r = mend_table(&starts, &mut ends, &units, &rest, n, section_ends, lines);
-    give_mended(r, &starts, &ends, &units, &rest, n, out, counts)
+    give_mended(
+        r,
+        &SplitColumns {
+            starts: &starts,
+            ends: &ends,
+            units: &units,
+            rest: &rest,
+        },
+        n,
+        out,
+        counts,
+    )
 }
 
 // All tables, and the outputs where they pass.
@@ -114,8 +130,10 @@ fn checked(
     let n = sections.len() / 15;
     from_splits(
         named,
-        sections,
-        &places[..n],
+        &Table {
+            bytes: sections,
+            places: &places[..n],
+        },
         &section_ends[..n],
         splits,
         out,

@@ -4,17 +4,18 @@
 
 ghost use Rattle.std.specs.Prelude.{◌≡◌, length};
 ghost use Rattle.obj.specs.Answers.{meaning};
-ghost use Rattle.sections.specs.Image.{image_of, Tables};
+ghost use Rattle.sections.specs.Image.{image_in, TablesIn};
 ghost use Rattle.sections.specs.Sections.{sections_of, head_of, Kept};
 ghost use Rattle.name_table.specs.Stored as stored;
-ghost use Rattle.entry_questions.specs.Entry.{end_of, alignment_at, question_of, answer_of, end_answer, alignment_answer, from_sections, split_of, Names, Headed, Homes, Scratch, Leaves};
+ghost use Rattle.entry_questions.specs.Entry.{end_of, alignment_at, question_of, answer_of, end_answer, alignment_answer, from_sections, split_of, Names as NamesRead, Headed, Homes, Scratch, Leaves};
 
 use fields::put32;
+use lent_tables::StageTables;
 use name_table::check_names;
-use names::name_at;
-use obj::{Refusal, SPLIT_BYTES, refuse, section_at, split_at, word_of};
+use names::{Names, name_at};
+use obj::{Refusal, SPLIT_BYTES, Table, refuse, section_at, split_at, word_of};
 use outputs::clear_from;
-use sections::{Alignment, alignment_of, default_alignment, section_bytes};
+use sections::{Alignment, Obj, alignment_of, default_alignment, section_bytes};
 use stage_symbols::{take_image_places, take_symbol_order};
 use stage_tables::{take_image, take_splits};
 use tables::main_ceilings;
@@ -27,39 +28,17 @@ pub enum Question {
 }
 
 // The splitting end of a section: "10 `.ctors` or `.dtors` with 1 to 3 bytes"; 20 where the section is not there.
-fn splitting_end(
-    symbols: &[u8],
-    symbol_places: &[u32],
-    order: &[u16],
-    name_bytes: &[u8],
-    name_places: &[u32],
-    name_lengths: &[u8],
-    heads: &[u8],
-    head_places: &[u32],
-    image: &[u8],
-    image_places: &[u32],
-    section: u16,
-) -> Result<u32, Refusal>
-    requires { Tables symbols.now symbol_places.now order.now name_bytes.now name_places.now name_lengths.now × Kept heads.now head_places.now image.now image_places.now name_places.now }
-    ensures { meaning result ≡ end_of (image_of symbols.now symbol_places.now name_bytes.now name_places.now name_lengths.now) (sections_of heads.now head_places.now image.now image_places.now) section }
+fn splitting_end(obj: &Obj, image: &Table, section: u16) -> Result<u32, Refusal>
+    requires { TablesIn obj.now × Kept obj.now.heads.bytes.now obj.now.heads.places.now image.now.bytes.now image.now.places.now obj.now.names.places.now }
+    ensures { meaning result ≡ end_of (image_in obj.now) (sections_of obj.now.heads.bytes.now obj.now.heads.places.now image.now.bytes.now image.now.places.now) section }
 {
     let n = section as usize;
-    if head_places.len() <= n {
+    if obj.heads.places.len() <= n {
         return refuse(20, section, 0);
     }
-    let head = section_at(heads, head_places, n);
-    let bytes = section_bytes(image, image_places, n, head);
-    let end = sections::end_for_section(
-        symbols,
-        symbol_places,
-        order,
-        name_bytes,
-        name_places,
-        name_lengths,
-        section,
-        head,
-        bytes,
-    );
+    let head = section_at(&obj.heads, n);
+    let bytes = section_bytes(image.bytes, image.places, n, head);
+    let end = sections::end_for_section(&obj.symbols, obj.order, &obj.names, section, head, bytes);
     match end {
         Ok(e) => Ok(e),
         Err(_) => refuse(10, section, head.address),
@@ -67,34 +46,21 @@ fn splitting_end(
 }
 
 // The alignment of a split of the table: "11 start above end"; 20 where the split is not there.
-fn alignment(
-    symbols: &[u8],
-    symbol_places: &[u32],
-    order: &[u16],
-    name_bytes: &[u8],
-    name_places: &[u32],
-    name_lengths: &[u8],
-    heads: &[u8],
-    head_places: &[u32],
-    splits: &[u8],
-    split_places: &[u32],
-    which: u16,
-) -> Result<u32, Refusal>
-    requires { Tables symbols.now symbol_places.now order.now name_bytes.now name_places.now name_lengths.now × Headed heads.now head_places.now name_places.now × Homes splits.now split_places.now head_places.now }
-    ensures { meaning result ≡ alignment_at (image_of symbols.now symbol_places.now name_bytes.now name_places.now name_lengths.now) (head_of heads.now head_places.now) (length split_places.now) (split_of splits.now split_places.now) which }
+fn alignment(obj: &Obj, splits: &Table, which: u16) -> Result<u32, Refusal>
+    requires { TablesIn obj.now × Headed obj.now.heads.bytes.now obj.now.heads.places.now obj.now.names.places.now × Homes splits.now.bytes.now splits.now.places.now obj.now.heads.places.now }
+    ensures { meaning result ≡ alignment_at (image_in obj.now) (head_of obj.now.heads.bytes.now obj.now.heads.places.now) (length splits.now.places.now) (split_of splits.now.bytes.now splits.now.places.now) which }
 {
     let k = which as usize;
-    if split_places.len() <= k {
+    if splits.places.len() <= k {
         return refuse(20, 0, which as u32);
     }
-    let s = split_at(splits, split_places, k);
-    let head = section_at(heads, head_places, s.section as usize);
-    let name = name_at(name_bytes, name_places, name_lengths, head.name as usize);
+    let s = split_at(splits, k);
+    let head = section_at(&obj.heads, s.section as usize);
+    let name = name_at(&obj.names, head.name as usize);
     let least = default_alignment(head, name);
     let found = alignment_of(
-        symbols,
-        symbol_places,
-        order,
+        &obj.symbols,
+        obj.order,
         s.section,
         least,
         s.alignment,
@@ -112,64 +78,20 @@ fn alignment(
 }
 
 // The question, of tables that passed.
-fn ask(
-    symbols: &[u8],
-    symbol_places: &[u32],
-    order: &[u16],
-    name_bytes: &[u8],
-    name_places: &[u32],
-    name_lengths: &[u8],
-    heads: &[u8],
-    head_places: &[u32],
-    image: &[u8],
-    image_places: &[u32],
-    splits: &[u8],
-    split_places: &[u32],
-    question: Question,
-) -> Result<u32, Refusal>
-    requires { Tables symbols.now symbol_places.now order.now name_bytes.now name_places.now name_lengths.now × Kept heads.now head_places.now image.now image_places.now name_places.now × Homes splits.now split_places.now head_places.now }
-    ensures { meaning result ≡ question_of (image_of symbols.now symbol_places.now name_bytes.now name_places.now name_lengths.now) (sections_of heads.now head_places.now image.now image_places.now) (length split_places.now) (split_of splits.now split_places.now) question }
+fn ask(obj: &Obj, image: &Table, splits: &Table, question: Question) -> Result<u32, Refusal>
+    requires { TablesIn obj.now × Kept obj.now.heads.bytes.now obj.now.heads.places.now image.now.bytes.now image.now.places.now obj.now.names.places.now × Homes splits.now.bytes.now splits.now.places.now obj.now.heads.places.now }
+    ensures { meaning result ≡ question_of (image_in obj.now) (sections_of obj.now.heads.bytes.now obj.now.heads.places.now image.now.bytes.now image.now.places.now) (length splits.now.places.now) (split_of splits.now.bytes.now splits.now.places.now) question }
 {
     match question {
-        Question::End { section } => splitting_end(
-            symbols,
-            symbol_places,
-            order,
-            name_bytes,
-            name_places,
-            name_lengths,
-            heads,
-            head_places,
-            image,
-            image_places,
-            section,
-        ),
-        Question::Alignment { split } => alignment(
-            symbols,
-            symbol_places,
-            order,
-            name_bytes,
-            name_places,
-            name_lengths,
-            heads,
-            head_places,
-            splits,
-            split_places,
-            split,
-        ),
+        Question::End { section } => splitting_end(obj, image, section),
+        Question::Alignment { split } => alignment(obj, splits, split),
     }
 }
 
 // The tables from the sections on, and the question; the names stand in columns.
 fn from_sections(
-    name_bytes: &[u8],
-    name_places: &[u32],
-    name_lengths: &[u8],
-    sections: &[u8],
-    section_places: &[u8],
-    image: &[u8],
-    symbols: &[u8],
-    splits: &[u8],
+    names: &Names,
+    lent: &StageTables,
     question: Question,
     heads: &mut [u32],
     images: &mut [u32],
@@ -178,69 +100,71 @@ fn from_sections(
     scratch: &mut [u16],
     split_places: &mut [u32],
 ) -> Result<u32, Refusal>
-    requires { Names name_bytes.now name_places.now name_lengths.now × Scratch heads.old images.old places.old order.old scratch.old split_places.old }
-    ensures { meaning result ≡ from_sections name_bytes.now name_places.now name_lengths.now sections.now section_places.now image.now symbols.now splits.now question }
+    requires { NamesRead names.now.bytes.now names.now.places.now names.now.lengths.now × Scratch heads.old images.old places.old order.old scratch.old split_places.old }
+    ensures { meaning result ≡ from_sections names.now.bytes.now names.now.places.now names.now.lengths.now lent.now.sections.now lent.now.section_places.now lent.now.image.now lent.now.symbols.now lent.now.splits.now question }
 {
     let most = main_ceilings();
     take_image(
-        name_lengths,
-        section_places,
-        image.len(),
-        sections,
+        names.lengths,
+        lent.section_places,
+        lent.image.len(),
+        lent.sections,
         most.sections,
         heads,
     )?;
-    let n = sections.len() / 15;
+    let n = lent.sections.len() / 15;
     let ordered = take_symbol_order(
-        name_lengths.len(),
-        sections,
-        &heads[..n],
-        symbols,
+        names.lengths.len(),
+        &Table {
+            bytes: lent.sections,
+            places: &heads[..n],
+        },
+        lent.symbols,
         most.symbols,
         places,
         order,
         scratch,
     )?;
     take_splits(
-        name_lengths,
-        sections,
-        &heads[..n],
-        splits,
+        names.lengths,
+        &Table {
+            bytes: lent.sections,
+            places: &heads[..n],
+        },
+        lent.splits,
         most.splits,
         split_places,
     )?;
-    let p = take_image_places(section_places, images);
+    let p = take_image_places(lent.section_places, images);
     ask(
-        symbols,
-        &places[..symbols.len() / 20],
-        &order[..ordered],
-        name_bytes,
-        name_places,
-        name_lengths,
-        sections,
-        &heads[..n],
-        image,
-        &images[..p],
-        splits,
-        &split_places[..splits.len() / SPLIT_BYTES],
+        &Obj {
+            symbols: Table {
+                bytes: lent.symbols,
+                places: &places[..lent.symbols.len() / 20],
+            },
+            order: &order[..ordered],
+            names: *names,
+            heads: Table {
+                bytes: lent.sections,
+                places: &heads[..n],
+            },
+        },
+        &Table {
+            bytes: lent.image,
+            places: &images[..p],
+        },
+        &Table {
+            bytes: lent.splits,
+            places: &split_places[..lent.splits.len() / SPLIT_BYTES],
+        },
         question,
     )
 }
 
 // The same, with columns of its own.
-fn with_columns(
-    name_bytes: &[u8],
-    name_places: &[u32],
-    name_lengths: &[u8],
-    sections: &[u8],
-    section_places: &[u8],
-    image: &[u8],
-    symbols: &[u8],
-    splits: &[u8],
-    question: Question,
-) -> Result<u32, Refusal>
-    requires { Names name_bytes.now name_places.now name_lengths.now }
-    ensures { meaning result ≡ from_sections name_bytes.now name_places.now name_lengths.now sections.now section_places.now image.now symbols.now splits.now question }
+fn with_columns(names: &Names, lent: &StageTables, question: Question) -> Result<u32, Refusal>
+    requires { NamesRead names.now.bytes.now names.now.places.now names.now.lengths.now }
+    ensures { meaning result ≡ from_sections names.now.bytes.now names.now.places.now names.now.lengths.now lent.now.sections.now lent.now.section_places.now lent.now.image.now lent.now.symbols.now lent.now.splits.now question }
 {
     let mut heads = [0u32; 64];
     let mut images = [0u32; 64];
@@ -249,14 +173,8 @@ fn with_columns(
     let mut scratch = [0u16; 4096];
     let mut split_places = [0u32; 1024];
     from_sections(
-        name_bytes,
-        name_places,
-        name_lengths,
-        sections,
-        section_places,
-        image,
-        symbols,
-        splits,
+        names,
+        lent,
         question,
         &mut heads,
         &mut images,
@@ -269,13 +187,7 @@ fn with_columns(
 
 // All tables, with the names in lent columns.
 fn from_names(
-    ends: &[u8],
-    bytes: &[u8],
-    sections: &[u8],
-    section_places: &[u8],
-    image: &[u8],
-    symbols: &[u8],
-    splits: &[u8],
+    lent: &StageTables,
     question: Question,
     places: &mut [u32],
     lengths: &mut [u8],
@@ -283,49 +195,40 @@ fn from_names(
     chain: &mut [u16],
 ) -> Result<u32, Refusal>
     requires { stored.Room 4096 places.old lengths.old heads.old chain.old }
-    ensures { meaning result ≡ answer_of ends.now bytes.now sections.now section_places.now image.now symbols.now splits.now question }
+    ensures { meaning result ≡ answer_of lent.now.name_ends.now lent.now.name_bytes.now lent.now.sections.now lent.now.section_places.now lent.now.image.now lent.now.symbols.now lent.now.splits.now question }
 {
     let most = main_ceilings();
-    check_names(ends, bytes, most.names, places, lengths, heads, chain)?;
-    let n = ends.len() / 2;
+    check_names(
+        lent.name_ends,
+        lent.name_bytes,
+        most.names,
+        places,
+        lengths,
+        heads,
+        chain,
+    )?;
+    let n = lent.name_ends.len() / 2;
     with_columns(
-        bytes,
-        &places[..n],
-        &lengths[..n],
-        sections,
-        section_places,
-        image,
-        symbols,
-        splits,
+        &Names {
+            bytes: lent.name_bytes,
+            places: &places[..n],
+            lengths: &lengths[..n],
+        },
+        lent,
         question,
     )
 }
 
 // All tables, with columns of its own for the names: their places and lengths, and the index.
-fn answered(
-    name_ends: &[u8],
-    name_bytes: &[u8],
-    sections: &[u8],
-    section_places: &[u8],
-    image: &[u8],
-    symbols: &[u8],
-    splits: &[u8],
-    question: Question,
-) -> Result<u32, Refusal>
-    ensures { meaning result ≡ answer_of name_ends.now name_bytes.now sections.now section_places.now image.now symbols.now splits.now question }
+fn answered(lent: &StageTables, question: Question) -> Result<u32, Refusal>
+    ensures { meaning result ≡ answer_of lent.now.name_ends.now lent.now.name_bytes.now lent.now.sections.now lent.now.section_places.now lent.now.image.now lent.now.symbols.now lent.now.splits.now question }
 {
     let mut places = [0u32; 4096];
     let mut lengths = [0u8; 4096];
     let mut heads = [0u16; 8192];
     let mut chain = [0u16; 4096];
     from_names(
-        name_ends,
-        name_bytes,
-        sections,
-        section_places,
-        image,
-        symbols,
-        splits,
+        lent,
         question,
         &mut places,
         &mut lengths,
@@ -363,13 +266,18 @@ pub fn end_for_section(
     ensures { Leaves (end_answer name_ends.now name_bytes.now sections.now section_places.now image.now symbols.now section) (length end.old) result end.new }
 {
     let r = answered(
-        name_ends,
-        name_bytes,
-        sections,
-        section_places,
-        image,
-        symbols,
-        b"",
+        &StageTables {
+            name_ends,
+            name_bytes,
+            sections,
+            section_places,
+            image,
+            symbols,
+            relocs: &[],
+            partials: &[],
+            splits: b"",
+            units: &[],
+        },
         Question::End { section },
     );
     put_number(end, r)
@@ -390,13 +298,18 @@ pub fn split_alignment(
     ensures { Leaves (alignment_answer name_ends.now name_bytes.now sections.now section_places.now image.now symbols.now splits.now which) (length alignment.old) result alignment.new }
 {
     let r = answered(
-        name_ends,
-        name_bytes,
-        sections,
-        section_places,
-        image,
-        symbols,
-        splits,
+        &StageTables {
+            name_ends,
+            name_bytes,
+            sections,
+            section_places,
+            image,
+            symbols,
+            relocs: &[],
+            partials: &[],
+            splits,
+            units: &[],
+        },
         Question::Alignment { split: which },
     );
     put_number(alignment, r)

@@ -5,8 +5,10 @@ ghost use Rattle.run_outputs.specs.Kept.{sizes_of};
 ghost use Rattle.run_file.specs.RunFile.{Lent, Loader};
 ghost use Rattle.entry_split_file.specs.Entry.{split_file_of, Leaves};
 
+use names::Names;
 use run_file::run_file;
 use run_outputs::{kept_of, lay, word_for};
+use splits::SplitColumns;
 use stage_splits::room_of;
 
 // The run in lent columns, and its outputs.
@@ -70,13 +72,17 @@ fn in_columns(
     let ran = r.ran;
     lay(
         kept_of(ran),
-        added_bytes,
-        added_places,
-        added_lengths,
-        starts,
-        ends,
-        units,
-        rest,
+        &Names {
+            bytes: &*added_bytes,
+            places: &*added_places,
+            lengths: &*added_lengths,
+        },
+        &SplitColumns {
+            starts: &*starts,
+            ends: &*ends,
+            units: &*units,
+            rest: &*rest,
+        },
         out_ends,
         out_bytes,
         out_splits,

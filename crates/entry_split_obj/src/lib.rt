@@ -5,7 +5,7 @@
 ghost use Rattle.std.specs.Prelude.{◌≡◌, ◌*◌, ◌≤◌, ◌<◌, length};
 ghost use Rattle.tables.specs.Records.{sections_in};
 ghost use Rattle.name_table.specs.Stored as stored;
-ghost use Rattle.sections.specs.Image.{image_of};
+ghost use Rattle.sections.specs.Image.{image_in};
 ghost use Rattle.sections.specs.Sections.{sections_of};
 ghost use Rattle.stage_symbols.specs.StageSymbols as symbol_columns;
 ghost use Rattle.walk.specs.Steps.{Asked};
@@ -13,12 +13,15 @@ ghost use Rattle.walk.specs.Giving.{output_in};
 ghost use Rattle.stage_walk.specs.Room.{room_in};
 ghost use Rattle.stage_walk.specs.Lines.{Gives, Headed};
 ghost use Rattle.entry_split_obj.specs.Entry.{split_obj_of, Laid, Leaves};
-ghost use Rattle.entry_split_obj.specs.Lines.{from_relocs, from_symbols, from_sections, made_by, word_by, Fits, Names, sizes_of};
+ghost use Rattle.entry_split_obj.specs.Lines.{from_relocs, from_symbols, from_sections, made_by, word_by, Fits, Names as NamesRead, sizes_of};
 
+use lent_tables::StageTables;
 use name_table::check_names;
-use obj::{Refusal, word_of};
+use names::Names;
+use obj::{Refusal, Table, word_of};
 use outputs::{clear_from, put_count};
 use pieces::PIECE_BYTES;
+use sections::Obj;
 use stage_symbols::{take_image_places, take_symbol_order};
 use stage_tables::{take_image, take_relocs};
 use stage_walk::with_splits;
@@ -26,60 +29,43 @@ use walk::Counts;
 
 // The relocations in a lent column, and the tables after them.
 fn from_relocs(
-    symbols: &[u8],
-    symbol_places: &[u32],
-    order: &[u16],
-    name_bytes: &[u8],
-    name_places: &[u32],
-    name_lengths: &[u8],
-    heads: &[u8],
-    head_places: &[u32],
-    image: &[u8],
-    image_places: &[u32],
-    relocs: &[u8],
-    splits: &[u8],
-    unit_table: &[u8],
+    obj: &Obj,
+    image: &Table,
+    lent: &StageTables,
     places: &mut [u32],
     floors: &mut [u32],
     pieces: &mut [u8],
     entries: &mut [u8],
     offsets: &mut [u8],
 ) -> Result<Counts, Refusal>
-    requires { Asked symbols.now symbol_places.now order.now name_bytes.now name_places.now name_lengths.now
-        × Headed heads.now head_places.now image.now image_places.now name_places.now
-        × (length name_lengths.now ≤ 4096)
-        × (length symbol_places.now ≤ 4096)
+    requires { Asked obj.now.symbols.bytes.now obj.now.symbols.places.now obj.now.order.now obj.now.names.bytes.now obj.now.names.places.now obj.now.names.lengths.now
+        × Headed obj.now.heads.bytes.now obj.now.heads.places.now image.now.bytes.now image.now.places.now obj.now.names.places.now
+        × (length obj.now.names.lengths.now ≤ 4096)
+        × (length obj.now.symbols.places.now ≤ 4096)
         × (length places.old ≡ 4096)
         × (length floors.old ≡ 64) }
     ensures { Gives
-        (from_relocs name_lengths.now (sections_in heads.now head_places.now) (image_of symbols.now symbol_places.now name_bytes.now name_places.now name_lengths.now) (sections_of heads.now head_places.now image.now image_places.now) relocs.now splits.now unit_table.now (room_in (length pieces.old) (length entries.old) (length offsets.old)))
+        (from_relocs obj.now.names.lengths.now (sections_in obj.now.heads.bytes.now obj.now.heads.places.now) (image_in obj.now) (sections_of obj.now.heads.bytes.now obj.now.heads.places.now image.now.bytes.now image.now.places.now) lent.now.relocs.now lent.now.splits.now lent.now.units.now (room_in (length pieces.old) (length entries.old) (length offsets.old)))
         (room_in (length pieces.old) (length entries.old) (length offsets.old)) result pieces.new entries.new offsets.new }
 {
     take_relocs(
-        heads,
-        head_places,
-        symbol_places.len(),
-        relocs,
+        &obj.heads,
+        obj.symbols.places.len(),
+        lent.relocs,
         4096,
         places,
         floors,
     )?;
-    let n = relocs.len() / 23;
+    let n = lent.relocs.len() / 23;
     with_splits(
-        symbols,
-        symbol_places,
-        order,
-        name_bytes,
-        name_places,
-        name_lengths,
-        heads,
-        head_places,
+        obj,
         image,
-        image_places,
-        relocs,
-        &places[..n],
-        splits,
-        unit_table,
+        &Table {
+            bytes: lent.relocs,
+            places: &places[..n],
+        },
+        lent.splits,
+        lent.units,
         pieces,
         entries,
         offsets,
@@ -88,47 +74,27 @@ fn from_relocs(
 
 // The same, with columns of its own for the relocations.
 fn with_relocs(
-    symbols: &[u8],
-    symbol_places: &[u32],
-    order: &[u16],
-    name_bytes: &[u8],
-    name_places: &[u32],
-    name_lengths: &[u8],
-    heads: &[u8],
-    head_places: &[u32],
-    image: &[u8],
-    image_places: &[u32],
-    relocs: &[u8],
-    splits: &[u8],
-    unit_table: &[u8],
+    obj: &Obj,
+    image: &Table,
+    lent: &StageTables,
     pieces: &mut [u8],
     entries: &mut [u8],
     offsets: &mut [u8],
 ) -> Result<Counts, Refusal>
-    requires { Asked symbols.now symbol_places.now order.now name_bytes.now name_places.now name_lengths.now
-        × Headed heads.now head_places.now image.now image_places.now name_places.now
-        × (length name_lengths.now ≤ 4096)
-        × (length symbol_places.now ≤ 4096) }
+    requires { Asked obj.now.symbols.bytes.now obj.now.symbols.places.now obj.now.order.now obj.now.names.bytes.now obj.now.names.places.now obj.now.names.lengths.now
+        × Headed obj.now.heads.bytes.now obj.now.heads.places.now image.now.bytes.now image.now.places.now obj.now.names.places.now
+        × (length obj.now.names.lengths.now ≤ 4096)
+        × (length obj.now.symbols.places.now ≤ 4096) }
     ensures { Gives
-        (from_relocs name_lengths.now (sections_in heads.now head_places.now) (image_of symbols.now symbol_places.now name_bytes.now name_places.now name_lengths.now) (sections_of heads.now head_places.now image.now image_places.now) relocs.now splits.now unit_table.now (room_in (length pieces.old) (length entries.old) (length offsets.old)))
+        (from_relocs obj.now.names.lengths.now (sections_in obj.now.heads.bytes.now obj.now.heads.places.now) (image_in obj.now) (sections_of obj.now.heads.bytes.now obj.now.heads.places.now image.now.bytes.now image.now.places.now) lent.now.relocs.now lent.now.splits.now lent.now.units.now (room_in (length pieces.old) (length entries.old) (length offsets.old)))
         (room_in (length pieces.old) (length entries.old) (length offsets.old)) result pieces.new entries.new offsets.new }
 {
     let mut places = [0u32; 4096];
     let mut floors = [0u32; 64];
     from_relocs(
-        symbols,
-        symbol_places,
-        order,
-        name_bytes,
-        name_places,
-        name_lengths,
-        heads,
-        head_places,
+        obj,
         image,
-        image_places,
-        relocs,
-        splits,
-        unit_table,
+        lent,
         &mut places,
         &mut floors,
         pieces,
@@ -139,17 +105,10 @@ fn with_relocs(
 
 // The symbols with their order in lent columns, and the tables after them.
 fn from_symbols(
-    name_bytes: &[u8],
-    name_places: &[u32],
-    name_lengths: &[u8],
-    heads: &[u8],
-    head_places: &[u32],
-    image: &[u8],
-    image_places: &[u32],
-    symbols: &[u8],
-    relocs: &[u8],
-    splits: &[u8],
-    unit_table: &[u8],
+    names: &Names,
+    heads: &Table,
+    image: &Table,
+    lent: &StageTables,
     places: &mut [u32],
     order: &mut [u16],
     scratch: &mut [u16],
@@ -157,39 +116,36 @@ fn from_symbols(
     entries: &mut [u8],
     offsets: &mut [u8],
 ) -> Result<Counts, Refusal>
-    requires { Names name_bytes.now name_places.now name_lengths.now
-        × Headed heads.now head_places.now image.now image_places.now name_places.now
-        × (length name_lengths.now ≤ 4096)
+    requires { NamesRead names.now.bytes.now names.now.places.now names.now.lengths.now
+        × Headed heads.now.bytes.now heads.now.places.now image.now.bytes.now image.now.places.now names.now.places.now
+        × (length names.now.lengths.now ≤ 4096)
         × symbol_columns.Room 4096 places.old order.old scratch.old }
     ensures { Gives
-        (from_symbols name_bytes.now name_places.now name_lengths.now (sections_in heads.now head_places.now) (sections_of heads.now head_places.now image.now image_places.now) symbols.now relocs.now splits.now unit_table.now (room_in (length pieces.old) (length entries.old) (length offsets.old)))
+        (from_symbols names.now.bytes.now names.now.places.now names.now.lengths.now (sections_in heads.now.bytes.now heads.now.places.now) (sections_of heads.now.bytes.now heads.now.places.now image.now.bytes.now image.now.places.now) lent.now.symbols.now lent.now.relocs.now lent.now.splits.now lent.now.units.now (room_in (length pieces.old) (length entries.old) (length offsets.old)))
         (room_in (length pieces.old) (length entries.old) (length offsets.old)) result pieces.new entries.new offsets.new }
 {
     let ordered = take_symbol_order(
-        name_lengths.len(),
+        names.lengths.len(),
         heads,
-        head_places,
-        symbols,
+        lent.symbols,
         4096,
         places,
         order,
         scratch,
     )?;
-    let n = symbols.len() / 20;
+    let n = lent.symbols.len() / 20;
     with_relocs(
-        symbols,
-        &places[..n],
-        &order[..ordered],
-        name_bytes,
-        name_places,
-        name_lengths,
-        heads,
-        head_places,
+        &Obj {
+            symbols: Table {
+                bytes: lent.symbols,
+                places: &places[..n],
+            },
+            order: &order[..ordered],
+            names: *names,
+            heads: *heads,
+        },
         image,
-        image_places,
-        relocs,
-        splits,
-        unit_table,
+        lent,
         pieces,
         entries,
         offsets,
@@ -198,43 +154,29 @@ fn from_symbols(
 
 // The same, with columns of its own for the symbols.
 fn with_symbols(
-    name_bytes: &[u8],
-    name_places: &[u32],
-    name_lengths: &[u8],
-    heads: &[u8],
-    head_places: &[u32],
-    image: &[u8],
-    image_places: &[u32],
-    symbols: &[u8],
-    relocs: &[u8],
-    splits: &[u8],
-    unit_table: &[u8],
+    names: &Names,
+    heads: &Table,
+    image: &Table,
+    lent: &StageTables,
     pieces: &mut [u8],
     entries: &mut [u8],
     offsets: &mut [u8],
 ) -> Result<Counts, Refusal>
-    requires { Names name_bytes.now name_places.now name_lengths.now
-        × Headed heads.now head_places.now image.now image_places.now name_places.now
-        × (length name_lengths.now ≤ 4096) }
+    requires { NamesRead names.now.bytes.now names.now.places.now names.now.lengths.now
+        × Headed heads.now.bytes.now heads.now.places.now image.now.bytes.now image.now.places.now names.now.places.now
+        × (length names.now.lengths.now ≤ 4096) }
     ensures { Gives
-        (from_symbols name_bytes.now name_places.now name_lengths.now (sections_in heads.now head_places.now) (sections_of heads.now head_places.now image.now image_places.now) symbols.now relocs.now splits.now unit_table.now (room_in (length pieces.old) (length entries.old) (length offsets.old)))
+        (from_symbols names.now.bytes.now names.now.places.now names.now.lengths.now (sections_in heads.now.bytes.now heads.now.places.now) (sections_of heads.now.bytes.now heads.now.places.now image.now.bytes.now image.now.places.now) lent.now.symbols.now lent.now.relocs.now lent.now.splits.now lent.now.units.now (room_in (length pieces.old) (length entries.old) (length offsets.old)))
         (room_in (length pieces.old) (length entries.old) (length offsets.old)) result pieces.new entries.new offsets.new }
 {
     let mut places = [0u32; 4096];
     let mut order = [0u16; 4096];
     let mut scratch = [0u16; 4096];
     from_symbols(
-        name_bytes,
-        name_places,
-        name_lengths,
+        names,
         heads,
-        head_places,
         image,
-        image_places,
-        symbols,
-        relocs,
-        splits,
-        unit_table,
+        lent,
         &mut places,
         &mut order,
         &mut scratch,
@@ -246,52 +188,43 @@ fn with_symbols(
 
 // The sections and the places of their bytes in lent columns, and the tables after them.
 fn from_sections(
-    name_bytes: &[u8],
-    name_places: &[u32],
-    name_lengths: &[u8],
-    sections: &[u8],
-    section_places: &[u8],
-    image: &[u8],
-    symbols: &[u8],
-    relocs: &[u8],
-    splits: &[u8],
-    unit_table: &[u8],
+    names: &Names,
+    lent: &StageTables,
     heads: &mut [u32],
     images: &mut [u32],
     pieces: &mut [u8],
     entries: &mut [u8],
     offsets: &mut [u8],
 ) -> Result<Counts, Refusal>
-    requires { Names name_bytes.now name_places.now name_lengths.now
-        × (length name_lengths.now ≤ 4096)
+    requires { NamesRead names.now.bytes.now names.now.places.now names.now.lengths.now
+        × (length names.now.lengths.now ≤ 4096)
         × (length heads.old ≡ 64)
         × (length images.old ≡ 64) }
     ensures { Gives
-        (from_sections name_bytes.now name_places.now name_lengths.now sections.now section_places.now image.now symbols.now relocs.now splits.now unit_table.now (room_in (length pieces.old) (length entries.old) (length offsets.old)))
+        (from_sections names.now.bytes.now names.now.places.now names.now.lengths.now lent.now.sections.now lent.now.section_places.now lent.now.image.now lent.now.symbols.now lent.now.relocs.now lent.now.splits.now lent.now.units.now (room_in (length pieces.old) (length entries.old) (length offsets.old)))
         (room_in (length pieces.old) (length entries.old) (length offsets.old)) result pieces.new entries.new offsets.new }
 {
     take_image(
-        name_lengths,
-        section_places,
-        image.len(),
-        sections,
+        names.lengths,
+        lent.section_places,
+        lent.image.len(),
+        lent.sections,
         64,
         heads,
     )?;
-    let n = sections.len() / 15;
-    let p = take_image_places(section_places, images);
+    let n = lent.sections.len() / 15;
+    let p = take_image_places(lent.section_places, images);
     with_symbols(
-        name_bytes,
-        name_places,
-        name_lengths,
-        sections,
-        &heads[..n],
-        image,
-        &images[..p],
-        symbols,
-        relocs,
-        splits,
-        unit_table,
+        names,
+        &Table {
+            bytes: lent.sections,
+            places: &heads[..n],
+        },
+        &Table {
+            bytes: lent.image,
+            places: &images[..p],
+        },
+        lent,
         pieces,
         entries,
         offsets,
@@ -300,39 +233,23 @@ fn from_sections(
 
 // The same, with columns of its own for the sections.
 fn with_sections(
-    name_bytes: &[u8],
-    name_places: &[u32],
-    name_lengths: &[u8],
-    sections: &[u8],
-    section_places: &[u8],
-    image: &[u8],
-    symbols: &[u8],
-    relocs: &[u8],
-    splits: &[u8],
-    unit_table: &[u8],
+    names: &Names,
+    lent: &StageTables,
     pieces: &mut [u8],
     entries: &mut [u8],
     offsets: &mut [u8],
 ) -> Result<Counts, Refusal>
-    requires { Names name_bytes.now name_places.now name_lengths.now
-        × (length name_lengths.now ≤ 4096) }
+    requires { NamesRead names.now.bytes.now names.now.places.now names.now.lengths.now
+        × (length names.now.lengths.now ≤ 4096) }
     ensures { Gives
-        (from_sections name_bytes.now name_places.now name_lengths.now sections.now section_places.now image.now symbols.now relocs.now splits.now unit_table.now (room_in (length pieces.old) (length entries.old) (length offsets.old)))
+        (from_sections names.now.bytes.now names.now.places.now names.now.lengths.now lent.now.sections.now lent.now.section_places.now lent.now.image.now lent.now.symbols.now lent.now.relocs.now lent.now.splits.now lent.now.units.now (room_in (length pieces.old) (length entries.old) (length offsets.old)))
         (room_in (length pieces.old) (length entries.old) (length offsets.old)) result pieces.new entries.new offsets.new }
 {
     let mut heads = [0u32; 64];
     let mut images = [0u32; 64];
     from_sections(
-        name_bytes,
-        name_places,
-        name_lengths,
-        sections,
-        section_places,
-        image,
-        symbols,
-        relocs,
-        splits,
-        unit_table,
+        names,
+        lent,
         &mut heads,
         &mut images,
         pieces,
@@ -343,15 +260,7 @@ fn with_sections(
 
 // All tables, with the names in lent columns.
 fn from_names(
-    name_ends: &[u8],
-    name_bytes: &[u8],
-    sections: &[u8],
-    section_places: &[u8],
-    image: &[u8],
-    symbols: &[u8],
-    relocs: &[u8],
-    splits: &[u8],
-    unit_table: &[u8],
+    lent: &StageTables,
     places: &mut [u32],
     lengths: &mut [u8],
     index: &mut [u16],
@@ -362,22 +271,26 @@ fn from_names(
 ) -> Result<Counts, Refusal>
     requires { stored.Room 4096 places.old lengths.old index.old chain.old }
     ensures { Gives
-        (split_obj_of name_ends.now name_bytes.now sections.now section_places.now image.now symbols.now relocs.now splits.now unit_table.now (room_in (length pieces.old) (length entries.old) (length offsets.old)))
+        (split_obj_of lent.now.name_ends.now lent.now.name_bytes.now lent.now.sections.now lent.now.section_places.now lent.now.image.now lent.now.symbols.now lent.now.relocs.now lent.now.splits.now lent.now.units.now (room_in (length pieces.old) (length entries.old) (length offsets.old)))
         (room_in (length pieces.old) (length entries.old) (length offsets.old)) result pieces.new entries.new offsets.new }
 {
-    check_names(name_ends, name_bytes, 4096, places, lengths, index, chain)?;
-    let n = name_ends.len() / 2;
+    check_names(
+        lent.name_ends,
+        lent.name_bytes,
+        4096,
+        places,
+        lengths,
+        index,
+        chain,
+    )?;
+    let n = lent.name_ends.len() / 2;
     with_sections(
-        name_bytes,
-        &places[..n],
-        &lengths[..n],
-        sections,
-        section_places,
-        image,
-        symbols,
-        relocs,
-        splits,
-        unit_table,
+        &Names {
+            bytes: lent.name_bytes,
+            places: &places[..n],
+            lengths: &lengths[..n],
+        },
+        lent,
         pieces,
         entries,
         offsets,
@@ -386,21 +299,13 @@ fn from_names(
 
 // All tables, with columns of its own for the names: their places and lengths, and the index.
 fn with_names(
-    name_ends: &[u8],
-    name_bytes: &[u8],
-    sections: &[u8],
-    section_places: &[u8],
-    image: &[u8],
-    symbols: &[u8],
-    relocs: &[u8],
-    splits: &[u8],
-    unit_table: &[u8],
+    lent: &StageTables,
     pieces: &mut [u8],
     entries: &mut [u8],
     offsets: &mut [u8],
 ) -> Result<Counts, Refusal>
     ensures { Gives
-        (split_obj_of name_ends.now name_bytes.now sections.now section_places.now image.now symbols.now relocs.now splits.now unit_table.now (room_in (length pieces.old) (length entries.old) (length offsets.old)))
+        (split_obj_of lent.now.name_ends.now lent.now.name_bytes.now lent.now.sections.now lent.now.section_places.now lent.now.image.now lent.now.symbols.now lent.now.relocs.now lent.now.splits.now lent.now.units.now (room_in (length pieces.old) (length entries.old) (length offsets.old)))
         (room_in (length pieces.old) (length entries.old) (length offsets.old)) result pieces.new entries.new offsets.new }
 {
     let mut places = [0u32; 4096];
@@ -408,15 +313,7 @@ fn with_names(
     let mut index = [0u16; 8192];
     let mut chain = [0u16; 4096];
     from_names(
-        name_ends,
-        name_bytes,
-        sections,
-        section_places,
-        image,
-        symbols,
-        relocs,
-        splits,
-        unit_table,
+        lent,
         &mut places,
         &mut lengths,
         &mut index,
@@ -493,15 +390,18 @@ pub fn split_obj(
         (sizes_of pieces.old entries.old offsets.old counts.old) result pieces.new entries.new offsets.new counts.new }
 {
     let r = with_names(
-        name_ends,
-        name_bytes,
-        sections,
-        section_places,
-        image,
-        symbols,
-        relocs,
-        splits,
-        unit_table,
+        &StageTables {
+            name_ends,
+            name_bytes,
+            sections,
+            section_places,
+            image,
+            symbols,
+            relocs,
+            partials: &[],
+            splits,
+            units: unit_table,
+        },
         pieces,
         entries,
         offsets,

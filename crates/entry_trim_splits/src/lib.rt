@@ -7,7 +7,7 @@ ghost use Rattle.tables.specs.Records.{sections_in};
 ghost use Rattle.name_table.specs.Stored as stored;
 ghost use Rattle.symbol_order.specs.Order.{symbol_of};
 ghost use Rattle.symbols.specs.Sound.{Sound};
-ghost use Rattle.sections.specs.Image.{image_of, Tables};
+ghost use Rattle.sections.specs.Image.{image_in, TablesIn};
 ghost use Rattle.sections.specs.Sections.{sections_of, Kept};
 ghost use Rattle.splits.specs.Columns.{columns, rows};
 ghost use Rattle.stage_symbols.specs.StageSymbols as symbol_columns;
@@ -15,10 +15,14 @@ ghost use Rattle.stage_splits.specs.StageSplits.{Gives, Leaves};
 ghost use Rattle.trim.specs.Trim.{trimmed};
 ghost use Rattle.trim.specs.Steps.{AllPlaced};
 ghost use Rattle.obj.specs.Records.{split_width};
-ghost use Rattle.entry_trim_splits.specs.Entry.{trim_of, from_splits, from_symbols, from_sections, Names, Headed, Scratch};
+ghost use Rattle.entry_trim_splits.specs.Entry.{trim_of, from_splits, from_symbols, from_sections, Names as NamesRead, Headed, Scratch};
 
+use lent_tables::StageTables;
 use name_table::check_names;
-use obj::{Refusal, SPLIT_BYTES};
+use names::Names;
+use obj::{Refusal, SPLIT_BYTES, Table};
+use sections::Obj;
+use splits::SplitColumns;
 use stage_splits::{finish, give_splits, room_of, take_split_columns};
 use stage_symbols::{take_image_places, take_symbol_order};
 use stage_tables::take_image;
@@ -26,16 +30,8 @@ use trim::trim;
 
 // The trim of n rows, which are then given.
 fn trim_rows(
-    symbols: &[u8],
-    symbol_places: &[u32],
-    order: &[u16],
-    name_bytes: &[u8],
-    name_places: &[u32],
-    name_lengths: &[u8],
-    heads: &[u8],
-    head_places: &[u32],
-    image: &[u8],
-    image_places: &[u32],
+    obj: &Obj,
+    image: &Table,
     starts: &[u32],
     ends: &mut [u32],
     units: &[u16],
@@ -45,53 +41,38 @@ fn trim_rows(
     out: &mut [u8],
     counts: &mut [u8],
 ) -> Result<(), Refusal>
-    requires { Tables symbols.now symbol_places.now order.now name_bytes.now name_places.now name_lengths.now
-        × Sound (symbol_of symbols.now symbol_places.now) (length symbol_places.now)
-        × Kept heads.now head_places.now image.now image_places.now name_places.now
-        × AllPlaced (length head_places.now) (columns starts.now ends.old units.now rest.now) n
+    requires { TablesIn obj.now
+        × Sound (symbol_of obj.now.symbols.bytes.now obj.now.symbols.places.now) (length obj.now.symbols.places.now)
+        × Kept obj.now.heads.bytes.now obj.now.heads.places.now image.now.bytes.now image.now.places.now obj.now.names.places.now
+        × AllPlaced (length obj.now.heads.places.now) (columns starts.now ends.old units.now rest.now) n
         × (n ≤ length falls.old)
         × (n ≤ 1024)
         × (split_width * n ≤ length out.old) }
     ensures { Gives
-        (trimmed (image_of symbols.now symbol_places.now name_bytes.now name_places.now name_lengths.now)
-        (sections_of heads.now head_places.now image.now image_places.now)
+        (trimmed (image_in obj.now)
+        (sections_of obj.now.heads.bytes.now obj.now.heads.places.now image.now.bytes.now image.now.places.now)
         (rows (columns starts.now ends.old units.now rest.now) n))
         result (length out.old) (length counts.old) out.new counts.new }
 {
-    trim(
-        symbols,
-        symbol_places,
-        order,
-        name_bytes,
-        name_places,
-        name_lengths,
-        heads,
-        head_places,
-        image,
-        image_places,
-        starts,
-        ends,
-        units,
-        rest,
+    trim(obj, image, starts, ends, units, rest, n, falls)?;
+    give_splits(
+        &SplitColumns {
+            starts,
+            ends: &*ends,
+            units,
+            rest,
+        },
         n,
-        falls,
-    )?;
-    give_splits(starts, ends, units, rest, n, out, counts);
+        out,
+        counts,
+    );
     Ok(())
 }
 
 // The splits in lent columns, and the trim.
 fn from_splits(
-    symbols: &[u8],
-    symbol_places: &[u32],
-    order: &[u16],
-    name_bytes: &[u8],
-    name_places: &[u32],
-    name_lengths: &[u8],
-    heads: &[u8],
-    head_places: &[u32],
-    image: &[u8],
-    image_places: &[u32],
+    obj: &Obj,
+    image: &Table,
     splits: &[u8],
     places: &mut [u32],
     starts: &mut [u32],
@@ -102,22 +83,21 @@ fn from_splits(
     out: &mut [u8],
     counts: &mut [u8],
 ) -> Result<(), Refusal>
-    requires { Tables symbols.now symbol_places.now order.now name_bytes.now name_places.now name_lengths.now
-        × Sound (symbol_of symbols.now symbol_places.now) (length symbol_places.now)
-        × Headed heads.now head_places.now image.now image_places.now name_places.now
+    requires { TablesIn obj.now
+        × Sound (symbol_of obj.now.symbols.bytes.now obj.now.symbols.places.now) (length obj.now.symbols.places.now)
+        × Headed obj.now.heads.bytes.now obj.now.heads.places.now image.now.bytes.now image.now.places.now obj.now.names.places.now
         × Scratch places.old starts.old ends.old units.old rest.old falls.old }
     ensures { Gives
-        (from_splits name_lengths.now (sections_in heads.now head_places.now)
-        (image_of symbols.now symbol_places.now name_bytes.now name_places.now name_lengths.now)
-        (sections_of heads.now head_places.now image.now image_places.now)
+        (from_splits obj.now.names.lengths.now (sections_in obj.now.heads.bytes.now obj.now.heads.places.now)
+        (image_in obj.now)
+        (sections_of obj.now.heads.bytes.now obj.now.heads.places.now image.now.bytes.now image.now.places.now)
         splits.now (length out.old))
         result (length out.old) (length counts.old) out.new counts.new }
 {
     let room = room_of(out.len());
     take_split_columns(
-        name_lengths,
-        heads,
-        head_places,
+        obj.names.lengths,
+        &obj.heads,
         splits,
         room,
         places,
@@ -127,51 +107,24 @@ fn from_splits(
         rest,
     )?;
     let n = splits.len() / SPLIT_BYTES;
-    trim_rows(
-        symbols,
-        symbol_places,
-        order,
-        name_bytes,
-        name_places,
-        name_lengths,
-        heads,
-        head_places,
-        image,
-        image_places,
-        starts,
-        ends,
-        units,
-        rest,
-        n,
-        falls,
-        out,
-        counts,
-    )
+    trim_rows(obj, image, starts, ends, units, rest, n, falls, out, counts)
 }
 
 // The same, with columns of its own for the splits.
 fn with_splits(
-    symbols: &[u8],
-    symbol_places: &[u32],
-    order: &[u16],
-    name_bytes: &[u8],
-    name_places: &[u32],
-    name_lengths: &[u8],
-    heads: &[u8],
-    head_places: &[u32],
-    image: &[u8],
-    image_places: &[u32],
+    obj: &Obj,
+    image: &Table,
     splits: &[u8],
     out: &mut [u8],
     counts: &mut [u8],
 ) -> Result<(), Refusal>
-    requires { Tables symbols.now symbol_places.now order.now name_bytes.now name_places.now name_lengths.now
-        × Sound (symbol_of symbols.now symbol_places.now) (length symbol_places.now)
-        × Headed heads.now head_places.now image.now image_places.now name_places.now }
+    requires { TablesIn obj.now
+        × Sound (symbol_of obj.now.symbols.bytes.now obj.now.symbols.places.now) (length obj.now.symbols.places.now)
+        × Headed obj.now.heads.bytes.now obj.now.heads.places.now image.now.bytes.now image.now.places.now obj.now.names.places.now }
     ensures { Gives
-        (from_splits name_lengths.now (sections_in heads.now head_places.now)
-        (image_of symbols.now symbol_places.now name_bytes.now name_places.now name_lengths.now)
-        (sections_of heads.now head_places.now image.now image_places.now)
+        (from_splits obj.now.names.lengths.now (sections_in obj.now.heads.bytes.now obj.now.heads.places.now)
+        (image_in obj.now)
+        (sections_of obj.now.heads.bytes.now obj.now.heads.places.now image.now.bytes.now image.now.places.now)
         splits.now (length out.old))
         result (length out.old) (length counts.old) out.new counts.new }
 {
@@ -182,16 +135,8 @@ fn with_splits(
     let mut rest = [0u64; 1024];
     let mut falls = [0u32; 1024];
     from_splits(
-        symbols,
-        symbol_places,
-        order,
-        name_bytes,
-        name_places,
-        name_lengths,
-        heads,
-        head_places,
+        obj,
         image,
-        image_places,
         splits,
         &mut places,
         &mut starts,
@@ -206,53 +151,47 @@ fn with_splits(
 
 // The symbols with their order in lent columns, and the tables after them.
 fn from_symbols(
-    name_bytes: &[u8],
-    name_places: &[u32],
-    name_lengths: &[u8],
-    heads: &[u8],
-    head_places: &[u32],
-    image: &[u8],
-    image_places: &[u32],
-    symbols: &[u8],
-    splits: &[u8],
+    names: &Names,
+    heads: &Table,
+    image: &Table,
+    lent: &StageTables,
     places: &mut [u32],
     order: &mut [u16],
     scratch: &mut [u16],
     out: &mut [u8],
     counts: &mut [u8],
 ) -> Result<(), Refusal>
-    requires { Names name_bytes.now name_places.now name_lengths.now
-        × Headed heads.now head_places.now image.now image_places.now name_places.now
+    requires { NamesRead names.now.bytes.now names.now.places.now names.now.lengths.now
+        × Headed heads.now.bytes.now heads.now.places.now image.now.bytes.now image.now.places.now names.now.places.now
         × symbol_columns.Room 4096 places.old order.old scratch.old }
     ensures { Gives
-        (from_symbols name_bytes.now name_places.now name_lengths.now (sections_in heads.now head_places.now)
-        (sections_of heads.now head_places.now image.now image_places.now)
-        symbols.now splits.now (length out.old))
+        (from_symbols names.now.bytes.now names.now.places.now names.now.lengths.now (sections_in heads.now.bytes.now heads.now.places.now)
+        (sections_of heads.now.bytes.now heads.now.places.now image.now.bytes.now image.now.places.now)
+        lent.now.symbols.now lent.now.splits.now (length out.old))
         result (length out.old) (length counts.old) out.new counts.new }
 {
     let ordered = take_symbol_order(
-        name_lengths.len(),
+        names.lengths.len(),
         heads,
-        head_places,
-        symbols,
+        lent.symbols,
         4096,
         places,
         order,
         scratch,
     )?;
-    let n = symbols.len() / 20;
+    let n = lent.symbols.len() / 20;
     with_splits(
-        symbols,
-        &places[..n],
-        &order[..ordered],
-        name_bytes,
-        name_places,
-        name_lengths,
-        heads,
-        head_places,
+        &Obj {
+            symbols: Table {
+                bytes: lent.symbols,
+                places: &places[..n],
+            },
+            order: &order[..ordered],
+            names: *names,
+            heads: *heads,
+        },
         image,
-        image_places,
-        splits,
+        lent.splits,
         out,
         counts,
     )
@@ -260,39 +199,29 @@ fn from_symbols(
 
 // The same, with columns of its own for the symbols.
 fn with_symbols(
-    name_bytes: &[u8],
-    name_places: &[u32],
-    name_lengths: &[u8],
-    heads: &[u8],
-    head_places: &[u32],
-    image: &[u8],
-    image_places: &[u32],
-    symbols: &[u8],
-    splits: &[u8],
+    names: &Names,
+    heads: &Table,
+    image: &Table,
+    lent: &StageTables,
     out: &mut [u8],
     counts: &mut [u8],
 ) -> Result<(), Refusal>
-    requires { Names name_bytes.now name_places.now name_lengths.now
-        × Headed heads.now head_places.now image.now image_places.now name_places.now }
+    requires { NamesRead names.now.bytes.now names.now.places.now names.now.lengths.now
+        × Headed heads.now.bytes.now heads.now.places.now image.now.bytes.now image.now.places.now names.now.places.now }
     ensures { Gives
-        (from_symbols name_bytes.now name_places.now name_lengths.now (sections_in heads.now head_places.now)
-        (sections_of heads.now head_places.now image.now image_places.now)
-        symbols.now splits.now (length out.old))
+        (from_symbols names.now.bytes.now names.now.places.now names.now.lengths.now (sections_in heads.now.bytes.now heads.now.places.now)
+        (sections_of heads.now.bytes.now heads.now.places.now image.now.bytes.now image.now.places.now)
+        lent.now.symbols.now lent.now.splits.now (length out.old))
         result (length out.old) (length counts.old) out.new counts.new }
 {
     let mut places = [0u32; 4096];
     let mut order = [0u16; 4096];
     let mut scratch = [0u16; 4096];
     from_symbols(
-        name_bytes,
-        name_places,
-        name_lengths,
+        names,
         heads,
-        head_places,
         image,
-        image_places,
-        symbols,
-        splits,
+        lent,
         &mut places,
         &mut order,
         &mut scratch,
@@ -303,46 +232,41 @@ fn with_symbols(
 
 // The sections and the places of their bytes in lent columns, and the tables after them.
 fn from_sections(
-    name_bytes: &[u8],
-    name_places: &[u32],
-    name_lengths: &[u8],
-    sections: &[u8],
-    section_places: &[u8],
-    image: &[u8],
-    symbols: &[u8],
-    splits: &[u8],
+    names: &Names,
+    lent: &StageTables,
     heads: &mut [u32],
     images: &mut [u32],
     out: &mut [u8],
     counts: &mut [u8],
 ) -> Result<(), Refusal>
-    requires { Names name_bytes.now name_places.now name_lengths.now
+    requires { NamesRead names.now.bytes.now names.now.places.now names.now.lengths.now
         × (length heads.old ≡ 64)
         × (length images.old ≡ 64) }
     ensures { Gives
-        (from_sections name_bytes.now name_places.now name_lengths.now sections.now section_places.now image.now symbols.now splits.now (length out.old))
+        (from_sections names.now.bytes.now names.now.places.now names.now.lengths.now lent.now.sections.now lent.now.section_places.now lent.now.image.now lent.now.symbols.now lent.now.splits.now (length out.old))
         result (length out.old) (length counts.old) out.new counts.new }
 {
     take_image(
-        name_lengths,
-        section_places,
-        image.len(),
-        sections,
+        names.lengths,
+        lent.section_places,
+        lent.image.len(),
+        lent.sections,
         64,
         heads,
     )?;
-    let n = sections.len() / 15;
-    let p = take_image_places(section_places, images);
+    let n = lent.sections.len() / 15;
+    let p = take_image_places(lent.section_places, images);
     with_symbols(
-        name_bytes,
-        name_places,
-        name_lengths,
-        sections,
-        &heads[..n],
-        image,
-        &images[..p],
-        symbols,
-        splits,
+        names,
+        &Table {
+            bytes: lent.sections,
+            places: &heads[..n],
+        },
+        &Table {
+            bytes: lent.image,
+            places: &images[..p],
+        },
+        lent,
         out,
         counts,
     )
@@ -350,49 +274,24 @@ fn from_sections(
 
 // The same, with columns of its own for the sections.
 fn with_sections(
-    name_bytes: &[u8],
-    name_places: &[u32],
-    name_lengths: &[u8],
-    sections: &[u8],
-    section_places: &[u8],
-    image: &[u8],
-    symbols: &[u8],
-    splits: &[u8],
+    names: &Names,
+    lent: &StageTables,
     out: &mut [u8],
     counts: &mut [u8],
 ) -> Result<(), Refusal>
-    requires { Names name_bytes.now name_places.now name_lengths.now }
+    requires { NamesRead names.now.bytes.now names.now.places.now names.now.lengths.now }
     ensures { Gives
-        (from_sections name_bytes.now name_places.now name_lengths.now sections.now section_places.now image.now symbols.now splits.now (length out.old))
+        (from_sections names.now.bytes.now names.now.places.now names.now.lengths.now lent.now.sections.now lent.now.section_places.now lent.now.image.now lent.now.symbols.now lent.now.splits.now (length out.old))
         result (length out.old) (length counts.old) out.new counts.new }
 {
     let mut heads = [0u32; 64];
     let mut images = [0u32; 64];
-    from_sections(
-        name_bytes,
-        name_places,
-        name_lengths,
-        sections,
-        section_places,
-        image,
-        symbols,
-        splits,
-        &mut heads,
-        &mut images,
-        out,
-        counts,
-    )
+    from_sections(names, lent, &mut heads, &mut images, out, counts)
 }
 
 // All tables, with the names in lent columns.
 fn from_names(
-    name_ends: &[u8],
-    name_bytes: &[u8],
-    sections: &[u8],
-    section_places: &[u8],
-    image: &[u8],
-    symbols: &[u8],
-    splits: &[u8],
+    lent: &StageTables,
     places: &mut [u32],
     lengths: &mut [u8],
     heads: &mut [u16],
@@ -402,39 +301,35 @@ fn from_names(
 ) -> Result<(), Refusal>
     requires { stored.Room 4096 places.old lengths.old heads.old chain.old }
     ensures { Gives
-        (trim_of name_ends.now name_bytes.now sections.now section_places.now image.now symbols.now splits.now (length out.old))
+        (trim_of lent.now.name_ends.now lent.now.name_bytes.now lent.now.sections.now lent.now.section_places.now lent.now.image.now lent.now.symbols.now lent.now.splits.now (length out.old))
         result (length out.old) (length counts.old) out.new counts.new }
 {
-    check_names(name_ends, name_bytes, 4096, places, lengths, heads, chain)?;
-    let n = name_ends.len() / 2;
+    check_names(
+        lent.name_ends,
+        lent.name_bytes,
+        4096,
+        places,
+        lengths,
+        heads,
+        chain,
+    )?;
+    let n = lent.name_ends.len() / 2;
     with_sections(
-        name_bytes,
-        &places[..n],
-        &lengths[..n],
-        sections,
-        section_places,
-        image,
-        symbols,
-        splits,
+        &Names {
+            bytes: lent.name_bytes,
+            places: &places[..n],
+            lengths: &lengths[..n],
+        },
+        lent,
         out,
         counts,
     )
 }
 
 // All tables, with columns of its own for the names: their places and lengths, and the index.
-fn checked(
-    name_ends: &[u8],
-    name_bytes: &[u8],
-    sections: &[u8],
-    section_places: &[u8],
-    image: &[u8],
-    symbols: &[u8],
-    splits: &[u8],
-    out: &mut [u8],
-    counts: &mut [u8],
-) -> Result<(), Refusal>
+fn checked(lent: &StageTables, out: &mut [u8], counts: &mut [u8]) -> Result<(), Refusal>
     ensures { Gives
-        (trim_of name_ends.now name_bytes.now sections.now section_places.now image.now symbols.now splits.now (length out.old))
+        (trim_of lent.now.name_ends.now lent.now.name_bytes.now lent.now.sections.now lent.now.section_places.now lent.now.image.now lent.now.symbols.now lent.now.splits.now (length out.old))
         result (length out.old) (length counts.old) out.new counts.new }
 {
     let mut places = [0u32; 4096];
@@ -442,13 +337,7 @@ fn checked(
     let mut heads = [0u16; 8192];
     let mut chain = [0u16; 4096];
     from_names(
-        name_ends,
-        name_bytes,
-        sections,
-        section_places,
-        image,
-        symbols,
-        splits,
+        lent,
         &mut places,
         &mut lengths,
         &mut heads,
@@ -475,13 +364,18 @@ pub fn trim_splits(
         (length out.old) (length counts.old) result out.new counts.new }
 {
     let a = checked(
-        name_ends,
-        name_bytes,
-        sections,
-        section_places,
-        image,
-        symbols,
-        splits,
+        &StageTables {
+            name_ends,
+            name_bytes,
+            sections,
+            section_places,
+            image,
+            symbols,
+            relocs: &[],
+            partials: &[],
+            splits,
+            units: &[],
+        },
         out,
         counts,
     );

@@ -11,21 +11,21 @@ ghost use Rattle.stage_splits.specs.StageSplits.{Gives, Leaves};
 ghost use Rattle.common.specs.Common.{common_of};
 ghost use Rattle.common.specs.Sections.{bss_in, Sections};
 ghost use Rattle.obj.specs.Records.{split_width};
-ghost use Rattle.entry_update_common_splits.specs.Entry.{update_of, from_splits, from_sections, Names, Scratch};
+ghost use Rattle.entry_update_common_splits.specs.Entry.{update_of, from_splits, from_sections, Names as NamesRead, Scratch};
 
 use common::update_common_records;
+use lent_tables::StageTables;
 use name_table::check_names;
-use obj::{Refusal, SPLIT_BYTES};
+use names::Names;
+use obj::{Refusal, SPLIT_BYTES, Table};
+use splits::SplitColumns;
 use stage_splits::{finish, give_splits, room_of, take_split_columns};
 use stage_tables::take_sections;
 
 // The stage on n rows, which are then given.
 fn update(
-    name_bytes: &[u8],
-    name_places: &[u32],
-    name_lengths: &[u8],
-    heads: &[u8],
-    head_places: &[u32],
+    names: &Names,
+    heads: &Table,
     starts: &[u32],
     ends: &[u32],
     units: &[u16],
@@ -35,39 +35,34 @@ fn update(
     out: &mut [u8],
     counts: &mut [u8],
 ) -> Result<(), Refusal>
-    requires { Sections name_bytes.now name_places.now name_lengths.now heads.now head_places.now
+    requires { Sections names.now.bytes.now names.now.places.now names.now.lengths.now heads.now.bytes.now heads.now.places.now
         × Long (columns starts.now ends.now units.now rest.old) n
         × (n ≤ 1024)
         × (split_width * n ≤ length out.old) }
     ensures { Gives
-        (common_of (is_some given) (unwrap_or given 0) (bss_in name_bytes.now name_places.now name_lengths.now heads.now head_places.now)
+        (common_of (is_some given) (unwrap_or given 0) (bss_in names.now.bytes.now names.now.places.now names.now.lengths.now heads.now.bytes.now heads.now.places.now)
         (rows (columns starts.now ends.now units.now rest.old) n))
         result (length out.old) (length counts.old) out.new counts.new }
 {
-    update_common_records(
-        name_bytes,
-        name_places,
-        name_lengths,
-        heads,
-        head_places,
-        starts,
-        ends,
-        units,
-        rest,
+    update_common_records(names, heads, starts, ends, units, rest, n, given)?;
+    give_splits(
+        &SplitColumns {
+            starts,
+            ends,
+            units,
+            rest: &*rest,
+        },
         n,
-        given,
-    )?;
-    give_splits(starts, ends, units, rest, n, out, counts);
+        out,
+        counts,
+    );
     Ok(())
 }
 
 // The tables from the splits on, in lent columns.
 fn from_splits(
-    name_bytes: &[u8],
-    name_places: &[u32],
-    name_lengths: &[u8],
-    heads: &[u8],
-    head_places: &[u32],
+    names: &Names,
+    heads: &Table,
     splits: &[u8],
     given: Option<u32>,
     places: &mut [u32],
@@ -78,20 +73,19 @@ fn from_splits(
     out: &mut [u8],
     counts: &mut [u8],
 ) -> Result<(), Refusal>
-    requires { Sections name_bytes.now name_places.now name_lengths.now heads.now head_places.now
-        × AllHeld 15 heads.now head_places.now
+    requires { Sections names.now.bytes.now names.now.places.now names.now.lengths.now heads.now.bytes.now heads.now.places.now
+        × AllHeld 15 heads.now.bytes.now heads.now.places.now
         × Scratch places.old starts.old ends.old units.old rest.old }
     ensures { Gives
-        (from_splits name_lengths.now (sections_in heads.now head_places.now)
-        (bss_in name_bytes.now name_places.now name_lengths.now heads.now head_places.now)
+        (from_splits names.now.lengths.now (sections_in heads.now.bytes.now heads.now.places.now)
+        (bss_in names.now.bytes.now names.now.places.now names.now.lengths.now heads.now.bytes.now heads.now.places.now)
         splits.now (is_some given) (unwrap_or given 0) (length out.old))
         result (length out.old) (length counts.old) out.new counts.new }
 {
     let room = room_of(out.len());
     take_split_columns(
-        name_lengths,
+        names.lengths,
         heads,
-        head_places,
         splits,
         room,
         places,
@@ -102,39 +96,24 @@ fn from_splits(
     )?;
     let n = splits.len() / SPLIT_BYTES;
     update(
-        name_bytes,
-        name_places,
-        name_lengths,
-        heads,
-        head_places,
-        starts,
-        ends,
-        units,
-        rest,
-        n,
-        given,
-        out,
-        counts,
+        names, heads, starts, ends, units, rest, n, given, out, counts,
     )
 }
 
 // The same, with columns of its own for the splits.
 fn with_columns(
-    name_bytes: &[u8],
-    name_places: &[u32],
-    name_lengths: &[u8],
-    heads: &[u8],
-    head_places: &[u32],
+    names: &Names,
+    heads: &Table,
     splits: &[u8],
     given: Option<u32>,
     out: &mut [u8],
     counts: &mut [u8],
 ) -> Result<(), Refusal>
-    requires { Sections name_bytes.now name_places.now name_lengths.now heads.now head_places.now
-        × AllHeld 15 heads.now head_places.now }
+    requires { Sections names.now.bytes.now names.now.places.now names.now.lengths.now heads.now.bytes.now heads.now.places.now
+        × AllHeld 15 heads.now.bytes.now heads.now.places.now }
     ensures { Gives
-        (from_splits name_lengths.now (sections_in heads.now head_places.now)
-        (bss_in name_bytes.now name_places.now name_lengths.now heads.now head_places.now)
+        (from_splits names.now.lengths.now (sections_in heads.now.bytes.now heads.now.places.now)
+        (bss_in names.now.bytes.now names.now.places.now names.now.lengths.now heads.now.bytes.now heads.now.places.now)
         splits.now (is_some given) (unwrap_or given 0) (length out.old))
         result (length out.old) (length counts.old) out.new counts.new }
 {
@@ -144,11 +123,8 @@ fn with_columns(
     let mut units = [0u16; 1024];
     let mut rest = [0u64; 1024];
     from_splits(
-        name_bytes,
-        name_places,
-        name_lengths,
+        names,
         heads,
-        head_places,
         splits,
         given,
         &mut places,
@@ -163,30 +139,27 @@ fn with_columns(
 
 // The tables from the sections on; `places` is room for the places of their heads.
 fn from_sections(
-    name_bytes: &[u8],
-    name_places: &[u32],
-    name_lengths: &[u8],
-    sections: &[u8],
-    splits: &[u8],
+    names: &Names,
+    lent: &StageTables,
     given: Option<u32>,
     places: &mut [u32],
     out: &mut [u8],
     counts: &mut [u8],
 ) -> Result<(), Refusal>
-    requires { Names name_bytes.now name_places.now name_lengths.now × (length places.old ≡ 64) }
+    requires { NamesRead names.now.bytes.now names.now.places.now names.now.lengths.now × (length places.old ≡ 64) }
     ensures { Gives
-        (from_sections name_bytes.now name_places.now name_lengths.now sections.now splits.now (is_some given) (unwrap_or given 0) (length out.old))
+        (from_sections names.now.bytes.now names.now.places.now names.now.lengths.now lent.now.sections.now lent.now.splits.now (is_some given) (unwrap_or given 0) (length out.old))
         result (length out.old) (length counts.old) out.new counts.new }
 {
-    take_sections(name_lengths, sections, 64, places)?;
-    let n = sections.len() / 15;
+    take_sections(names.lengths, lent.sections, 64, places)?;
+    let n = lent.sections.len() / 15;
     with_columns(
-        name_bytes,
-        name_places,
-        name_lengths,
-        sections,
-        &places[..n],
-        splits,
+        names,
+        &Table {
+            bytes: lent.sections,
+            places: &places[..n],
+        },
+        lent.splits,
         given,
         out,
         counts,
@@ -195,40 +168,24 @@ fn from_sections(
 
 // The same, with a column of its own for the sections.
 fn named_tables(
-    name_bytes: &[u8],
-    name_places: &[u32],
-    name_lengths: &[u8],
-    sections: &[u8],
-    splits: &[u8],
+    names: &Names,
+    lent: &StageTables,
     given: Option<u32>,
     out: &mut [u8],
     counts: &mut [u8],
 ) -> Result<(), Refusal>
-    requires { Names name_bytes.now name_places.now name_lengths.now }
+    requires { NamesRead names.now.bytes.now names.now.places.now names.now.lengths.now }
     ensures { Gives
-        (from_sections name_bytes.now name_places.now name_lengths.now sections.now splits.now (is_some given) (unwrap_or given 0) (length out.old))
+        (from_sections names.now.bytes.now names.now.places.now names.now.lengths.now lent.now.sections.now lent.now.splits.now (is_some given) (unwrap_or given 0) (length out.old))
         result (length out.old) (length counts.old) out.new counts.new }
 {
     let mut places = [0u32; 64];
-    from_sections(
-        name_bytes,
-        name_places,
-        name_lengths,
-        sections,
-        splits,
-        given,
-        &mut places,
-        out,
-        counts,
-    )
+    from_sections(names, lent, given, &mut places, out, counts)
 }
 
 // All tables, with the names in lent columns.
 fn all_tables(
-    name_ends: &[u8],
-    name_bytes: &[u8],
-    sections: &[u8],
-    splits: &[u8],
+    lent: &StageTables,
     has_start: u8,
     start: u32,
     places: &mut [u32],
@@ -239,17 +196,26 @@ fn all_tables(
     counts: &mut [u8],
 ) -> Result<(), Refusal>
     requires { Room 4096 places.old lengths.old heads.old chain.old }
-    ensures { Gives (update_of name_ends.now name_bytes.now sections.now splits.now has_start start (length out.old))
+    ensures { Gives (update_of lent.now.name_ends.now lent.now.name_bytes.now lent.now.sections.now lent.now.splits.now has_start start (length out.old))
         result (length out.old) (length counts.old) out.new counts.new }
 {
-    check_names(name_ends, name_bytes, 4096, places, lengths, heads, chain)?;
-    let n = name_ends.len() / 2;
+    check_names(
+        lent.name_ends,
+        lent.name_bytes,
+        4096,
+        places,
+        lengths,
+        heads,
+        chain,
+    )?;
+    let n = lent.name_ends.len() / 2;
     named_tables(
-        name_bytes,
-        &places[..n],
-        &lengths[..n],
-        sections,
-        splits,
+        &Names {
+            bytes: lent.name_bytes,
+            places: &places[..n],
+            lengths: &lengths[..n],
+        },
+        lent,
         (has_start != 0).then_some(start),
         out,
         counts,
@@ -258,16 +224,13 @@ fn all_tables(
 
 // All tables, with columns of its own for the names: their places and lengths, and the index.
 fn checked(
-    name_ends: &[u8],
-    name_bytes: &[u8],
-    sections: &[u8],
-    splits: &[u8],
+    lent: &StageTables,
     has_start: u8,
     start: u32,
     out: &mut [u8],
     counts: &mut [u8],
 ) -> Result<(), Refusal>
-    ensures { Gives (update_of name_ends.now name_bytes.now sections.now splits.now has_start start (length out.old))
+    ensures { Gives (update_of lent.now.name_ends.now lent.now.name_bytes.now lent.now.sections.now lent.now.splits.now has_start start (length out.old))
         result (length out.old) (length counts.old) out.new counts.new }
 {
     let mut places = [0u32; 4096];
@@ -275,10 +238,7 @@ fn checked(
     let mut heads = [0u16; 8192];
     let mut chain = [0u16; 4096];
     all_tables(
-        name_ends,
-        name_bytes,
-        sections,
-        splits,
+        lent,
         has_start,
         start,
         &mut places,
@@ -305,7 +265,22 @@ pub fn update_common_splits(
         (length out.old) (length counts.old) result out.new counts.new }
 {
     let a = checked(
-        name_ends, name_bytes, sections, splits, has_start, start, out, counts,
+        &StageTables {
+            name_ends,
+            name_bytes,
+            sections,
+            section_places: &[],
+            image: &[],
+            symbols: &[],
+            relocs: &[],
+            partials: &[],
+            splits,
+            units: &[],
+        },
+        has_start,
+        start,
+        out,
+        counts,
     );
     finish(a, out, counts)
 }

@@ -12,8 +12,10 @@ ghost use Rattle.symbols.specs.Sound.{Sound};
 ghost use Rattle.stage_symbols.specs.StageSymbols as symbol_columns;
 ghost use Rattle.entry_validate_splits.specs.Entry.{validate_of, from_splits, from_symbols, from_sections, Scratch};
 
+use lent_tables::StageTables;
 use name_table::check_names;
-use obj::{Refusal, SPLIT_BYTES, word_of};
+use obj::{Refusal, SPLIT_BYTES, Table, word_of};
+use splits::SplitColumns;
 use stage_splits::take_split_columns;
 use stage_symbols::take_symbol_order;
 use stage_tables::take_sections;
@@ -22,10 +24,8 @@ use validate::validate;
 // The splits in lent columns, and the check.
 fn from_splits(
     name_lengths: &[u8],
-    heads: &[u8],
-    head_places: &[u32],
-    symbols: &[u8],
-    symbol_places: &[u32],
+    heads: &Table,
+    symbols: &Table,
     order: &[u16],
     splits: &[u8],
     places: &mut [u32],
@@ -34,18 +34,17 @@ fn from_splits(
     units: &mut [u16],
     rest: &mut [u64],
 ) -> Result<(), Refusal>
-    requires { AllHeld 15 heads.now head_places.now
-        × Order symbols.now symbol_places.now order.now
-        × Sound (symbol_of symbols.now symbol_places.now) (length symbol_places.now)
+    requires { AllHeld 15 heads.now.bytes.now heads.now.places.now
+        × Order symbols.now.bytes.now symbols.now.places.now order.now
+        × Sound (symbol_of symbols.now.bytes.now symbols.now.places.now) (length symbols.now.places.now)
         × Scratch places.old starts.old ends.old units.old rest.old }
     ensures { meaning result
-        ≡ from_splits name_lengths.now (sections_in heads.now head_places.now)
-        (symbol_of symbols.now symbol_places.now) (length symbol_places.now) splits.now }
+        ≡ from_splits name_lengths.now (sections_in heads.now.bytes.now heads.now.places.now)
+        (symbol_of symbols.now.bytes.now symbols.now.places.now) (length symbols.now.places.now) splits.now }
 {
     take_split_columns(
         name_lengths,
         heads,
-        head_places,
         splits,
         1024,
         places,
@@ -55,25 +54,33 @@ fn from_splits(
         rest,
     )?;
     let n = splits.len() / SPLIT_BYTES;
-    validate(symbols, symbol_places, order, starts, ends, units, rest, n)
+    validate(
+        symbols,
+        order,
+        &SplitColumns {
+            starts: &*starts,
+            ends: &*ends,
+            units: &*units,
+            rest: &*rest,
+        },
+        n,
+    )
 }
 
 // The same, with columns of its own for the splits.
 fn with_splits(
     name_lengths: &[u8],
-    heads: &[u8],
-    head_places: &[u32],
-    symbols: &[u8],
-    symbol_places: &[u32],
+    heads: &Table,
+    symbols: &Table,
     order: &[u16],
     splits: &[u8],
 ) -> Result<(), Refusal>
-    requires { AllHeld 15 heads.now head_places.now
-        × Order symbols.now symbol_places.now order.now
-        × Sound (symbol_of symbols.now symbol_places.now) (length symbol_places.now) }
+    requires { AllHeld 15 heads.now.bytes.now heads.now.places.now
+        × Order symbols.now.bytes.now symbols.now.places.now order.now
+        × Sound (symbol_of symbols.now.bytes.now symbols.now.places.now) (length symbols.now.places.now) }
     ensures { meaning result
-        ≡ from_splits name_lengths.now (sections_in heads.now head_places.now)
-        (symbol_of symbols.now symbol_places.now) (length symbol_places.now) splits.now }
+        ≡ from_splits name_lengths.now (sections_in heads.now.bytes.now heads.now.places.now)
+        (symbol_of symbols.now.bytes.now symbols.now.places.now) (length symbols.now.places.now) splits.now }
 {
     let mut places = [0u32; 1024];
     let mut starts = [0u32; 1024];
@@ -83,9 +90,7 @@ fn with_splits(
     from_splits(
         name_lengths,
         heads,
-        head_places,
         symbols,
-        symbol_places,
         order,
         splits,
         &mut places,
@@ -99,49 +104,41 @@ fn with_splits(
 // The symbols with their order in lent columns, and the tables after them.
 fn from_symbols(
     name_lengths: &[u8],
-    heads: &[u8],
-    head_places: &[u32],
-    symbols: &[u8],
-    splits: &[u8],
+    heads: &Table,
+    lent: &StageTables,
     places: &mut [u32],
     order: &mut [u16],
     scratch: &mut [u16],
 ) -> Result<(), Refusal>
-    requires { AllHeld 15 heads.now head_places.now × symbol_columns.Room 4096 places.old order.old scratch.old }
-    ensures { meaning result ≡ from_symbols name_lengths.now (sections_in heads.now head_places.now) symbols.now splits.now }
+    requires { AllHeld 15 heads.now.bytes.now heads.now.places.now × symbol_columns.Room 4096 places.old order.old scratch.old }
+    ensures { meaning result ≡ from_symbols name_lengths.now (sections_in heads.now.bytes.now heads.now.places.now) lent.now.symbols.now lent.now.splits.now }
 {
     let ordered = take_symbol_order(
         name_lengths.len(),
         heads,
-        head_places,
-        symbols,
+        lent.symbols,
         4096,
         places,
         order,
         scratch,
     )?;
-    let n = symbols.len() / 20;
+    let n = lent.symbols.len() / 20;
     with_splits(
         name_lengths,
         heads,
-        head_places,
-        symbols,
-        &places[..n],
+        &Table {
+            bytes: lent.symbols,
+            places: &places[..n],
+        },
         &order[..ordered],
-        splits,
+        lent.splits,
     )
 }
 
 // The same, with columns of its own for the symbols.
-fn with_symbols(
-    name_lengths: &[u8],
-    heads: &[u8],
-    head_places: &[u32],
-    symbols: &[u8],
-    splits: &[u8],
-) -> Result<(), Refusal>
-    requires { AllHeld 15 heads.now head_places.now }
-    ensures { meaning result ≡ from_symbols name_lengths.now (sections_in heads.now head_places.now) symbols.now splits.now }
+fn with_symbols(name_lengths: &[u8], heads: &Table, lent: &StageTables) -> Result<(), Refusal>
+    requires { AllHeld 15 heads.now.bytes.now heads.now.places.now }
+    ensures { meaning result ≡ from_symbols name_lengths.now (sections_in heads.now.bytes.now heads.now.places.now) lent.now.symbols.now lent.now.splits.now }
 {
     let mut places = [0u32; 4096];
     let mut order = [0u16; 4096];
@@ -149,9 +146,7 @@ fn with_symbols(
     from_symbols(
         name_lengths,
         heads,
-        head_places,
-        symbols,
-        splits,
+        lent,
         &mut places,
         &mut order,
         &mut scratch,
@@ -159,79 +154,63 @@ fn with_symbols(
 }
 
 // The sections in a lent column, and the tables after them.
-fn from_sections(
-    name_lengths: &[u8],
-    sections: &[u8],
-    symbols: &[u8],
-    splits: &[u8],
-    places: &mut [u32],
-) -> Result<(), Refusal>
+fn from_sections(name_lengths: &[u8], lent: &StageTables, places: &mut [u32]) -> Result<(), Refusal>
     requires { length places.old ≡ 64 }
-    ensures { meaning result ≡ from_sections name_lengths.now sections.now symbols.now splits.now }
+    ensures { meaning result ≡ from_sections name_lengths.now lent.now.sections.now lent.now.symbols.now lent.now.splits.now }
 {
-    take_sections(name_lengths, sections, 64, places)?;
-    let n = sections.len() / 15;
-    with_symbols(name_lengths, sections, &places[..n], symbols, splits)
+    take_sections(name_lengths, lent.sections, 64, places)?;
+    let n = lent.sections.len() / 15;
+    with_symbols(
+        name_lengths,
+        &Table {
+            bytes: lent.sections,
+            places: &places[..n],
+        },
+        lent,
+    )
 }
 
 // The same, with a column of its own for the sections.
-fn with_sections(
-    name_lengths: &[u8],
-    sections: &[u8],
-    symbols: &[u8],
-    splits: &[u8],
-) -> Result<(), Refusal>
-    ensures { meaning result ≡ from_sections name_lengths.now sections.now symbols.now splits.now }
+fn with_sections(name_lengths: &[u8], lent: &StageTables) -> Result<(), Refusal>
+    ensures { meaning result ≡ from_sections name_lengths.now lent.now.sections.now lent.now.symbols.now lent.now.splits.now }
 {
     let mut places = [0u32; 64];
-    from_sections(name_lengths, sections, symbols, splits, &mut places)
+    from_sections(name_lengths, lent, &mut places)
 }
 
 // All tables, with the names in lent columns.
 fn from_names(
-    name_ends: &[u8],
-    name_bytes: &[u8],
-    sections: &[u8],
-    symbols: &[u8],
-    splits: &[u8],
+    lent: &StageTables,
     places: &mut [u32],
     lengths: &mut [u8],
     heads: &mut [u16],
     chain: &mut [u16],
 ) -> Result<(), Refusal>
     requires { stored.Room 4096 places.old lengths.old heads.old chain.old }
-    ensures { meaning result ≡ validate_of name_ends.now name_bytes.now sections.now symbols.now splits.now }
+    ensures { meaning result ≡ validate_of lent.now.name_ends.now lent.now.name_bytes.now lent.now.sections.now lent.now.symbols.now lent.now.splits.now }
 {
-    check_names(name_ends, name_bytes, 4096, places, lengths, heads, chain)?;
-    let n = name_ends.len() / 2;
-    with_sections(&lengths[..n], sections, symbols, splits)
+    check_names(
+        lent.name_ends,
+        lent.name_bytes,
+        4096,
+        places,
+        lengths,
+        heads,
+        chain,
+    )?;
+    let n = lent.name_ends.len() / 2;
+    with_sections(&lengths[..n], lent)
 }
 
 // All tables, with columns of its own for the names: their places and lengths, and the index.
-fn checked(
-    name_ends: &[u8],
-    name_bytes: &[u8],
-    sections: &[u8],
-    symbols: &[u8],
-    splits: &[u8],
-) -> Result<(), Refusal>
-    ensures { meaning result ≡ validate_of name_ends.now name_bytes.now sections.now symbols.now splits.now }
+fn checked(lent: &StageTables) -> Result<(), Refusal>
+    ensures { meaning result ≡ validate_of lent.now.name_ends.now lent.now.name_bytes.now lent.now.sections.now lent.now.symbols.now lent.now.splits.now }
 {
     let mut places = [0u32; 4096];
     let mut lengths = [0u8; 4096];
     let mut heads = [0u16; 8192];
     let mut chain = [0u16; 4096];
-    from_names(
-        name_ends,
-        name_bytes,
-        sections,
-        symbols,
-        splits,
-        &mut places,
-        &mut lengths,
-        &mut heads,
-        &mut chain,
-    )
+    from_names(lent, &mut places, &mut lengths, &mut heads, &mut chain)
 }
 
 // The entry: 0, or the first refusal of the tables or of the check.
@@ -244,5 +223,16 @@ pub fn validate_splits(
 ) -> u64
     ensures { result ≡ outcome_word (validate_of name_ends.now name_bytes.now sections.now symbols.now splits.now) }
 {
-    word_of(checked(name_ends, name_bytes, sections, symbols, splits))
+    word_of(checked(&StageTables {
+        name_ends,
+        name_bytes,
+        sections,
+        section_places: &[],
+        image: &[],
+        symbols,
+        relocs: &[],
+        partials: &[],
+        splits,
+        units: &[],
+    }))
 }

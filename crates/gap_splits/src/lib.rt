@@ -15,8 +15,8 @@ ghost use Rattle.gap_splits.specs.Entering.{gap_split, entered, filled, unit_nam
 ghost use Rattle.gap_splits.specs.Answers.{section_names, beside, added, Room, Stand, ceilings, Absent, Numbered, meant, names, used, splits, Tables, Gaps, Enters};
 
 use merge::add_split;
-use names::{append, find, name_at, write_gap_name};
-use obj::{Refusal, Split, refuse, section_at};
+use names::{NameIndex, Names, append, find, name_at, write_gap_name};
+use obj::{Refusal, Split, Table, refuse, section_at};
 
 // The unit of a gap: its number, with the names that are added then and their bytes. None is "28 name table full".
 #[derive(Clone, Copy)]
@@ -39,11 +39,8 @@ pub struct Entered {
 // The number of the name x: it is reused, or else added behind the others, unless "28 name table full". A name that was added is never asked again: gaps
 // at different places have different names.
 fn number_of_name(
-    name_bytes: &[u8],
-    name_places: &[u32],
-    name_lengths: &[u8],
-    buckets: &[u16],
-    chain: &[u16],
+    table_names: &Names,
+    index: &NameIndex,
     added_bytes: &mut [u8],
     added_places: &mut [u32],
     added_lengths: &mut [u8],
@@ -53,17 +50,17 @@ fn number_of_name(
     most_bytes: usize,
     x: &[u8],
 ) -> Option<UnitName>
-    requires { NamedColumns name_bytes.now name_places.now name_lengths.now (length name_places.now)
-        × Indexed (names_of name_bytes.now name_places.now name_lengths.now (length name_places.now)) buckets.now chain.now
+    requires { NamedColumns table_names.now.bytes.now table_names.now.places.now table_names.now.lengths.now (length table_names.now.places.now)
+        × Indexed (names_of table_names.now.bytes.now table_names.now.places.now table_names.now.lengths.now (length table_names.now.places.now)) index.now.heads.now index.now.chain.now
         × Stand (beside added_bytes.old added_places.old added_lengths.old) names used most most_bytes
         × Absent (added (beside added_bytes.old added_places.old added_lengths.old) names) x.now
         × (length x.now ≤ 128) }
-    ensures { Numbered (names_of name_bytes.now name_places.now name_lengths.now (length name_places.now))
+    ensures { Numbered (names_of table_names.now.bytes.now table_names.now.places.now table_names.now.lengths.now (length table_names.now.places.now))
         (added (beside added_bytes.old added_places.old added_lengths.old) names) x.now
         (beside added_bytes.new added_places.new added_lengths.new) most most_bytes result }
 {
-    let n = name_places.len();
-    if let Some(k) = find(name_bytes, name_places, name_lengths, n, buckets, chain, x) {
+    let n = table_names.places.len();
+    if let Some(k) = find(table_names, n, index, x) {
         return Some(UnitName {
             unit: k as u16,
             names,
@@ -92,13 +89,9 @@ fn number_of_name(
 
 // The unit of the gap of a section that starts at `start`. `text` is room for its name.
 fn unit_in(
-    heads: &[u8],
-    head_places: &[u32],
-    name_bytes: &[u8],
-    name_places: &[u32],
-    name_lengths: &[u8],
-    buckets: &[u16],
-    chain: &[u16],
+    heads: &Table,
+    table_names: &Names,
+    index: &NameIndex,
     added_bytes: &mut [u8],
     added_places: &mut [u32],
     added_lengths: &mut [u8],
@@ -110,26 +103,23 @@ fn unit_in(
     start: u32,
     text: &mut [u8],
 ) -> Option<UnitName>
-    requires { Tables heads.now head_places.now name_bytes.now name_places.now name_lengths.now buckets.now chain.now
+    requires { Tables heads.now.bytes.now heads.now.places.now table_names.now.bytes.now table_names.now.places.now table_names.now.lengths.now index.now.heads.now index.now.chain.now
         × Stand (beside added_bytes.old added_places.old added_lengths.old) names used most most_bytes
-        × (section < length head_places.now)
+        × (section < length heads.now.places.now)
         × Absent (added (beside added_bytes.old added_places.old added_lengths.old) names)
-        (gap_name section start (section_names heads.now head_places.now name_bytes.now name_places.now name_lengths.now section))
+        (gap_name section start (section_names heads.now.bytes.now heads.now.places.now table_names.now.bytes.now table_names.now.places.now table_names.now.lengths.now section))
         × (81 ≤ length text.old) }
-    ensures { Numbered (names_of name_bytes.now name_places.now name_lengths.now (length name_places.now))
+    ensures { Numbered (names_of table_names.now.bytes.now table_names.now.places.now table_names.now.lengths.now (length table_names.now.places.now))
         (added (beside added_bytes.old added_places.old added_lengths.old) names)
-        (gap_name section start (section_names heads.now head_places.now name_bytes.now name_places.now name_lengths.now section))
+        (gap_name section start (section_names heads.now.bytes.now heads.now.places.now table_names.now.bytes.now table_names.now.places.now table_names.now.lengths.now section))
         (beside added_bytes.new added_places.new added_lengths.new) most most_bytes result }
 {
-    let head = section_at(heads, head_places, section as usize);
-    let name = name_at(name_bytes, name_places, name_lengths, head.name as usize);
+    let head = section_at(heads, section as usize);
+    let name = name_at(table_names, head.name as usize);
     let size = write_gap_name(text, section, start, name);
     number_of_name(
-        name_bytes,
-        name_places,
-        name_lengths,
-        buckets,
-        chain,
+        table_names,
+        index,
         added_bytes,
         added_places,
         added_lengths,
@@ -143,13 +133,9 @@ fn unit_in(
 
 // The same, with room of its own for the name.
 fn unit_of(
-    heads: &[u8],
-    head_places: &[u32],
-    name_bytes: &[u8],
-    name_places: &[u32],
-    name_lengths: &[u8],
-    buckets: &[u16],
-    chain: &[u16],
+    heads: &Table,
+    table_names: &Names,
+    index: &NameIndex,
     added_bytes: &mut [u8],
     added_places: &mut [u32],
     added_lengths: &mut [u8],
@@ -160,25 +146,21 @@ fn unit_of(
     section: u16,
     start: u32,
 ) -> Option<UnitName>
-    requires { Tables heads.now head_places.now name_bytes.now name_places.now name_lengths.now buckets.now chain.now
+    requires { Tables heads.now.bytes.now heads.now.places.now table_names.now.bytes.now table_names.now.places.now table_names.now.lengths.now index.now.heads.now index.now.chain.now
         × Stand (beside added_bytes.old added_places.old added_lengths.old) names used most most_bytes
-        × (section < length head_places.now)
+        × (section < length heads.now.places.now)
         × Absent (added (beside added_bytes.old added_places.old added_lengths.old) names)
-        (gap_name section start (section_names heads.now head_places.now name_bytes.now name_places.now name_lengths.now section)) }
-    ensures { Numbered (names_of name_bytes.now name_places.now name_lengths.now (length name_places.now))
+        (gap_name section start (section_names heads.now.bytes.now heads.now.places.now table_names.now.bytes.now table_names.now.places.now table_names.now.lengths.now section)) }
+    ensures { Numbered (names_of table_names.now.bytes.now table_names.now.places.now table_names.now.lengths.now (length table_names.now.places.now))
         (added (beside added_bytes.old added_places.old added_lengths.old) names)
-        (gap_name section start (section_names heads.now head_places.now name_bytes.now name_places.now name_lengths.now section))
+        (gap_name section start (section_names heads.now.bytes.now heads.now.places.now table_names.now.bytes.now table_names.now.places.now table_names.now.lengths.now section))
         (beside added_bytes.new added_places.new added_lengths.new) most most_bytes result }
 {
     let mut text = [0u8; 81];
     unit_in(
         heads,
-        head_places,
-        name_bytes,
-        name_places,
-        name_lengths,
-        buckets,
-        chain,
+        table_names,
+        index,
         added_bytes,
         added_places,
         added_lengths,
@@ -218,13 +200,9 @@ fn enter_gap(
     rest: &mut [u64],
     n: usize,
     cap: usize,
-    heads: &[u8],
-    head_places: &[u32],
-    name_bytes: &[u8],
-    name_places: &[u32],
-    name_lengths: &[u8],
-    buckets: &[u16],
-    chain: &[u16],
+    heads: &Table,
+    table_names: &Names,
+    index: &NameIndex,
     added_bytes: &mut [u8],
     added_places: &mut [u32],
     added_lengths: &mut [u8],
@@ -237,35 +215,31 @@ fn enter_gap(
     end: u32,
 ) -> Result<Entered, Refusal>
     requires { Long (columns starts.old ends.old units.old rest.old) cap × (n ≤ cap)
-        × AllHeld 15 heads.now head_places.now
-        × Tables heads.now head_places.now name_bytes.now name_places.now name_lengths.now buckets.now chain.now
+        × AllHeld 15 heads.now.bytes.now heads.now.places.now
+        × Tables heads.now.bytes.now heads.now.places.now table_names.now.bytes.now table_names.now.places.now table_names.now.lengths.now index.now.heads.now index.now.chain.now
         × Stand (beside added_bytes.old added_places.old added_lengths.old) names used most most_bytes
-        × (section < length head_places.now)
+        × (section < length heads.now.places.now)
         × Absent (added (beside added_bytes.old added_places.old added_lengths.old) names)
-        (gap_name section start (section_names heads.now head_places.now name_bytes.now name_places.now name_lengths.now section)) }
+        (gap_name section start (section_names heads.now.bytes.now heads.now.places.now table_names.now.bytes.now table_names.now.places.now table_names.now.lengths.now section)) }
     ensures { Enters
-        (entered (section_names heads.now head_places.now name_bytes.now name_places.now name_lengths.now)
-        (given (sections_in heads.now head_places.now) cap)
-        (ceilings (names_of name_bytes.now name_places.now name_lengths.now (length name_places.now)) most most_bytes)
+        (entered (section_names heads.now.bytes.now heads.now.places.now table_names.now.bytes.now table_names.now.places.now table_names.now.lengths.now)
+        (given (sections_in heads.now.bytes.now heads.now.places.now) cap)
+        (ceilings (names_of table_names.now.bytes.now table_names.now.places.now table_names.now.lengths.now (length table_names.now.places.now)) most most_bytes)
         (record {
-          names = names_of name_bytes.now name_places.now name_lengths.now (length name_places.now) ++ added (beside added_bytes.old added_places.old added_lengths.old) names;
+          names = names_of table_names.now.bytes.now table_names.now.places.now table_names.now.lengths.now (length table_names.now.places.now) ++ added (beside added_bytes.old added_places.old added_lengths.old) names;
           rows = rows (columns starts.old ends.old units.old rest.old) n;
         })
         (gap section start end))
-        (names_of name_bytes.now name_places.now name_lengths.now (length name_places.now))
+        (names_of table_names.now.bytes.now table_names.now.places.now table_names.now.lengths.now (length table_names.now.places.now))
         (added (beside added_bytes.old added_places.old added_lengths.old) names)
-        (gap_name section start (section_names heads.now head_places.now name_bytes.now name_places.now name_lengths.now section))
+        (gap_name section start (section_names heads.now.bytes.now heads.now.places.now table_names.now.bytes.now table_names.now.places.now table_names.now.lengths.now section))
         (beside added_bytes.new added_places.new added_lengths.new)
         (columns starts.new ends.new units.new rest.new) most most_bytes cap result }
 {
     let Some(named) = unit_of(
         heads,
-        head_places,
-        name_bytes,
-        name_places,
-        name_lengths,
-        buckets,
-        chain,
+        table_names,
+        index,
         added_bytes,
         added_places,
         added_lengths,
@@ -279,7 +253,7 @@ fn enter_gap(
         return refuse(28, section, start);
     };
     let new = gap_split(section, start, end, named.unit);
-    let splits = add_split(starts, ends, units, rest, n, cap, heads, head_places, new)?;
+    let splits = add_split(starts, ends, units, rest, n, cap, heads, new)?;
     Ok(Entered {
         names: named.names,
         used: named.used,
@@ -310,13 +284,9 @@ pub fn enter_gaps(
     rest: &mut [u64],
     n: usize,
     cap: usize,
-    heads: &[u8],
-    head_places: &[u32],
-    name_bytes: &[u8],
-    name_places: &[u32],
-    name_lengths: &[u8],
-    buckets: &[u16],
-    chain: &[u16],
+    heads: &Table,
+    table_names: &Names,
+    index: &NameIndex,
     added_bytes: &mut [u8],
     added_places: &mut [u32],
     added_lengths: &mut [u8],
@@ -327,18 +297,18 @@ pub fn enter_gaps(
     count: usize,
 ) -> Result<Entered, Refusal>
     requires { Long (columns starts.old ends.old units.old rest.old) cap × (n ≤ cap)
-        × AllHeld 15 heads.now head_places.now
-        × Tables heads.now head_places.now name_bytes.now name_places.now name_lengths.now buckets.now chain.now
+        × AllHeld 15 heads.now.bytes.now heads.now.places.now
+        × Tables heads.now.bytes.now heads.now.places.now table_names.now.bytes.now table_names.now.places.now table_names.now.lengths.now index.now.heads.now index.now.chain.now
         × Room (beside added_bytes.old added_places.old added_lengths.old) most most_bytes
-        × Gaps keys.now gap_ends.now count (length head_places.now) }
-    ensures { (meant (names_of name_bytes.now name_places.now name_lengths.now (length name_places.now))
+        × Gaps keys.now gap_ends.now count (length heads.now.places.now) }
+    ensures { (meant (names_of table_names.now.bytes.now table_names.now.places.now table_names.now.lengths.now (length table_names.now.places.now))
         (beside added_bytes.new added_places.new added_lengths.new)
         (columns starts.new ends.new units.new rest.new) result
-        ≡ filled (section_names heads.now head_places.now name_bytes.now name_places.now name_lengths.now)
-        (given (sections_in heads.now head_places.now) cap)
-        (ceilings (names_of name_bytes.now name_places.now name_lengths.now (length name_places.now)) most most_bytes)
+        ≡ filled (section_names heads.now.bytes.now heads.now.places.now table_names.now.bytes.now table_names.now.places.now table_names.now.lengths.now)
+        (given (sections_in heads.now.bytes.now heads.now.places.now) cap)
+        (ceilings (names_of table_names.now.bytes.now table_names.now.places.now table_names.now.lengths.now (length table_names.now.places.now)) most most_bytes)
         (record {
-          names = names_of name_bytes.now name_places.now name_lengths.now (length name_places.now);
+          names = names_of table_names.now.bytes.now table_names.now.places.now table_names.now.lengths.now (length table_names.now.places.now);
           rows = rows (columns starts.old ends.old units.old rest.old) n;
         })
         (gaps_in keys.now gap_ends.now count))
@@ -361,12 +331,8 @@ pub fn enter_gaps(
             done.splits,
             cap,
             heads,
-            head_places,
-            name_bytes,
-            name_places,
-            name_lengths,
-            buckets,
-            chain,
+            table_names,
+            index,
             added_bytes,
             added_places,
             added_lengths,

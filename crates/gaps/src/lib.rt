@@ -8,9 +8,9 @@ ghost use Rattle.align.specs.Align.{good_align, bad_align};
 ghost use Rattle.symbol_order.specs.Order.{symbol_of, Readable, Order};
 ghost use Rattle.symbols.specs.Ranges.{stripped};
 ghost use Rattle.symbols.specs.Sound.{Sound};
-ghost use Rattle.sections.specs.Image.{image_of, Tables};
+ghost use Rattle.sections.specs.Image.{image_in, TablesIn};
 ghost use Rattle.sections.specs.Sections.{head_of, sections_of, Kept};
-ghost use Rattle.splits.specs.Columns.{columns, rows, Long};
+ghost use Rattle.splits.specs.Columns.{rows, Long, columns_of};
 ghost use Rattle.splits.specs.Questions.{Hit};
 ghost use Rattle.gap_columns.specs.Columns.{gaps_in};
 ghost use Rattle.gaps.specs.Gaps.{gap_end, gaps_to, gaps_before, gaps_from, below, section_gaps, into, found_gaps};
@@ -19,9 +19,9 @@ ghost use Rattle.gaps.specs.Found.{end_meaning, end_number, alignment_of_next, n
 use align::align_up;
 use gap_columns::place_gap;
 use names::name_at;
-use obj::{Refusal, Section, Split, Symbol, refuse, section_at, symbol_at};
-use sections::{Alignment, alignment_of, default_alignment, end_for_section, section_bytes};
-use splits::row;
+use obj::{Refusal, Section, Split, Symbol, Table, refuse, section_at, symbol_at};
+use sections::{Alignment, Obj, alignment_of, default_alignment, end_for_section, section_bytes};
+use splits::{SplitColumns, row};
 use symbol_order::{key_of, number};
 use symbols::{Backwards, for_section_range};
 
@@ -62,12 +62,12 @@ fn misses(current: u32, alignment: u32) -> bool
 
 // How many symbols of the part a gap from `current` on goes past: "to the first unstripped symbol whose name already occurred in the gap, or whose
 // alignment the *current address* misses". The names that occurred are left marked.
-fn stop_of(b: &[u8], places: &[u32], part: &[u16], current: u32, marks: &mut [u8]) -> usize
-    requires { Readable b.now places.now part.now × Markable (symbol_of b.now places.now) (length places.now) marks.old × Clean marks.old }
-    ensures { Stopped (symbol_of b.now places.now) current part.now marks.new result }
+fn stop_of(table: &Table, part: &[u16], current: u32, marks: &mut [u8]) -> usize
+    requires { Readable table.now.bytes.now table.now.places.now part.now × Markable (symbol_of table.now.bytes.now table.now.places.now) (length table.now.places.now) marks.old × Clean marks.old }
+    ensures { Stopped (symbol_of table.now.bytes.now table.now.places.now) current part.now marks.new result }
 {
     for j in 0..part.len() {
-        let y = symbol_at(b, places, number(part, j));
+        let y = symbol_at(table, number(part, j));
         if is_stripped(y) {
             continue;
         }
@@ -81,12 +81,12 @@ fn stop_of(b: &[u8], places: &[u32], part: &[u16], current: u32, marks: &mut [u8
 }
 
 // The marks of the part's names go.
-fn clear_marks(b: &[u8], places: &[u32], part: &[u16], marks: &mut [u8])
-    requires { Readable b.now places.now part.now × Markable (symbol_of b.now places.now) (length places.now) marks.old }
-    ensures { Unmarked (symbol_of b.now places.now) part.now marks.old marks.new }
+fn clear_marks(table: &Table, part: &[u16], marks: &mut [u8])
+    requires { Readable table.now.bytes.now table.now.places.now part.now × Markable (symbol_of table.now.bytes.now table.now.places.now) (length table.now.places.now) marks.old }
+    ensures { Unmarked (symbol_of table.now.bytes.now table.now.places.now) part.now marks.old marks.new }
 {
     for j in 0..part.len() {
-        let y = symbol_at(b, places, number(part, j));
+        let y = symbol_at(table, number(part, j));
         let k = y.name as usize;
         marks[k] = 0;
     }
@@ -94,8 +94,7 @@ fn clear_marks(b: &[u8], places: &[u32], part: &[u16], marks: &mut [u8])
 
 // Where the gap ends that goes past j symbols of the part: at symbol j, or at the next start.
 fn end_at(
-    b: &[u8],
-    places: &[u32],
+    table: &Table,
     part: &[u16],
     j: usize,
     marks: &[u8],
@@ -103,13 +102,13 @@ fn end_at(
     current: u32,
     next: u32,
 ) -> Result<u32, NoEnd>
-    requires { Readable b.now places.now part.now × Markable (symbol_of b.now places.now) (length places.now) marks.now × Stopped (symbol_of b.now places.now) current part.now marks.now j × (current < next) }
-    ensures { end_meaning section current result ≡ end_in (symbol_of b.now places.now) section current next part.now }
+    requires { Readable table.now.bytes.now table.now.places.now part.now × Markable (symbol_of table.now.bytes.now table.now.places.now) (length table.now.places.now) marks.now × Stopped (symbol_of table.now.bytes.now table.now.places.now) current part.now marks.now j × (current < next) }
+    ensures { end_meaning section current result ≡ end_in (symbol_of table.now.bytes.now table.now.places.now) section current next part.now }
 {
     if part.len() <= j {
         return Ok(next);
     }
-    let y = symbol_at(b, places, number(part, j));
+    let y = symbol_at(table, number(part, j));
     let k = y.name as usize;
     if (marks[k] != 0) & (y.address % 4 != 0) {
         return Err(NoEnd::Unaligned);
@@ -122,21 +121,20 @@ fn end_at(
 
 // Where a gap from `current` on ends, before or at the next start.
 fn gap_end(
-    b: &[u8],
-    places: &[u32],
+    table: &Table,
     order: &[u16],
     marks: &mut [u8],
     section: u16,
     current: u32,
     next: u32,
 ) -> Result<u32, NoEnd>
-    requires { Order b.now places.now order.now × Markable (symbol_of b.now places.now) (length places.now) marks.old × Clean marks.old × (current < next) }
-    ensures { (end_meaning section current result ≡ gap_end (symbol_of b.now places.now) (length places.now) section current next) × Clean marks.new }
+    requires { Order table.now.bytes.now table.now.places.now order.now × Markable (symbol_of table.now.bytes.now table.now.places.now) (length table.now.places.now) marks.old × Clean marks.old × (current < next) }
+    ensures { (end_meaning section current result ≡ gap_end (symbol_of table.now.bytes.now table.now.places.now) (length table.now.places.now) section current next) × Clean marks.new }
 {
-    let part = for_section_range(b, places, order, section, current, next);
-    let j = stop_of(b, places, part, current, marks);
-    let end = end_at(b, places, part, j, marks, section, current, next);
-    clear_marks(b, places, &part[..j], marks);
+    let part = for_section_range(table.bytes, table.places, order, section, current, next);
+    let j = stop_of(table, part, current, marks);
+    let end = end_at(table, part, j, marks, section, current, next);
+    clear_marks(table, &part[..j], marks);
     end
 }
 
@@ -144,8 +142,7 @@ fn gap_end(
 
 // The gaps from `current` up to the next start: so many are then in the columns.
 fn gaps_to(
-    b: &[u8],
-    places: &[u32],
+    table: &Table,
     order: &[u16],
     marks: &mut [u8],
     keys: &mut [u64],
@@ -156,11 +153,11 @@ fn gaps_to(
     next: u32,
     alignment: u32,
 ) -> Result<usize, Refusal>
-    requires { Lent b.now places.now order.now marks.old
-        × Space (symbol_of b.now places.now) (length places.now) section current next [] keys.old gap_ends.old count
+    requires { Lent table.now.bytes.now table.now.places.now order.now marks.old
+        × Space (symbol_of table.now.bytes.now table.now.places.now) (length table.now.places.now) section current next [] keys.old gap_ends.old count
         × (current ≤ next) × (next ≤ 4026531840) × (good_align alignment ≡ true) }
     ensures { (searched keys.new gap_ends.new result
-        ≡ into (gaps_in keys.old gap_ends.old count) (gaps_to (symbol_of b.now places.now) (length places.now) section current next alignment))
+        ≡ into (gaps_in keys.old gap_ends.old count) (gaps_to (symbol_of table.now.bytes.now table.now.places.now) (length table.now.places.now) section current next alignment))
         × Clean marks.new }
 {
     let mut at = current;
@@ -170,7 +167,7 @@ fn gaps_to(
         if next <= align_up(at, alignment) {
             return Ok(found);
         }
-        match gap_end(b, places, order, marks, section, at, next) {
+        match gap_end(table, order, marks, section, at, next) {
             Ok(e) => {
                 let key = key_of(section, at);
                 found = place_gap(keys, gap_ends, found, key, e);
@@ -185,26 +182,16 @@ fn gaps_to(
 
 // "the next split's alignment"; 11 where a range is asked for it.
 fn next_alignment(
-    b: &[u8],
-    places: &[u32],
+    table: &Table,
     order: &[u16],
     section: u16,
     least: u32,
     s: Split,
 ) -> Result<u32, Backwards>
-    requires { Order b.now places.now order.now }
-    ensures { next_meaning section s.start result ≡ alignment_of_next (symbol_of b.now places.now) (length places.now) section least s }
+    requires { Order table.now.bytes.now table.now.places.now order.now }
+    ensures { next_meaning section s.start result ≡ alignment_of_next (symbol_of table.now.bytes.now table.now.places.now) (length table.now.places.now) section least s }
 {
-    let chosen = alignment_of(
-        b,
-        places,
-        order,
-        section,
-        least,
-        s.alignment,
-        s.start,
-        s.end,
-    )?;
+    let chosen = alignment_of(table, order, section, least, s.alignment, s.start, s.end)?;
     match chosen {
         Alignment::Given(a) => Ok(a),
         Alignment::FromSymbol(a) => Ok(a),
@@ -214,8 +201,7 @@ fn next_alignment(
 
 // The gaps before the split s: 11 where its alignment is asked, then "40 next start below current".
 fn gaps_before(
-    b: &[u8],
-    places: &[u32],
+    table: &Table,
     order: &[u16],
     marks: &mut [u8],
     keys: &mut [u64],
@@ -226,41 +212,32 @@ fn gaps_before(
     current: u32,
     s: Split,
 ) -> Result<usize, Refusal>
-    requires { Lent b.now places.now order.now marks.old
-        × Space (symbol_of b.now places.now) (length places.now) section current s.start [] keys.old gap_ends.old count
-        × Sound (symbol_of b.now places.now) (length places.now)
+    requires { Lent table.now.bytes.now table.now.places.now order.now marks.old
+        × Space (symbol_of table.now.bytes.now table.now.places.now) (length table.now.places.now) section current s.start [] keys.old gap_ends.old count
+        × Sound (symbol_of table.now.bytes.now table.now.places.now) (length table.now.places.now)
         × (s.start ≤ 4026531840) × (bad_align s.alignment ≡ false) × (good_align least ≡ true) }
     ensures { (searched keys.new gap_ends.new result
-        ≡ into (gaps_in keys.old gap_ends.old count) (gaps_before (symbol_of b.now places.now) (length places.now) section least current s))
+        ≡ into (gaps_in keys.old gap_ends.old count) (gaps_before (symbol_of table.now.bytes.now table.now.places.now) (length table.now.places.now) section least current s))
         × Clean marks.new }
 {
-    let Ok(alignment) = next_alignment(b, places, order, section, least, s) else {
+    let Ok(alignment) = next_alignment(table, order, section, least, s) else {
         return refuse(11, section, s.start);
     };
     if s.start < current {
         return refuse(40, section, current);
     }
     gaps_to(
-        b, places, order, marks, keys, gap_ends, count, section, current, s.start, alignment,
+        table, order, marks, keys, gap_ends, count, section, current, s.start, alignment,
     )
 }
 
 // The first row from `at` on that is a split of the section below its splitting end, or n.
-fn next_below(
-    starts: &[u32],
-    ends: &[u32],
-    units: &[u16],
-    rest: &[u64],
-    n: usize,
-    section: u16,
-    end: u32,
-    at: usize,
-) -> usize
-    requires { Long (columns starts.now ends.now units.now rest.now) n × (at ≤ n) }
-    ensures { Hit (below section end) (columns starts.now ends.now units.now rest.now) n at result }
+fn next_below(splits: &SplitColumns, n: usize, section: u16, end: u32, at: usize) -> usize
+    requires { Long (columns_of splits.now) n × (at ≤ n) }
+    ensures { Hit (below section end) (columns_of splits.now) n at result }
 {
     for i in at..n {
-        if (rest[i] % 65536 == section as u64) & (starts[i] < end) {
+        if (splits.rest[i] % 65536 == section as u64) & (splits.starts[i] < end) {
             return i;
         }
     }
@@ -283,70 +260,55 @@ fn end_after(starts: &[u32], n: usize, i: usize, end: u32, own: u32) -> u32
 
 // The gaps of a section from its start up to its splitting end, over the splits below it.
 fn section_gaps(
-    b: &[u8],
-    places: &[u32],
+    table: &Table,
     order: &[u16],
     marks: &mut [u8],
     keys: &mut [u64],
     gap_ends: &mut [u32],
     count: usize,
-    starts: &[u32],
-    ends: &[u32],
-    units: &[u16],
-    rest: &[u64],
+    splits: &SplitColumns,
     n: usize,
     section: u16,
     least: u32,
     start: u32,
     end: u32,
 ) -> Result<usize, Refusal>
-    requires { Lent b.now places.now order.now marks.old
-        × Space (symbol_of b.now places.now) (length places.now) section start end (rows (columns starts.now ends.now units.now rest.now) n) keys.old gap_ends.old count
-        × Sound (symbol_of b.now places.now) (length places.now)
-        × Long (columns starts.now ends.now units.now rest.now) n
+    requires { Lent table.now.bytes.now table.now.places.now order.now marks.old
+        × Space (symbol_of table.now.bytes.now table.now.places.now) (length table.now.places.now) section start end (rows (columns_of splits.now) n) keys.old gap_ends.old count
+        × Sound (symbol_of table.now.bytes.now table.now.places.now) (length table.now.places.now)
+        × Long (columns_of splits.now) n
         × (end ≤ 4026531840) × (good_align least ≡ true) }
     ensures { (searched keys.new gap_ends.new result
         ≡ into (gaps_in keys.old gap_ends.old count)
-        (gaps_from (symbol_of b.now places.now) (length places.now) section least end start
-        (keep_if (below section end) (rows (columns starts.now ends.now units.now rest.now) n))))
+        (gaps_from (symbol_of table.now.bytes.now table.now.places.now) (length table.now.places.now) section least end start
+        (keep_if (below section end) (rows (columns_of splits.now) n))))
         × Clean marks.new }
 {
     let mut current = start;
     let mut found = count;
-    let mut i = next_below(starts, ends, units, rest, n, section, end, 0);
+    let mut i = next_below(splits, n, section, end, 0);
     // no count: the walk goes from a split of the section to the next
     while (i < n) & (current < end) {
-        let s = row(starts, ends, units, rest, i);
+        let s = row(splits, i);
         found = gaps_before(
-            b, places, order, marks, keys, gap_ends, found, section, least, current, s,
+            table, order, marks, keys, gap_ends, found, section, least, current, s,
         )?;
-        i = next_below(starts, ends, units, rest, n, section, end, i + 1);
-        current = end_after(starts, n, i, end, s.end);
+        i = next_below(splits, n, section, end, i + 1);
+        current = end_after(splits.starts, n, i, end, s.end);
     }
     if end <= current {
         return Ok(found);
     }
     gaps_to(
-        b, places, order, marks, keys, gap_ends, found, section, current, end, least,
+        table, order, marks, keys, gap_ends, found, section, current, end, least,
     )
 }
 
 // The gaps of section k: 10 where its splitting end is asked.
 fn gaps_of(
-    b: &[u8],
-    places: &[u32],
-    order: &[u16],
-    name_bytes: &[u8],
-    name_places: &[u32],
-    name_lengths: &[u8],
-    heads: &[u8],
-    head_places: &[u32],
-    image: &[u8],
-    image_places: &[u32],
-    starts: &[u32],
-    ends: &[u32],
-    units: &[u16],
-    rest: &[u64],
+    obj: &Obj,
+    image: &Table,
+    splits: &SplitColumns,
     n: usize,
     marks: &mut [u8],
     keys: &mut [u64],
@@ -354,51 +316,37 @@ fn gaps_of(
     count: usize,
     k: usize,
 ) -> Result<usize, Refusal>
-    requires { Tables b.now places.now order.now name_bytes.now name_places.now name_lengths.now
-        × Kept heads.now head_places.now image.now image_places.now name_places.now
-        × Lent b.now places.now order.now marks.old
-        × Sound (symbol_of b.now places.now) (length places.now)
-        × Long (columns starts.now ends.now units.now rest.now) n
-        × (k < length head_places.now)
-        × SectionSpace (symbol_of b.now places.now) (length places.now) k (head_of heads.now head_places.now k).address (rows (columns starts.now ends.now units.now rest.now) n) keys.old gap_ends.old count }
+    requires { TablesIn obj.now
+        × Kept obj.now.heads.bytes.now obj.now.heads.places.now image.now.bytes.now image.now.places.now obj.now.names.places.now
+        × Lent obj.now.symbols.bytes.now obj.now.symbols.places.now obj.now.order.now marks.old
+        × Sound (symbol_of obj.now.symbols.bytes.now obj.now.symbols.places.now) (length obj.now.symbols.places.now)
+        × Long (columns_of splits.now) n
+        × (k < length obj.now.heads.places.now)
+        × SectionSpace (symbol_of obj.now.symbols.bytes.now obj.now.symbols.places.now) (length obj.now.symbols.places.now) k (head_of obj.now.heads.bytes.now obj.now.heads.places.now k).address (rows (columns_of splits.now) n) keys.old gap_ends.old count }
     ensures { (searched keys.new gap_ends.new result
         ≡ into (gaps_in keys.old gap_ends.old count)
         (section_gaps
-        (image_of b.now places.now name_bytes.now name_places.now name_lengths.now)
-        (sections_of heads.now head_places.now image.now image_places.now)
-        k (rows (columns starts.now ends.now units.now rest.now) n)))
+        (image_in obj.now)
+        (sections_of obj.now.heads.bytes.now obj.now.heads.places.now image.now.bytes.now image.now.places.now)
+        k (rows (columns_of splits.now) n)))
         × Clean marks.new }
 {
     let section = k as u16;
-    let head = section_at(heads, head_places, k);
-    let bytes = section_bytes(image, image_places, k, head);
-    let Ok(end) = end_for_section(
-        b,
-        places,
-        order,
-        name_bytes,
-        name_places,
-        name_lengths,
-        section,
-        head,
-        bytes,
-    ) else {
+    let head = section_at(&obj.heads, k);
+    let bytes = section_bytes(image.bytes, image.places, k, head);
+    let Ok(end) = end_for_section(&obj.symbols, obj.order, &obj.names, section, head, bytes) else {
         return refuse(10, section, head.address);
     };
-    let name = name_at(name_bytes, name_places, name_lengths, head.name as usize);
+    let name = name_at(&obj.names, head.name as usize);
     let least = default_alignment(head, name);
     section_gaps(
-        b,
-        places,
-        order,
+        &obj.symbols,
+        obj.order,
         marks,
         keys,
         gap_ends,
         count,
-        starts,
-        ends,
-        units,
-        rest,
+        splits,
         n,
         section,
         least,
@@ -409,62 +357,30 @@ fn gaps_of(
 
 // All gaps of all sections, in the order in which they enter: how many there are, or the first refusal: 10, 11, 40, 41, 42.
 pub fn find_gaps(
-    b: &[u8],
-    places: &[u32],
-    order: &[u16],
-    name_bytes: &[u8],
-    name_places: &[u32],
-    name_lengths: &[u8],
-    heads: &[u8],
-    head_places: &[u32],
-    image: &[u8],
-    image_places: &[u32],
-    starts: &[u32],
-    ends: &[u32],
-    units: &[u16],
-    rest: &[u64],
+    obj: &Obj,
+    image: &Table,
+    splits: &SplitColumns,
     n: usize,
     marks: &mut [u8],
     keys: &mut [u64],
     gap_ends: &mut [u32],
 ) -> Result<usize, Refusal>
-    requires { Tables b.now places.now order.now name_bytes.now name_places.now name_lengths.now
-        × Kept heads.now head_places.now image.now image_places.now name_places.now
-        × Sound (symbol_of b.now places.now) (length places.now)
-        × Long (columns starts.now ends.now units.now rest.now) n
-        × Clean marks.old × (length name_places.now ≤ length marks.old)
-        × Roomy keys.old gap_ends.old (length head_places.now) n (length places.now) }
+    requires { TablesIn obj.now
+        × Kept obj.now.heads.bytes.now obj.now.heads.places.now image.now.bytes.now image.now.places.now obj.now.names.places.now
+        × Sound (symbol_of obj.now.symbols.bytes.now obj.now.symbols.places.now) (length obj.now.symbols.places.now)
+        × Long (columns_of splits.now) n
+        × Clean marks.old × (length obj.now.names.places.now ≤ length marks.old)
+        × Roomy keys.old gap_ends.old (length obj.now.heads.places.now) n (length obj.now.symbols.places.now) }
     ensures { (searched keys.new gap_ends.new result
         ≡ found_gaps
-        (image_of b.now places.now name_bytes.now name_places.now name_lengths.now)
-        (sections_of heads.now head_places.now image.now image_places.now)
-        (rows (columns starts.now ends.now units.now rest.now) n))
+        (image_in obj.now)
+        (sections_of obj.now.heads.bytes.now obj.now.heads.places.now image.now.bytes.now image.now.places.now)
+        (rows (columns_of splits.now) n))
         × Clean marks.new }
 {
     let mut found: usize = 0;
-    for k in 0..head_places.len() {
-        found = gaps_of(
-            b,
-            places,
-            order,
-            name_bytes,
-            name_places,
-            name_lengths,
-            heads,
-            head_places,
-            image,
-            image_places,
-            starts,
-            ends,
-            units,
-            rest,
-            n,
-            marks,
-            keys,
-            gap_ends,
-            found,
-            k,
-        )?;
+    for k in 0..obj.heads.places.len() {
+        found = gaps_of(obj, image, splits, n, marks, keys, gap_ends, found, k)?;
     }
     Ok(found)
 }

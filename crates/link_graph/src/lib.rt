@@ -4,15 +4,15 @@
 ghost use Rattle.std.specs.Prelude.{◌≡◌, ◌&&◌, not, ◌++◌, map, ℕ, ◌+◌, ◌-◌, ◌%◌, ◌<◌, ◌≤◌, ◌≢◌, eqb, length, get_or, take, replicate, MatchOption};
 ghost use Rattle.lists.specs.Rows.{keep_if};
 ghost use Rattle.lists.specs.Sort.{All};
-ghost use Rattle.splits.specs.Columns.{columns, rows, row_at, Long};
+ghost use Rattle.splits.specs.Columns.{rows, row_at, Long, columns_of};
 ghost use Rattle.symbol_order.specs.Keys.{unit_of};
 ghost use Rattle.splits.specs.Questions.{is_common};
 ghost use Rattle.link_graph.specs.Graph.{UnitEdge, is_first as firstOfSection, apart as keptApart, split_edges, links};
 ghost use Rattle.link_graph.specs.Columns.{pointers_in, given_of, SectionNames, Splits, Units, Countable, Counted, Listed, Front, Edgeable, Edged, Lent, Graphed};
 
-use names::{is_pointer_list, name_at};
-use obj::{Split, section_at, unit_at};
-use splits::row;
+use names::{Names, is_pointer_list, name_at};
+use obj::{Split, Table, section_at, unit_at};
+use splits::{SplitColumns, row};
 
 // In a column by name number: a unit that has no node. A number, since a place is two bytes of a lent column, which an `Option` does not fit; a node is less
 // than 1,024.
@@ -54,63 +54,37 @@ fn count_units(us: &[u16], column: &mut [u16], nodes: &mut [u16]) -> usize
 // ---- the edges of neighbours
 
 // Whether row i is the first of its section.
-fn is_first(starts: &[u32], ends: &[u32], units: &[u16], rest: &[u64], n: usize, i: usize) -> bool
-    requires { Long (columns starts.now ends.now units.now rest.now) n × (i < n) }
-    ensures { result ≡ firstOfSection (rows (columns starts.now ends.now units.now rest.now) n) i }
+fn is_first(splits: &SplitColumns, n: usize, i: usize) -> bool
+    requires { Long (columns_of splits.now) n × (i < n) }
+    ensures { result ≡ firstOfSection (rows (columns_of splits.now) n) i }
 {
     if i == 0 {
         return true;
     }
-    let before = row(starts, ends, units, rest, i - 1);
-    let s = row(starts, ends, units, rest, i);
+    let before = row(splits, i - 1);
+    let s = row(splits, i);
     before.section != s.section
 }
 
 // Whether section k is named `.ctors` or `.dtors`.
-fn has_pointers(
-    heads: &[u8],
-    head_places: &[u32],
-    name_bytes: &[u8],
-    name_places: &[u32],
-    name_lengths: &[u8],
-    k: usize,
-) -> bool
-    requires { SectionNames heads.now head_places.now name_bytes.now name_places.now name_lengths.now × (k < length head_places.now) }
-    ensures { result ≡ pointers_in heads.now head_places.now name_bytes.now name_places.now name_lengths.now k }
+fn has_pointers(heads: &Table, names: &Names, k: usize) -> bool
+    requires { SectionNames heads.now.bytes.now heads.now.places.now names.now.bytes.now names.now.places.now names.now.lengths.now × (k < length heads.now.places.now) }
+    ensures { result ≡ pointers_in heads.now.bytes.now heads.now.places.now names.now.bytes.now names.now.places.now names.now.lengths.now k }
 {
-    let head = section_at(heads, head_places, k);
-    is_pointer_list(name_at(name_bytes, name_places, name_lengths, head.name as usize))
+    let head = section_at(heads, k);
+    is_pointer_list(name_at(names, head.name as usize))
 }
 
 // "the first split of `.ctors` and `.dtors` is passed over"
-fn is_passed(
-    starts: &[u32],
-    ends: &[u32],
-    units: &[u16],
-    rest: &[u64],
-    n: usize,
-    heads: &[u8],
-    head_places: &[u32],
-    name_bytes: &[u8],
-    name_places: &[u32],
-    name_lengths: &[u8],
-    i: usize,
-) -> bool
-    requires { Splits (columns starts.now ends.now units.now rest.now) n heads.now head_places.now name_bytes.now name_places.now name_lengths.now × (i < n) }
-    ensures { result ≡ (firstOfSection (rows (columns starts.now ends.now units.now rest.now) n) i
-        && pointers_in heads.now head_places.now name_bytes.now name_places.now name_lengths.now
-        (row_at (columns starts.now ends.now units.now rest.now) i).section) }
+fn is_passed(splits: &SplitColumns, n: usize, heads: &Table, names: &Names, i: usize) -> bool
+    requires { Splits (columns_of splits.now) n heads.now.bytes.now heads.now.places.now names.now.bytes.now names.now.places.now names.now.lengths.now × (i < n) }
+    ensures { result ≡ (firstOfSection (rows (columns_of splits.now) n) i
+        && pointers_in heads.now.bytes.now heads.now.places.now names.now.bytes.now names.now.places.now names.now.lengths.now
+        (row_at (columns_of splits.now) i).section) }
 {
-    if is_first(starts, ends, units, rest, n, i) {
-        let s = row(starts, ends, units, rest, i);
-        return has_pointers(
-            heads,
-            head_places,
-            name_bytes,
-            name_places,
-            name_lengths,
-            s.section as usize,
-        );
+    if is_first(splits, n, i) {
+        let s = row(splits, i);
+        return has_pointers(heads, names, s.section as usize);
     }
     false
 }
@@ -123,83 +97,41 @@ fn is_common(s: Split) -> bool
 }
 
 // Whether row i and the next one give no edge: "An edge joins neighbours of different units in a section unless the second alone is common".
-fn apart(
-    starts: &[u32],
-    ends: &[u32],
-    units: &[u16],
-    rest: &[u64],
-    n: usize,
-    heads: &[u8],
-    head_places: &[u32],
-    name_bytes: &[u8],
-    name_places: &[u32],
-    name_lengths: &[u8],
-    i: usize,
-) -> bool
-    requires { Splits (columns starts.now ends.now units.now rest.now) n heads.now head_places.now name_bytes.now name_places.now name_lengths.now × (i + 1 < n) }
-    ensures { result ≡ keptApart (pointers_in heads.now head_places.now name_bytes.now name_places.now name_lengths.now)
-        (rows (columns starts.now ends.now units.now rest.now) n) i }
+fn apart(splits: &SplitColumns, n: usize, heads: &Table, names: &Names, i: usize) -> bool
+    requires { Splits (columns_of splits.now) n heads.now.bytes.now heads.now.places.now names.now.bytes.now names.now.places.now names.now.lengths.now × (i + 1 < n) }
+    ensures { result ≡ keptApart (pointers_in heads.now.bytes.now heads.now.places.now names.now.bytes.now names.now.places.now names.now.lengths.now)
+        (rows (columns_of splits.now) n) i }
 {
-    let s = row(starts, ends, units, rest, i);
-    let t = row(starts, ends, units, rest, i + 1);
-    let passed = is_passed(
-        starts,
-        ends,
-        units,
-        rest,
-        n,
-        heads,
-        head_places,
-        name_bytes,
-        name_places,
-        name_lengths,
-        i,
-    );
+    let s = row(splits, i);
+    let t = row(splits, i + 1);
+    let passed = is_passed(splits, n, heads, names, i);
     (s.section != t.section) | (s.unit == t.unit) | (is_common(t) & !is_common(s)) | passed
 }
 
 // The edges of neighbours, at the front of two columns; `column` has the nodes.
 fn split_edges(
-    starts: &[u32],
-    ends: &[u32],
-    units: &[u16],
-    rest: &[u64],
+    splits: &SplitColumns,
     n: usize,
-    heads: &[u8],
-    head_places: &[u32],
-    name_bytes: &[u8],
-    name_places: &[u32],
-    name_lengths: &[u8],
+    heads: &Table,
+    names: &Names,
     column: &[u16],
     from: &mut [u16],
     to: &mut [u16],
 ) -> usize
-    requires { Splits (columns starts.now ends.now units.now rest.now) n heads.now head_places.now name_bytes.now name_places.now name_lengths.now
-        × ((i : ℕ) → i < n → (row_at (columns starts.now ends.now units.now rest.now) i).unit < length column.now)
+    requires { Splits (columns_of splits.now) n heads.now.bytes.now heads.now.places.now names.now.bytes.now names.now.places.now names.now.lengths.now
+        × ((i : ℕ) → i < n → (row_at (columns_of splits.now) i).unit < length column.now)
         × (n ≤ length from.old)
         × (n ≤ length to.old) }
     ensures { Listed (λ (e : UnitEdge). get_or column.now e.from 0) (λ (e : UnitEdge). get_or column.now e.to 0)
-        (split_edges (pointers_in heads.now head_places.now name_bytes.now name_places.now name_lengths.now)
-        (rows (columns starts.now ends.now units.now rest.now) n))
+        (split_edges (pointers_in heads.now.bytes.now heads.now.places.now names.now.bytes.now names.now.places.now names.now.lengths.now)
+        (rows (columns_of splits.now) n))
         from.new to.new n result }
 {
     let mut e: usize = 0;
     for i in 0..n.saturating_sub(1) {
-        if !apart(
-            starts,
-            ends,
-            units,
-            rest,
-            n,
-            heads,
-            head_places,
-            name_bytes,
-            name_places,
-            name_lengths,
-            i,
-        ) {
-            from[e] = column[units[i] as usize];
-            to[e] = column[units[i + 1] as usize];
+        if !apart(splits, n, heads, names, i) {
+            from[e] = column[splits.units[i] as usize];
+            to[e] = column[splits.units[i + 1] as usize];
             e += 1;
         }
     }
@@ -209,12 +141,12 @@ fn split_edges(
 // ---- the chain of order numbers
 
 // The node of unit record k.
-fn node_at(unit_bytes: &[u8], unit_places: &[u32], column: &[u16], k: usize) -> Option<u16>
-    requires { Units unit_bytes.now unit_places.now column.now × (k < length unit_places.now) }
-    ensures { MatchOption result (get_or column.now (unit_of unit_bytes.now unit_places.now k).name 0 ≡ 65535)
-        (λ v. (v ≡ get_or column.now (unit_of unit_bytes.now unit_places.now k).name 0) × (v ≢ 65535)) }
+fn node_at(unit_table: &Table, column: &[u16], k: usize) -> Option<u16>
+    requires { Units unit_table.now.bytes.now unit_table.now.places.now column.now × (k < length unit_table.now.places.now) }
+    ensures { MatchOption result (get_or column.now (unit_of unit_table.now.bytes.now unit_table.now.places.now k).name 0 ≡ 65535)
+        (λ v. (v ≡ get_or column.now (unit_of unit_table.now.bytes.now unit_table.now.places.now k).name 0) × (v ≢ 65535)) }
 {
-    let u = unit_at(unit_bytes, unit_places, k);
+    let u = unit_at(unit_table, k);
     match column[u.name as usize] {
         NONE => None,
         v => Some(v),
@@ -222,15 +154,15 @@ fn node_at(unit_bytes: &[u8], unit_places: &[u32], column: &[u16], k: usize) -> 
 }
 
 // "chain those that have splits": the records' numbers become nodes, and those without a node go.
-fn keep_nodes(unit_bytes: &[u8], unit_places: &[u32], column: &[u16], s: &mut [u16]) -> usize
-    requires { Units unit_bytes.now unit_places.now column.now × All (λ k. k < length unit_places.now) s.old }
+fn keep_nodes(unit_table: &Table, column: &[u16], s: &mut [u16]) -> usize
+    requires { Units unit_table.now.bytes.now unit_table.now.places.now column.now × All (λ k. k < length unit_table.now.places.now) s.old }
     ensures { Front s.new
-        (keep_if (λ v. not (eqb v 65535)) (map (λ k. get_or column.now (unit_of unit_bytes.now unit_places.now k).name 0) s.old))
+        (keep_if (λ v. not (eqb v 65535)) (map (λ k. get_or column.now (unit_of unit_table.now.bytes.now unit_table.now.places.now k).name 0) s.old))
         (length s.old) result }
 {
     let mut k: usize = 0;
     for i in 0..s.len() {
-        if let Some(v) = node_at(unit_bytes, unit_places, column, s[i] as usize) {
+        if let Some(v) = node_at(unit_table, column, s[i] as usize) {
             s[k] = v;
             k += 1;
         }
@@ -257,94 +189,51 @@ fn link_nodes(s: &[u16], from: &mut [u16], to: &mut [u16], e: usize) -> usize
 
 // The edges of neighbours, and behind them those of the chain. `column` has the nodes; `numbers` has the units that have an order, lowest first.
 fn make_edges(
-    starts: &[u32],
-    ends: &[u32],
-    units: &[u16],
-    rest: &[u64],
+    splits: &SplitColumns,
     n: usize,
-    heads: &[u8],
-    head_places: &[u32],
-    name_bytes: &[u8],
-    name_places: &[u32],
-    name_lengths: &[u8],
-    unit_bytes: &[u8],
-    unit_places: &[u32],
+    heads: &Table,
+    names: &Names,
+    unit_table: &Table,
     column: &[u16],
     numbers: &mut [u16],
     from: &mut [u16],
     to: &mut [u16],
 ) -> usize
-    requires { Splits (columns starts.now ends.now units.now rest.now) n heads.now head_places.now name_bytes.now name_places.now name_lengths.now
-        × Edgeable (columns starts.now ends.now units.now rest.now) n unit_bytes.now unit_places.now column.now numbers.old from.old to.old }
-    ensures { Edged (given_of (columns starts.now ends.now units.now rest.now) n heads.now head_places.now
-        name_bytes.now name_places.now name_lengths.now unit_bytes.now unit_places.now)
+    requires { Splits (columns_of splits.now) n heads.now.bytes.now heads.now.places.now names.now.bytes.now names.now.places.now names.now.lengths.now
+        × Edgeable (columns_of splits.now) n unit_table.now.bytes.now unit_table.now.places.now column.now numbers.old from.old to.old }
+    ensures { Edged (given_of (columns_of splits.now) n heads.now.bytes.now heads.now.places.now
+        names.now.bytes.now names.now.places.now names.now.lengths.now unit_table.now.bytes.now unit_table.now.places.now)
         from.new to.new result }
 {
-    let e = split_edges(
-        starts,
-        ends,
-        units,
-        rest,
-        n,
-        heads,
-        head_places,
-        name_bytes,
-        name_places,
-        name_lengths,
-        column,
-        from,
-        to,
-    );
-    let k = keep_nodes(unit_bytes, unit_places, column, numbers);
+    let e = split_edges(splits, n, heads, names, column, from, to);
+    let k = keep_nodes(unit_table, column, numbers);
     link_nodes(&numbers[..k], from, to, e)
 }
 
 // The nodes and the edges, at the front of the columns. `numbers` has the units that have an order, lowest first, and is used up; what the other columns
 // hold at first is of no matter.
 pub fn make_graph(
-    starts: &[u32],
-    ends: &[u32],
-    units: &[u16],
-    rest: &[u64],
+    splits: &SplitColumns,
     n: usize,
-    heads: &[u8],
-    head_places: &[u32],
-    name_bytes: &[u8],
-    name_places: &[u32],
-    name_lengths: &[u8],
-    unit_bytes: &[u8],
-    unit_places: &[u32],
+    heads: &Table,
+    names: &Names,
+    unit_table: &Table,
     numbers: &mut [u16],
     column: &mut [u16],
     nodes: &mut [u16],
     from: &mut [u16],
     to: &mut [u16],
 ) -> Made
-    requires { Splits (columns starts.now ends.now units.now rest.now) n heads.now head_places.now name_bytes.now name_places.now name_lengths.now
-        × Lent (columns starts.now ends.now units.now rest.now) n unit_bytes.now unit_places.now numbers.old column.old nodes.old from.old to.old }
-    ensures { Graphed (given_of (columns starts.now ends.now units.now rest.now) n heads.now head_places.now
-        name_bytes.now name_places.now name_lengths.now unit_bytes.now unit_places.now)
+    requires { Splits (columns_of splits.now) n heads.now.bytes.now heads.now.places.now names.now.bytes.now names.now.places.now names.now.lengths.now
+        × Lent (columns_of splits.now) n unit_table.now.bytes.now unit_table.now.places.now numbers.old column.old nodes.old from.old to.old }
+    ensures { Graphed (given_of (columns_of splits.now) n heads.now.bytes.now heads.now.places.now
+        names.now.bytes.now names.now.places.now names.now.lengths.now unit_table.now.bytes.now unit_table.now.places.now)
         nodes.new from.new to.new result }
 {
     blank(column);
-    let m = count_units(&units[..n], column, nodes);
+    let m = count_units(&splits.units[..n], column, nodes);
     let e = make_edges(
-        starts,
-        ends,
-        units,
-        rest,
-        n,
-        heads,
-        head_places,
-        name_bytes,
-        name_places,
-        name_lengths,
-        unit_bytes,
-        unit_places,
-        column,
-        numbers,
-        from,
-        to,
+        splits, n, heads, names, unit_table, column, numbers, from, to,
     );
     Made { nodes: m, edges: e }
 }

@@ -12,6 +12,8 @@ ghost use Rattle.listing.specs.Tables.{run_of, Readable};
 use crate::seek::seek;
 use crate::text::{piece_line, reloc_line, symbol_line, unit_line};
 use lines::write_total;
+use names::Names;
+use obj::Table;
 
 // Where the next line begins, and the sum of the figures so far.
 #[derive(Clone, Copy)]
@@ -33,18 +35,11 @@ pub struct Line {
 
 // The next line of the listing, if one is left.
 pub fn next_line<'a>(
-    base_bytes: &'a [u8],
-    base_places: &[u32],
-    base_lengths: &[u8],
-    added_bytes: &'a [u8],
-    added_places: &[u32],
-    added_lengths: &[u8],
-    symbols: &[u8],
-    symbol_places: &[u32],
-    relocs: &[u8],
-    reloc_places: &[u32],
-    units: &[u8],
-    unit_places: &[u32],
+    base: &Names<'a, '_, '_>,
+    added: &Names<'a, '_, '_>,
+    symbols: &Table,
+    relocs: &Table,
+    unit_table: &Table,
     pieces: &[u8],
     piece_count: usize,
     piece_symbols: &[u8],
@@ -55,25 +50,25 @@ pub fn next_line<'a>(
     out: &mut [u8],
 ) -> Option<Line>
     requires { (208 ≤ length out.old)
-        × Valid (length unit_places.now) cursor
+        × Valid (length unit_table.now.places.now) cursor
         × Readable
         (record {
-          base = record { bytes = base_bytes.now; places = base_places.now; lengths = base_lengths.now };
-          added = record { bytes = added_bytes.now; places = added_places.now; lengths = added_lengths.now };
-          symbols = record { bytes = symbols.now; places = symbol_places.now };
-          relocs = record { bytes = relocs.now; places = reloc_places.now };
-          units = record { bytes = units.now; places = unit_places.now };
+          base = record { bytes = base.now.bytes.now; places = base.now.places.now; lengths = base.now.lengths.now };
+          added = record { bytes = added.now.bytes.now; places = added.now.places.now; lengths = added.now.lengths.now };
+          symbols = record { bytes = symbols.now.bytes.now; places = symbols.now.places.now };
+          relocs = record { bytes = relocs.now.bytes.now; places = relocs.now.places.now };
+          units = record { bytes = unit_table.now.bytes.now; places = unit_table.now.places.now };
           pieces = record { bytes = pieces.now; count = piece_count };
           piece_symbols = record { bytes = piece_symbols.now; count = piece_symbol_count };
           piece_relocs = record { bytes = piece_relocs.now; count = piece_reloc_count };
         }) }
     ensures { NextLine (run_of
         (record {
-          base = record { bytes = base_bytes.now; places = base_places.now; lengths = base_lengths.now };
-          added = record { bytes = added_bytes.now; places = added_places.now; lengths = added_lengths.now };
-          symbols = record { bytes = symbols.now; places = symbol_places.now };
-          relocs = record { bytes = relocs.now; places = reloc_places.now };
-          units = record { bytes = units.now; places = unit_places.now };
+          base = record { bytes = base.now.bytes.now; places = base.now.places.now; lengths = base.now.lengths.now };
+          added = record { bytes = added.now.bytes.now; places = added.now.places.now; lengths = added.now.lengths.now };
+          symbols = record { bytes = symbols.now.bytes.now; places = symbols.now.places.now };
+          relocs = record { bytes = relocs.now.bytes.now; places = relocs.now.places.now };
+          units = record { bytes = unit_table.now.bytes.now; places = unit_table.now.places.now };
           pieces = record { bytes = pieces.now; count = piece_count };
           piece_symbols = record { bytes = piece_symbols.now; count = piece_symbol_count };
           piece_relocs = record { bytes = piece_relocs.now; count = piece_reloc_count };
@@ -81,7 +76,7 @@ pub fn next_line<'a>(
         cursor out.old out.new result }
 {
     let ready = seek(
-        unit_places.len(),
+        unit_table.places.len(),
         pieces,
         piece_count,
         piece_symbols,
@@ -92,16 +87,10 @@ pub fn next_line<'a>(
     );
     match ready {
         Cursor::Units { unit, bytes } => Some(unit_line(
-            base_bytes,
-            base_places,
-            base_lengths,
-            added_bytes,
-            added_places,
-            added_lengths,
+            base,
+            added,
             symbols,
-            symbol_places,
-            units,
-            unit_places,
+            unit_table,
             pieces,
             piece_count,
             piece_symbols,
@@ -111,27 +100,12 @@ pub fn next_line<'a>(
             out,
         )),
         Cursor::Pieces { unit, at, bytes } => Some(piece_line(
-            base_bytes,
-            base_places,
-            base_lengths,
-            added_bytes,
-            added_places,
-            added_lengths,
-            pieces,
-            unit,
-            at,
-            bytes,
-            out,
+            base, added, pieces, unit, at, bytes, out,
         )),
         Cursor::Symbols { unit, at, bytes } => Some(symbol_line(
-            base_bytes,
-            base_places,
-            base_lengths,
-            added_bytes,
-            added_places,
-            added_lengths,
+            base,
+            added,
             symbols,
-            symbol_places,
             pieces,
             piece_count,
             piece_symbols,
@@ -142,7 +116,6 @@ pub fn next_line<'a>(
         )),
         Cursor::Relocs { unit, at, bytes } => Some(reloc_line(
             relocs,
-            reloc_places,
             pieces,
             piece_count,
             piece_relocs,
@@ -152,7 +125,12 @@ pub fn next_line<'a>(
             out,
         )),
         Cursor::Total { bytes } => {
-            let length = write_total(out, unit_places.len() as u16, piece_count as u16, bytes);
+            let length = write_total(
+                out,
+                unit_table.places.len() as u16,
+                piece_count as u16,
+                bytes,
+            );
             Some(Line {
                 length,
                 next: Cursor::Done,

@@ -8,39 +8,26 @@ ghost use Rattle.listing.specs.Cursor.{piece_of, owner_at};
 ghost use Rattle.listing.specs.Tables.{Known, Name, Adds, Summed, Figure};
 
 use lines::Owner;
-use names::name_at;
-use obj::symbol_at;
+use names::{Names, name_at};
+use obj::{Table, symbol_at};
 use pieces::{Piece, piece_at, piece_symbol_at};
 
 // A number below the base's count is a base name, else an added one.
-pub fn name_of<'a>(
-    base_bytes: &'a [u8],
-    base_places: &[u32],
-    base_lengths: &[u8],
-    added_bytes: &'a [u8],
-    added_places: &[u32],
-    added_lengths: &[u8],
-    k: usize,
-) -> &'a [u8]
+pub fn name_of<'a>(base: &Names<'a, '_, '_>, added: &Names<'a, '_, '_>, k: usize) -> &'a [u8]
     requires { Known
-        (record { bytes = base_bytes.now; places = base_places.now; lengths = base_lengths.now })
-        (record { bytes = added_bytes.now; places = added_places.now; lengths = added_lengths.now })
+        (record { bytes = base.now.bytes.now; places = base.now.places.now; lengths = base.now.lengths.now })
+        (record { bytes = added.now.bytes.now; places = added.now.places.now; lengths = added.now.lengths.now })
         k }
     ensures { Name
-        (record { bytes = base_bytes.now; places = base_places.now; lengths = base_lengths.now })
-        (record { bytes = added_bytes.now; places = added_places.now; lengths = added_lengths.now })
+        (record { bytes = base.now.bytes.now; places = base.now.places.now; lengths = base.now.lengths.now })
+        (record { bytes = added.now.bytes.now; places = added.now.places.now; lengths = added.now.lengths.now })
         k
         result.now }
 {
-    if k < base_places.len() {
-        return name_at(base_bytes, base_places, base_lengths, k);
+    if k < base.places.len() {
+        return name_at(base, k);
     }
-    name_at(
-        added_bytes,
-        added_places,
-        added_lengths,
-        k - base_places.len(),
-    )
+    name_at(added, k - base.places.len())
 }
 
 // Piece k; all zeros where there is none.
@@ -101,17 +88,11 @@ fn pieces_size(pieces: &[u8], count: usize, unit: u16) -> u64
 }
 
 // What piece symbol k adds to the figure of the unit: the size of the image's symbol, if it is listed as common and that size is known.
-fn common_in(
-    symbols: &[u8],
-    symbol_places: &[u32],
-    piece_symbols: &[u8],
-    k: usize,
-    unit: u16,
-) -> u64
+fn common_in(symbols: &Table, piece_symbols: &[u8], k: usize, unit: u16) -> u64
     requires { (12 * k + 12 ≤ length piece_symbols.now)
-        × Held 20 symbols.now symbol_places.now (symbol_at piece_symbols.now (12 * k)).symbol }
+        × Held 20 symbols.now.bytes.now symbols.now.places.now (symbol_at piece_symbols.now (12 * k)).symbol }
     ensures { Adds unit (symbol_at piece_symbols.now (12 * k)).unit
-        (common_size (symbol_of symbols.now symbol_places.now) (symbol_at piece_symbols.now (12 * k))) result }
+        (common_size (symbol_of symbols.now.bytes.now symbols.now.places.now) (symbol_at piece_symbols.now (12 * k))) result }
 {
     let y = piece_symbol_at(piece_symbols, k);
     if y.unit != unit {
@@ -120,7 +101,7 @@ fn common_in(
     if y.piece != 65535 {
         return 0;
     }
-    let s = symbol_at(symbols, symbol_places, y.symbol as usize);
+    let s = symbol_at(symbols, y.symbol as usize);
     if s.size_known == 1 {
         return s.size as u64;
     }
@@ -128,30 +109,23 @@ fn common_in(
 }
 
 // "the sizes of the unit's symbols of known size that are listed as `common`, each once"
-fn commons_size(
-    symbols: &[u8],
-    symbol_places: &[u32],
-    piece_symbols: &[u8],
-    count: usize,
-    unit: u16,
-) -> u64
+fn commons_size(symbols: &Table, piece_symbols: &[u8], count: usize, unit: u16) -> u64
     requires { (12 * count ≤ length piece_symbols.now)
         × (count ≤ 4096)
-        × ((k : ℕ) → k < count → Held 20 symbols.now symbol_places.now (symbol_at piece_symbols.now (12 * k)).symbol) }
+        × ((k : ℕ) → k < count → Held 20 symbols.now.bytes.now symbols.now.places.now (symbol_at piece_symbols.now (12 * k)).symbol) }
     ensures { Summed count
-        (commons (symbol_of symbols.now symbol_places.now) (symbols_of unit (symbols_in piece_symbols.now count))) result }
+        (commons (symbol_of symbols.now.bytes.now symbols.now.places.now) (symbols_of unit (symbols_in piece_symbols.now count))) result }
 {
     let mut sum: u64 = 0;
     for k in 0..count {
-        sum += common_in(symbols, symbol_places, piece_symbols, k, unit);
+        sum += common_in(symbols, piece_symbols, k, unit);
     }
     sum
 }
 
 // "the unit figure is the pieces' sizes plus ..", in 64 bits
 pub fn figure_of(
-    symbols: &[u8],
-    symbol_places: &[u32],
+    symbols: &Table,
     pieces: &[u8],
     piece_count: usize,
     piece_symbols: &[u8],
@@ -162,17 +136,11 @@ pub fn figure_of(
         × (piece_count ≤ 1024)
         × (12 * piece_symbol_count ≤ length piece_symbols.now)
         × (piece_symbol_count ≤ 4096)
-        × ((k : ℕ) → k < piece_symbol_count → Held 20 symbols.now symbol_places.now (symbol_at piece_symbols.now (12 * k)).symbol) }
-    ensures { Figure (symbol_of symbols.now symbol_places.now) (pieces_in pieces.now piece_count)
+        × ((k : ℕ) → k < piece_symbol_count → Held 20 symbols.now.bytes.now symbols.now.places.now (symbol_at piece_symbols.now (12 * k)).symbol) }
+    ensures { Figure (symbol_of symbols.now.bytes.now symbols.now.places.now) (pieces_in pieces.now piece_count)
         (symbols_in piece_symbols.now piece_symbol_count) unit result }
 {
     let of_pieces = pieces_size(pieces, piece_count, unit);
-    let of_commons = commons_size(
-        symbols,
-        symbol_places,
-        piece_symbols,
-        piece_symbol_count,
-        unit,
-    );
+    let of_commons = commons_size(symbols, piece_symbols, piece_symbol_count, unit);
     of_pieces + of_commons
 }

@@ -15,9 +15,9 @@ ghost use Rattle.load.specs.Columns.{part, tables_in, floors_in, no_counts, faul
 
 use faults::{reloc_bad, section_bad, split_bad, symbol_bad, unit_bad};
 use fields::{get16, get32};
-use names::{bad_name, bucket_of, clear_heads, enter, find};
+use names::{NameIndex, Names, bad_name, bucket_of, clear_heads, enter, find};
 use obj::{
-    PARTIAL_BYTES, Refusal, Section, read_partial, read_reloc, read_section, read_symbol,
+    PARTIAL_BYTES, Refusal, Section, Table, read_partial, read_reloc, read_section, read_symbol,
     read_unit, refuse,
 };
 use tables::{Ceilings, length_of, section_or_none};
@@ -80,7 +80,13 @@ fn home_of(file: &[u8], places: &[u32], n: usize, k: u16) -> Section
     ensures { result ≡ get_or (sections_in file.now (part 0 n places.now)) k no_section }
 {
     let end = SECTIONS + n;
-    section_or_none(file, &places[SECTIONS..end], k as usize)
+    section_or_none(
+        &Table {
+            bytes: file,
+            places: &places[SECTIONS..end],
+        },
+        k as usize,
+    )
 }
 
 // One more than the address of the last relocation of section k, 0 if there is none.
@@ -103,22 +109,22 @@ fn find_name(
     n: Counts,
     places: &[u32],
     lengths: &[u8],
-    heads: &[u16],
-    chain: &[u16],
+    index: &NameIndex,
 ) -> Option<usize>
-    requires { (at + len ≤ length file.now) × NamesReady file.now n places.now lengths.now heads.now chain.now }
+    requires { (at + len ≤ length file.now) × NamesReady file.now n places.now lengths.now index.now.heads.now index.now.chain.now }
     ensures { Sought (names_in file.now (tables_in n places.now lengths.now)) (take len (drop at file.now)) result }
 {
     let known = n.names;
     let end = NAMES + known;
     let past = at + len;
     find(
-        file,
-        &places[NAMES..end],
-        &lengths[..known],
+        &Names {
+            bytes: file,
+            places: &places[NAMES..end],
+            lengths: &lengths[..known],
+        },
         known,
-        heads,
-        chain,
+        index,
         &file[at..past],
     )
 }
@@ -136,14 +142,13 @@ fn name_number(
     n: Counts,
     places: &[u32],
     lengths: &[u8],
-    heads: &[u16],
-    chain: &[u16],
+    index: &NameIndex,
 ) -> Result<(), u16>
-    requires { (at + len ≤ length file.now) × Ready c file.now n places.now lengths.now heads.now chain.now }
+    requires { (at + len ≤ length file.now) × Ready c file.now n places.now lengths.now index.now.heads.now index.now.chain.now }
     ensures { result ≡ fault_as (name_number c file.now at len (tables_in n places.now lengths.now)) }
 {
     let past = at + len;
-    if find_name(file, at, len, n, places, lengths, heads, chain).is_some() {
+    if find_name(file, at, len, n, places, lengths, index).is_some() {
         return Ok(());
     }
     if c.names <= n.names {
@@ -316,14 +321,13 @@ fn kind_number(
     n: Counts,
     places: &[u32],
     lengths: &[u8],
-    heads: &[u16],
-    chain: &[u16],
+    index: &NameIndex,
 ) -> Result<(), u16>
-    requires { (at + len ≤ length file.now) × Ready c file.now n places.now lengths.now heads.now chain.now }
+    requires { (at + len ≤ length file.now) × Ready c file.now n places.now lengths.now index.now.heads.now index.now.chain.now }
     ensures { result ≡ fault_as (kind_number c file.now at len (tables_in n places.now lengths.now) kind) }
 {
     if kind == 1 {
-        return name_number(file, at, len, c, n, places, lengths, heads, chain);
+        return name_number(file, at, len, c, n, places, lengths, index);
     }
     if kind == 2 {
         return section_number(file, at, len, c, n, places, lengths);
@@ -351,10 +355,9 @@ fn record_number(
     n: Counts,
     places: &[u32],
     lengths: &[u8],
-    heads: &[u16],
-    chain: &[u16],
+    index: &NameIndex,
 ) -> Result<(), u16>
-    requires { (at ≤ length file.now) × Ready c file.now n places.now lengths.now heads.now chain.now }
+    requires { (at ≤ length file.now) × Ready c file.now n places.now lengths.now index.now.heads.now index.now.chain.now }
     ensures { result ≡ fault_as (record_number c file.now at (tables_in n places.now lengths.now)) }
 {
     let start = at + 6;
@@ -374,8 +377,7 @@ fn record_number(
         n,
         places,
         lengths,
-        heads,
-        chain,
+        index,
     )
 }
 
@@ -459,7 +461,20 @@ fn keep_name(
     ensures { Kept c file.now at len 1 (tables_in n places.old lengths.old) result places.new lengths.new heads.new chain.new }
 {
     let known = n.names;
-    if find_name(file, at, len, n, places, lengths, heads, chain).is_some() {
+    if find_name(
+        file,
+        at,
+        len,
+        n,
+        places,
+        lengths,
+        &NameIndex {
+            heads: &*heads,
+            chain: &*chain,
+        },
+    )
+    .is_some()
+    {
         return n;
     }
     let past = at + len;
@@ -543,7 +558,18 @@ fn load_records(
     let mut r = 0;
     // no count: each record says where the next one starts
     while at < file.len() {
-        if let Err(number) = record_number(file, at, c, n, places, lengths, heads, chain) {
+        if let Err(number) = record_number(
+            file,
+            at,
+            c,
+            n,
+            places,
+            lengths,
+            &NameIndex {
+                heads: &*heads,
+                chain: &*chain,
+            },
+        ) {
             return refuse(number, 0, r);
         }
         n = keep_record(file, at, c, n, places, lengths, heads, chain);

@@ -6,15 +6,15 @@ ghost use Rattle.std.specs.Prelude.{◌≡◌, ◌+◌, ◌-◌, ◌≤◌, ◌<
 ghost use Rattle.lists.specs.Rows.{tabulate};
 ghost use Rattle.obj.specs.Answers.{meaning};
 ghost use Rattle.obj.specs.Records.{section_at};
-ghost use Rattle.splits.specs.Columns.{columns, row_at, rows, Long};
+ghost use Rattle.splits.specs.Columns.{columns, row_at, rows, Long, columns_of};
 ghost use Rattle.lines.specs.Lines.{Written};
 ghost use Rattle.mend.specs.Mend.{section_ends_of, next_of, wrong_end, limit_of, replacement, mend_line, mend_check};
 ghost use Rattle.mend.specs.Steps.{Joins, Turned, Fills, Mends, LowHeads};
 
 use lines::{put_decimal, put_hex8};
 use names::put_bytes;
-use obj::{Refusal, refuse, section_at};
-use splits::row;
+use obj::{Refusal, Table, refuse, section_at};
+use splits::{SplitColumns, row};
 
 const SPACE: u8 = 32;
 
@@ -49,46 +49,31 @@ fn limit_of(section_ends: &[u32], section: u16, next: Option<u32>) -> u32
 }
 
 // The start of the split after row i of n, if that is of the section too.
-fn next_of(
-    starts: &[u32],
-    ends: &[u32],
-    units: &[u16],
-    rest: &[u64],
-    n: usize,
-    i: usize,
-) -> Option<u32>
-    requires { Long (columns starts.now ends.now units.now rest.now) n × (i < n) }
+fn next_of(splits: &SplitColumns, n: usize, i: usize) -> Option<u32>
+    requires { Long (columns_of splits.now) n × (i < n) }
     ensures { result
-        ≡ next_of (row_at (columns starts.now ends.now units.now rest.now) i)
-        (tabulate (row_at (columns starts.now ends.now units.now rest.now)) (i + 1) (n - (i + 1))) }
+        ≡ next_of (row_at (columns_of splits.now) i)
+        (tabulate (row_at (columns_of splits.now)) (i + 1) (n - (i + 1))) }
 {
     let k = i + 1;
     if n <= k {
         return None;
     }
-    if rest[k] % 65536 != rest[i] % 65536 {
+    if splits.rest[k] % 65536 != splits.rest[i] % 65536 {
         return None;
     }
-    Some(starts[k])
+    Some(splits.starts[k])
 }
 
 // The end that row i of n gets, if its own is replaced.
-fn decide(
-    starts: &[u32],
-    ends: &[u32],
-    units: &[u16],
-    rest: &[u64],
-    n: usize,
-    section_ends: &[u32],
-    i: usize,
-) -> Option<u32>
-    requires { Long (columns starts.now ends.now units.now rest.now) n × (i < n) }
+fn decide(splits: &SplitColumns, n: usize, section_ends: &[u32], i: usize) -> Option<u32>
+    requires { Long (columns_of splits.now) n × (i < n) }
     ensures { result
-        ≡ replacement section_ends.now (row_at (columns starts.now ends.now units.now rest.now) i)
-        (tabulate (row_at (columns starts.now ends.now units.now rest.now)) (i + 1) (n - (i + 1))) }
+        ≡ replacement section_ends.now (row_at (columns_of splits.now) i)
+        (tabulate (row_at (columns_of splits.now)) (i + 1) (n - (i + 1))) }
 {
-    let split = row(starts, ends, units, rest, i);
-    let next = next_of(starts, ends, units, rest, n, i);
+    let split = row(splits, i);
+    let next = next_of(splits, n, i);
     if wrong_end(split.start, split.end, next) {
         return Some(limit_of(section_ends, split.section, next));
     }
@@ -96,21 +81,14 @@ fn decide(
 }
 
 // "86, a new end would be 0 or below its start", of the first n rows in table order.
-pub fn check_ends(
-    starts: &[u32],
-    ends: &[u32],
-    units: &[u16],
-    rest: &[u64],
-    n: usize,
-    section_ends: &[u32],
-) -> Result<(), Refusal>
-    requires { Long (columns starts.now ends.now units.now rest.now) n }
+pub fn check_ends(splits: &SplitColumns, n: usize, section_ends: &[u32]) -> Result<(), Refusal>
+    requires { Long (columns_of splits.now) n }
     ensures { meaning result
-        ≡ mend_check section_ends.now (rows (columns starts.now ends.now units.now rest.now) n) }
+        ≡ mend_check section_ends.now (rows (columns_of splits.now) n) }
 {
     for i in 0..n {
-        let end = decide(starts, ends, units, rest, n, section_ends, i).unwrap_or(ends[i]);
-        if (end == 0) | (end < starts[i]) {
+        let end = decide(splits, n, section_ends, i).unwrap_or(splits.ends[i]);
+        if (end == 0) | (end < splits.starts[i]) {
             return refuse(86, 0, 0);
         }
     }
@@ -170,8 +148,26 @@ fn mend_row(
         (tabulate (row_at (columns starts.now ends.old units.now rest.now)) (i + 1) (n - (i + 1)))
         i ends.old ends.new lines.old lines.new at result }
 {
-    let s = row(starts, ends, units, rest, i);
-    match decide(starts, ends, units, rest, n, section_ends, i) {
+    let s = row(
+        &SplitColumns {
+            starts,
+            ends: &*ends,
+            units,
+            rest,
+        },
+        i,
+    );
+    match decide(
+        &SplitColumns {
+            starts,
+            ends: &*ends,
+            units,
+            rest,
+        },
+        n,
+        section_ends,
+        i,
+    ) {
         Some(end) => {
             ends[i] = end;
             put_line(lines, at, s.section, s.start, s.end, end)
@@ -215,7 +211,16 @@ pub fn mend_table(
     ensures { Mends section_ends.now (rows (columns starts.now ends.old units.now rest.now) n)
         (rows (columns starts.now ends.new units.now rest.now) n) lines.old lines.new result }
 {
-    check_ends(starts, ends, units, rest, n, section_ends)?;
+    check_ends(
+        &SplitColumns {
+            starts,
+            ends: &*ends,
+            units,
+            rest,
+        },
+        n,
+        section_ends,
+    )?;
     match mend_rows(starts, ends, units, rest, n, section_ends, lines) {
         Some(size) => Ok(size),
         None => refuse(80, 0, 0),
@@ -225,13 +230,13 @@ pub fn mend_table(
 // ---- the sections
 
 // Where each section ends, at the front of a lent column.
-pub fn fill_section_ends(heads: &[u8], head_places: &[u32], section_ends: &mut [u32])
-    requires { LowHeads heads.now head_places.now × (length head_places.now ≤ length section_ends.old) }
-    ensures { take (length head_places.now) section_ends.new
-        ≡ section_ends_of (map (section_at heads.now) head_places.now) }
+pub fn fill_section_ends(heads: &Table, section_ends: &mut [u32])
+    requires { LowHeads heads.now.bytes.now heads.now.places.now × (length heads.now.places.now ≤ length section_ends.old) }
+    ensures { take (length heads.now.places.now) section_ends.new
+        ≡ section_ends_of (map (section_at heads.now.bytes.now) heads.now.places.now) }
 {
-    for k in 0..head_places.len() {
-        let head = section_at(heads, head_places, k);
+    for k in 0..heads.places.len() {
+        let head = section_at(heads, k);
         section_ends[k] = head.address + head.size;
     }
 }

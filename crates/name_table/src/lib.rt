@@ -9,7 +9,7 @@ ghost use Rattle.name_table.specs.NameTable.{start_of, end_of, name_fault, names
 ghost use Rattle.name_table.specs.Stored.{Room, Stored, Stores, Number};
 
 use fields::get16;
-use names::{bad_name, bucket_of, clear_heads, enter, find};
+use names::{NameIndex, Names, bad_name, bucket_of, clear_heads, enter, find};
 use obj::{Refusal, refuse};
 use tables::table_size;
 
@@ -33,25 +33,17 @@ pub fn end_of(ends: &[u8], k: usize) -> usize
 }
 
 // The fault of name k, which follows k good ones: 1 where its end falls or passes the bytes; "3 name byte or length", or equal to an earlier one.
-fn name_fault(
-    ends: &[u8],
-    bytes: &[u8],
-    places: &[u32],
-    lengths: &[u8],
-    heads: &[u16],
-    chain: &[u16],
-    k: usize,
-) -> Result<(), Refusal>
-    requires { (2 * k + 2 ≤ length ends.now) × (k ≤ 4294967295) × Stored ends.now bytes.now places.now lengths.now heads.now chain.now k }
-    ensures { meaning result ≡ record_check (name_fault ends.now bytes.now k) k }
+fn name_fault(ends: &[u8], names: &Names, index: &NameIndex, k: usize) -> Result<(), Refusal>
+    requires { (2 * k + 2 ≤ length ends.now) × (k ≤ 4294967295) × Stored ends.now names.now.bytes.now names.now.places.now names.now.lengths.now index.now.heads.now index.now.chain.now k }
+    ensures { meaning result ≡ record_check (name_fault ends.now names.now.bytes.now k) k }
 {
     let start = start_of(ends, k);
     let end = end_of(ends, k);
-    if (end < start) | (bytes.len() < end) {
+    if (end < start) | (names.bytes.len() < end) {
         return refuse(1, 0, k as u32);
     }
-    let name = &bytes[start..end];
-    if bad_name(name) | find(bytes, places, lengths, k, heads, chain, name).is_some() {
+    let name = &names.bytes[start..end];
+    if bad_name(name) | find(names, k, index, name).is_some() {
         return refuse(3, 0, k as u32);
     }
     Ok(())
@@ -97,7 +89,19 @@ fn take_names(
     ensures { Stores (meaning result) (records_check (name_fault ends.now bytes.now) n) ends.now bytes.now places.new lengths.new heads.new chain.new n }
 {
     for i in 0..n {
-        name_fault(ends, bytes, places, lengths, heads, chain, i)?;
+        name_fault(
+            ends,
+            &Names {
+                bytes,
+                places: &*places,
+                lengths: &*lengths,
+            },
+            &NameIndex {
+                heads: &*heads,
+                chain: &*chain,
+            },
+            i,
+        )?;
         add_name(ends, bytes, places, lengths, heads, chain, i);
     }
     Ok(())

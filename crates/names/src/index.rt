@@ -3,7 +3,7 @@ ghost use Rattle.std.specs.Prelude.{◌≡◌, ◌+◌, ◌≤◌, ◌<◌, leng
 ghost use Rattle.names.specs.Names.{name_at, names_of, Named, same_name};
 ghost use Rattle.names.specs.Index.{InBucket, Indexed, Sought};
 
-use crate::{name_at, same};
+use crate::{NameIndex, Names, name_at, same};
 
 // The bucket of a name: its bytes mixed into 32 bits, of which the upper 13 are taken.
 pub fn bucket_of(name: &[u8]) -> usize
@@ -25,34 +25,26 @@ pub fn number_at(column: &[u16], k: usize) -> usize
 }
 
 // Name k is x.
-fn is_name(bytes: &[u8], places: &[u32], lengths: &[u8], k: usize, x: &[u8]) -> bool
-    requires { (k < length places.now) × (k < length lengths.now) × (get_or places.now k 0 + get_or lengths.now k 0 ≤ length bytes.now) }
-    ensures { result ≡ same_name x.now (name_at bytes.now places.now lengths.now k) }
+fn is_name(names: &Names, k: usize, x: &[u8]) -> bool
+    requires { (k < length names.now.places.now) × (k < length names.now.lengths.now) × (get_or names.now.places.now k 0 + get_or names.now.lengths.now k 0 ≤ length names.now.bytes.now) }
+    ensures { result ≡ same_name x.now (name_at names.now.bytes.now names.now.places.now names.now.lengths.now k) }
 {
-    same(x, name_at(bytes, places, lengths, k))
+    same(x, name_at(names, k))
 }
 
 // The number of the name x among the n names, if it is one of them: along the chain of its bucket, from the last name to the first.
-pub fn find(
-    bytes: &[u8],
-    places: &[u32],
-    lengths: &[u8],
-    n: usize,
-    heads: &[u16],
-    chain: &[u16],
-    x: &[u8],
-) -> Option<usize>
-    requires { Named bytes.now places.now lengths.now n × Indexed (names_of bytes.now places.now lengths.now n) heads.now chain.now }
-    ensures { Sought (names_of bytes.now places.now lengths.now n) x.now result }
+pub fn find(names: &Names, n: usize, index: &NameIndex, x: &[u8]) -> Option<usize>
+    requires { Named names.now.bytes.now names.now.places.now names.now.lengths.now n × Indexed (names_of names.now.bytes.now names.now.places.now names.now.lengths.now n) index.now.heads.now index.now.chain.now }
+    ensures { Sought (names_of names.now.bytes.now names.now.places.now names.now.lengths.now n) x.now result }
 {
-    let mut cur = number_at(heads, bucket_of(x));
+    let mut cur = number_at(index.heads, bucket_of(x));
     // A walk along a chain, which is no count.
     while cur != 0 {
         let k = cur - 1;
-        if is_name(bytes, places, lengths, k, x) {
+        if is_name(names, k, x) {
             return Some(k);
         }
-        cur = number_at(chain, k);
+        cur = number_at(index.chain, k);
     }
     None
 }

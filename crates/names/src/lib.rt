@@ -17,6 +17,21 @@ pub use gap_name::{digit_of, write_gap_name};
 pub use index::{bucket_of, clear_heads, enter, find, number_at};
 pub use table::{append, put_bytes};
 
+// Names: name k has `lengths[k]` bytes from `places[k]` on.
+#[derive(Clone, Copy)]
+pub struct Names<'b, 'p, 'l> {
+    pub bytes: &'b [u8],
+    pub places: &'p [u32],
+    pub lengths: &'l [u8],
+}
+
+// An index of names by their bytes: the first of each bucket, and the one after each.
+#[derive(Clone, Copy)]
+pub struct NameIndex<'h, 'c> {
+    pub heads: &'h [u16],
+    pub chain: &'c [u16],
+}
+
 // The same bytes.
 pub fn same(x: &[u8], y: &[u8]) -> bool
     ensures { result ≡ same_name x.now y.now }
@@ -25,13 +40,13 @@ pub fn same(x: &[u8], y: &[u8]) -> bool
 }
 
 // Name k: the part of the bytes where it lies.
-pub fn name_at<'a>(bytes: &'a [u8], places: &[u32], lengths: &[u8], k: usize) -> &'a [u8]
-    requires { (k < length places.now) × (k < length lengths.now) × (get_or places.now k 0 + get_or lengths.now k 0 ≤ length bytes.now) }
-    ensures { result.now ≡ name_at bytes.now places.now lengths.now k }
+pub fn name_at<'a>(names: &Names<'a, '_, '_>, k: usize) -> &'a [u8]
+    requires { (k < length names.now.places.now) × (k < length names.now.lengths.now) × (get_or names.now.places.now k 0 + get_or names.now.lengths.now k 0 ≤ length names.now.bytes.now) }
+    ensures { result.now ≡ name_at names.now.bytes.now names.now.places.now names.now.lengths.now k }
 {
-    let start = places[k] as usize;
-    let end = start + usize::from(lengths[k]);
-    &bytes[start..end]
+    let start = names.places[k] as usize;
+    let end = start + usize::from(names.lengths[k]);
+    &names.bytes[start..end]
 }
 
 // "3 name byte or length": "a name 1 to 128 bytes .. a symbol's also empty".

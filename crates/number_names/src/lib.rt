@@ -9,7 +9,7 @@ ghost use Rattle.number_names.specs.Numbers.{Room, enter_name, Known, Knows, Hel
 
 use fields::put16;
 use name_table::{end_of, start_of};
-use names::{bucket_of, enter, number_at, put_bytes, same};
+use names::{NameIndex, bucket_of, enter, number_at, put_bytes, same};
 use obj::{Refusal, refuse};
 
 // How many names stand in the table, and how many bytes they have.
@@ -32,18 +32,18 @@ fn is_name(ends: &[u8], bytes: &[u8], k: usize, x: &[u8]) -> bool
 }
 
 // The number of the name x, if it is one of the names: along the chain of its bucket, from the last name to the first.
-pub fn find_name(ends: &[u8], bytes: &[u8], heads: &[u16], chain: &[u16], x: &[u8]) -> Option<usize>
-    requires { Knows ends.now bytes.now heads.now chain.now }
-    ensures { (names : List (List ℕ)) → Known names ends.now bytes.now heads.now chain.now → Sought names x.now result }
+pub fn find_name(ends: &[u8], bytes: &[u8], index: &NameIndex, x: &[u8]) -> Option<usize>
+    requires { Knows ends.now bytes.now index.now.heads.now index.now.chain.now }
+    ensures { (names : List (List ℕ)) → Known names ends.now bytes.now index.now.heads.now index.now.chain.now → Sought names x.now result }
 {
-    let mut cur = number_at(heads, bucket_of(x));
+    let mut cur = number_at(index.heads, bucket_of(x));
     // no count: the chain says which name is next
     while cur != 0 {
         let k = cur - 1;
         if is_name(ends, bytes, k, x) {
             return Some(k);
         }
-        cur = number_at(chain, k);
+        cur = number_at(index.chain, k);
     }
     None
 }
@@ -92,7 +92,17 @@ pub fn enter_name(
     let n = at.names;
     let used = at.used;
     let m = 2 * n;
-    if find_name(&name_ends[..m], &name_bytes[..used], heads, chain, x).is_some() {
+    if find_name(
+        &name_ends[..m],
+        &name_bytes[..used],
+        &NameIndex {
+            heads: &*heads,
+            chain: &*chain,
+        },
+        x,
+    )
+    .is_some()
+    {
         return Ok(at);
     }
     let end = used + x.len();

@@ -9,6 +9,13 @@ ghost use Rattle.obj.specs.Answers.{word, place};
 
 use fields::{get_i32, get_i64, get16, get32};
 
+// A table: lent bytes, and the place of each record in them. What is lent together may come from different owners, so each slice has its lifetime.
+#[derive(Clone, Copy)]
+pub struct Table<'b, 'p> {
+    pub bytes: &'b [u8],
+    pub places: &'p [u32],
+}
+
 // A section's head: its record without its bytes.
 #[derive(Clone, Copy)]
 pub struct Section {
@@ -156,25 +163,25 @@ pub fn read_unit(b: &[u8], at: usize) -> Unit
 }
 
 // Record k of a table: its place, and what stands there.
-pub fn section_at(b: &[u8], places: &[u32], k: usize) -> Section
-    requires { Held 15 b.now places.now k }
-    ensures { result ≡ section_at b.now (get_or places.now k 0) }
+pub fn section_at(table: &Table, k: usize) -> Section
+    requires { Held 15 table.now.bytes.now table.now.places.now k }
+    ensures { result ≡ section_at table.now.bytes.now (get_or table.now.places.now k 0) }
 {
-    read_section(b, places[k] as usize)
+    read_section(table.bytes, table.places[k] as usize)
 }
 
-pub fn symbol_at(b: &[u8], places: &[u32], k: usize) -> Symbol
-    requires { Held 20 b.now places.now k }
-    ensures { result ≡ symbol_at b.now (get_or places.now k 0) }
+pub fn symbol_at(table: &Table, k: usize) -> Symbol
+    requires { Held 20 table.now.bytes.now table.now.places.now k }
+    ensures { result ≡ symbol_at table.now.bytes.now (get_or table.now.places.now k 0) }
 {
-    read_symbol(b, places[k] as usize)
+    read_symbol(table.bytes, table.places[k] as usize)
 }
 
-pub fn reloc_at(b: &[u8], places: &[u32], k: usize) -> Reloc
-    requires { Held 23 b.now places.now k }
-    ensures { result ≡ reloc_at b.now (get_or places.now k 0) }
+pub fn reloc_at(table: &Table, k: usize) -> Reloc
+    requires { Held 23 table.now.bytes.now table.now.places.now k }
+    ensures { result ≡ reloc_at table.now.bytes.now (get_or table.now.places.now k 0) }
 {
-    read_reloc(b, places[k] as usize)
+    read_reloc(table.bytes, table.places[k] as usize)
 }
 
 // The origin of partial record k, which has these flags.
@@ -188,26 +195,26 @@ fn origin_of(k: u16, flags: u8) -> u16
 }
 
 // Partial record k, with its origin.
-pub fn partial_at(b: &[u8], places: &[u32], k: usize) -> Split
-    requires { Held partial_width b.now places.now k × (k < 65535) }
-    ensures { result ≡ partial_numbered b.now k (get_or places.now k 0) }
+pub fn partial_at(table: &Table, k: usize) -> Split
+    requires { Held partial_width table.now.bytes.now table.now.places.now k × (k < 65535) }
+    ensures { result ≡ partial_numbered table.now.bytes.now k (get_or table.now.places.now k 0) }
 {
-    let at = places[k] as usize;
-    read_partial(b, at, origin_of(k as u16, b[at + 16]))
+    let at = table.places[k] as usize;
+    read_partial(table.bytes, at, origin_of(k as u16, table.bytes[at + 16]))
 }
 
-pub fn split_at(b: &[u8], places: &[u32], k: usize) -> Split
-    requires { Held split_width b.now places.now k }
-    ensures { result ≡ split_at b.now (get_or places.now k 0) }
+pub fn split_at(table: &Table, k: usize) -> Split
+    requires { Held split_width table.now.bytes.now table.now.places.now k }
+    ensures { result ≡ split_at table.now.bytes.now (get_or table.now.places.now k 0) }
 {
-    read_split(b, places[k] as usize)
+    read_split(table.bytes, table.places[k] as usize)
 }
 
-pub fn unit_at(b: &[u8], places: &[u32], k: usize) -> Unit
-    requires { Held 8 b.now places.now k }
-    ensures { result ≡ unit_at b.now (get_or places.now k 0) }
+pub fn unit_at(table: &Table, k: usize) -> Unit
+    requires { Held 8 table.now.bytes.now table.now.places.now k }
+    ensures { result ≡ unit_at table.now.bytes.now (get_or table.now.places.now k 0) }
 {
-    read_unit(b, places[k] as usize)
+    read_unit(table.bytes, table.places[k] as usize)
 }
 
 pub fn refuse<T>(number: u16, section: u16, address: u32) -> Result<T, Refusal>

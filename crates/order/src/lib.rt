@@ -5,7 +5,7 @@ mod records;
 
 ghost use Rattle.std.specs.Prelude.{◌≡◌, ◌/◌, ◌≤◌, length, Err};
 ghost use Rattle.tables.specs.Records.{units_in};
-ghost use Rattle.splits.specs.Columns.{columns, rows};
+ghost use Rattle.splits.specs.Columns.{rows, columns_of};
 ghost use Rattle.toposort.specs.Sorting as sorting;
 ghost use Rattle.toposort.specs.Sorting.{sort_of, carried};
 ghost use Rattle.link_graph.specs.Columns.{given_of, Splits};
@@ -14,10 +14,12 @@ ghost use Rattle.order.specs.declared.Unlinked.TheVariants.{Refused};
 ghost use Rattle.order.specs.Columns.{kept as kept_by, answer_of, NotCycle, Room, Resolves, Sortable, Lent, SplitsTaken, UnitsTaken};
 
 use link_graph::make_graph;
-use obj::{Refusal, refuse};
+use names::Names;
+use obj::{Refusal, Table, refuse};
 use order_numbers::{order_twice, order_units};
 pub use records::put_unit;
 use records::write_records;
+use splits::SplitColumns;
 use toposort::Unsorted;
 
 // Why there is no link order: a refusal, or "61 cycle, left in the unit table", of so many unit records.
@@ -93,13 +95,9 @@ fn room_of(size: usize) -> usize
 
 // The sort of the graph, in the lent `table`; the records of the nodes that it leaves are written to the front of `out`.
 fn sort_graph(
-    starts: &[u32],
-    ends: &[u32],
-    units: &[u16],
-    rest: &[u64],
+    splits: &SplitColumns,
     n: usize,
-    unit_bytes: &[u8],
-    unit_places: &[u32],
+    unit_table: &Table,
     nodes: &[u16],
     from: &[u16],
     to: &[u16],
@@ -107,44 +105,25 @@ fn sort_graph(
     column: &mut [u16],
     out: &mut [u8],
 ) -> Result<usize, Unlinked>
-    requires { Sortable (columns starts.now ends.now units.now rest.now) n unit_bytes.now unit_places.now nodes.now from.now to.now table.old column.old }
-    ensures { Resolves (rows (columns starts.now ends.now units.now rest.now) n) (units_in unit_bytes.now unit_places.now)
+    requires { Sortable (columns_of splits.now) n unit_table.now.bytes.now unit_table.now.places.now nodes.now from.now to.now table.old column.old }
+    ensures { Resolves (rows (columns_of splits.now) n) (units_in unit_table.now.bytes.now unit_table.now.places.now)
         (sort_of (record { count = length nodes.now; from = from.now; to = to.now }) (length out.old / 8)) result out.old out.new }
 {
     let room = room_of(out.len());
     let r = toposort::toposort(nodes.len(), from, to, &mut table[..room]);
     let m = toposort::kept(r);
-    write_records(
-        starts,
-        ends,
-        units,
-        rest,
-        n,
-        unit_bytes,
-        unit_places,
-        column,
-        nodes,
-        &table[..m],
-        out,
-    );
+    write_records(splits, n, unit_table, column, nodes, &table[..m], out);
     linked(r)
 }
 
 // The stage: 60, then the graph and its sort. Sections are heads at places, names and units lie at places, the splits stand in columns; `numbers`, `scratch`,
 // `column`, `nodes`, `from` and `to` are for the work, and what they hold at first is of no matter.
 pub fn resolve_link_order(
-    starts: &[u32],
-    ends: &[u32],
-    units: &[u16],
-    rest: &[u64],
+    splits: &SplitColumns,
     n: usize,
-    heads: &[u8],
-    head_places: &[u32],
-    name_bytes: &[u8],
-    name_places: &[u32],
-    name_lengths: &[u8],
-    unit_bytes: &[u8],
-    unit_places: &[u32],
+    heads: &Table,
+    names: &Names,
+    unit_table: &Table,
     numbers: &mut [u16],
     scratch: &mut [u16],
     column: &mut [u16],
@@ -153,30 +132,23 @@ pub fn resolve_link_order(
     to: &mut [u16],
     out: &mut [u8],
 ) -> Result<usize, Unlinked>
-    requires { Splits (columns starts.now ends.now units.now rest.now) n heads.now head_places.now name_bytes.now name_places.now name_lengths.now
-        × Lent (columns starts.now ends.now units.now rest.now) n unit_bytes.now unit_places.now numbers.old scratch.old column.old nodes.old from.old to.old }
-    ensures { Resolves (rows (columns starts.now ends.now units.now rest.now) n) (units_in unit_bytes.now unit_places.now)
-        (link_order (given_of (columns starts.now ends.now units.now rest.now) n heads.now head_places.now
-        name_bytes.now name_places.now name_lengths.now unit_bytes.now unit_places.now) (length out.old / 8))
+    requires { Splits (columns_of splits.now) n heads.now.bytes.now heads.now.places.now names.now.bytes.now names.now.places.now names.now.lengths.now
+        × Lent (columns_of splits.now) n unit_table.now.bytes.now unit_table.now.places.now numbers.old scratch.old column.old nodes.old from.old to.old }
+    ensures { Resolves (rows (columns_of splits.now) n) (units_in unit_table.now.bytes.now unit_table.now.places.now)
+        (link_order (given_of (columns_of splits.now) n heads.now.bytes.now heads.now.places.now
+        names.now.bytes.now names.now.places.now names.now.lengths.now unit_table.now.bytes.now unit_table.now.places.now) (length out.old / 8))
         result out.old out.new }
 {
-    let k = order_units(unit_bytes, unit_places, numbers, scratch);
-    if order_twice(unit_bytes, unit_places, &numbers[..k]) {
+    let k = order_units(unit_table, numbers, scratch);
+    if order_twice(unit_table, &numbers[..k]) {
         return refused(60, 0);
     }
     let made = make_graph(
-        starts,
-        ends,
-        units,
-        rest,
+        splits,
         n,
         heads,
-        head_places,
-        name_bytes,
-        name_places,
-        name_lengths,
-        unit_bytes,
-        unit_places,
+        names,
+        unit_table,
         &mut numbers[..k],
         column,
         nodes,
@@ -186,13 +158,9 @@ pub fn resolve_link_order(
     let m = made.nodes;
     let e = made.edges;
     sort_graph(
-        starts,
-        ends,
-        units,
-        rest,
+        splits,
         n,
-        unit_bytes,
-        unit_places,
+        unit_table,
         &nodes[..m],
         &from[..e],
         &to[..e],
@@ -204,24 +172,17 @@ pub fn resolve_link_order(
 
 // The stage, with columns of its own: the units that have an order, a number of each name, the nodes and the edges.
 pub fn ordered(
-    starts: &[u32],
-    ends: &[u32],
-    units: &[u16],
-    rest: &[u64],
+    splits: &SplitColumns,
     n: usize,
-    heads: &[u8],
-    head_places: &[u32],
-    name_bytes: &[u8],
-    name_places: &[u32],
-    lengths: &[u8],
-    unit_bytes: &[u8],
-    unit_places: &[u32],
+    heads: &Table,
+    names: &Names,
+    unit_table: &Table,
     out: &mut [u8],
 ) -> Result<usize, Unlinked>
-    requires { SplitsTaken (columns starts.now ends.now units.now rest.now) n heads.now head_places.now name_bytes.now name_places.now lengths.now
-        × UnitsTaken unit_bytes.now unit_places.now }
-    ensures { Resolves (rows (columns starts.now ends.now units.now rest.now) n) (units_in unit_bytes.now unit_places.now)
-        (link_order (given_of (columns starts.now ends.now units.now rest.now) n heads.now head_places.now name_bytes.now name_places.now lengths.now unit_bytes.now unit_places.now) (length out.old / 8))
+    requires { SplitsTaken (columns_of splits.now) n heads.now.bytes.now heads.now.places.now names.now.bytes.now names.now.places.now names.now.lengths.now
+        × UnitsTaken unit_table.now.bytes.now unit_table.now.places.now }
+    ensures { Resolves (rows (columns_of splits.now) n) (units_in unit_table.now.bytes.now unit_table.now.places.now)
+        (link_order (given_of (columns_of splits.now) n heads.now.bytes.now heads.now.places.now names.now.bytes.now names.now.places.now names.now.lengths.now unit_table.now.bytes.now unit_table.now.places.now) (length out.old / 8))
         result out.old out.new }
 {
     let mut numbers = [0u16; 1024];
@@ -231,18 +192,11 @@ pub fn ordered(
     let mut from = [0u16; 2048];
     let mut to = [0u16; 2048];
     resolve_link_order(
-        starts,
-        ends,
-        units,
-        rest,
+        splits,
         n,
         heads,
-        head_places,
-        name_bytes,
-        name_places,
-        lengths,
-        unit_bytes,
-        unit_places,
+        names,
+        unit_table,
         &mut numbers,
         &mut scratch,
         &mut column,

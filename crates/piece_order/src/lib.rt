@@ -10,6 +10,7 @@ ghost use Rattle.symbol_order.specs.Order.{numbers};
 ghost use Rattle.piece_order.specs.Order.{starts_at, order_in, Placed, Keyed};
 
 use fields::{put16, put32};
+use obj::Table;
 use piece_records::{head_at, next_at};
 use symbol_order::{By, sort};
 use tables::fill_places;
@@ -68,5 +69,13 @@ pub fn order_pieces(b: &[u8], starts: &[usize], order: &mut [u16])
     fill_keys(b, starts, &mut table);
     fill_places(&mut places, 20, n);
     fill_numbers(order);
-    sort(&table, &places[..n], order, &mut scratch, By::Address);
+    sort(
+        &Table {
+            bytes: &table,
+            places: &places[..n],
+        },
+        order,
+        &mut scratch,
+        By::Address,
+    );
 }

@@ -15,6 +15,8 @@ ghost use Rattle.print_run.specs.Printed.{tables_of, done_text, text_of, Printab
 use lines::write_refused;
 use listing::{Cursor, next_line};
 use load::{Counts, NAMES, RELOCATIONS, SYMBOLS};
+use names::Names;
+use obj::Table;
 use order::Unlinked;
 use run::Ran;
 use run_file::run_file;
@@ -26,16 +28,11 @@ use walk::Counts as Made;
 // The listing, line by line: a unit, "After a unit's pieces come `sym` ..; then `reloc` ..", and at the end the total.
 fn print_lines<'a, W: Write>(
     out: &mut W,
-    base_bytes: &'a [u8],
-    base_places: &[u32],
-    base_lengths: &[u8],
-    added_bytes: &'a [u8],
-    added_places: &[u32],
-    added_lengths: &[u8],
+    base: &Names<'a, '_, '_>,
+    added: &Names<'a, '_, '_>,
     symbol_places: &[u32],
     reloc_places: &[u32],
-    units: &[u8],
-    unit_places: &[u32],
+    unit_table: &Table,
     pieces: &[u8],
     entries: &[u8],
     offsets: &[u8],
@@ -44,11 +41,11 @@ fn print_lines<'a, W: Write>(
 ) -> io::Result<()>
     requires { (208 ≤ length line.old)
         × Readable
-        (tables_of base_bytes.now base_places.now base_lengths.now (beside added_bytes.now added_places.now added_lengths.now) symbol_places.now reloc_places.now
-        units.now unit_places.now pieces.now entries.now offsets.now made) }
+        (tables_of base.now.bytes.now base.now.places.now base.now.lengths.now (beside added.now.bytes.now added.now.places.now added.now.lengths.now) symbol_places.now reloc_places.now
+        unit_table.now.bytes.now unit_table.now.places.now pieces.now entries.now offsets.now made) }
     ensures { OnOk result (Appends (W.contents out.old) (W.contents out.new)
-        (listing (run_of (tables_of base_bytes.now base_places.now base_lengths.now (beside added_bytes.now added_places.now added_lengths.now) symbol_places.now reloc_places.now
-        units.now unit_places.now pieces.now entries.now offsets.now made)))) }
+        (listing (run_of (tables_of base.now.bytes.now base.now.places.now base.now.lengths.now (beside added.now.bytes.now added.now.places.now added.now.lengths.now) symbol_places.now reloc_places.now
+        unit_table.now.bytes.now unit_table.now.places.now pieces.now entries.now offsets.now made)))) }
 {
     let piece_count = made.pieces;
     let entry_count = made.symbols;
@@ -56,18 +53,17 @@ fn print_lines<'a, W: Write>(
     let mut cursor = Cursor::Units { unit: 0, bytes: 0 };
     loop {
         let Some(next) = next_line(
-            base_bytes,
-            base_places,
-            base_lengths,
-            added_bytes,
-            added_places,
-            added_lengths,
-            base_bytes,
-            symbol_places,
-            base_bytes,
-            reloc_places,
-            units,
-            unit_places,
+            base,
+            added,
+            &Table {
+                bytes: base.bytes,
+                places: symbol_places,
+            },
+            &Table {
+                bytes: base.bytes,
+                places: reloc_places,
+            },
+            unit_table,
             pieces,
             piece_count,
             entries,
@@ -92,9 +88,7 @@ fn print_tables<'a, W: Write>(
     counts: Counts,
     places: &[u32],
     lengths: &[u8],
-    added_bytes: &'a [u8],
-    added_places: &[u32],
-    added_lengths: &[u8],
+    added: &Names<'a, '_, '_>,
     units: &[u8],
     n: usize,
     pieces: &[u8],
@@ -104,11 +98,11 @@ fn print_tables<'a, W: Write>(
     unit_places: &mut [u32],
     line: &mut [u8],
 ) -> io::Result<()>
-    requires { Printable file.now counts places.now lengths.now (beside added_bytes.now added_places.now added_lengths.now) units.now n pieces.now entries.now offsets.now made
+    requires { Printable file.now counts places.now lengths.now (beside added.now.bytes.now added.now.places.now added.now.lengths.now) units.now n pieces.now entries.now offsets.now made
         × (length unit_places.old ≡ 1024)
         × (208 ≤ length line.old) }
     ensures { OnOk result (Appends (W.contents out.old) (W.contents out.new)
-        (done_text file.now counts places.now lengths.now (beside added_bytes.now added_places.now added_lengths.now) units.now n pieces.now entries.now offsets.now made)) }
+        (done_text file.now counts places.now lengths.now (beside added.now.bytes.now added.now.places.now added.now.lengths.now) units.now n pieces.now entries.now offsets.now made)) }
 {
     let names = counts.names;
     let names_end = NAMES + names;
@@ -117,16 +111,18 @@ fn print_tables<'a, W: Write>(
     fill_places(unit_places, 8, n);
     print_lines(
         out,
-        file,
-        &places[NAMES..names_end],
-        &lengths[..names],
-        added_bytes,
-        added_places,
-        added_lengths,
+        &Names {
+            bytes: file,
+            places: &places[NAMES..names_end],
+            lengths: &lengths[..names],
+        },
+        added,
         &places[SYMBOLS..symbols_end],
         &places[RELOCATIONS..relocs_end],
-        units,
-        &unit_places[..n],
+        &Table {
+            bytes: units,
+            places: &unit_places[..n],
+        },
         pieces,
         entries,
         offsets,
@@ -142,9 +138,7 @@ fn print_done<'a, W: Write>(
     counts: Counts,
     places: &[u32],
     lengths: &[u8],
-    added_bytes: &'a [u8],
-    added_places: &[u32],
-    added_lengths: &[u8],
+    added: &Names<'a, '_, '_>,
     units: &[u8],
     n: usize,
     pieces: &[u8],
@@ -152,9 +146,9 @@ fn print_done<'a, W: Write>(
     offsets: &[u8],
     made: Made,
 ) -> io::Result<()>
-    requires { Printable file.now counts places.now lengths.now (beside added_bytes.now added_places.now added_lengths.now) units.now n pieces.now entries.now offsets.now made }
+    requires { Printable file.now counts places.now lengths.now (beside added.now.bytes.now added.now.places.now added.now.lengths.now) units.now n pieces.now entries.now offsets.now made }
     ensures { OnOk result (Appends (W.contents out.old) (W.contents out.new)
-        (done_text file.now counts places.now lengths.now (beside added_bytes.now added_places.now added_lengths.now) units.now n pieces.now entries.now offsets.now made)) }
+        (done_text file.now counts places.now lengths.now (beside added.now.bytes.now added.now.places.now added.now.lengths.now) units.now n pieces.now entries.now offsets.now made)) }
 {
     let mut unit_places = [0u32; 1024];
     let mut line = [0u8; 208];
@@ -164,9 +158,7 @@ fn print_done<'a, W: Write>(
         counts,
         places,
         lengths,
-        added_bytes,
-        added_places,
-        added_lengths,
+        added,
         units,
         n,
         pieces,
@@ -211,33 +203,19 @@ fn print_ran<'a, W: Write>(
     counts: Counts,
     places: &[u32],
     lengths: &[u8],
-    added_bytes: &'a [u8],
-    added_places: &[u32],
-    added_lengths: &[u8],
+    added: &Names<'a, '_, '_>,
     units: &[u8],
     pieces: &[u8],
     entries: &[u8],
     offsets: &[u8],
 ) -> io::Result<()>
-    requires { PrintableIf file.now counts places.now lengths.now (beside added_bytes.now added_places.now added_lengths.now) units.now pieces.now entries.now offsets.now ran }
+    requires { PrintableIf file.now counts places.now lengths.now (beside added.now.bytes.now added.now.places.now added.now.lengths.now) units.now pieces.now entries.now offsets.now ran }
     ensures { OnOk result (Appends (W.contents out.old) (W.contents out.new)
-        (text_of file.now counts places.now lengths.now (beside added_bytes.now added_places.now added_lengths.now) units.now pieces.now entries.now offsets.now ran)) }
+        (text_of file.now counts places.now lengths.now (beside added.now.bytes.now added.now.places.now added.now.lengths.now) units.now pieces.now entries.now offsets.now ran)) }
 {
     match ran {
         Ok(done) => print_done(
-            out,
-            file,
-            counts,
-            places,
-            lengths,
-            added_bytes,
-            added_places,
-            added_lengths,
-            units,
-            done.units,
-            pieces,
-            entries,
-            offsets,
+            out, file, counts, places, lengths, added, units, done.units, pieces, entries, offsets,
             done.made,
         ),
         Err(Unlinked::Cycle(_)) => print_refused(out, 61, 0, 0),
@@ -304,9 +282,11 @@ fn print_in<'a, W: Write>(
         counts,
         places,
         lengths,
-        added_bytes,
-        added_places,
-        added_lengths,
+        &Names {
+            bytes: added_bytes,
+            places: &*added_places,
+            lengths: &*added_lengths,
+        },
         out_units,
         pieces,
         entries,

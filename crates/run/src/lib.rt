@@ -7,7 +7,7 @@ ghost use Rattle.lists.specs.Sort.{All};
 ghost use Rattle.obj.specs.declared.Unit as unit_records;
 ghost use Rattle.names.specs.Append.{Columns as Beside};
 ghost use Rattle.loaded.specs.Tables.{tables_with, image_from, sections_from};
-ghost use Rattle.splits.specs.Columns.{columns, rows as rows_of};
+ghost use Rattle.splits.specs.Columns.{rows as rows_of, columns_of};
 ghost use Rattle.gap_splits.specs.Answers as entering;
 ghost use Rattle.stage_walk.specs.Room.{room_in};
 ghost use Rattle.stage_walk.specs.Lines.{Gives, UnitScratch};
@@ -15,8 +15,12 @@ ghost use Rattle.run.specs.Run.{walked, ordered_and_walked};
 ghost use Rattle.run.specs.Answers.{units_at, ran_in, Prepared, Tabled, Units, Keeps, walked_after};
 
 use gap_splits::Entered;
-use obj::Refusal;
+use loaded::Loaded;
+use names::Names;
+use obj::{Refusal, Table};
 use order::{Unlinked, ordered};
+use sections::Obj;
+use splits::SplitColumns;
 use stage_walk::walk_columns;
 use tables::fill_places;
 use units::number_units;
@@ -34,19 +38,8 @@ pub struct Ran {
 
 // The walk of n rows. The records of k units, in link order, stand at the front of the unit table.
 fn walk_units(
-    file: &[u8],
-    names: &[u32],
-    lengths: &[u8],
-    sections: &[u32],
-    images: &[u32],
-    symbols: &[u32],
-    order: &[u16],
-    relocs: &[u32],
-    unit_places: &[u32],
-    starts: &[u32],
-    ends: &[u32],
-    units: &[u16],
-    rest: &[u64],
+    loaded: &Loaded,
+    splits: &SplitColumns,
     n: usize,
     unit_table: &[u8],
     k: usize,
@@ -56,39 +49,56 @@ fn walk_units(
     entries: &mut [u8],
     offsets: &mut [u8],
 ) -> Result<Counts, Refusal>
-    requires { Prepared file.now names.now lengths.now sections.now images.now symbols.now order.now relocs.now unit_places.now
-        × Tabled (length sections.now) (columns starts.now ends.now units.now rest.now) n
+    requires { Prepared loaded.now.file.now loaded.now.names.now loaded.now.lengths.now loaded.now.sections.now loaded.now.images.now loaded.now.symbols.now loaded.now.order.now loaded.now.relocs.now loaded.now.units.now
+        × Tabled (length loaded.now.sections.now) (columns_of splits.now) n
         × Units unit_table.now k
         × All (λ (u : unit_records.Unit). u.name < 4096) (units_at unit_table.now k)
         × UnitScratch places.old unit_numbers.old }
     ensures { Gives
-        (walked file.now (tables_with names.now lengths.now sections.now symbols.now relocs.now [] unit_places.now)
+        (walked loaded.now.file.now (tables_with loaded.now.names.now loaded.now.lengths.now loaded.now.sections.now loaded.now.symbols.now loaded.now.relocs.now [] loaded.now.units.now)
         (room_in (length pieces.old) (length entries.old) (length offsets.old))
-        (rows_of (columns starts.now ends.now units.now rest.now) n) (units_at unit_table.now k))
+        (rows_of (columns_of splits.now) n) (units_at unit_table.now k))
         (room_in (length pieces.old) (length entries.old) (length offsets.old)) result pieces.new entries.new offsets.new }
 {
     fill_places(places, 8, k);
-    number_units(unit_table, &places[..k], unit_numbers);
+    number_units(
+        &Table {
+            bytes: unit_table,
+            places: &places[..k],
+        },
+        unit_numbers,
+    );
     walk_columns(
-        file,
-        symbols,
-        order,
-        file,
-        names,
-        lengths,
-        file,
-        sections,
-        file,
-        images,
-        file,
-        relocs,
-        starts,
-        ends,
-        units,
-        rest,
+        &Obj {
+            symbols: Table {
+                bytes: loaded.file,
+                places: loaded.symbols,
+            },
+            order: loaded.order,
+            names: Names {
+                bytes: loaded.file,
+                places: loaded.names,
+                lengths: loaded.lengths,
+            },
+            heads: Table {
+                bytes: loaded.file,
+                places: loaded.sections,
+            },
+        },
+        &Table {
+            bytes: loaded.file,
+            places: loaded.images,
+        },
+        &Table {
+            bytes: loaded.file,
+            places: loaded.relocs,
+        },
+        splits,
         n,
-        unit_table,
-        &places[..k],
+        &Table {
+            bytes: unit_table,
+            places: &places[..k],
+        },
         unit_numbers,
         pieces,
         entries,
@@ -98,19 +108,8 @@ fn walk_units(
 
 // The same, with columns of its own for the units.
 fn walk_with_columns(
-    file: &[u8],
-    names: &[u32],
-    lengths: &[u8],
-    sections: &[u32],
-    images: &[u32],
-    symbols: &[u32],
-    order: &[u16],
-    relocs: &[u32],
-    unit_places: &[u32],
-    starts: &[u32],
-    ends: &[u32],
-    units: &[u16],
-    rest: &[u64],
+    loaded: &Loaded,
+    splits: &SplitColumns,
     n: usize,
     unit_table: &[u8],
     k: usize,
@@ -118,32 +117,21 @@ fn walk_with_columns(
     entries: &mut [u8],
     offsets: &mut [u8],
 ) -> Result<Counts, Refusal>
-    requires { Prepared file.now names.now lengths.now sections.now images.now symbols.now order.now relocs.now unit_places.now
-        × Tabled (length sections.now) (columns starts.now ends.now units.now rest.now) n
+    requires { Prepared loaded.now.file.now loaded.now.names.now loaded.now.lengths.now loaded.now.sections.now loaded.now.images.now loaded.now.symbols.now loaded.now.order.now loaded.now.relocs.now loaded.now.units.now
+        × Tabled (length loaded.now.sections.now) (columns_of splits.now) n
         × Units unit_table.now k
         × All (λ (u : unit_records.Unit). u.name < 4096) (units_at unit_table.now k) }
     ensures { Gives
-        (walked file.now (tables_with names.now lengths.now sections.now symbols.now relocs.now [] unit_places.now)
+        (walked loaded.now.file.now (tables_with loaded.now.names.now loaded.now.lengths.now loaded.now.sections.now loaded.now.symbols.now loaded.now.relocs.now [] loaded.now.units.now)
         (room_in (length pieces.old) (length entries.old) (length offsets.old))
-        (rows_of (columns starts.now ends.now units.now rest.now) n) (units_at unit_table.now k))
+        (rows_of (columns_of splits.now) n) (units_at unit_table.now k))
         (room_in (length pieces.old) (length entries.old) (length offsets.old)) result pieces.new entries.new offsets.new }
 {
     let mut places = [0u32; 1024];
     let mut unit_numbers = [0u16; 4096];
     walk_units(
-        file,
-        names,
-        lengths,
-        sections,
-        images,
-        symbols,
-        order,
-        relocs,
-        unit_places,
-        starts,
-        ends,
-        units,
-        rest,
+        loaded,
+        splits,
         n,
         unit_table,
         k,
@@ -158,65 +146,46 @@ fn walk_with_columns(
 // The link order and the walk of what the stages before gave: what they refused is refused.
 pub fn order_and_walk(
     e: Result<Entered, Refusal>,
-    file: &[u8],
-    names: &[u32],
-    lengths: &[u8],
-    sections: &[u32],
-    images: &[u32],
-    symbols: &[u32],
-    order: &[u16],
-    relocs: &[u32],
-    unit_places: &[u32],
-    starts: &[u32],
-    ends: &[u32],
-    units: &[u16],
-    rest: &[u64],
+    loaded: &Loaded,
+    splits: &SplitColumns,
     out_units: &mut [u8],
     pieces: &mut [u8],
     entries: &mut [u8],
     offsets: &mut [u8],
 ) -> Result<Ran, Unlinked>
-    requires { Prepared file.now names.now lengths.now sections.now images.now symbols.now order.now relocs.now unit_places.now
-        × Tabled (length sections.now) (columns starts.now ends.now units.now rest.now) (entering.splits e) }
+    requires { Prepared loaded.now.file.now loaded.now.names.now loaded.now.lengths.now loaded.now.sections.now loaded.now.images.now loaded.now.symbols.now loaded.now.order.now loaded.now.relocs.now loaded.now.units.now
+        × Tabled (length loaded.now.sections.now) (columns_of splits.now) (entering.splits e) }
     ensures { ((base : List (List ℕ)) → (c : Beside)
-        → ran_in c (columns starts.now ends.now units.now rest.now) out_units.new pieces.new entries.new offsets.new result
-        ≡ walked_after file.now
-        (tables_with names.now lengths.now sections.now symbols.now relocs.now [] unit_places.now)
+        → ran_in c (columns_of splits.now) out_units.new pieces.new entries.new offsets.new result
+        ≡ walked_after loaded.now.file.now
+        (tables_with loaded.now.names.now loaded.now.lengths.now loaded.now.sections.now loaded.now.symbols.now loaded.now.relocs.now [] loaded.now.units.now)
         (length out_units.old / 8) (room_in (length pieces.old) (length entries.old) (length offsets.old)) (length base)
-        (entering.meant base c (columns starts.now ends.now units.now rest.now) e))
+        (entering.meant base c (columns_of splits.now) e))
         × Keeps (entering.names e) (entering.used e) (entering.splits e) (room_in (length pieces.old) (length entries.old) (length offsets.old)) out_units.new result }
 {
     let entered = e?;
     let linked = ordered(
-        starts,
-        ends,
-        units,
-        rest,
+        splits,
         entered.splits,
-        file,
-        sections,
-        file,
-        names,
-        lengths,
-        file,
-        unit_places,
+        &Table {
+            bytes: loaded.file,
+            places: loaded.sections,
+        },
+        &Names {
+            bytes: loaded.file,
+            places: loaded.names,
+            lengths: loaded.lengths,
+        },
+        &Table {
+            bytes: loaded.file,
+            places: loaded.units,
+        },
         out_units,
     );
     let k = linked?;
     let made = walk_with_columns(
-        file,
-        names,
-        lengths,
-        sections,
-        images,
-        symbols,
-        order,
-        relocs,
-        unit_places,
-        starts,
-        ends,
-        units,
-        rest,
+        loaded,
+        splits,
         entered.splits,
         out_units,
         k,

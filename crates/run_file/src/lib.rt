@@ -19,12 +19,15 @@ ghost use Rattle.run_file.specs.RunFile.{rooms_in, Ready, Lent, Loader, Stored, 
 
 use gap_splits::Entered;
 use load::{Counts, NAMES, RELOCATIONS, SPLITS, SYMBOLS, UNITS};
+use loaded::Loaded;
+use names::NameIndex;
 use obj::Refusal;
 use order::Unlinked;
 use run::{Ran, order_and_walk};
 use run_load::{Prepared, prepare};
 use run_room::{bytes_room, names_room};
 use run_splits::split_table;
+use splits::SplitColumns;
 
 // What the run answers, and how many records of each kind the file has.
 #[derive(Clone, Copy)]
@@ -61,18 +64,8 @@ fn prepare_file(
 
 // The split table of the run, with columns of its own for the gaps and the trim.
 fn split_rows(
-    file: &[u8],
-    names: &[u32],
-    lengths: &[u8],
-    buckets: &[u16],
-    chain: &[u16],
-    sections: &[u32],
-    images: &[u32],
-    symbols: &[u32],
-    order: &[u16],
-    relocs: &[u32],
-    partials: &[u32],
-    unit_places: &[u32],
+    loaded: &Loaded,
+    index: &NameIndex,
     starts: &mut [u32],
     ends: &mut [u32],
     units: &mut [u16],
@@ -84,14 +77,14 @@ fn split_rows(
     most: usize,
     most_bytes: usize,
 ) -> Result<Entered, Refusal>
-    requires { Ready file.now names.now lengths.now buckets.now chain.now sections.now images.now symbols.now order.now relocs.now partials.now unit_places.now
+    requires { Ready loaded.now.file.now loaded.now.names.now loaded.now.lengths.now index.now.heads.now index.now.chain.now loaded.now.sections.now loaded.now.images.now loaded.now.symbols.now loaded.now.order.now loaded.now.relocs.now loaded.now.partials.now loaded.now.units.now
         × Long (columns starts.old ends.old units.old rest.old) cap × (cap ≤ 1024)
         × entering.Room (entering.beside added_bytes.old added_places.old added_lengths.old) most most_bytes }
-    ensures { (entering.meant (names_of file.now names.now lengths.now (length names.now))
+    ensures { (entering.meant (names_of loaded.now.file.now loaded.now.names.now loaded.now.lengths.now (length loaded.now.names.now))
         (entering.beside added_bytes.new added_places.new added_lengths.new)
         (columns starts.new ends.new units.new rest.new) result
-        ≡ split_table file.now (tables_with names.now lengths.now sections.now symbols.now relocs.now partials.now unit_places.now) cap
-        (entering.ceilings (names_of file.now names.now lengths.now (length names.now)) most most_bytes))
+        ≡ split_table loaded.now.file.now (tables_with loaded.now.names.now loaded.now.lengths.now loaded.now.sections.now loaded.now.symbols.now loaded.now.relocs.now loaded.now.partials.now loaded.now.units.now) cap
+        (entering.ceilings (names_of loaded.now.file.now loaded.now.names.now loaded.now.lengths.now (length loaded.now.names.now)) most most_bytes))
         × entering.Stand (entering.beside added_bytes.new added_places.new added_lengths.new) (entering.names result) (entering.used result) most most_bytes
         × (entering.splits result ≤ cap) }
 {
@@ -100,16 +93,8 @@ fn split_rows(
     let mut gap_ends = [0u32; 6208];
     let mut falls = [0u32; 1024];
     split_table(
-        file,
-        names,
-        lengths,
-        buckets,
-        chain,
-        sections,
-        images,
-        symbols,
-        order,
-        partials,
+        loaded,
+        index,
         starts,
         ends,
         units,
@@ -129,18 +114,8 @@ fn split_rows(
 
 // The stages over the tables of a file: at most `cap` splits, and added names of which `most` have a place and `most_bytes` bytes are lent.
 fn run_tables(
-    file: &[u8],
-    names: &[u32],
-    lengths: &[u8],
-    buckets: &[u16],
-    chain: &[u16],
-    sections: &[u32],
-    images: &[u32],
-    symbols: &[u32],
-    order: &[u16],
-    relocs: &[u32],
-    partials: &[u32],
-    unit_places: &[u32],
+    loaded: &Loaded,
+    index: &NameIndex,
     starts: &mut [u32],
     ends: &mut [u32],
     units: &mut [u16],
@@ -156,33 +131,23 @@ fn run_tables(
     entries: &mut [u8],
     offsets: &mut [u8],
 ) -> Result<Ran, Unlinked>
-    requires { Ready file.now names.now lengths.now buckets.now chain.now sections.now images.now symbols.now order.now relocs.now partials.now unit_places.now
+    requires { Ready loaded.now.file.now loaded.now.names.now loaded.now.lengths.now index.now.heads.now index.now.chain.now loaded.now.sections.now loaded.now.images.now loaded.now.symbols.now loaded.now.order.now loaded.now.relocs.now loaded.now.partials.now loaded.now.units.now
         × Lent starts.old ends.old units.old rest.old added_bytes.old added_places.old added_lengths.old
         × (cap ≤ 1024) }
     ensures { (ran_in (entering.beside added_bytes.new added_places.new added_lengths.new)
         (columns starts.new ends.new units.new rest.new) out_units.new pieces.new entries.new offsets.new result
-        ≡ stages file.now
-        (tables_with names.now lengths.now sections.now symbols.now relocs.now partials.now unit_places.now)
-        (rooms_in file.now most most_bytes cap (length out_units.old / 8) (room_in (length pieces.old) (length entries.old) (length offsets.old))
-        (tables_with names.now lengths.now sections.now symbols.now relocs.now partials.now unit_places.now)))
+        ≡ stages loaded.now.file.now
+        (tables_with loaded.now.names.now loaded.now.lengths.now loaded.now.sections.now loaded.now.symbols.now loaded.now.relocs.now loaded.now.partials.now loaded.now.units.now)
+        (rooms_in loaded.now.file.now most most_bytes cap (length out_units.old / 8) (room_in (length pieces.old) (length entries.old) (length offsets.old))
+        (tables_with loaded.now.names.now loaded.now.lengths.now loaded.now.sections.now loaded.now.symbols.now loaded.now.relocs.now loaded.now.partials.now loaded.now.units.now)))
         × Holds most most_bytes cap (room_in (length pieces.old) (length entries.old) (length offsets.old))
         (entering.beside added_bytes.new added_places.new added_lengths.new) out_units.new result }
 {
-    let more_names = names_room(names.len(), most);
-    let more_bytes = bytes_room(lengths, most_bytes);
+    let more_names = names_room(loaded.names.len(), most);
+    let more_bytes = bytes_room(loaded.lengths, most_bytes);
     let e = split_rows(
-        file,
-        names,
-        lengths,
-        buckets,
-        chain,
-        sections,
-        images,
-        symbols,
-        order,
-        relocs,
-        partials,
-        unit_places,
+        loaded,
+        index,
         starts,
         ends,
         units,
@@ -196,19 +161,13 @@ fn run_tables(
     );
     order_and_walk(
         e,
-        file,
-        names,
-        lengths,
-        sections,
-        images,
-        symbols,
-        order,
-        relocs,
-        unit_places,
-        starts,
-        ends,
-        units,
-        rest,
+        loaded,
+        &SplitColumns {
+            starts: &*starts,
+            ends: &*ends,
+            units: &*units,
+            rest: &*rest,
+        },
         out_units,
         pieces,
         entries,
@@ -217,16 +176,15 @@ fn run_tables(
 }
 
 // The stages over what was loaded: the parts of the column of places are the tables.
-fn run_loaded(
-    file: &[u8],
+fn run_loaded<'a>(
+    file: &'a [u8],
     counts: Counts,
     ordered: usize,
-    places: &[u32],
-    lengths: &[u8],
-    heads: &[u16],
-    chain: &[u16],
-    images: &[u32],
-    order: &[u16],
+    places: &'a [u32],
+    lengths: &'a [u8],
+    index: &NameIndex,
+    images: &'a [u32],
+    order: &'a [u16],
     starts: &mut [u32],
     ends: &mut [u32],
     units: &mut [u16],
@@ -242,7 +200,7 @@ fn run_loaded(
     entries: &mut [u8],
     offsets: &mut [u8],
 ) -> Result<Ran, Unlinked>
-    requires { Stored file.now counts ordered places.now lengths.now heads.now chain.now images.now order.now
+    requires { Stored file.now counts ordered places.now lengths.now index.now.heads.now index.now.chain.now images.now order.now
         × Lent starts.old ends.old units.old rest.old added_bytes.old added_places.old added_lengths.old
         × (cap ≤ 1024) }
     ensures { (ran_in (entering.beside added_bytes.new added_places.new added_lengths.new)
@@ -261,18 +219,19 @@ fn run_loaded(
     let splits_end = SPLITS + counts.splits;
     let units_end = UNITS + counts.units;
     run_tables(
-        file,
-        &places[NAMES..names_end],
-        &lengths[..names],
-        heads,
-        chain,
-        &places[..sections],
-        &images[..sections],
-        &places[SYMBOLS..symbols_end],
-        &order[..ordered],
-        &places[RELOCATIONS..relocs_end],
-        &places[SPLITS..splits_end],
-        &places[UNITS..units_end],
+        &Loaded {
+            file,
+            names: &places[NAMES..names_end],
+            lengths: &lengths[..names],
+            sections: &places[..sections],
+            images: &images[..sections],
+            symbols: &places[SYMBOLS..symbols_end],
+            order: &order[..ordered],
+            relocs: &places[RELOCATIONS..relocs_end],
+            partials: &places[SPLITS..splits_end],
+            units: &places[UNITS..units_end],
+        },
+        index,
         starts,
         ends,
         units,
@@ -345,8 +304,10 @@ pub fn run_file(
         prepared.ordered,
         places,
         lengths,
-        heads,
-        chain,
+        &NameIndex {
+            heads: &*heads,
+            chain: &*chain,
+        },
         images,
         order,
         starts,

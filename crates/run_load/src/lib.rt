@@ -9,7 +9,7 @@ ghost use Rattle.run_load.specs.Prepared.{Prepares};
 
 use load::{Counts, SYMBOLS, load_file};
 use loaded::image_places;
-use obj::Refusal;
+use obj::{Refusal, Table};
 use symbol_order::make_order;
 use tables::main_ceilings;
 
@@ -38,6 +38,13 @@ pub fn prepare(
     let counts = load_file(file, main_ceilings(), places, lengths, heads, chain)?;
     image_places(&places[..counts.sections], images);
     let end = SYMBOLS + counts.symbols;
-    let ordered = make_order(file, &places[SYMBOLS..end], order, scratch);
+    let ordered = make_order(
+        &Table {
+            bytes: file,
+            places: &places[SYMBOLS..end],
+        },
+        order,
+        scratch,
+    );
     Ok(Prepared { counts, ordered })
 }

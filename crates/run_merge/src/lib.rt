@@ -13,37 +13,62 @@ ghost use Rattle.common.specs.Sections.{bss_in, Sections};
 ghost use Rattle.run_merge.specs.Merging.{marked_in};
 
 use common::update_common_splits;
+use loaded::Loaded;
 use merge::add_splits;
-use obj::Refusal;
+use names::Names;
+use obj::{Refusal, Table};
 
 // The partial splits merged into a table that has none, of at most `cap` rows, and common marked.
 pub fn merge_partials(
-    file: &[u8],
-    names: &[u32],
-    lengths: &[u8],
-    sections: &[u32],
-    partials: &[u32],
+    loaded: &Loaded,
     starts: &mut [u32],
     ends: &mut [u32],
     units: &mut [u16],
     rest: &mut [u64],
     cap: usize,
 ) -> Result<usize, Refusal>
-    requires { Sections file.now names.now lengths.now file.now sections.now
-        × AllHeld 15 file.now sections.now
-        × Partials file.now partials.now
+    requires { Sections loaded.now.file.now loaded.now.names.now loaded.now.lengths.now loaded.now.file.now loaded.now.sections.now
+        × AllHeld 15 loaded.now.file.now loaded.now.sections.now
+        × Partials loaded.now.file.now loaded.now.partials.now
         × Long (columns starts.old ends.old units.old rest.old) cap }
     ensures { (merged result (columns starts.new ends.new units.new rest.new)
-        ≡ marked_in (bss_in file.now names.now lengths.now file.now sections.now)
-        (merge_all (given (sections_in file.now sections.now) cap) [] (partials_in file.now partials.now)))
+        ≡ marked_in (bss_in loaded.now.file.now loaded.now.names.now loaded.now.lengths.now loaded.now.file.now loaded.now.sections.now)
+        (merge_all (given (sections_in loaded.now.file.now loaded.now.sections.now) cap) [] (partials_in loaded.now.file.now loaded.now.partials.now)))
         × (count result ≤ cap) }
 {
     let n = add_splits(
-        starts, ends, units, rest, 0, cap, file, sections, file, partials,
+        starts,
+        ends,
+        units,
+        rest,
+        0,
+        cap,
+        &Table {
+            bytes: loaded.file,
+            places: loaded.sections,
+        },
+        &Table {
+            bytes: loaded.file,
+            places: loaded.partials,
+        },
     )?;
     // without a start nothing is refused
     let _ = update_common_splits(
-        file, names, lengths, file, sections, starts, ends, units, rest, n, None,
+        &Names {
+            bytes: loaded.file,
+            places: loaded.names,
+            lengths: loaded.lengths,
+        },
+        &Table {
+            bytes: loaded.file,
+            places: loaded.sections,
+        },
+        starts,
+        ends,
+        units,
+        rest,
+        n,
+        None,
     );
     Ok(n)
 }

@@ -5,18 +5,20 @@ ghost use Rattle.std.specs.Prelude.{◌≡◌, [], ◌∷◌, ◌*◌, ◌≤◌
 ghost use Rattle.lists.specs.Tables.{laid};
 ghost use Rattle.outputs.specs.Outputs.{halves, counts_of};
 ghost use Rattle.stage_names.specs.StageNames.{ends_from, flat};
-ghost use Rattle.splits.specs.Columns.{columns};
+ghost use Rattle.splits.specs.Columns.{columns_of};
 ghost use Rattle.gap_splits.specs.Answers as entering;
 ghost use Rattle.walk.specs.Giving.{output_in};
-ghost use Rattle.run.specs.Answers.{Names};
+ghost use Rattle.run.specs.Answers.{Names as NamesRead};
 ghost use Rattle.run_outputs.specs.Laid.{Laid};
 ghost use Rattle.run_outputs.specs.Kept.{kept_by, word_of, left_in, Fits, OutputFits, OutputLaid, Countable, listed, sizes_of};
 
+use names::Names;
 use obj::{refuse, word_of};
 use order::Unlinked;
 use outputs::{clear_from, put_count};
 use pieces::PIECE_BYTES;
 use run::Ran;
+use splits::SplitColumns;
 use stage_names::put_names;
 use stage_splits::put_splits;
 use walk::Counts;
@@ -73,30 +75,13 @@ pub fn word_for(r: Result<Ran, Unlinked>) -> u64
 }
 
 // The added names with their ends, and zeros after them.
-fn lay_names(
-    added_bytes: &[u8],
-    added_places: &[u32],
-    added_lengths: &[u8],
-    names: usize,
-    used: usize,
-    out_ends: &mut [u8],
-    out_bytes: &mut [u8],
-)
-    requires { Names (entering.beside added_bytes.now added_places.now added_lengths.now) names used (length out_ends.old) (length out_bytes.old)
+fn lay_names(added: &Names, names: usize, used: usize, out_ends: &mut [u8], out_bytes: &mut [u8])
+    requires { NamesRead (entering.beside added.now.bytes.now added.now.places.now added.now.lengths.now) names used (length out_ends.old) (length out_bytes.old)
         × (2 * names ≤ length out_ends.old) }
-    ensures { (out_ends.new ≡ laid (length out_ends.old) (halves (ends_from 0 (entering.added (entering.beside added_bytes.now added_places.now added_lengths.now) names))))
-        × (out_bytes.new ≡ laid (length out_bytes.old) (flat (entering.added (entering.beside added_bytes.now added_places.now added_lengths.now) names))) }
+    ensures { (out_ends.new ≡ laid (length out_ends.old) (halves (ends_from 0 (entering.added (entering.beside added.now.bytes.now added.now.places.now added.now.lengths.now) names))))
+        × (out_bytes.new ≡ laid (length out_bytes.old) (flat (entering.added (entering.beside added.now.bytes.now added.now.places.now added.now.lengths.now) names))) }
 {
-    put_names(
-        added_bytes,
-        added_places,
-        added_lengths,
-        names,
-        0,
-        0,
-        out_ends,
-        out_bytes,
-    );
+    put_names(added, names, 0, 0, out_ends, out_bytes);
     clear_from(out_ends, 2 * names);
     clear_from(out_bytes, used);
 }
@@ -131,13 +116,8 @@ fn put_counts(counts: &mut [u8], k: Kept)
 // What is kept in each table, and zeros after it.
 pub fn lay(
     k: Kept,
-    added_bytes: &[u8],
-    added_places: &[u32],
-    added_lengths: &[u8],
-    starts: &[u32],
-    ends: &[u32],
-    units: &[u16],
-    rest: &[u64],
+    added: &Names,
+    splits: &SplitColumns,
     out_ends: &mut [u8],
     out_bytes: &mut [u8],
     out_splits: &mut [u8],
@@ -147,24 +127,16 @@ pub fn lay(
     offsets: &mut [u8],
     counts: &mut [u8],
 )
-    requires { Fits (entering.beside added_bytes.now added_places.now added_lengths.now) (columns starts.now ends.now units.now rest.now) out_units.old
+    requires { Fits (entering.beside added.now.bytes.now added.now.places.now added.now.lengths.now) (columns_of splits.now) out_units.old
         (sizes_of out_ends.old out_bytes.old out_splits.old out_units.old pieces.old entries.old offsets.old counts.old) k }
     ensures { Laid
-        (left_in (entering.beside added_bytes.now added_places.now added_lengths.now)
-        (columns starts.now ends.now units.now rest.now) out_units.old pieces.old entries.old offsets.old k)
+        (left_in (entering.beside added.now.bytes.now added.now.places.now added.now.lengths.now)
+        (columns_of splits.now) out_units.old pieces.old entries.old offsets.old k)
         (sizes_of out_ends.old out_bytes.old out_splits.old out_units.old pieces.old entries.old offsets.old counts.old)
         out_ends.new out_bytes.new out_splits.new out_units.new pieces.new entries.new offsets.new counts.new }
 {
-    lay_names(
-        added_bytes,
-        added_places,
-        added_lengths,
-        k.names,
-        k.used,
-        out_ends,
-        out_bytes,
-    );
-    put_splits(starts, ends, units, rest, k.splits, out_splits);
+    lay_names(added, k.names, k.used, out_ends, out_bytes);
+    put_splits(splits, k.splits, out_splits);
     clear_from(out_units, 8 * k.units);
     lay_output(k.made, pieces, entries, offsets);
     put_counts(counts, k);

@@ -24,23 +24,18 @@ ghost use Rattle.run_splits.specs.Table.{split_table};
 
 use create_gap_splits::create_gap_splits;
 use gap_splits::Entered;
-use obj::Refusal;
+use loaded::Loaded;
+use names::{NameIndex, Names};
+use obj::{Refusal, Table};
 use run_merge::merge_partials;
 use run_trim::check_and_trim;
+use sections::Obj;
 
-// The split table of a loaded file, with its gaps, in four columns: at most `cap` rows, at most `most` names more with `most_bytes` bytes. `images` are the places
-// of the sections' bytes, `order` is the symbol order, `buckets` and `chain` are the index of the names.
+// The split table of a loaded file, with its gaps, in four columns: at most `cap` rows, at most `most` names more with `most_bytes` bytes. `index` is that of the
+// file's names.
 pub fn split_table(
-    file: &[u8],
-    names: &[u32],
-    lengths: &[u8],
-    buckets: &[u16],
-    chain: &[u16],
-    sections: &[u32],
-    images: &[u32],
-    symbols: &[u32],
-    order: &[u16],
-    partials: &[u32],
+    loaded: &Loaded,
+    index: &NameIndex,
     starts: &mut [u32],
     ends: &mut [u32],
     units: &mut [u16],
@@ -56,39 +51,46 @@ pub fn split_table(
     gap_ends: &mut [u32],
     falls: &mut [u32],
 ) -> Result<Entered, Refusal>
-    requires { Usable file.now (tables_with names.now lengths.now sections.now symbols.now [] partials.now [])
-        × (images.now ≡ byte_places sections.now)
-        × (order.now ≡ order_of (symbol_of file.now symbols.now) (length symbols.now))
-        × Indexed (names_of file.now names.now lengths.now (length names.now)) buckets.now chain.now
+    requires { Usable loaded.now.file.now (tables_with loaded.now.names.now loaded.now.lengths.now loaded.now.sections.now loaded.now.symbols.now [] loaded.now.partials.now [])
+        × (loaded.now.images.now ≡ byte_places loaded.now.sections.now)
+        × (loaded.now.order.now ≡ order_of (symbol_of loaded.now.file.now loaded.now.symbols.now) (length loaded.now.symbols.now))
+        × Indexed (names_of loaded.now.file.now loaded.now.names.now loaded.now.lengths.now (length loaded.now.names.now)) index.now.heads.now index.now.chain.now
         × Long (columns starts.old ends.old units.old rest.old) cap × (cap ≤ 1024)
-        × Clean marks.old × (length names.now ≤ length marks.old)
+        × Clean marks.old × (length loaded.now.names.now ≤ length marks.old)
         × (6208 ≤ length keys.old) × (6208 ≤ length gap_ends.old)
         × entering.Room (entering.beside added_bytes.old added_places.old added_lengths.old) most most_bytes
         × (cap ≤ length falls.old) }
-    ensures { (entering.meant (names_of file.now names.now lengths.now (length names.now))
+    ensures { (entering.meant (names_of loaded.now.file.now loaded.now.names.now loaded.now.lengths.now (length loaded.now.names.now))
         (entering.beside added_bytes.new added_places.new added_lengths.new)
         (columns starts.new ends.new units.new rest.new) result
-        ≡ split_table file.now (tables_with names.now lengths.now sections.now symbols.now [] partials.now []) cap
-        (entering.ceilings (names_of file.now names.now lengths.now (length names.now)) most most_bytes))
+        ≡ split_table loaded.now.file.now (tables_with loaded.now.names.now loaded.now.lengths.now loaded.now.sections.now loaded.now.symbols.now [] loaded.now.partials.now []) cap
+        (entering.ceilings (names_of loaded.now.file.now loaded.now.names.now loaded.now.lengths.now (length loaded.now.names.now)) most most_bytes))
         × entering.Stand (entering.beside added_bytes.new added_places.new added_lengths.new) (entering.names result) (entering.used result) most most_bytes
         × (entering.splits result ≤ cap) }
 {
-    let n = merge_partials(
-        file, names, lengths, sections, partials, starts, ends, units, rest, cap,
-    )?;
+    let n = merge_partials(loaded, starts, ends, units, rest, cap)?;
     let filled = create_gap_splits(
-        file,
-        symbols,
-        order,
-        file,
-        names,
-        lengths,
-        buckets,
-        chain,
-        file,
-        sections,
-        file,
-        images,
+        &Obj {
+            symbols: Table {
+                bytes: loaded.file,
+                places: loaded.symbols,
+            },
+            order: loaded.order,
+            names: Names {
+                bytes: loaded.file,
+                places: loaded.names,
+                lengths: loaded.lengths,
+            },
+            heads: Table {
+                bytes: loaded.file,
+                places: loaded.sections,
+            },
+        },
+        index,
+        &Table {
+            bytes: loaded.file,
+            places: loaded.images,
+        },
         starts,
         ends,
         units,
@@ -104,20 +106,6 @@ pub fn split_table(
         keys,
         gap_ends,
     )?;
-    check_and_trim(
-        file,
-        names,
-        lengths,
-        sections,
-        images,
-        symbols,
-        order,
-        starts,
-        ends,
-        units,
-        rest,
-        filled.splits,
-        falls,
-    )?;
+    check_and_trim(loaded, starts, ends, units, rest, filled.splits, falls)?;
     Ok(filled)
 }

@@ -10,19 +10,17 @@ ghost use Rattle.splits.specs.Columns.{columns, rows};
 ghost use Rattle.trim.specs.Steps.{AllPlaced, seen};
 ghost use Rattle.run_trim.specs.Checking.{checked_table};
 
-use obj::Refusal;
+use loaded::Loaded;
+use names::Names;
+use obj::{Refusal, Table};
+use sections::Obj;
+use splits::SplitColumns;
 use trim::trim;
 use validate::validate;
 
 // The check of n rows, and where it passes the trim of their ends. `images` are the places of the sections' bytes, `falls` is room for as many ends as there are rows.
 pub fn check_and_trim(
-    file: &[u8],
-    names: &[u32],
-    lengths: &[u8],
-    sections: &[u32],
-    images: &[u32],
-    symbols: &[u32],
-    order: &[u16],
+    loaded: &Loaded,
     starts: &[u32],
     ends: &mut [u32],
     units: &[u16],
@@ -30,19 +28,56 @@ pub fn check_and_trim(
     n: usize,
     falls: &mut [u32],
 ) -> Result<(), Refusal>
-    requires { Tables file.now symbols.now order.now file.now names.now lengths.now
-        × Sound (symbol_of file.now symbols.now) (length symbols.now)
-        × Kept file.now sections.now file.now images.now names.now
-        × AllPlaced (length sections.now) (columns starts.now ends.old units.now rest.now) n
+    requires { Tables loaded.now.file.now loaded.now.symbols.now loaded.now.order.now loaded.now.file.now loaded.now.names.now loaded.now.lengths.now
+        × Sound (symbol_of loaded.now.file.now loaded.now.symbols.now) (length loaded.now.symbols.now)
+        × Kept loaded.now.file.now loaded.now.sections.now loaded.now.file.now loaded.now.images.now loaded.now.names.now
+        × AllPlaced (length loaded.now.sections.now) (columns starts.now ends.old units.now rest.now) n
         × (n ≤ length falls.old) }
     ensures { seen result (rows (columns starts.now ends.new units.now rest.now) n)
-        ≡ checked_table (image_of file.now symbols.now file.now names.now lengths.now)
-        (sections_of file.now sections.now file.now images.now)
+        ≡ checked_table (image_of loaded.now.file.now loaded.now.symbols.now loaded.now.file.now loaded.now.names.now loaded.now.lengths.now)
+        (sections_of loaded.now.file.now loaded.now.sections.now loaded.now.file.now loaded.now.images.now)
         (rows (columns starts.now ends.old units.now rest.now) n) }
 {
-    validate(file, symbols, order, starts, ends, units, rest, n)?;
+    validate(
+        &Table {
+            bytes: loaded.file,
+            places: loaded.symbols,
+        },
+        loaded.order,
+        &SplitColumns {
+            starts,
+            ends: &*ends,
+            units,
+            rest,
+        },
+        n,
+    )?;
     trim(
-        file, symbols, order, file, names, lengths, file, sections, file, images, starts, ends,
-        units, rest, n, falls,
+        &Obj {
+            symbols: Table {
+                bytes: loaded.file,
+                places: loaded.symbols,
+            },
+            order: loaded.order,
+            names: Names {
+                bytes: loaded.file,
+                places: loaded.names,
+                lengths: loaded.lengths,
+            },
+            heads: Table {
+                bytes: loaded.file,
+                places: loaded.sections,
+            },
+        },
+        &Table {
+            bytes: loaded.file,
+            places: loaded.images,
+        },
+        starts,
+        ends,
+        units,
+        rest,
+        n,
+        falls,
     )
 }

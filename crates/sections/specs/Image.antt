@@ -3,6 +3,7 @@ use Rattle.std.specs.Prelude.{ℕ, ◌+◌, ◌≤◌, ◌<◌, ◌≡◌, List,
 use Rattle.obj.specs.declared.Section.{Section}
 use Rattle.obj.specs.declared.Symbol.{Symbol}
 use Rattle.names.specs.Names.{name_at, Named}
+use Rattle.sections.specs.declared.Obj.{Obj}
 use Rattle.symbol_order.specs.Order.{symbol_of, Readable, Order}
 
 pub record Image : Type 0 where
@@ -17,6 +18,10 @@ image_of b places name_bytes name_places name_lengths = record {
   name = name_at name_bytes name_places name_lengths;
 }
 
+-- that of the tables that are lent together
+abbrev pub image_in : Obj → Image
+image_in o = image_of o.symbols.bytes.now o.symbols.places.now o.names.bytes.now o.names.places.now o.names.lengths.now
+
 -- ---- what is asked of the tables
 
 -- every symbol's name is there
@@ -28,6 +33,10 @@ pub record SymbolNames (b places name_bytes name_places name_lengths : List ℕ)
 pub record Tables (b places order name_bytes name_places name_lengths : List ℕ) : Type 0 where
   pub symbols : Order b places order
   pub names : SymbolNames b places name_bytes name_places name_lengths
+
+-- those that are lent together do
+abbrev pub TablesIn : Obj → Type 0
+TablesIn o = Tables o.symbols.bytes.now o.symbols.places.now o.order.now o.names.bytes.now o.names.places.now o.names.lengths.now
 
 -- a part of the order, and the names of its symbols
 pub record Part (b places part name_bytes name_places name_lengths : List ℕ) : Type 0 where

@@ -4,16 +4,26 @@
 ghost use Rattle.std.specs.Prelude.{◌≡◌, reverse, ◌-◌, ◌<◌, ◌≤◌, length, drop};
 ghost use Rattle.names.specs.Names.{name_at, Named};
 ghost use Rattle.symbol_order.specs.Order.{symbol_of, Order};
-ghost use Rattle.sections.specs.Image.{image_of, Tables, Part, Whole, Lies};
+ghost use Rattle.sections.specs.Image.{image_of, Tables, Part, Whole, Lies, image_in, TablesIn};
 ghost use Rattle.sections.specs.Bytes.{bytes_of, all_zero};
 ghost use Rattle.sections.specs.Ends.{object_below, lowered, less_four, splitting_end, end_meaning, Within, Four};
 ghost use Rattle.sections.specs.Sections.{head_of, Heads};
 ghost use Rattle.sections.specs.Alignment.{default_alignment, larger, alignment_of, alignment_from, alignment_meaning, chosen};
 
-use names::{is_four_aligned, is_linker_generated_object, is_pointer_list, name_at};
-use obj::{Section, Split, Symbol, section_at, symbol_at};
+use names::{Names, is_four_aligned, is_linker_generated_object, is_pointer_list, name_at};
+use obj::{Section, Split, Symbol, Table, section_at, symbol_at};
 use symbol_order::number;
 use symbols::{Backwards, for_section, highest_in, is_sized_unstripped};
+
+// What the stages ask a guest: its symbols with their order by address, its names and the heads of its sections. A lifetime for each slice, as they have
+// different owners.
+#[derive(Clone, Copy)]
+pub struct Obj<'s, 't, 'o, 'b, 'p, 'l, 'h, 'i> {
+    pub symbols: Table<'s, 't>,
+    pub order: &'o [u16],
+    pub names: Names<'b, 'p, 'l>,
+    pub heads: Table<'h, 'i>,
+}
 
 // 10: a `.ctors` or `.dtors` of 1 to 3 bytes.
 #[derive(Clone, Copy, Debug, PartialEq, Eq)]
@@ -55,24 +65,16 @@ fn is_object_below(y: Symbol, end: u32) -> bool
 }
 
 // "while the last .. has one of the five linker object names, that symbol's address"; over a section's symbols, the last first.
-fn lower(
-    b: &[u8],
-    places: &[u32],
-    part: &[u16],
-    name_bytes: &[u8],
-    name_places: &[u32],
-    name_lengths: &[u8],
-    end: u32,
-) -> u32
-    requires { Part b.now places.now part.now name_bytes.now name_places.now name_lengths.now }
-    ensures { Within (lowered (image_of b.now places.now name_bytes.now name_places.now name_lengths.now) end (reverse part.now)) end result }
+fn lower(table: &Table, part: &[u16], names: &Names, end: u32) -> u32
+    requires { Part table.now.bytes.now table.now.places.now part.now names.now.bytes.now names.now.places.now names.now.lengths.now }
+    ensures { Within (lowered (image_of table.now.bytes.now table.now.places.now names.now.bytes.now names.now.places.now names.now.lengths.now) end (reverse part.now)) end result }
 {
     let mut low = end;
     for j in (0..part.len()).rev() {
-        let y = symbol_at(b, places, number(part, j));
+        let y = symbol_at(table, number(part, j));
         if is_object_below(y, low) {
             let k = usize::from(y.name);
-            if is_linker_generated_object(name_at(name_bytes, name_places, name_lengths, k)) {
+            if is_linker_generated_object(name_at(names, k)) {
                 low = y.address;
             } else {
                 return low;
@@ -96,31 +98,28 @@ fn less_four(bytes: &[u8], list: bool, end: u32) -> u32
 
 // The splitting end of section n, which has this head and these bytes.
 pub fn end_for_section(
-    b: &[u8],
-    places: &[u32],
+    table: &Table,
     order: &[u16],
-    name_bytes: &[u8],
-    name_places: &[u32],
-    name_lengths: &[u8],
+    names: &Names,
     section: u16,
     head: Section,
     bytes: &[u8],
 ) -> Result<u32, Short>
-    requires { Tables b.now places.now order.now name_bytes.now name_places.now name_lengths.now × Whole head bytes.now name_places.now }
-    ensures { end_meaning section head.address result ≡ splitting_end (image_of b.now places.now name_bytes.now name_places.now name_lengths.now) section head bytes.now }
+    requires { Tables table.now.bytes.now table.now.places.now order.now names.now.bytes.now names.now.places.now names.now.lengths.now × Whole head bytes.now names.now.places.now }
+    ensures { end_meaning section head.address result ≡ splitting_end (image_of table.now.bytes.now table.now.places.now names.now.bytes.now names.now.places.now names.now.lengths.now) section head bytes.now }
 {
     let end = head.address + head.size;
     if (head.kind == 3) | (head.size == 0) {
         return Ok(end);
     }
     let k = usize::from(head.name);
-    let list = is_pointer_list(name_at(name_bytes, name_places, name_lengths, k));
+    let list = is_pointer_list(name_at(names, k));
     if list & (head.size < 4) {
         return Err(Short);
     }
     let last = less_four(bytes, list, end);
-    let part = for_section(b, places, order, section);
-    Ok(lower(b, places, part, name_bytes, name_places, name_lengths, last))
+    let part = for_section(table.bytes, table.places, order, section);
+    Ok(lower(table, part, names, last))
 }
 
 // "the default (code, `.ctors`, `.dtors`, `extab`, `extabindex`: 4; else 8)"
@@ -145,8 +144,7 @@ fn larger_of(least: u32, highest: u32) -> Alignment
 
 // "Alignment of a split": `own` is the given one, 0 if there is none, and `least` the default.
 pub fn alignment_of(
-    b: &[u8],
-    places: &[u32],
+    table: &Table,
     order: &[u16],
     section: u16,
     least: u32,
@@ -154,61 +152,35 @@ pub fn alignment_of(
     start: u32,
     end: u32,
 ) -> Result<Alignment, Backwards>
-    requires { Order b.now places.now order.now }
-    ensures { alignment_meaning section start result ≡ alignment_of (symbol_of b.now places.now) (length places.now) section least own start end }
+    requires { Order table.now.bytes.now table.now.places.now order.now }
+    ensures { alignment_meaning section start result ≡ alignment_of (symbol_of table.now.bytes.now table.now.places.now) (length table.now.places.now) section least own start end }
 {
     if own != 0 {
         return Ok(Alignment::Given(own));
     }
-    let highest = highest_in(b, places, order, section, start, end)?;
+    let highest = highest_in(table, order, section, start, end)?;
     Ok(larger_of(least, highest))
 }
 
 // The default alignment of section k.
-fn default_of(
-    name_bytes: &[u8],
-    name_places: &[u32],
-    name_lengths: &[u8],
-    heads: &[u8],
-    head_places: &[u32],
-    k: usize,
-) -> u32
-    requires { Named name_bytes.now name_places.now name_lengths.now (length name_places.now) × Heads heads.now head_places.now name_places.now × (k < length head_places.now) }
-    ensures { result ≡ default_alignment (head_of heads.now head_places.now k) (name_at name_bytes.now name_places.now name_lengths.now (head_of heads.now head_places.now k).name) }
+fn default_of(names: &Names, heads: &Table, k: usize) -> u32
+    requires { Named names.now.bytes.now names.now.places.now names.now.lengths.now (length names.now.places.now) × Heads heads.now.bytes.now heads.now.places.now names.now.places.now × (k < length heads.now.places.now) }
+    ensures { result ≡ default_alignment (head_of heads.now.bytes.now heads.now.places.now k) (name_at names.now.bytes.now names.now.places.now names.now.lengths.now (head_of heads.now.bytes.now heads.now.places.now k).name) }
 {
-    let head = section_at(heads, head_places, k);
+    let head = section_at(heads, k);
     let name = usize::from(head.name);
-    default_alignment(head, name_at(name_bytes, name_places, name_lengths, name))
+    default_alignment(head, name_at(names, name))
 }
 
 // "Alignment of a split", of a split of a stage's table; the range is asked from `start` on.
-pub fn split_alignment(
-    b: &[u8],
-    places: &[u32],
-    order: &[u16],
-    name_bytes: &[u8],
-    name_places: &[u32],
-    name_lengths: &[u8],
-    heads: &[u8],
-    head_places: &[u32],
-    s: Split,
-    start: u32,
-) -> Result<Alignment, Backwards>
-    requires { Tables b.now places.now order.now name_bytes.now name_places.now name_lengths.now × Heads heads.now head_places.now name_places.now × (s.section < length head_places.now) }
-    ensures { alignment_meaning s.section start result ≡ alignment_from (image_of b.now places.now name_bytes.now name_places.now name_lengths.now) (head_of heads.now head_places.now) start s }
+pub fn split_alignment(obj: &Obj, s: Split, start: u32) -> Result<Alignment, Backwards>
+    requires { TablesIn obj.now × Heads obj.now.heads.bytes.now obj.now.heads.places.now obj.now.names.places.now × (s.section < length obj.now.heads.places.now) }
+    ensures { alignment_meaning s.section start result ≡ alignment_from (image_in obj.now) (head_of obj.now.heads.bytes.now obj.now.heads.places.now) start s }
 {
-    let least = default_of(
-        name_bytes,
-        name_places,
-        name_lengths,
-        heads,
-        head_places,
-        usize::from(s.section),
-    );
+    let least = default_of(&obj.names, &obj.heads, usize::from(s.section));
     alignment_of(
-        b,
-        places,
-        order,
+        &obj.symbols,
+        obj.order,
         s.section,
         least,
         s.alignment,

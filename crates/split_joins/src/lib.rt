@@ -4,12 +4,12 @@
 
 ghost use Rattle.std.specs.Prelude.{◌≡◌, true, eqb, ℕ, ◌-◌, ◌≤◌, length, get_or, MatchOption};
 ghost use Rattle.lists.specs.Rows.{tabulate, some};
-ghost use Rattle.splits.specs.Columns.{Good, columns, Long};
+ghost use Rattle.splits.specs.Columns.{Good, columns, Long, columns_of};
 ghost use Rattle.split_joins.specs.Joins.{Apart, Between, TakesPlace, AtOnce};
 
 use obj::Split;
 use split_edits::{first_from, lies_after, next_outside, shift_rows_down};
-use splits::{next_of_unit, next_within, rest_of};
+use splits::{SplitColumns, next_of_unit, next_within, rest_of};
 
 // Whether one of the rows from `from` up to `to` is the unit's. No early exit, so that the compiler compares eight at a time.
 fn has_unit(units: &[u16], from: usize, to: usize, unit: u16) -> bool
@@ -42,20 +42,11 @@ fn keeps_units(units: &[u16], n: usize, first: usize, stop: usize, unit: u16) ->
 }
 
 // Whether s lies between the rows before `first` and those from `stop` on.
-fn lies_between(
-    starts: &[u32],
-    ends: &[u32],
-    units: &[u16],
-    rest: &[u64],
-    n: usize,
-    first: usize,
-    stop: usize,
-    s: Split,
-) -> bool
-    requires { Long (columns starts.now ends.now units.now rest.now) n × (first ≤ stop) × (stop ≤ n) }
-    ensures { result ≡ true → Between s (columns starts.now ends.now units.now rest.now) n first stop }
+fn lies_between(splits: &SplitColumns, n: usize, first: usize, stop: usize, s: Split) -> bool
+    requires { Long (columns_of splits.now) n × (first ≤ stop) × (stop ≤ n) }
+    ensures { result ≡ true → Between s (columns_of splits.now) n first stop }
 {
-    let from = first_from(starts, ends, units, rest, first, s);
+    let from = first_from(splits, first, s);
     if from < first {
         return false;
     }
@@ -66,42 +57,31 @@ fn lies_between(
         s.section,
         s.start,
         s.end,
-        starts[stop],
-        ends[stop],
-        rest[stop],
+        splits.starts[stop],
+        splits.ends[stop],
+        splits.rest[stop],
     )
 }
 
 // Whether s may take the place of the rows from `first` up to `stop`, which are in its range: no other row is in it or of its unit in the section, or takes
 // another name by the join, and s lies where they do.
-fn takes_place(
-    starts: &[u32],
-    ends: &[u32],
-    units: &[u16],
-    rest: &[u64],
-    n: usize,
-    first: usize,
-    stop: usize,
-    s: Split,
-) -> bool
-    requires { Long (columns starts.now ends.now units.now rest.now) n × (first ≤ stop) × (stop ≤ n) }
-    ensures { result ≡ true → TakesPlace s (columns starts.now ends.now units.now rest.now) n first stop }
+fn takes_place(splits: &SplitColumns, n: usize, first: usize, stop: usize, s: Split) -> bool
+    requires { Long (columns_of splits.now) n × (first ≤ stop) × (stop ≤ n) }
+    ensures { result ≡ true → TakesPlace s (columns_of splits.now) n first stop }
 {
     if (stop <= first) | (s.end <= s.start) {
         return false;
     }
-    let other = next_within(
-        starts, ends, units, rest, n, s.section, s.start, s.end, stop,
-    );
-    let own = next_of_unit(starts, ends, units, rest, first, s.section, s.unit, 0);
-    let later = next_of_unit(starts, ends, units, rest, n, s.section, s.unit, stop);
+    let other = next_within(splits, n, s.section, s.start, s.end, stop);
+    let own = next_of_unit(splits, first, s.section, s.unit, 0);
+    let later = next_of_unit(splits, n, s.section, s.unit, stop);
     if (other < n) | (own.is_some() | later.is_some()) {
         return false;
     }
-    if !keeps_units(units, n, first, stop, s.unit) {
+    if !keeps_units(splits.units, n, first, stop, s.unit) {
         return false;
     }
-    lies_between(starts, ends, units, rest, n, first, stop, s)
+    lies_between(splits, n, first, stop, s)
 }
 
 // A join over the range of s and a push of s, where s can take the place of the rows in it: the rows behind move once. How many rows there are then, or None and
@@ -119,11 +99,44 @@ pub fn join_and_push(
         ((starts.new ≡ starts.old) × (ends.new ≡ ends.old) × (units.new ≡ units.old) × (rest.new ≡ rest.old))
         (AtOnce s (columns starts.old ends.old units.old rest.old) (columns starts.new ends.new units.new rest.new) n) }
 {
-    let first = next_within(starts, ends, units, rest, n, s.section, s.start, s.end, 0);
-    let stop = next_outside(
-        starts, ends, units, rest, n, s.section, s.start, s.end, first,
+    let first = next_within(
+        &SplitColumns {
+            starts: &*starts,
+            ends: &*ends,
+            units: &*units,
+            rest: &*rest,
+        },
+        n,
+        s.section,
+        s.start,
+        s.end,
+        0,
     );
-    if !takes_place(starts, ends, units, rest, n, first, stop, s) {
+    let stop = next_outside(
+        &SplitColumns {
+            starts: &*starts,
+            ends: &*ends,
+            units: &*units,
+            rest: &*rest,
+        },
+        n,
+        s.section,
+        s.start,
+        s.end,
+        first,
+    );
+    if !takes_place(
+        &SplitColumns {
+            starts: &*starts,
+            ends: &*ends,
+            units: &*units,
+            rest: &*rest,
+        },
+        n,
+        first,
+        stop,
+        s,
+    ) {
         return None;
     }
     let packed = rest_of(s);

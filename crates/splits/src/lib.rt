@@ -6,13 +6,22 @@ ghost use Rattle.std.specs.Prelude.{◌≡◌, true, false, not, ◌&&◌, map, 
 ghost use Rattle.std.proofs.lemmas.List.Edits.{sets};
 ghost use Rattle.lists.specs.Rows.{tabulate, some};
 ghost use Rattle.obj.specs.Records.{split_at, partial_width, split_width};
-ghost use Rattle.splits.specs.Columns.{alignment_of, Good, columns, row_of, row_at, rows, Long};
+ghost use Rattle.splits.specs.Columns.{alignment_of, Good, columns, row_of, row_at, rows, Long, columns_of};
 ghost use Rattle.splits.specs.Updates.{with_end};
 ghost use Rattle.splits.specs.Questions.{within, of_unit, NextHit, Meets};
 ghost use Rattle.splits.specs.Bytes.{partial_bytes, split_bytes, table_bytes, Loadable};
 
 use fields::{put16, put32};
-use obj::{PARTIAL_BYTES, SPLIT_BYTES, Split, split_at};
+use obj::{PARTIAL_BYTES, SPLIT_BYTES, Split, Table, split_at};
+
+// The columns of the split table.
+#[derive(Clone, Copy)]
+pub struct SplitColumns<'s, 'e, 'u, 'r> {
+    pub starts: &'s [u32],
+    pub ends: &'e [u32],
+    pub units: &'u [u16],
+    pub rest: &'r [u64],
+}
 
 // What a range holds: a split, a hand split, a hand split of another unit.
 #[derive(Clone, Copy)]
@@ -78,11 +87,16 @@ pub fn rest_of(s: Split) -> u64
 }
 
 // Row i.
-pub fn row(starts: &[u32], ends: &[u32], units: &[u16], rest: &[u64], i: usize) -> Split
-    requires { Long (columns starts.now ends.now units.now rest.now) (i + 1) }
-    ensures { result ≡ row_at (columns starts.now ends.now units.now rest.now) i }
+pub fn row(splits: &SplitColumns, i: usize) -> Split
+    requires { Long (columns_of splits.now) (i + 1) }
+    ensures { result ≡ row_at (columns_of splits.now) i }
 {
-    row_of(starts[i], ends[i], units[i], rest[i])
+    row_of(
+        splits.starts[i],
+        splits.ends[i],
+        splits.units[i],
+        splits.rest[i],
+    )
 }
 
 // Row i with another end.
@@ -107,19 +121,18 @@ pub fn set_end(
 
 // The splits of a table, from its lent bytes into the columns.
 pub fn load(
-    b: &[u8],
-    places: &[u32],
+    table: &Table,
     starts: &mut [u32],
     ends: &mut [u32],
     units: &mut [u16],
     rest: &mut [u64],
 )
-    requires { Loadable b.now places.now × Long (columns starts.old ends.old units.old rest.old) (length places.now) }
-    ensures { rows (columns starts.new ends.new units.new rest.new) (length places.now)
-        ≡ map (split_at b.now) places.now }
+    requires { Loadable table.now.bytes.now table.now.places.now × Long (columns starts.old ends.old units.old rest.old) (length table.now.places.now) }
+    ensures { rows (columns starts.new ends.new units.new rest.new) (length table.now.places.now)
+        ≡ map (split_at table.now.bytes.now) table.now.places.now }
 {
-    for i in 0..places.len() {
-        let s = split_at(b, places, i);
+    for i in 0..table.places.len() {
+        let s = split_at(table, i);
         starts[i] = s.start;
         ends[i] = s.end;
         units[i] = s.unit;
@@ -151,12 +164,12 @@ fn put_split(out: &mut [u8], at: usize, s: Split)
 }
 
 // The first n rows as records at the front of a lent table.
-pub fn store(starts: &[u32], ends: &[u32], units: &[u16], rest: &[u64], n: usize, out: &mut [u8])
-    requires { Long (columns starts.now ends.now units.now rest.now) n × (split_width * n ≤ length out.old) }
-    ensures { out.new ≡ sets out.old 0 (table_bytes (rows (columns starts.now ends.now units.now rest.now) n)) }
+pub fn store(splits: &SplitColumns, n: usize, out: &mut [u8])
+    requires { Long (columns_of splits.now) n × (split_width * n ≤ length out.old) }
+    ensures { out.new ≡ sets out.old 0 (table_bytes (rows (columns_of splits.now) n)) }
 {
     for i in 0..n {
-        put_split(out, SPLIT_BYTES * i, row(starts, ends, units, rest, i));
+        put_split(out, SPLIT_BYTES * i, row(splits, i));
     }
 }
 
@@ -197,20 +210,17 @@ fn holds_unit(units: &[u16], at: usize, unit: u16) -> bool
 
 // The first row from `at` on that is the unit's in the section: row by row.
 fn next_in_rows(
-    starts: &[u32],
-    ends: &[u32],
-    units: &[u16],
-    rest: &[u64],
+    splits: &SplitColumns,
     n: usize,
     section: u16,
     unit: u16,
     at: usize,
 ) -> Option<usize>
-    requires { Long (columns starts.now ends.now units.now rest.now) n × (at ≤ n) }
-    ensures { NextHit (of_unit section unit) (columns starts.now ends.now units.now rest.now) n at result }
+    requires { Long (columns_of splits.now) n × (at ≤ n) }
+    ensures { NextHit (of_unit section unit) (columns_of splits.now) n at result }
 {
     for i in at..n {
-        if is_of_unit(section, unit, units[i], rest[i]) {
+        if is_of_unit(section, unit, splits.units[i], splits.rest[i]) {
             return Some(i);
         }
     }
@@ -218,47 +228,36 @@ fn next_in_rows(
 }
 
 // The same of the 32 rows from `at` on: row by row only where one is the unit's in some section.
-fn next_in_block(
-    starts: &[u32],
-    ends: &[u32],
-    units: &[u16],
-    rest: &[u64],
-    section: u16,
-    unit: u16,
-    at: usize,
-) -> Option<usize>
-    requires { Long (columns starts.now ends.now units.now rest.now) (at + 32) }
-    ensures { NextHit (of_unit section unit) (columns starts.now ends.now units.now rest.now) (at + 32) at result }
+fn next_in_block(splits: &SplitColumns, section: u16, unit: u16, at: usize) -> Option<usize>
+    requires { Long (columns_of splits.now) (at + 32) }
+    ensures { NextHit (of_unit section unit) (columns_of splits.now) (at + 32) at result }
 {
-    if holds_unit(units, at, unit) {
-        return next_in_rows(starts, ends, units, rest, at + 32, section, unit, at);
+    if holds_unit(splits.units, at, unit) {
+        return next_in_rows(splits, at + 32, section, unit, at);
     }
     None
 }
 
 // The first row from `at` on that is the unit's in the section: by blocks of 32 rows, then the rows that are left.
 pub fn next_of_unit(
-    starts: &[u32],
-    ends: &[u32],
-    units: &[u16],
-    rest: &[u64],
+    splits: &SplitColumns,
     n: usize,
     section: u16,
     unit: u16,
     at: usize,
 ) -> Option<usize>
-    requires { Long (columns starts.now ends.now units.now rest.now) n × (at ≤ n) }
-    ensures { NextHit (of_unit section unit) (columns starts.now ends.now units.now rest.now) n at result }
+    requires { Long (columns_of splits.now) n × (at ≤ n) }
+    ensures { NextHit (of_unit section unit) (columns_of splits.now) n at result }
 {
     // by blocks, and then what is left: no count of rows
     let mut i = at;
     while 32 <= n - i {
-        if let Some(k) = next_in_block(starts, ends, units, rest, section, unit, i) {
+        if let Some(k) = next_in_block(splits, section, unit, i) {
             return Some(k);
         }
         i += 32;
     }
-    next_in_rows(starts, ends, units, rest, n, section, unit, i)
+    next_in_rows(splits, n, section, unit, i)
 }
 
 // Whether one of the 32 starts from `at` on lies in a range; as `holds_unit`.
@@ -276,24 +275,21 @@ fn holds_start(starts: &[u32], at: usize, from: u32, to: u32) -> bool
 
 // The first row from `at` on in the range, or n: row by row.
 fn within_in_rows(
-    starts: &[u32],
-    ends: &[u32],
-    units: &[u16],
-    rest: &[u64],
+    splits: &SplitColumns,
     n: usize,
     section: u16,
     from: u32,
     to: u32,
     at: usize,
 ) -> usize
-    requires { Long (columns starts.now ends.now units.now rest.now) n × (at ≤ n) }
+    requires { Long (columns_of splits.now) n × (at ≤ n) }
     ensures { (at ≤ result)
         × (result ≤ n)
-        × ((k : ℕ) → at ≤ k → k < result → within section from to (row_at (columns starts.now ends.now units.now rest.now) k) ≡ false)
-        × (result < n → within section from to (row_at (columns starts.now ends.now units.now rest.now) result) ≡ true) }
+        × ((k : ℕ) → at ≤ k → k < result → within section from to (row_at (columns_of splits.now) k) ≡ false)
+        × (result < n → within section from to (row_at (columns_of splits.now) result) ≡ true) }
 {
     for i in at..n {
-        if is_within(section, from, to, starts[i], rest[i]) {
+        if is_within(section, from, to, splits.starts[i], splits.rest[i]) {
             return i;
         }
     }
@@ -301,24 +297,15 @@ fn within_in_rows(
 }
 
 // The same of the 32 rows from `at` on: row by row only where one starts in the range in some section.
-fn within_in_block(
-    starts: &[u32],
-    ends: &[u32],
-    units: &[u16],
-    rest: &[u64],
-    section: u16,
-    from: u32,
-    to: u32,
-    at: usize,
-) -> usize
-    requires { Long (columns starts.now ends.now units.now rest.now) (at + 32) }
+fn within_in_block(splits: &SplitColumns, section: u16, from: u32, to: u32, at: usize) -> usize
+    requires { Long (columns_of splits.now) (at + 32) }
     ensures { (at ≤ result)
         × (result ≤ at + 32)
-        × ((k : ℕ) → at ≤ k → k < result → within section from to (row_at (columns starts.now ends.now units.now rest.now) k) ≡ false)
-        × (result < at + 32 → within section from to (row_at (columns starts.now ends.now units.now rest.now) result) ≡ true) }
+        × ((k : ℕ) → at ≤ k → k < result → within section from to (row_at (columns_of splits.now) k) ≡ false)
+        × (result < at + 32 → within section from to (row_at (columns_of splits.now) result) ≡ true) }
 {
-    if holds_start(starts, at, from, to) {
-        return within_in_rows(starts, ends, units, rest, at + 32, section, from, to, at);
+    if holds_start(splits.starts, at, from, to) {
+        return within_in_rows(splits, at + 32, section, from, to, at);
     }
     at + 32
 }
@@ -326,62 +313,49 @@ fn within_in_block(
 // The first row from `at` on in the range, or n: by blocks of 32 rows, then the rows that are left. Callers take n as the end of a range of rows
 // (split_edits `remove_rows`, `remove_range`, split_joins `join_and_push`), so it is no Option.
 pub fn next_within(
-    starts: &[u32],
-    ends: &[u32],
-    units: &[u16],
-    rest: &[u64],
+    splits: &SplitColumns,
     n: usize,
     section: u16,
     from: u32,
     to: u32,
     at: usize,
 ) -> usize
-    requires { Long (columns starts.now ends.now units.now rest.now) n × (at ≤ n) }
+    requires { Long (columns_of splits.now) n × (at ≤ n) }
     ensures { (at ≤ result)
         × (result ≤ n)
-        × ((k : ℕ) → at ≤ k → k < result → within section from to (row_at (columns starts.now ends.now units.now rest.now) k) ≡ false)
-        × (result < n → within section from to (row_at (columns starts.now ends.now units.now rest.now) result) ≡ true) }
+        × ((k : ℕ) → at ≤ k → k < result → within section from to (row_at (columns_of splits.now) k) ≡ false)
+        × (result < n → within section from to (row_at (columns_of splits.now) result) ≡ true) }
 {
     // by blocks, and then what is left: no count of rows
     let mut i = at;
     while 32 <= n - i {
-        let k = within_in_block(starts, ends, units, rest, section, from, to, i);
+        let k = within_in_block(splits, section, from, to, i);
         if k < i + 32 {
             return k;
         }
         i += 32;
     }
-    within_in_rows(starts, ends, units, rest, n, section, from, to, i)
+    within_in_rows(splits, n, section, from, to, i)
 }
 
 // What the range holds, for a split of `unit`: "an autogenerated one that meets a hand split changes nothing", "25 meets a hand split of another unit",
 // "26 a round goes on but its range holds no split".
-pub fn meets(
-    starts: &[u32],
-    ends: &[u32],
-    units: &[u16],
-    rest: &[u64],
-    n: usize,
-    section: u16,
-    from: u32,
-    to: u32,
-    unit: u16,
-) -> Met
-    requires { Long (columns starts.now ends.now units.now rest.now) n }
-    ensures { Meets (within section from to) unit (rows (columns starts.now ends.now units.now rest.now) n) result }
+pub fn meets(splits: &SplitColumns, n: usize, section: u16, from: u32, to: u32, unit: u16) -> Met
+    requires { Long (columns_of splits.now) n }
+    ensures { Meets (within section from to) unit (rows (columns_of splits.now) n) result }
 {
     let mut any = false;
     let mut hand = false;
     let mut other = false;
-    let mut i = next_within(starts, ends, units, rest, n, section, from, to, 0);
+    let mut i = next_within(splits, n, section, from, to, 0);
     // from one row in the range to the next: no count
     while i < n {
-        let by_hand = is_hand(rest[i]);
-        let of_other = units[i] != unit;
+        let by_hand = is_hand(splits.rest[i]);
+        let of_other = splits.units[i] != unit;
         any = true;
         hand |= by_hand;
         other |= by_hand & of_other;
-        i = next_within(starts, ends, units, rest, n, section, from, to, i + 1);
+        i = next_within(splits, n, section, from, to, i + 1);
     }
     Met { any, hand, other }
 }

@@ -8,18 +8,21 @@ ghost use Rattle.names.specs.Names.{names_of, Named};
 ghost use Rattle.tables.specs.Records.{sections_in};
 ghost use Rattle.symbol_order.specs.Order.{symbol_of};
 ghost use Rattle.symbols.specs.Sound.{Sound};
-ghost use Rattle.sections.specs.Image.{image_of, Tables};
+ghost use Rattle.sections.specs.Image.{image_in, TablesIn};
 ghost use Rattle.sections.specs.Sections.{sections_of};
-ghost use Rattle.splits.specs.Columns.{columns, rows, Long};
+ghost use Rattle.splits.specs.Columns.{columns, rows, Long, columns_of};
 ghost use Rattle.merge.specs.Merge.{given};
 ghost use Rattle.gap_splits.specs.Answers.{beside, added, ceilings, Stand};
 ghost use Rattle.create_gap_splits.specs.Create.{gaps_filled};
 ghost use Rattle.obj.specs.Records.{split_width};
-ghost use Rattle.stage_gaps.specs.StageGaps.{from_splits, Gives, Laid, Names, Headed, Space, Columns, Lent};
+ghost use Rattle.stage_gaps.specs.StageGaps.{from_splits, Gives, Laid, Names as NamesRead, Headed, Space, Columns, Lent};
 
 use gap_splits::Entered;
-use obj::{Refusal, SPLIT_BYTES};
+use names::{NameIndex, Names};
+use obj::{Refusal, SPLIT_BYTES, Table};
 use outputs::{clear_from, put_count};
+use sections::Obj;
+use splits::SplitColumns;
 use stage_names::give_names;
 use stage_splits::{put_splits, room_of, take_split_columns};
 
@@ -38,16 +41,9 @@ fn give_counts(counts: &mut [u8], names: usize, bytes: usize, splits: usize)
 
 // What the filling left in the columns, in the outputs.
 fn give_filled(
-    name_bytes: &[u8],
-    name_places: &[u32],
-    name_lengths: &[u8],
-    added_bytes: &[u8],
-    added_places: &[u32],
-    added_lengths: &[u8],
-    starts: &[u32],
-    ends: &[u32],
-    units: &[u16],
-    rest: &[u64],
+    names: &Names,
+    added_names: &Names,
+    splits: &SplitColumns,
     filled: Entered,
     most: usize,
     most_bytes: usize,
@@ -56,32 +52,22 @@ fn give_filled(
     out: &mut [u8],
     counts: &mut [u8],
 )
-    requires { (Named name_bytes.now name_places.now name_lengths.now (length name_places.now))
-        × Space (names_of name_bytes.now name_places.now name_lengths.now (length name_places.now)) most most_bytes (length out_ends.old) (length out_bytes.old)
-        × Stand (beside added_bytes.now added_places.now added_lengths.now) filled.names filled.used most most_bytes
-        × Long (columns starts.now ends.now units.now rest.now) filled.splits
+    requires { (Named names.now.bytes.now names.now.places.now names.now.lengths.now (length names.now.places.now))
+        × Space (names_of names.now.bytes.now names.now.places.now names.now.lengths.now (length names.now.places.now)) most most_bytes (length out_ends.old) (length out_bytes.old)
+        × Stand (beside added_names.now.bytes.now added_names.now.places.now added_names.now.lengths.now) filled.names filled.used most most_bytes
+        × Long (columns_of splits.now) filled.splits
         × (split_width * filled.splits ≤ length out.old)
         × (filled.splits ≤ 1024) }
     ensures { Laid
         (record {
-          names = names_of name_bytes.now name_places.now name_lengths.now (length name_places.now) ++ added (beside added_bytes.now added_places.now added_lengths.now) filled.names;
-          rows = rows (columns starts.now ends.now units.now rest.now) filled.splits;
+          names = names_of names.now.bytes.now names.now.places.now names.now.lengths.now (length names.now.places.now) ++ added (beside added_names.now.bytes.now added_names.now.places.now added_names.now.lengths.now) filled.names;
+          rows = rows (columns_of splits.now) filled.splits;
         })
         (length out_ends.old) (length out_bytes.old) (length out.old) (length counts.old) out_ends.new out_bytes.new out.new counts.new }
 {
-    let bytes = give_names(
-        name_bytes,
-        name_places,
-        name_lengths,
-        added_bytes,
-        added_places,
-        added_lengths,
-        filled.names,
-        out_ends,
-        out_bytes,
-    );
-    put_splits(starts, ends, units, rest, filled.splits, out);
-    let names = name_places.len() + filled.names;
+    let bytes = give_names(names, added_names, filled.names, out_ends, out_bytes);
+    put_splits(splits, filled.splits, out);
+    let names = names.places.len() + filled.names;
     give_counts(counts, names, bytes, filled.splits);
 }
 
@@ -89,18 +75,9 @@ fn give_filled(
 
 // The filling of gaps between n rows, and its outputs.
 fn fill_rows(
-    symbols: &[u8],
-    symbol_places: &[u32],
-    order: &[u16],
-    name_bytes: &[u8],
-    name_places: &[u32],
-    name_lengths: &[u8],
-    buckets: &[u16],
-    chain: &[u16],
-    heads: &[u8],
-    head_places: &[u32],
-    image: &[u8],
-    image_places: &[u32],
+    obj: &Obj,
+    index: &NameIndex,
+    image: &Table,
     starts: &mut [u32],
     ends: &mut [u32],
     units: &mut [u16],
@@ -120,34 +97,25 @@ fn fill_rows(
     out: &mut [u8],
     counts: &mut [u8],
 ) -> Result<(), Refusal>
-    requires { Tables symbols.now symbol_places.now order.now name_bytes.now name_places.now name_lengths.now
-        × Sound (symbol_of symbols.now symbol_places.now) (length symbol_places.now)
-        × Names name_bytes.now name_places.now name_lengths.now buckets.now chain.now
-        × Headed heads.now head_places.now image.now image_places.now name_bytes.now name_places.now name_lengths.now
-        × Space (names_of name_bytes.now name_places.now name_lengths.now (length name_places.now)) most most_bytes (length out_ends.old) (length out_bytes.old)
+    requires { TablesIn obj.now
+        × Sound (symbol_of obj.now.symbols.bytes.now obj.now.symbols.places.now) (length obj.now.symbols.places.now)
+        × NamesRead obj.now.names.bytes.now obj.now.names.places.now obj.now.names.lengths.now index.now.heads.now index.now.chain.now
+        × Headed obj.now.heads.bytes.now obj.now.heads.places.now image.now.bytes.now image.now.places.now obj.now.names.bytes.now obj.now.names.places.now obj.now.names.lengths.now
+        × Space (names_of obj.now.names.bytes.now obj.now.names.places.now obj.now.names.lengths.now (length obj.now.names.places.now)) most most_bytes (length out_ends.old) (length out_bytes.old)
         × Columns starts.old ends.old units.old rest.old
         × Lent added_bytes.old added_places.old added_lengths.old marks.old keys.old gap_ends.old
         × (n ≤ cap)
         × (cap ≤ 1024)
         × (split_width * cap ≤ length out.old)
-        × (length symbol_places.now ≤ 4096) }
+        × (length obj.now.symbols.places.now ≤ 4096) }
     ensures { Gives
-        (gaps_filled (image_of symbols.now symbol_places.now name_bytes.now name_places.now name_lengths.now) (sections_of heads.now head_places.now image.now image_places.now) (given (sections_in heads.now head_places.now) cap) (ceilings (names_of name_bytes.now name_places.now name_lengths.now (length name_places.now)) most most_bytes) (record { names = (names_of name_bytes.now name_places.now name_lengths.now (length name_places.now)); rows = (rows (columns starts.old ends.old units.old rest.old) n) }))
+        (gaps_filled (image_in obj.now) (sections_of obj.now.heads.bytes.now obj.now.heads.places.now image.now.bytes.now image.now.places.now) (given (sections_in obj.now.heads.bytes.now obj.now.heads.places.now) cap) (ceilings (names_of obj.now.names.bytes.now obj.now.names.places.now obj.now.names.lengths.now (length obj.now.names.places.now)) most most_bytes) (record { names = (names_of obj.now.names.bytes.now obj.now.names.places.now obj.now.names.lengths.now (length obj.now.names.places.now)); rows = (rows (columns starts.old ends.old units.old rest.old) n) }))
         result (length out_ends.old) (length out_bytes.old) (length out.old) (length counts.old) out_ends.new out_bytes.new out.new counts.new }
 {
     let filled = create_gap_splits::create_gap_splits(
-        symbols,
-        symbol_places,
-        order,
-        name_bytes,
-        name_places,
-        name_lengths,
-        buckets,
-        chain,
-        heads,
-        head_places,
+        obj,
+        index,
         image,
-        image_places,
         starts,
         ends,
         units,
@@ -164,16 +132,18 @@ fn fill_rows(
         gap_ends,
     )?;
     give_filled(
-        name_bytes,
-        name_places,
-        name_lengths,
-        added_bytes,
-        added_places,
-        added_lengths,
-        starts,
-        ends,
-        units,
-        rest,
+        &obj.names,
+        &Names {
+            bytes: &*added_bytes,
+            places: &*added_places,
+            lengths: &*added_lengths,
+        },
+        &SplitColumns {
+            starts: &*starts,
+            ends: &*ends,
+            units: &*units,
+            rest: &*rest,
+        },
         filled,
         most,
         most_bytes,
@@ -187,18 +157,9 @@ fn fill_rows(
 
 // The splits in lent columns, and the filling.
 fn from_splits(
-    symbols: &[u8],
-    symbol_places: &[u32],
-    order: &[u16],
-    name_bytes: &[u8],
-    name_places: &[u32],
-    name_lengths: &[u8],
-    buckets: &[u16],
-    chain: &[u16],
-    heads: &[u8],
-    head_places: &[u32],
-    image: &[u8],
-    image_places: &[u32],
+    obj: &Obj,
+    index: &NameIndex,
+    image: &Table,
     splits: &[u8],
     places: &mut [u32],
     starts: &mut [u32],
@@ -218,24 +179,23 @@ fn from_splits(
     out: &mut [u8],
     counts: &mut [u8],
 ) -> Result<(), Refusal>
-    requires { Tables symbols.now symbol_places.now order.now name_bytes.now name_places.now name_lengths.now
-        × Sound (symbol_of symbols.now symbol_places.now) (length symbol_places.now)
-        × Names name_bytes.now name_places.now name_lengths.now buckets.now chain.now
-        × Headed heads.now head_places.now image.now image_places.now name_bytes.now name_places.now name_lengths.now
-        × Space (names_of name_bytes.now name_places.now name_lengths.now (length name_places.now)) most most_bytes (length out_ends.old) (length out_bytes.old)
+    requires { TablesIn obj.now
+        × Sound (symbol_of obj.now.symbols.bytes.now obj.now.symbols.places.now) (length obj.now.symbols.places.now)
+        × NamesRead obj.now.names.bytes.now obj.now.names.places.now obj.now.names.lengths.now index.now.heads.now index.now.chain.now
+        × Headed obj.now.heads.bytes.now obj.now.heads.places.now image.now.bytes.now image.now.places.now obj.now.names.bytes.now obj.now.names.places.now obj.now.names.lengths.now
+        × Space (names_of obj.now.names.bytes.now obj.now.names.places.now obj.now.names.lengths.now (length obj.now.names.places.now)) most most_bytes (length out_ends.old) (length out_bytes.old)
         × Columns starts.old ends.old units.old rest.old
         × Lent added_bytes.old added_places.old added_lengths.old marks.old keys.old gap_ends.old
         × (length places.old ≡ 1024)
-        × (length symbol_places.now ≤ 4096) }
+        × (length obj.now.symbols.places.now ≤ 4096) }
     ensures { Gives
-        (from_splits name_lengths.now (sections_in heads.now head_places.now) (image_of symbols.now symbol_places.now name_bytes.now name_places.now name_lengths.now) (sections_of heads.now head_places.now image.now image_places.now) (ceilings (names_of name_bytes.now name_places.now name_lengths.now (length name_places.now)) most most_bytes) (names_of name_bytes.now name_places.now name_lengths.now (length name_places.now)) splits.now (length out.old))
+        (from_splits obj.now.names.lengths.now (sections_in obj.now.heads.bytes.now obj.now.heads.places.now) (image_in obj.now) (sections_of obj.now.heads.bytes.now obj.now.heads.places.now image.now.bytes.now image.now.places.now) (ceilings (names_of obj.now.names.bytes.now obj.now.names.places.now obj.now.names.lengths.now (length obj.now.names.places.now)) most most_bytes) (names_of obj.now.names.bytes.now obj.now.names.places.now obj.now.names.lengths.now (length obj.now.names.places.now)) splits.now (length out.old))
         result (length out_ends.old) (length out_bytes.old) (length out.old) (length counts.old) out_ends.new out_bytes.new out.new counts.new }
 {
     let room = room_of(out.len());
     take_split_columns(
-        name_lengths,
-        heads,
-        head_places,
+        obj.names.lengths,
+        &obj.heads,
         splits,
         room,
         places,
@@ -246,18 +206,9 @@ fn from_splits(
     )?;
     let n = splits.len() / SPLIT_BYTES;
     fill_rows(
-        symbols,
-        symbol_places,
-        order,
-        name_bytes,
-        name_places,
-        name_lengths,
-        buckets,
-        chain,
-        heads,
-        head_places,
+        obj,
+        index,
         image,
-        image_places,
         starts,
         ends,
         units,
@@ -281,18 +232,9 @@ fn from_splits(
 
 // The same, with columns of its own for the splits, the names that are added and the gaps.
 pub fn with_splits(
-    symbols: &[u8],
-    symbol_places: &[u32],
-    order: &[u16],
-    name_bytes: &[u8],
-    name_places: &[u32],
-    name_lengths: &[u8],
-    buckets: &[u16],
-    chain: &[u16],
-    heads: &[u8],
-    head_places: &[u32],
-    image: &[u8],
-    image_places: &[u32],
+    obj: &Obj,
+    index: &NameIndex,
+    image: &Table,
     splits: &[u8],
     most: usize,
     most_bytes: usize,
@@ -301,14 +243,14 @@ pub fn with_splits(
     out: &mut [u8],
     counts: &mut [u8],
 ) -> Result<(), Refusal>
-    requires { Tables symbols.now symbol_places.now order.now name_bytes.now name_places.now name_lengths.now
-        × Sound (symbol_of symbols.now symbol_places.now) (length symbol_places.now)
-        × Names name_bytes.now name_places.now name_lengths.now buckets.now chain.now
-        × Headed heads.now head_places.now image.now image_places.now name_bytes.now name_places.now name_lengths.now
-        × Space (names_of name_bytes.now name_places.now name_lengths.now (length name_places.now)) most most_bytes (length out_ends.old) (length out_bytes.old)
-        × (length symbol_places.now ≤ 4096) }
+    requires { TablesIn obj.now
+        × Sound (symbol_of obj.now.symbols.bytes.now obj.now.symbols.places.now) (length obj.now.symbols.places.now)
+        × NamesRead obj.now.names.bytes.now obj.now.names.places.now obj.now.names.lengths.now index.now.heads.now index.now.chain.now
+        × Headed obj.now.heads.bytes.now obj.now.heads.places.now image.now.bytes.now image.now.places.now obj.now.names.bytes.now obj.now.names.places.now obj.now.names.lengths.now
+        × Space (names_of obj.now.names.bytes.now obj.now.names.places.now obj.now.names.lengths.now (length obj.now.names.places.now)) most most_bytes (length out_ends.old) (length out_bytes.old)
+        × (length obj.now.symbols.places.now ≤ 4096) }
     ensures { Gives
-        (from_splits name_lengths.now (sections_in heads.now head_places.now) (image_of symbols.now symbol_places.now name_bytes.now name_places.now name_lengths.now) (sections_of heads.now head_places.now image.now image_places.now) (ceilings (names_of name_bytes.now name_places.now name_lengths.now (length name_places.now)) most most_bytes) (names_of name_bytes.now name_places.now name_lengths.now (length name_places.now)) splits.now (length out.old))
+        (from_splits obj.now.names.lengths.now (sections_in obj.now.heads.bytes.now obj.now.heads.places.now) (image_in obj.now) (sections_of obj.now.heads.bytes.now obj.now.heads.places.now image.now.bytes.now image.now.places.now) (ceilings (names_of obj.now.names.bytes.now obj.now.names.places.now obj.now.names.lengths.now (length obj.now.names.places.now)) most most_bytes) (names_of obj.now.names.bytes.now obj.now.names.places.now obj.now.names.lengths.now (length obj.now.names.places.now)) splits.now (length out.old))
         result (length out_ends.old) (length out_bytes.old) (length out.old) (length counts.old) out_ends.new out_bytes.new out.new counts.new }
 {
     let mut places = [0u32; 1024];
@@ -323,18 +265,9 @@ pub fn with_splits(
     let mut keys = [0u64; 6208];
     let mut gap_ends = [0u32; 6208];
     from_splits(
-        symbols,
-        symbol_places,
-        order,
-        name_bytes,
-        name_places,
-        name_lengths,
-        buckets,
-        chain,
-        heads,
-        head_places,
+        obj,
+        index,
         image,
-        image_places,
         splits,
         &mut places,
         &mut starts,

@@ -8,7 +8,7 @@ ghost use Rattle.name_table.specs.NameTable.{end_of};
 ghost use Rattle.stage_names.specs.StageNames.{names_room, bytes_room, beyond, fit_check, flat, Put, Fits, Given};
 
 use fields::{get16, put16};
-use names::{name_at, put_bytes};
+use names::{Names, name_at, put_bytes};
 use obj::{Refusal, place_of, refuse};
 use outputs::clear_from;
 
@@ -56,24 +56,22 @@ pub fn fit_names(ends: &[u8], most: usize, most_bytes: usize) -> Result<(), Refu
 
 // Names behind those that are there: `first` of them, which end at `at`. Gives where the last ends.
 pub fn put_names(
-    bytes: &[u8],
-    places: &[u32],
-    lengths: &[u8],
+    names: &Names,
     n: usize,
     first: usize,
     at: usize,
     out_ends: &mut [u8],
     out_bytes: &mut [u8],
 ) -> usize
-    requires { Named bytes.now places.now lengths.now n
+    requires { Named names.now.bytes.now names.now.places.now names.now.lengths.now n
         × (2 * first + 2 * n ≤ length out_ends.old)
-        × (at + length (flat (names_of bytes.now places.now lengths.now n)) ≤ length out_bytes.old)
-        × (at + length (flat (names_of bytes.now places.now lengths.now n)) < 65536) }
-    ensures { Put (names_of bytes.now places.now lengths.now n) first at out_ends.old out_bytes.old out_ends.new out_bytes.new result }
+        × (at + length (flat (names_of names.now.bytes.now names.now.places.now names.now.lengths.now n)) ≤ length out_bytes.old)
+        × (at + length (flat (names_of names.now.bytes.now names.now.places.now names.now.lengths.now n)) < 65536) }
+    ensures { Put (names_of names.now.bytes.now names.now.places.now names.now.lengths.now n) first at out_ends.old out_bytes.old out_ends.new out_bytes.new result }
 {
     let mut end = at;
     for i in 0..n {
-        let x = name_at(bytes, places, lengths, i);
+        let x = name_at(names, i);
         put_bytes(out_bytes, end, x);
         end += x.len();
         put16(out_ends, 2 * (first + i), end as u16);
@@ -83,34 +81,21 @@ pub fn put_names(
 
 // The names of the tables and those that were added, with their ends, and zeros after them. Gives how many bytes they have.
 pub fn give_names(
-    bytes: &[u8],
-    places: &[u32],
-    lengths: &[u8],
-    added_bytes: &[u8],
-    added_places: &[u32],
-    added_lengths: &[u8],
+    table_names: &Names,
+    added: &Names,
     names: usize,
     out_ends: &mut [u8],
     out_bytes: &mut [u8],
 ) -> usize
-    requires { Named bytes.now places.now lengths.now (length places.now)
-        × Named added_bytes.now added_places.now added_lengths.now names
-        × Fits (names_of bytes.now places.now lengths.now (length places.now)) (names_of added_bytes.now added_places.now added_lengths.now names) (length out_ends.old) (length out_bytes.old) }
-    ensures { Given (names_of bytes.now places.now lengths.now (length places.now) ++ names_of added_bytes.now added_places.now added_lengths.now names)
+    requires { Named table_names.now.bytes.now table_names.now.places.now table_names.now.lengths.now (length table_names.now.places.now)
+        × Named added.now.bytes.now added.now.places.now added.now.lengths.now names
+        × Fits (names_of table_names.now.bytes.now table_names.now.places.now table_names.now.lengths.now (length table_names.now.places.now)) (names_of added.now.bytes.now added.now.places.now added.now.lengths.now names) (length out_ends.old) (length out_bytes.old) }
+    ensures { Given (names_of table_names.now.bytes.now table_names.now.places.now table_names.now.lengths.now (length table_names.now.places.now) ++ names_of added.now.bytes.now added.now.places.now added.now.lengths.now names)
         (length out_ends.old) (length out_bytes.old) out_ends.new out_bytes.new result }
 {
-    let n = places.len();
-    let end = put_names(bytes, places, lengths, n, 0, 0, out_ends, out_bytes);
-    let last = put_names(
-        added_bytes,
-        added_places,
-        added_lengths,
-        names,
-        n,
-        end,
-        out_ends,
-        out_bytes,
-    );
+    let n = table_names.places.len();
+    let end = put_names(table_names, n, 0, 0, out_ends, out_bytes);
+    let last = put_names(added, names, n, end, out_ends, out_bytes);
     clear_from(out_ends, 2 * (n + names));
     clear_from(out_bytes, last);
     last

@@ -10,14 +10,14 @@ ghost use Rattle.obj.specs.declared.Split.{Split};
 ghost use Rattle.tables.specs.Tables.{AllHeld};
 ghost use Rattle.tables.specs.Records.{sections_in};
 ghost use Rattle.stage_tables.specs.StageTables.{splits_check, Room};
-ghost use Rattle.splits.specs.Columns.{columns, rows, Long};
+ghost use Rattle.splits.specs.Columns.{columns, rows, Long, columns_of};
 ghost use Rattle.splits.specs.Bytes.{table_bytes};
 ghost use Rattle.obj.specs.Records.{split_width};
 ghost use Rattle.stage_splits.specs.StageSplits.{room_of, Taken, Laid, Gives, Leaves};
 
-use obj::{Refusal, SPLIT_BYTES, word_of};
+use obj::{Refusal, SPLIT_BYTES, Table, word_of};
 use outputs::{clear_from, put_count};
-use splits::{load, store};
+use splits::{SplitColumns, load, store};
 use stage_tables::take_splits;
 
 // How many splits a stage may hold and give back in an output of `size` bytes.
@@ -35,8 +35,7 @@ pub fn room_of(size: usize) -> usize
 // Splits in the columns: "7 split: ..; in stage tables also ..". `places` is room for the places of the records.
 pub fn take_split_columns(
     lengths: &[u8],
-    heads: &[u8],
-    head_places: &[u32],
+    heads: &Table,
     b: &[u8],
     ceiling: usize,
     places: &mut [u32],
@@ -45,48 +44,42 @@ pub fn take_split_columns(
     units: &mut [u16],
     rest: &mut [u64],
 ) -> Result<(), Refusal>
-    requires { AllHeld 15 heads.now head_places.now × Room ceiling places.old × Long (columns starts.old ends.old units.old rest.old) ceiling }
-    ensures { Taken (meaning result) (splits_check ceiling lengths.now (sections_in heads.now head_places.now) b.now) b.now
+    requires { AllHeld 15 heads.now.bytes.now heads.now.places.now × Room ceiling places.old × Long (columns starts.old ends.old units.old rest.old) ceiling }
+    ensures { Taken (meaning result) (splits_check ceiling lengths.now (sections_in heads.now.bytes.now heads.now.places.now) b.now) b.now
         (columns starts.new ends.new units.new rest.new) }
 {
-    take_splits(lengths, heads, head_places, b, ceiling, places)?;
+    take_splits(lengths, heads, b, ceiling, places)?;
     let n = b.len() / SPLIT_BYTES;
-    load(b, &places[..n], starts, ends, units, rest);
+    load(
+        &Table {
+            bytes: b,
+            places: &places[..n],
+        },
+        starts,
+        ends,
+        units,
+        rest,
+    );
     Ok(())
 }
 
 // The first n rows in the output, and zeros after them.
-pub fn put_splits(
-    starts: &[u32],
-    ends: &[u32],
-    units: &[u16],
-    rest: &[u64],
-    n: usize,
-    out: &mut [u8],
-)
-    requires { Long (columns starts.now ends.now units.now rest.now) n × (split_width * n ≤ length out.old) }
+pub fn put_splits(splits: &SplitColumns, n: usize, out: &mut [u8])
+    requires { Long (columns_of splits.now) n × (split_width * n ≤ length out.old) }
     ensures { out.new
-        ≡ laid (length out.old) (table_bytes (rows (columns starts.now ends.now units.now rest.now) n)) }
+        ≡ laid (length out.old) (table_bytes (rows (columns_of splits.now) n)) }
 {
-    store(starts, ends, units, rest, n, out);
+    store(splits, n, out);
     clear_from(out, SPLIT_BYTES * n);
 }
 
 // The same, and their number in the counts.
-pub fn give_splits(
-    starts: &[u32],
-    ends: &[u32],
-    units: &[u16],
-    rest: &[u64],
-    n: usize,
-    out: &mut [u8],
-    counts: &mut [u8],
-)
-    requires { Long (columns starts.now ends.now units.now rest.now) n × (split_width * n ≤ length out.old) × (n ≤ 1024) }
-    ensures { Laid (rows (columns starts.now ends.now units.now rest.now) n)
+pub fn give_splits(splits: &SplitColumns, n: usize, out: &mut [u8], counts: &mut [u8])
+    requires { Long (columns_of splits.now) n × (split_width * n ≤ length out.old) × (n ≤ 1024) }
+    ensures { Laid (rows (columns_of splits.now) n)
         (length out.old) (length counts.old) out.new counts.new }
 {
-    put_splits(starts, ends, units, rest, n, out);
+    put_splits(splits, n, out);
     clear_from(counts, 0);
     put_count(counts, 0, n as u16);
 }

@@ -8,7 +8,7 @@ ghost use Rattle.stage_tables.specs.StageTables.{symbols_check};
 ghost use Rattle.stage_symbols.specs.StageSymbols.{Room, Ordered, Placed};
 
 use fields::get32;
-use obj::Refusal;
+use obj::{Refusal, Table};
 use stage_tables::take_symbols;
 use symbol_order::make_order;
 
@@ -16,20 +16,26 @@ use symbol_order::make_order;
 // at their places.
 pub fn take_symbol_order(
     names: usize,
-    heads: &[u8],
-    head_places: &[u32],
+    heads: &Table,
     symbols: &[u8],
     ceiling: usize,
     places: &mut [u32],
     order: &mut [u16],
     scratch: &mut [u16],
 ) -> Result<usize, Refusal>
-    requires { AllHeld 15 heads.now head_places.now × Room ceiling places.old order.old scratch.old }
-    ensures { Ordered (symbols_check ceiling names (sections_in heads.now head_places.now) symbols.now) symbols.now places.new order.new result }
+    requires { AllHeld 15 heads.now.bytes.now heads.now.places.now × Room ceiling places.old order.old scratch.old }
+    ensures { Ordered (symbols_check ceiling names (sections_in heads.now.bytes.now heads.now.places.now) symbols.now) symbols.now places.new order.new result }
 {
-    take_symbols(names, heads, head_places, symbols, ceiling, places)?;
+    take_symbols(names, heads, symbols, ceiling, places)?;
     let n = symbols.len() / 20;
-    Ok(make_order(symbols, &places[..n], order, scratch))
+    Ok(make_order(
+        &Table {
+            bytes: symbols,
+            places: &places[..n],
+        },
+        order,
+        scratch,
+    ))
 }
 
 // The places of the sections' bytes, four bytes each, at the front of a column; as many as both have, and how many these are.

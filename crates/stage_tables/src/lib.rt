@@ -9,7 +9,7 @@ ghost use Rattle.tables.specs.Records.{sections_in};
 ghost use Rattle.obj.specs.Records.{split_width, partial_width};
 ghost use Rattle.stage_tables.specs.StageTables.{sections_check, image_check, symbols_check, relocs_check, partials_check, splits_check, units_check, Room, Filled};
 
-use obj::{PARTIAL_BYTES, Refusal, SPLIT_BYTES};
+use obj::{PARTIAL_BYTES, Refusal, SPLIT_BYTES, Table};
 use tables::{fill_places, table_size};
 
 // 1 and 2 of a table of `size` bytes, and the places of its records.
@@ -34,7 +34,13 @@ pub fn take_sections(
 {
     fill_table(b.len(), 15, ceiling, places)?;
     let n = b.len() / 15;
-    tables::check_sections(lengths, b, &places[..n])
+    tables::check_sections(
+        lengths,
+        &Table {
+            bytes: b,
+            places: &places[..n],
+        },
+    )
 }
 
 // Sections with bytes in an image of `image` bytes: 1 where they are cut, "4 section: ..".
@@ -51,42 +57,63 @@ pub fn take_image(
 {
     fill_table(b.len(), 15, ceiling, places)?;
     let n = b.len() / 15;
-    tables::check_image(lengths, image_places, image, b, &places[..n])
+    tables::check_image(
+        lengths,
+        image_places,
+        image,
+        &Table {
+            bytes: b,
+            places: &places[..n],
+        },
+    )
 }
 
 // Symbols: "5 symbol: ..". `names` is a count, `heads` are the sections at their places.
 pub fn take_symbols(
     names: usize,
-    heads: &[u8],
-    head_places: &[u32],
+    heads: &Table,
     b: &[u8],
     ceiling: usize,
     places: &mut [u32],
 ) -> Result<(), Refusal>
-    requires { AllHeld 15 heads.now head_places.now × Room ceiling places.old }
-    ensures { Filled (meaning result) (symbols_check ceiling names (sections_in heads.now head_places.now) b.now) 20 (length b.now) places.new }
+    requires { AllHeld 15 heads.now.bytes.now heads.now.places.now × Room ceiling places.old }
+    ensures { Filled (meaning result) (symbols_check ceiling names (sections_in heads.now.bytes.now heads.now.places.now) b.now) 20 (length b.now) places.new }
 {
     fill_table(b.len(), 20, ceiling, places)?;
     let n = b.len() / 20;
-    tables::check_symbols(names, heads, head_places, b, &places[..n])
+    tables::check_symbols(
+        names,
+        heads,
+        &Table {
+            bytes: b,
+            places: &places[..n],
+        },
+    )
 }
 
 // Relocations: "6 relocation: ..". `symbols` is a count; `floors` is room for a number of each section.
 pub fn take_relocs(
-    heads: &[u8],
-    head_places: &[u32],
+    heads: &Table,
     symbols: usize,
     b: &[u8],
     ceiling: usize,
     places: &mut [u32],
     floors: &mut [u32],
 ) -> Result<(), Refusal>
-    requires { AllHeld 15 heads.now head_places.now × Room ceiling places.old × (length head_places.now ≤ length floors.old) }
-    ensures { Filled (meaning result) (relocs_check ceiling (sections_in heads.now head_places.now) symbols b.now) 23 (length b.now) places.new }
+    requires { AllHeld 15 heads.now.bytes.now heads.now.places.now × Room ceiling places.old × (length heads.now.places.now ≤ length floors.old) }
+    ensures { Filled (meaning result) (relocs_check ceiling (sections_in heads.now.bytes.now heads.now.places.now) symbols b.now) 23 (length b.now) places.new }
 {
     fill_table(b.len(), 23, ceiling, places)?;
     let n = b.len() / 23;
-    tables::check_relocs(heads, head_places, symbols, b, &places[..n], floors)
+    tables::check_relocs(
+        heads,
+        symbols,
+        &Table {
+            bytes: b,
+            places: &places[..n],
+        },
+        floors,
+    )
 }
 
 // A partial list, "checked as records": "7 split: ..".
@@ -101,24 +128,36 @@ pub fn take_partials(
 {
     fill_table(b.len(), PARTIAL_BYTES, ceiling, places)?;
     let n = b.len() / PARTIAL_BYTES;
-    tables::check_partials(lengths, b, &places[..n])
+    tables::check_partials(
+        lengths,
+        &Table {
+            bytes: b,
+            places: &places[..n],
+        },
+    )
 }
 
 // Splits: "7 split: ..; in stage tables also ..".
 pub fn take_splits(
     lengths: &[u8],
-    heads: &[u8],
-    head_places: &[u32],
+    heads: &Table,
     b: &[u8],
     ceiling: usize,
     places: &mut [u32],
 ) -> Result<(), Refusal>
-    requires { AllHeld 15 heads.now head_places.now × Room ceiling places.old }
-    ensures { Filled (meaning result) (splits_check ceiling lengths.now (sections_in heads.now head_places.now) b.now) split_width (length b.now) places.new }
+    requires { AllHeld 15 heads.now.bytes.now heads.now.places.now × Room ceiling places.old }
+    ensures { Filled (meaning result) (splits_check ceiling lengths.now (sections_in heads.now.bytes.now heads.now.places.now) b.now) split_width (length b.now) places.new }
 {
     fill_table(b.len(), SPLIT_BYTES, ceiling, places)?;
     let n = b.len() / SPLIT_BYTES;
-    tables::check_splits(lengths, heads, head_places, b, &places[..n])
+    tables::check_splits(
+        lengths,
+        heads,
+        &Table {
+            bytes: b,
+            places: &places[..n],
+        },
+    )
 }
 
 // Units: "8 unit: ..".
@@ -133,5 +172,11 @@ pub fn take_units(
 {
     fill_table(b.len(), 8, ceiling, places)?;
     let n = b.len() / 8;
-    tables::check_units(lengths, b, &places[..n])
+    tables::check_units(
+        lengths,
+        &Table {
+            bytes: b,
+            places: &places[..n],
+        },
+    )
 }

@@ -4,9 +4,9 @@
 
 ghost use Rattle.std.specs.Prelude.{◌≡◌, ◌≤◌, ◌<◌, length};
 ghost use Rattle.tables.specs.Records.{sections_in};
-ghost use Rattle.sections.specs.Image.{image_of};
+ghost use Rattle.sections.specs.Image.{image_in};
 ghost use Rattle.sections.specs.Sections.{sections_of};
-ghost use Rattle.splits.specs.Columns.{columns, rows as rows_of};
+ghost use Rattle.splits.specs.Columns.{rows as rows_of, columns_of};
 ghost use Rattle.relocs.specs.Relocs.{reloc_of};
 ghost use Rattle.units.specs.Units.{unit_names};
 ghost use Rattle.walk.specs.Steps.{Asked};
@@ -14,9 +14,11 @@ ghost use Rattle.split_obj.specs.Loop.{Ready};
 ghost use Rattle.stage_walk.specs.Room.{room_for, room_in};
 ghost use Rattle.stage_walk.specs.Lines.{walk_of, from_units, from_splits, Gives, Headed, Relocated, Rowed, Scratch, UnitScratch};
 
-use obj::{Refusal, SPLIT_BYTES};
+use obj::{Refusal, SPLIT_BYTES, Table};
 use pieces::PIECE_BYTES;
+use sections::Obj;
 use split_obj::walk_sections;
+use splits::SplitColumns;
 use stage_splits::take_split_columns;
 use stage_tables::take_units;
 use units::number_units;
@@ -36,34 +38,21 @@ pub fn room_for(ceiling: usize, width: usize, size: usize) -> usize
 
 // The walk of all sections, with columns of its own beside the outputs.
 pub fn walk_columns(
-    symbols: &[u8],
-    symbol_places: &[u32],
-    order: &[u16],
-    name_bytes: &[u8],
-    name_places: &[u32],
-    name_lengths: &[u8],
-    heads: &[u8],
-    head_places: &[u32],
-    image: &[u8],
-    image_places: &[u32],
-    relocs: &[u8],
-    reloc_places: &[u32],
-    starts: &[u32],
-    ends: &[u32],
-    units: &[u16],
-    rest: &[u64],
+    obj: &Obj,
+    image: &Table,
+    relocs: &Table,
+    splits: &SplitColumns,
     rows: usize,
-    unit_table: &[u8],
-    unit_places: &[u32],
+    unit_table: &Table,
     unit_numbers: &[u16],
     pieces: &mut [u8],
     entries: &mut [u8],
     offsets: &mut [u8],
 ) -> Result<Counts, Refusal>
-    requires { Ready symbols.now symbol_places.now order.now name_bytes.now name_places.now name_lengths.now heads.now head_places.now image.now image_places.now relocs.now reloc_places.now unit_table.now unit_places.now unit_numbers.now (columns starts.now ends.now units.now rest.now) rows (length head_places.now)
-        × (length symbol_places.now ≤ 4096) }
+    requires { Ready obj.now.symbols.bytes.now obj.now.symbols.places.now obj.now.order.now obj.now.names.bytes.now obj.now.names.places.now obj.now.names.lengths.now obj.now.heads.bytes.now obj.now.heads.places.now image.now.bytes.now image.now.places.now relocs.now.bytes.now relocs.now.places.now unit_table.now.bytes.now unit_table.now.places.now unit_numbers.now (columns_of splits.now) rows (length obj.now.heads.places.now)
+        × (length obj.now.symbols.places.now ≤ 4096) }
     ensures { Gives
-        (walk_of (image_of symbols.now symbol_places.now name_bytes.now name_places.now name_lengths.now) (sections_of heads.now head_places.now image.now image_places.now) (reloc_of relocs.now reloc_places.now) (length reloc_places.now) (rows_of (columns starts.now ends.now units.now rest.now) rows) (unit_names unit_table.now unit_places.now) (room_in (length pieces.old) (length entries.old) (length offsets.old)))
+        (walk_of (image_in obj.now) (sections_of obj.now.heads.bytes.now obj.now.heads.places.now image.now.bytes.now image.now.places.now) (reloc_of relocs.now.bytes.now relocs.now.places.now) (length relocs.now.places.now) (rows_of (columns_of splits.now) rows) (unit_names unit_table.now.bytes.now unit_table.now.places.now) (room_in (length pieces.old) (length entries.old) (length offsets.old)))
         (room_in (length pieces.old) (length entries.old) (length offsets.old)) result pieces.new entries.new offsets.new }
 {
     let mut scratch = [0u16; 9216];
@@ -84,28 +73,15 @@ pub fn walk_columns(
         pieces,
         entries,
         offsets,
-        symbols,
-        symbol_places,
-        order,
-        name_bytes,
-        name_places,
-        name_lengths,
-        heads,
-        head_places,
+        obj,
         image,
-        image_places,
         relocs,
-        reloc_places,
-        starts,
-        ends,
-        units,
-        rest,
+        splits,
         rows,
         unit_table,
-        unit_places,
         unit_numbers,
         0,
-        head_places.len(),
+        obj.heads.places.len(),
         room,
         made,
     )
@@ -113,22 +89,10 @@ pub fn walk_columns(
 
 // The units in lent columns, with the number of each name's unit, and the walk.
 fn from_units(
-    symbols: &[u8],
-    symbol_places: &[u32],
-    order: &[u16],
-    name_bytes: &[u8],
-    name_places: &[u32],
-    name_lengths: &[u8],
-    heads: &[u8],
-    head_places: &[u32],
-    image: &[u8],
-    image_places: &[u32],
-    relocs: &[u8],
-    reloc_places: &[u32],
-    starts: &[u32],
-    ends: &[u32],
-    units: &[u16],
-    rest: &[u64],
+    obj: &Obj,
+    image: &Table,
+    relocs: &Table,
+    splits: &SplitColumns,
     rows: usize,
     unit_table: &[u8],
     places: &mut [u32],
@@ -137,40 +101,36 @@ fn from_units(
     entries: &mut [u8],
     offsets: &mut [u8],
 ) -> Result<Counts, Refusal>
-    requires { Asked symbols.now symbol_places.now order.now name_bytes.now name_places.now name_lengths.now
-        × Headed heads.now head_places.now image.now image_places.now name_places.now
-        × Relocated relocs.now reloc_places.now
-        × Rowed (columns starts.now ends.now units.now rest.now) rows (length name_lengths.now)
-        × (length name_lengths.now ≤ 4096)
-        × (length symbol_places.now ≤ 4096)
+    requires { Asked obj.now.symbols.bytes.now obj.now.symbols.places.now obj.now.order.now obj.now.names.bytes.now obj.now.names.places.now obj.now.names.lengths.now
+        × Headed obj.now.heads.bytes.now obj.now.heads.places.now image.now.bytes.now image.now.places.now obj.now.names.places.now
+        × Relocated relocs.now.bytes.now relocs.now.places.now
+        × Rowed (columns_of splits.now) rows (length obj.now.names.lengths.now)
+        × (length obj.now.names.lengths.now ≤ 4096)
+        × (length obj.now.symbols.places.now ≤ 4096)
         × UnitScratch places.old unit_numbers.old }
     ensures { Gives
-        (from_units name_lengths.now (image_of symbols.now symbol_places.now name_bytes.now name_places.now name_lengths.now) (sections_of heads.now head_places.now image.now image_places.now) (reloc_of relocs.now reloc_places.now) (length reloc_places.now) (rows_of (columns starts.now ends.now units.now rest.now) rows) unit_table.now (room_in (length pieces.old) (length entries.old) (length offsets.old)))
+        (from_units obj.now.names.lengths.now (image_in obj.now) (sections_of obj.now.heads.bytes.now obj.now.heads.places.now image.now.bytes.now image.now.places.now) (reloc_of relocs.now.bytes.now relocs.now.places.now) (length relocs.now.places.now) (rows_of (columns_of splits.now) rows) unit_table.now (room_in (length pieces.old) (length entries.old) (length offsets.old)))
         (room_in (length pieces.old) (length entries.old) (length offsets.old)) result pieces.new entries.new offsets.new }
 {
-    take_units(name_lengths, unit_table, 1024, places)?;
+    take_units(obj.names.lengths, unit_table, 1024, places)?;
     let n = unit_table.len() / 8;
-    number_units(unit_table, &places[..n], unit_numbers);
+    number_units(
+        &Table {
+            bytes: unit_table,
+            places: &places[..n],
+        },
+        unit_numbers,
+    );
     walk_columns(
-        symbols,
-        symbol_places,
-        order,
-        name_bytes,
-        name_places,
-        name_lengths,
-        heads,
-        head_places,
+        obj,
         image,
-        image_places,
         relocs,
-        reloc_places,
-        starts,
-        ends,
-        units,
-        rest,
+        splits,
         rows,
-        unit_table,
-        &places[..n],
+        &Table {
+            bytes: unit_table,
+            places: &places[..n],
+        },
         unit_numbers,
         pieces,
         entries,
@@ -180,57 +140,33 @@ fn from_units(
 
 // The same, with columns of its own for the units.
 fn with_units(
-    symbols: &[u8],
-    symbol_places: &[u32],
-    order: &[u16],
-    name_bytes: &[u8],
-    name_places: &[u32],
-    name_lengths: &[u8],
-    heads: &[u8],
-    head_places: &[u32],
-    image: &[u8],
-    image_places: &[u32],
-    relocs: &[u8],
-    reloc_places: &[u32],
-    starts: &[u32],
-    ends: &[u32],
-    units: &[u16],
-    rest: &[u64],
+    obj: &Obj,
+    image: &Table,
+    relocs: &Table,
+    splits: &SplitColumns,
     rows: usize,
     unit_table: &[u8],
     pieces: &mut [u8],
     entries: &mut [u8],
     offsets: &mut [u8],
 ) -> Result<Counts, Refusal>
-    requires { Asked symbols.now symbol_places.now order.now name_bytes.now name_places.now name_lengths.now
-        × Headed heads.now head_places.now image.now image_places.now name_places.now
-        × Relocated relocs.now reloc_places.now
-        × Rowed (columns starts.now ends.now units.now rest.now) rows (length name_lengths.now)
-        × (length name_lengths.now ≤ 4096)
-        × (length symbol_places.now ≤ 4096) }
+    requires { Asked obj.now.symbols.bytes.now obj.now.symbols.places.now obj.now.order.now obj.now.names.bytes.now obj.now.names.places.now obj.now.names.lengths.now
+        × Headed obj.now.heads.bytes.now obj.now.heads.places.now image.now.bytes.now image.now.places.now obj.now.names.places.now
+        × Relocated relocs.now.bytes.now relocs.now.places.now
+        × Rowed (columns_of splits.now) rows (length obj.now.names.lengths.now)
+        × (length obj.now.names.lengths.now ≤ 4096)
+        × (length obj.now.symbols.places.now ≤ 4096) }
     ensures { Gives
-        (from_units name_lengths.now (image_of symbols.now symbol_places.now name_bytes.now name_places.now name_lengths.now) (sections_of heads.now head_places.now image.now image_places.now) (reloc_of relocs.now reloc_places.now) (length reloc_places.now) (rows_of (columns starts.now ends.now units.now rest.now) rows) unit_table.now (room_in (length pieces.old) (length entries.old) (length offsets.old)))
+        (from_units obj.now.names.lengths.now (image_in obj.now) (sections_of obj.now.heads.bytes.now obj.now.heads.places.now image.now.bytes.now image.now.places.now) (reloc_of relocs.now.bytes.now relocs.now.places.now) (length relocs.now.places.now) (rows_of (columns_of splits.now) rows) unit_table.now (room_in (length pieces.old) (length entries.old) (length offsets.old)))
         (room_in (length pieces.old) (length entries.old) (length offsets.old)) result pieces.new entries.new offsets.new }
 {
     let mut places = [0u32; 1024];
     let mut unit_numbers = [0u16; 4096];
     from_units(
-        symbols,
-        symbol_places,
-        order,
-        name_bytes,
-        name_places,
-        name_lengths,
-        heads,
-        head_places,
+        obj,
         image,
-        image_places,
         relocs,
-        reloc_places,
-        starts,
-        ends,
-        units,
-        rest,
+        splits,
         rows,
         unit_table,
         &mut places,
@@ -243,18 +179,9 @@ fn with_units(
 
 // The splits in lent columns, and the tables after them.
 fn from_splits(
-    symbols: &[u8],
-    symbol_places: &[u32],
-    order: &[u16],
-    name_bytes: &[u8],
-    name_places: &[u32],
-    name_lengths: &[u8],
-    heads: &[u8],
-    head_places: &[u32],
-    image: &[u8],
-    image_places: &[u32],
-    relocs: &[u8],
-    reloc_places: &[u32],
+    obj: &Obj,
+    image: &Table,
+    relocs: &Table,
     splits: &[u8],
     unit_table: &[u8],
     places: &mut [u32],
@@ -266,20 +193,19 @@ fn from_splits(
     entries: &mut [u8],
     offsets: &mut [u8],
 ) -> Result<Counts, Refusal>
-    requires { Asked symbols.now symbol_places.now order.now name_bytes.now name_places.now name_lengths.now
-        × Headed heads.now head_places.now image.now image_places.now name_places.now
-        × Relocated relocs.now reloc_places.now
-        × (length name_lengths.now ≤ 4096)
-        × (length symbol_places.now ≤ 4096)
+    requires { Asked obj.now.symbols.bytes.now obj.now.symbols.places.now obj.now.order.now obj.now.names.bytes.now obj.now.names.places.now obj.now.names.lengths.now
+        × Headed obj.now.heads.bytes.now obj.now.heads.places.now image.now.bytes.now image.now.places.now obj.now.names.places.now
+        × Relocated relocs.now.bytes.now relocs.now.places.now
+        × (length obj.now.names.lengths.now ≤ 4096)
+        × (length obj.now.symbols.places.now ≤ 4096)
         × Scratch places.old starts.old ends.old units.old rest.old }
     ensures { Gives
-        (from_splits name_lengths.now (sections_in heads.now head_places.now) (image_of symbols.now symbol_places.now name_bytes.now name_places.now name_lengths.now) (sections_of heads.now head_places.now image.now image_places.now) (reloc_of relocs.now reloc_places.now) (length reloc_places.now) splits.now unit_table.now (room_in (length pieces.old) (length entries.old) (length offsets.old)))
+        (from_splits obj.now.names.lengths.now (sections_in obj.now.heads.bytes.now obj.now.heads.places.now) (image_in obj.now) (sections_of obj.now.heads.bytes.now obj.now.heads.places.now image.now.bytes.now image.now.places.now) (reloc_of relocs.now.bytes.now relocs.now.places.now) (length relocs.now.places.now) splits.now unit_table.now (room_in (length pieces.old) (length entries.old) (length offsets.old)))
         (room_in (length pieces.old) (length entries.old) (length offsets.old)) result pieces.new entries.new offsets.new }
 {
     take_split_columns(
-        name_lengths,
-        heads,
-        head_places,
+        obj.names.lengths,
+        &obj.heads,
         splits,
         1024,
         places,
@@ -290,22 +216,15 @@ fn from_splits(
     )?;
     let rows = splits.len() / SPLIT_BYTES;
     with_units(
-        symbols,
-        symbol_places,
-        order,
-        name_bytes,
-        name_places,
-        name_lengths,
-        heads,
-        head_places,
+        obj,
         image,
-        image_places,
         relocs,
-        reloc_places,
-        starts,
-        ends,
-        units,
-        rest,
+        &SplitColumns {
+            starts: &*starts,
+            ends: &*ends,
+            units: &*units,
+            rest: &*rest,
+        },
         rows,
         unit_table,
         pieces,
@@ -316,31 +235,22 @@ fn from_splits(
 
 // The same, with columns of its own for the splits.
 pub fn with_splits(
-    symbols: &[u8],
-    symbol_places: &[u32],
-    order: &[u16],
-    name_bytes: &[u8],
-    name_places: &[u32],
-    name_lengths: &[u8],
-    heads: &[u8],
-    head_places: &[u32],
-    image: &[u8],
-    image_places: &[u32],
-    relocs: &[u8],
-    reloc_places: &[u32],
+    obj: &Obj,
+    image: &Table,
+    relocs: &Table,
     splits: &[u8],
     unit_table: &[u8],
     pieces: &mut [u8],
     entries: &mut [u8],
     offsets: &mut [u8],
 ) -> Result<Counts, Refusal>
-    requires { Asked symbols.now symbol_places.now order.now name_bytes.now name_places.now name_lengths.now
-        × Headed heads.now head_places.now image.now image_places.now name_places.now
-        × Relocated relocs.now reloc_places.now
-        × (length name_lengths.now ≤ 4096)
-        × (length symbol_places.now ≤ 4096) }
+    requires { Asked obj.now.symbols.bytes.now obj.now.symbols.places.now obj.now.order.now obj.now.names.bytes.now obj.now.names.places.now obj.now.names.lengths.now
+        × Headed obj.now.heads.bytes.now obj.now.heads.places.now image.now.bytes.now image.now.places.now obj.now.names.places.now
+        × Relocated relocs.now.bytes.now relocs.now.places.now
+        × (length obj.now.names.lengths.now ≤ 4096)
+        × (length obj.now.symbols.places.now ≤ 4096) }
     ensures { Gives
-        (from_splits name_lengths.now (sections_in heads.now head_places.now) (image_of symbols.now symbol_places.now name_bytes.now name_places.now name_lengths.now) (sections_of heads.now head_places.now image.now image_places.now) (reloc_of relocs.now reloc_places.now) (length reloc_places.now) splits.now unit_table.now (room_in (length pieces.old) (length entries.old) (length offsets.old)))
+        (from_splits obj.now.names.lengths.now (sections_in obj.now.heads.bytes.now obj.now.heads.places.now) (image_in obj.now) (sections_of obj.now.heads.bytes.now obj.now.heads.places.now image.now.bytes.now image.now.places.now) (reloc_of relocs.now.bytes.now relocs.now.places.now) (length relocs.now.places.now) splits.now unit_table.now (room_in (length pieces.old) (length entries.old) (length offsets.old)))
         (room_in (length pieces.old) (length entries.old) (length offsets.old)) result pieces.new entries.new offsets.new }
 {
     let mut places = [0u32; 1024];
@@ -349,18 +259,9 @@ pub fn with_splits(
     let mut units = [0u16; 1024];
     let mut rest = [0u64; 1024];
     from_splits(
-        symbols,
-        symbol_places,
-        order,
-        name_bytes,
-        name_places,
-        name_lengths,
-        heads,
-        head_places,
+        obj,
         image,
-        image_places,
         relocs,
-        reloc_places,
         splits,
         unit_table,
         &mut places,

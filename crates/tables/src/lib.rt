@@ -11,8 +11,8 @@ ghost use Rattle.tables.specs.Records.{sections_in, symbols_in, relocs_in, parti
 use faults::{reloc_bad, section_bad, split_bad, split_misplaced, symbol_bad, unit_bad};
 use fields::get32;
 use obj::{
-    Refusal, Reloc, Section, Split, place_of, read_partial, refuse, reloc_at, section_at, split_at,
-    symbol_at, unit_at,
+    Refusal, Reloc, Section, Split, Table, place_of, read_partial, refuse, reloc_at, section_at,
+    split_at, symbol_at, unit_at,
 };
 
 // How many records a table of each kind may have.
@@ -78,12 +78,12 @@ pub fn length_of(lengths: &[u8], k: usize) -> usize
 }
 
 // Section k, or an empty one.
-pub fn section_or_none(b: &[u8], places: &[u32], k: usize) -> Section
-    requires { AllHeld 15 b.now places.now }
-    ensures { result ≡ get_or (sections_in b.now places.now) k no_section }
+pub fn section_or_none(table: &Table, k: usize) -> Section
+    requires { AllHeld 15 table.now.bytes.now table.now.places.now }
+    ensures { result ≡ get_or (sections_in table.now.bytes.now table.now.places.now) k no_section }
 {
-    if k < places.len() {
-        return section_at(b, places, k);
+    if k < table.places.len() {
+        return section_at(table, k);
     }
     Section {
         name: 0,
@@ -130,20 +130,20 @@ fn check_records<F: Fn(usize) -> Result<(), Refusal>>(n: usize, check: F) -> Res
 // ---- sections
 
 // The fault of section k.
-fn section_fault(lengths: &[u8], b: &[u8], places: &[u32], k: usize) -> Result<(), Refusal>
-    requires { AllHeld 15 b.now places.now × (k < length places.now) }
-    ensures { meaning result ≡ record_check (section_fault lengths.now (sections_in b.now places.now) k) k }
+fn section_fault(lengths: &[u8], table: &Table, k: usize) -> Result<(), Refusal>
+    requires { AllHeld 15 table.now.bytes.now table.now.places.now × (k < length table.now.places.now) }
+    ensures { meaning result ≡ record_check (section_fault lengths.now (sections_in table.now.bytes.now table.now.places.now) k) k }
 {
-    let s = section_at(b, places, k);
+    let s = section_at(table, k);
     refuse_if(4, k, section_bad(s, length_of(lengths, s.name as usize)))
 }
 
 // Every section: "4 section: ..".
-pub fn check_sections(lengths: &[u8], b: &[u8], places: &[u32]) -> Result<(), Refusal>
-    requires { AllHeld 15 b.now places.now }
-    ensures { meaning result ≡ records_check (section_fault lengths.now (sections_in b.now places.now)) (length places.now) }
+pub fn check_sections(lengths: &[u8], table: &Table) -> Result<(), Refusal>
+    requires { AllHeld 15 table.now.bytes.now table.now.places.now }
+    ensures { meaning result ≡ records_check (section_fault lengths.now (sections_in table.now.bytes.now table.now.places.now)) (length table.now.places.now) }
 {
-    check_records(places.len(), |k| section_fault(lengths, b, places, k))
+    check_records(table.places.len(), |k| section_fault(lengths, table, k))
 }
 
 // The place of section k's bytes in the image, 0 of one that has none.
@@ -169,17 +169,16 @@ fn image_fault(
     lengths: &[u8],
     image_places: &[u8],
     image: usize,
-    b: &[u8],
-    places: &[u32],
+    table: &Table,
     k: usize,
 ) -> Result<(), Refusal>
-    requires { AllHeld 15 b.now places.now × (k < length places.now) }
-    ensures { meaning result ≡ record_check (image_fault lengths.now (image_places_of image_places.now) image (sections_in b.now places.now) k) k }
+    requires { AllHeld 15 table.now.bytes.now table.now.places.now × (k < length table.now.places.now) }
+    ensures { meaning result ≡ record_check (image_fault lengths.now (image_places_of image_places.now) image (sections_in table.now.bytes.now table.now.places.now) k) k }
 {
-    if bytes_cut(image_places, image, k, section_at(b, places, k)) {
+    if bytes_cut(image_places, image, k, section_at(table, k)) {
         return refuse(1, 0, k as u32);
     }
-    section_fault(lengths, b, places, k)
+    section_fault(lengths, table, k)
 }
 
 // Every section of a table whose sections have bytes in an image of `image` bytes: 1 where they are cut, else 4.
@@ -187,89 +186,69 @@ pub fn check_image(
     lengths: &[u8],
     image_places: &[u8],
     image: usize,
-    b: &[u8],
-    places: &[u32],
+    table: &Table,
 ) -> Result<(), Refusal>
-    requires { AllHeld 15 b.now places.now }
-    ensures { meaning result ≡ records_check (image_fault lengths.now (image_places_of image_places.now) image (sections_in b.now places.now)) (length places.now) }
+    requires { AllHeld 15 table.now.bytes.now table.now.places.now }
+    ensures { meaning result ≡ records_check (image_fault lengths.now (image_places_of image_places.now) image (sections_in table.now.bytes.now table.now.places.now)) (length table.now.places.now) }
 {
     check_records(
-        places.len(),
-        |k| image_fault(lengths, image_places, image, b, places, k),
+        table.places.len(),
+        |k| image_fault(lengths, image_places, image, table, k),
     )
 }
 
 // ---- symbols
 
 // The fault of symbol k.
-fn symbol_fault(
-    names: usize,
-    heads: &[u8],
-    head_places: &[u32],
-    b: &[u8],
-    places: &[u32],
-    k: usize,
-) -> Result<(), Refusal>
-    requires { AllHeld 15 heads.now head_places.now × AllHeld 20 b.now places.now × (k < length places.now) }
-    ensures { meaning result ≡ record_check (symbol_fault names (sections_in heads.now head_places.now) (symbols_in b.now places.now) k) k }
+fn symbol_fault(names: usize, heads: &Table, table: &Table, k: usize) -> Result<(), Refusal>
+    requires { AllHeld 15 heads.now.bytes.now heads.now.places.now × AllHeld 20 table.now.bytes.now table.now.places.now × (k < length table.now.places.now) }
+    ensures { meaning result ≡ record_check (symbol_fault names (sections_in heads.now.bytes.now heads.now.places.now) (symbols_in table.now.bytes.now table.now.places.now) k) k }
 {
-    let s = symbol_at(b, places, k);
-    let home = section_or_none(heads, head_places, s.section as usize);
-    refuse_if(5, k, symbol_bad(s, names, head_places.len(), home))
+    let s = symbol_at(table, k);
+    let home = section_or_none(heads, s.section as usize);
+    refuse_if(5, k, symbol_bad(s, names, heads.places.len(), home))
 }
 
 // Every symbol: "5 symbol: ..". `names` is a count, `heads` are the sections.
-pub fn check_symbols(
-    names: usize,
-    heads: &[u8],
-    head_places: &[u32],
-    b: &[u8],
-    places: &[u32],
-) -> Result<(), Refusal>
-    requires { AllHeld 15 heads.now head_places.now × AllHeld 20 b.now places.now }
-    ensures { meaning result ≡ records_check (symbol_fault names (sections_in heads.now head_places.now) (symbols_in b.now places.now)) (length places.now) }
+pub fn check_symbols(names: usize, heads: &Table, table: &Table) -> Result<(), Refusal>
+    requires { AllHeld 15 heads.now.bytes.now heads.now.places.now × AllHeld 20 table.now.bytes.now table.now.places.now }
+    ensures { meaning result ≡ records_check (symbol_fault names (sections_in heads.now.bytes.now heads.now.places.now) (symbols_in table.now.bytes.now table.now.places.now)) (length table.now.places.now) }
 {
-    check_records(
-        places.len(),
-        |k| symbol_fault(names, heads, head_places, b, places, k),
-    )
+    check_records(table.places.len(), |k| symbol_fault(names, heads, table, k))
 }
 
 // ---- relocations
 
 // The fault of a relocation that follows others: `floors` has for each section one more than the address of its last one, 0 if there is none.
 fn reloc_fault(
-    heads: &[u8],
-    head_places: &[u32],
+    heads: &Table,
     symbols: usize,
     floors: &[u32],
     k: usize,
     r: Reloc,
 ) -> Result<(), Refusal>
-    requires { AllHeld 15 heads.now head_places.now × (k ≤ 4294967295) }
-    ensures { meaning result ≡ record_check (reloc_fault_above (sections_in heads.now head_places.now) symbols (get_or floors.now r.section 0) r) k }
+    requires { AllHeld 15 heads.now.bytes.now heads.now.places.now × (k ≤ 4294967295) }
+    ensures { meaning result ≡ record_check (reloc_fault_above (sections_in heads.now.bytes.now heads.now.places.now) symbols (get_or floors.now r.section 0) r) k }
 {
-    let home = section_or_none(heads, head_places, r.section as usize);
+    let home = section_or_none(heads, r.section as usize);
     let floor = number_at(floors, r.section as usize);
-    refuse_if(6, k, reloc_bad(r, head_places.len(), symbols, home, floor))
+    refuse_if(6, k, reloc_bad(r, heads.places.len(), symbols, home, floor))
 }
 
 // Every relocation: "6 relocation: ..". `floors` is room for a number of each section; what it holds at first is of no matter.
 pub fn check_relocs(
-    heads: &[u8],
-    head_places: &[u32],
+    heads: &Table,
     symbols: usize,
-    b: &[u8],
-    places: &[u32],
+    table: &Table,
     floors: &mut [u32],
 ) -> Result<(), Refusal>
-    requires { AllHeld 15 heads.now head_places.now × AllHeld 23 b.now places.now × (length head_places.now ≤ length floors.old) }
-    ensures { meaning result ≡ records_check (reloc_fault (sections_in heads.now head_places.now) symbols (relocs_in b.now places.now)) (length places.now) }
+    requires { AllHeld 15 heads.now.bytes.now heads.now.places.now × AllHeld 23 table.now.bytes.now table.now.places.now × (length heads.now.places.now ≤ length floors.old) }
+    ensures { meaning result ≡ records_check (reloc_fault (sections_in heads.now.bytes.now heads.now.places.now) symbols (relocs_in table.now.bytes.now table.now.places.now)) (length table.now.places.now) }
 {
     floors.fill(0);
-    for i in 0..places.len() {
-        let r = reloc_at(b, places, i);
-        reloc_fault(heads, head_places, symbols, floors, i, r)?;
+    for i in 0..table.places.len() {
+        let r = reloc_at(table, i);
+        reloc_fault(heads, symbols, floors, i, r)?;
         floors[r.section as usize] = r.address + 1;
     }
     Ok(())
@@ -278,33 +257,33 @@ pub fn check_relocs(
 // ---- splits
 
 // The fault of split k of a record file, or of the merge's partial list.
-fn partial_fault(lengths: &[u8], b: &[u8], places: &[u32], k: usize) -> Result<(), Refusal>
-    requires { AllHeld partial_width b.now places.now × (k < length places.now) }
-    ensures { meaning result ≡ record_check (partial_fault lengths.now (partials_in b.now places.now) k) k }
+fn partial_fault(lengths: &[u8], table: &Table, k: usize) -> Result<(), Refusal>
+    requires { AllHeld partial_width table.now.bytes.now table.now.places.now × (k < length table.now.places.now) }
+    ensures { meaning result ≡ record_check (partial_fault lengths.now (partials_in table.now.bytes.now table.now.places.now) k) k }
 {
     // 7 does not ask for its number
-    let at = places[k] as usize;
-    let s = read_partial(b, at, 65535);
+    let at = table.places[k] as usize;
+    let s = read_partial(table.bytes, at, 65535);
     let unit_len = length_of(lengths, s.unit as usize);
     let rename_len = length_of(lengths, s.rename as usize);
     refuse_if(7, k, split_bad(s, unit_len, rename_len))
 }
 
 // Every split of a record file or a partial list, which "is checked as records": "7 split: ..".
-pub fn check_partials(lengths: &[u8], b: &[u8], places: &[u32]) -> Result<(), Refusal>
-    requires { AllHeld partial_width b.now places.now }
-    ensures { meaning result ≡ records_check (partial_fault lengths.now (partials_in b.now places.now)) (length places.now) }
+pub fn check_partials(lengths: &[u8], table: &Table) -> Result<(), Refusal>
+    requires { AllHeld partial_width table.now.bytes.now table.now.places.now }
+    ensures { meaning result ≡ records_check (partial_fault lengths.now (partials_in table.now.bytes.now table.now.places.now)) (length table.now.places.now) }
 {
-    check_records(places.len(), |k| partial_fault(lengths, b, places, k))
+    check_records(table.places.len(), |k| partial_fault(lengths, table, k))
 }
 
 // The split before split k; before the first one that nothing falls below.
-pub fn split_before(b: &[u8], places: &[u32], k: usize) -> Split
-    requires { AllHeld split_width b.now places.now × (k < length places.now) }
-    ensures { result ≡ split_before (splits_in b.now places.now) k }
+pub fn split_before(table: &Table, k: usize) -> Split
+    requires { AllHeld split_width table.now.bytes.now table.now.places.now × (k < length table.now.places.now) }
+    ensures { result ≡ split_before (splits_in table.now.bytes.now table.now.places.now) k }
 {
     if k != 0 {
-        return split_at(b, places, k - 1);
+        return split_at(table, k - 1);
     }
     Split {
         section: 0,
@@ -319,62 +298,49 @@ pub fn split_before(b: &[u8], places: &[u32], k: usize) -> Split
 }
 
 // The fault of split k of a stage table.
-fn split_fault(
-    lengths: &[u8],
-    heads: &[u8],
-    head_places: &[u32],
-    b: &[u8],
-    places: &[u32],
-    k: usize,
-) -> Result<(), Refusal>
-    requires { AllHeld 15 heads.now head_places.now × AllHeld split_width b.now places.now × (k < length places.now) }
-    ensures { meaning result ≡ record_check (split_fault lengths.now (sections_in heads.now head_places.now) (splits_in b.now places.now) k) k }
+fn split_fault(lengths: &[u8], heads: &Table, table: &Table, k: usize) -> Result<(), Refusal>
+    requires { AllHeld 15 heads.now.bytes.now heads.now.places.now × AllHeld split_width table.now.bytes.now table.now.places.now × (k < length table.now.places.now) }
+    ensures { meaning result ≡ record_check (split_fault lengths.now (sections_in heads.now.bytes.now heads.now.places.now) (splits_in table.now.bytes.now table.now.places.now) k) k }
 {
-    let s = split_at(b, places, k);
+    let s = split_at(table, k);
     let unit_len = length_of(lengths, s.unit as usize);
     let rename_len = length_of(lengths, s.rename as usize);
-    let home = section_or_none(heads, head_places, s.section as usize);
-    let before = split_before(b, places, k);
+    let home = section_or_none(heads, s.section as usize);
+    let before = split_before(table, k);
     let bad = split_bad(s, unit_len, rename_len);
     refuse_if(
         7,
         k,
-        bad | split_misplaced(s, head_places.len(), home, before),
+        bad | split_misplaced(s, heads.places.len(), home, before),
     )
 }
 
 // Every split of a stage table: "7 split: ..; in stage tables also ..".
-pub fn check_splits(
-    lengths: &[u8],
-    heads: &[u8],
-    head_places: &[u32],
-    b: &[u8],
-    places: &[u32],
-) -> Result<(), Refusal>
-    requires { AllHeld 15 heads.now head_places.now × AllHeld split_width b.now places.now }
-    ensures { meaning result ≡ records_check (split_fault lengths.now (sections_in heads.now head_places.now) (splits_in b.now places.now)) (length places.now) }
+pub fn check_splits(lengths: &[u8], heads: &Table, table: &Table) -> Result<(), Refusal>
+    requires { AllHeld 15 heads.now.bytes.now heads.now.places.now × AllHeld split_width table.now.bytes.now table.now.places.now }
+    ensures { meaning result ≡ records_check (split_fault lengths.now (sections_in heads.now.bytes.now heads.now.places.now) (splits_in table.now.bytes.now table.now.places.now)) (length table.now.places.now) }
 {
     check_records(
-        places.len(),
-        |k| split_fault(lengths, heads, head_places, b, places, k),
+        table.places.len(),
+        |k| split_fault(lengths, heads, table, k),
     )
 }
 
 // ---- units
 
 // The fault of unit k.
-fn unit_fault(lengths: &[u8], b: &[u8], places: &[u32], k: usize) -> Result<(), Refusal>
-    requires { AllHeld 8 b.now places.now × (k < length places.now) }
-    ensures { meaning result ≡ record_check (unit_fault lengths.now (units_in b.now places.now) k) k }
+fn unit_fault(lengths: &[u8], table: &Table, k: usize) -> Result<(), Refusal>
+    requires { AllHeld 8 table.now.bytes.now table.now.places.now × (k < length table.now.places.now) }
+    ensures { meaning result ≡ record_check (unit_fault lengths.now (units_in table.now.bytes.now table.now.places.now) k) k }
 {
-    let u = unit_at(b, places, k);
+    let u = unit_at(table, k);
     refuse_if(8, k, unit_bad(u, length_of(lengths, u.name as usize)))
 }
 
 // Every unit: "8 unit: ..".
-pub fn check_units(lengths: &[u8], b: &[u8], places: &[u32]) -> Result<(), Refusal>
-    requires { AllHeld 8 b.now places.now }
-    ensures { meaning result ≡ records_check (unit_fault lengths.now (units_in b.now places.now)) (length places.now) }
+pub fn check_units(lengths: &[u8], table: &Table) -> Result<(), Refusal>
+    requires { AllHeld 8 table.now.bytes.now table.now.places.now }
+    ensures { meaning result ≡ records_check (unit_fault lengths.now (units_in table.now.bytes.now table.now.places.now)) (length table.now.places.now) }
 {
-    check_records(places.len(), |k| unit_fault(lengths, b, places, k))
+    check_records(table.places.len(), |k| unit_fault(lengths, table, k))
 }

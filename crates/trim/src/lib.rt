@@ -8,19 +8,19 @@ ghost use Rattle.align.specs.Align.{bad_align};
 ghost use Rattle.symbol_order.specs.Order.{symbol_of, Whole};
 ghost use Rattle.symbols.specs.Ranges.{Within};
 ghost use Rattle.symbols.specs.Sound.{Sound};
-ghost use Rattle.sections.specs.Image.{image_of, Tables};
+ghost use Rattle.sections.specs.Image.{image_in, TablesIn};
 ghost use Rattle.sections.specs.Sections.{head_of, sections_of, Kept};
 ghost use Rattle.sections.specs.Bytes.{bytes_of};
 ghost use Rattle.sections.specs.Alignment.{chosen};
 ghost use Rattle.sections.specs.Ends.{splitting_end, end_meaning};
-ghost use Rattle.splits.specs.Columns.{columns, row_at, rows, Long};
+ghost use Rattle.splits.specs.Columns.{columns, row_at, rows, Long, columns_of};
 ghost use Rattle.trim.specs.Trim.{end_of, ask_next, aligned_end, fall_of, falls_of, carry_one, carry_from, cut_last, cut_section, cut_from, trimmed};
 ghost use Rattle.trim.specs.Steps.{asked_meaning, seen, Asks, Placed, AllPlaced, Past, LastOf};
 
 use align::align_up;
-use obj::{Refusal, Section, Split, refuse, section_at, symbol_at};
-use sections::{Alignment, Short, end_for_section, section_bytes, split_alignment};
-use splits::{row, set_end};
+use obj::{Refusal, Section, Split, Table, refuse, section_at, symbol_at};
+use sections::{Alignment, Obj, Short, end_for_section, section_bytes, split_alignment};
+use splits::{SplitColumns, row, set_end};
 use symbols::{Backwards, last_in};
 
 // ---- trim_split_alignment: the falls
@@ -37,61 +37,34 @@ fn value_of(a: Alignment) -> u32
 }
 
 // "the alignment of the section's next split is still asked, from this split's start", and may be 11. The next split is that at place j.
-fn ask_next(
-    b: &[u8],
-    places: &[u32],
-    order: &[u16],
-    name_bytes: &[u8],
-    name_places: &[u32],
-    name_lengths: &[u8],
-    heads: &[u8],
-    head_places: &[u32],
-    starts: &[u32],
-    ends: &[u32],
-    units: &[u16],
-    rest: &[u64],
-    n: usize,
-    s: Split,
-    j: usize,
-) -> Result<(), Backwards>
-    requires { Asks b.now places.now order.now name_bytes.now name_places.now name_lengths.now heads.now head_places.now
-        × AllPlaced (length head_places.now) (columns starts.now ends.now units.now rest.now) n }
+fn ask_next(obj: &Obj, splits: &SplitColumns, n: usize, s: Split, j: usize) -> Result<(), Backwards>
+    requires { Asks obj.now.symbols.bytes.now obj.now.symbols.places.now obj.now.order.now obj.now.names.bytes.now obj.now.names.places.now obj.now.names.lengths.now obj.now.heads.bytes.now obj.now.heads.places.now
+        × AllPlaced (length obj.now.heads.places.now) (columns_of splits.now) n }
     ensures { asked_meaning s.section s.start result
-        ≡ ask_next (image_of b.now places.now name_bytes.now name_places.now name_lengths.now)
-        (head_of heads.now head_places.now) s
-        (tabulate (row_at (columns starts.now ends.now units.now rest.now)) j (n - j)) }
+        ≡ ask_next (image_in obj.now)
+        (head_of obj.now.heads.bytes.now obj.now.heads.places.now) s
+        (tabulate (row_at (columns_of splits.now)) j (n - j)) }
 {
     if n <= j {
         return Ok(());
     }
-    let next = row(starts, ends, units, rest, j);
+    let next = row(splits, j);
     if next.section != s.section {
         return Ok(());
     }
-    split_alignment(
-        b,
-        places,
-        order,
-        name_bytes,
-        name_places,
-        name_lengths,
-        heads,
-        head_places,
-        next,
-        s.start,
-    )?;
+    split_alignment(obj, next, s.start)?;
     Ok(())
 }
 
 // "the end of the last such symbol in start..end"; the split's own end where there is none.
-fn end_of(b: &[u8], places: &[u32], found: Option<usize>, own: u32) -> u32
-    requires { Whole b.now places.now × Sound (symbol_of b.now places.now) (length places.now) × (own ≤ 4026531840)
-        × ((i : ℕ) → found ≡ Some i → i < length places.now) }
-    ensures { Within (end_of (symbol_of b.now places.now) own found) 4026531840 result }
+fn end_of(table: &Table, found: Option<usize>, own: u32) -> u32
+    requires { Whole table.now.bytes.now table.now.places.now × Sound (symbol_of table.now.bytes.now table.now.places.now) (length table.now.places.now) × (own ≤ 4026531840)
+        × ((i : ℕ) → found ≡ Some i → i < length table.now.places.now) }
+    ensures { Within (end_of (symbol_of table.now.bytes.now table.now.places.now) own found) 4026531840 result }
 {
     match found {
         Some(i) => {
-            let y = symbol_at(b, places, i);
+            let y = symbol_at(table, i);
             y.address + y.size
         }
         None => own,
@@ -99,139 +72,45 @@ fn end_of(b: &[u8], places: &[u32], found: Option<usize>, own: u32) -> u32
 }
 
 // "the end of the last such symbol in start..end, aligned up"
-fn aligned_end(
-    b: &[u8],
-    places: &[u32],
-    order: &[u16],
-    name_bytes: &[u8],
-    name_places: &[u32],
-    name_lengths: &[u8],
-    heads: &[u8],
-    head_places: &[u32],
-    s: Split,
-) -> Result<u32, Backwards>
-    requires { Asks b.now places.now order.now name_bytes.now name_places.now name_lengths.now heads.now head_places.now
-        × Placed (length head_places.now) s × (bad_align s.alignment ≡ false) }
-    ensures { asked_meaning s.section s.start result ≡ aligned_end (image_of b.now places.now name_bytes.now name_places.now name_lengths.now) (head_of heads.now head_places.now) s }
+fn aligned_end(obj: &Obj, s: Split) -> Result<u32, Backwards>
+    requires { Asks obj.now.symbols.bytes.now obj.now.symbols.places.now obj.now.order.now obj.now.names.bytes.now obj.now.names.places.now obj.now.names.lengths.now obj.now.heads.bytes.now obj.now.heads.places.now
+        × Placed (length obj.now.heads.places.now) s × (bad_align s.alignment ≡ false) }
+    ensures { asked_meaning s.section s.start result ≡ aligned_end (image_in obj.now) (head_of obj.now.heads.bytes.now obj.now.heads.places.now) s }
 {
-    let found = last_in(b, places, order, s.section, s.start, s.end)?;
-    let end = end_of(b, places, found, s.end);
-    let a = split_alignment(
-        b,
-        places,
-        order,
-        name_bytes,
-        name_places,
-        name_lengths,
-        heads,
-        head_places,
-        s,
-        s.start,
-    )?;
+    let found = last_in(&obj.symbols, obj.order, s.section, s.start, s.end)?;
+    let end = end_of(&obj.symbols, found, s.end);
+    let a = split_alignment(obj, s, s.start)?;
     Ok(align_up(end, value_of(a)))
 }
 
 // Where the end of s falls to, 0 if it does not fall; the split after it is that at place j.
-fn fall_of(
-    b: &[u8],
-    places: &[u32],
-    order: &[u16],
-    name_bytes: &[u8],
-    name_places: &[u32],
-    name_lengths: &[u8],
-    heads: &[u8],
-    head_places: &[u32],
-    starts: &[u32],
-    ends: &[u32],
-    units: &[u16],
-    rest: &[u64],
-    n: usize,
-    s: Split,
-    j: usize,
-) -> Result<u32, Backwards>
-    requires { Asks b.now places.now order.now name_bytes.now name_places.now name_lengths.now heads.now head_places.now
-        × AllPlaced (length head_places.now) (columns starts.now ends.now units.now rest.now) n
-        × Placed (length head_places.now) s × (bad_align s.alignment ≡ false) }
+fn fall_of(obj: &Obj, splits: &SplitColumns, n: usize, s: Split, j: usize) -> Result<u32, Backwards>
+    requires { Asks obj.now.symbols.bytes.now obj.now.symbols.places.now obj.now.order.now obj.now.names.bytes.now obj.now.names.places.now obj.now.names.lengths.now obj.now.heads.bytes.now obj.now.heads.places.now
+        × AllPlaced (length obj.now.heads.places.now) (columns_of splits.now) n
+        × Placed (length obj.now.heads.places.now) s × (bad_align s.alignment ≡ false) }
     ensures { asked_meaning s.section s.start result
-        ≡ fall_of (image_of b.now places.now name_bytes.now name_places.now name_lengths.now) (head_of heads.now head_places.now) s
-        (tabulate (row_at (columns starts.now ends.now units.now rest.now)) j (n - j)) }
+        ≡ fall_of (image_in obj.now) (head_of obj.now.heads.bytes.now obj.now.heads.places.now) s
+        (tabulate (row_at (columns_of splits.now)) j (n - j)) }
 {
-    let low = aligned_end(
-        b,
-        places,
-        order,
-        name_bytes,
-        name_places,
-        name_lengths,
-        heads,
-        head_places,
-        s,
-    )?;
+    let low = aligned_end(obj, s)?;
     if low < s.end {
-        ask_next(
-            b,
-            places,
-            order,
-            name_bytes,
-            name_places,
-            name_lengths,
-            heads,
-            head_places,
-            starts,
-            ends,
-            units,
-            rest,
-            n,
-            s,
-            j,
-        )?;
+        ask_next(obj, splits, n, s, j)?;
         return Ok(low);
     }
     Ok(0)
 }
 
 // The falls of all splits, in the table's order; 11 is at the split whose fall is asked.
-fn find_falls(
-    b: &[u8],
-    places: &[u32],
-    order: &[u16],
-    name_bytes: &[u8],
-    name_places: &[u32],
-    name_lengths: &[u8],
-    heads: &[u8],
-    head_places: &[u32],
-    starts: &[u32],
-    ends: &[u32],
-    units: &[u16],
-    rest: &[u64],
-    n: usize,
-    falls: &mut [u32],
-) -> Result<(), Refusal>
-    requires { Asks b.now places.now order.now name_bytes.now name_places.now name_lengths.now heads.now head_places.now
-        × AllPlaced (length head_places.now) (columns starts.now ends.now units.now rest.now) n × (n ≤ length falls.old) }
+fn find_falls(obj: &Obj, splits: &SplitColumns, n: usize, falls: &mut [u32]) -> Result<(), Refusal>
+    requires { Asks obj.now.symbols.bytes.now obj.now.symbols.places.now obj.now.order.now obj.now.names.bytes.now obj.now.names.places.now obj.now.names.lengths.now obj.now.heads.bytes.now obj.now.heads.places.now
+        × AllPlaced (length obj.now.heads.places.now) (columns_of splits.now) n × (n ≤ length falls.old) }
     ensures { seen result (take n falls.new)
-        ≡ falls_of (image_of b.now places.now name_bytes.now name_places.now name_lengths.now) (head_of heads.now head_places.now)
-        (rows (columns starts.now ends.now units.now rest.now) n) }
+        ≡ falls_of (image_in obj.now) (head_of obj.now.heads.bytes.now obj.now.heads.places.now)
+        (rows (columns_of splits.now) n) }
 {
     for i in 0..n {
-        let s = row(starts, ends, units, rest, i);
-        let fall = fall_of(
-            b,
-            places,
-            order,
-            name_bytes,
-            name_places,
-            name_lengths,
-            heads,
-            head_places,
-            starts,
-            ends,
-            units,
-            rest,
-            n,
-            s,
-            i + 1,
-        );
+        let s = row(splits, i);
+        let fall = fall_of(obj, splits, n, s, i + 1);
         match fall {
             Ok(end) => falls[i] = end,
             Err(Backwards) => return refuse(11, s.section, s.start),
@@ -243,20 +122,12 @@ fn find_falls(
 // ---- trim_split_alignment: the falls carried out
 
 // The first place from `from` on whose row does not start where s does.
-fn past_start(
-    starts: &[u32],
-    ends: &[u32],
-    units: &[u16],
-    rest: &[u64],
-    n: usize,
-    s: Split,
-    from: usize,
-) -> usize
-    requires { Long (columns starts.now ends.now units.now rest.now) n × (from ≤ n) }
-    ensures { Past s (columns starts.now ends.now units.now rest.now) n from result }
+fn past_start(splits: &SplitColumns, n: usize, s: Split, from: usize) -> usize
+    requires { Long (columns_of splits.now) n × (from ≤ n) }
+    ensures { Past s (columns_of splits.now) n from result }
 {
     for j in from..n {
-        let y = row(starts, ends, units, rest, j);
+        let y = row(splits, j);
         if !((y.section == s.section) & (y.start == s.start)) {
             return j;
         }
@@ -281,8 +152,26 @@ fn carry_one(
     if end == 0 {
         return Ok(());
     }
-    let s = row(starts, ends, units, rest, k);
-    let last = past_start(starts, ends, units, rest, n, s, k + 1) - 1;
+    let s = row(
+        &SplitColumns {
+            starts,
+            ends: &*ends,
+            units,
+            rest,
+        },
+        k,
+    );
+    let last = past_start(
+        &SplitColumns {
+            starts,
+            ends: &*ends,
+            units,
+            rest,
+        },
+        n,
+        s,
+        k + 1,
+    ) - 1;
     let old = ends[last];
     if (old <= s.start) & (old != 0) {
         return refuse(54, s.section, s.start);
@@ -313,21 +202,14 @@ fn carry_out(
 // ---- trim_linker_generated_symbols
 
 // The section's last row.
-fn last_of(
-    starts: &[u32],
-    ends: &[u32],
-    units: &[u16],
-    rest: &[u64],
-    n: usize,
-    section: u16,
-) -> Option<usize>
-    requires { Long (columns starts.now ends.now units.now rest.now) n }
+fn last_of(splits: &SplitColumns, n: usize, section: u16) -> Option<usize>
+    requires { Long (columns_of splits.now) n }
     ensures { MatchOption result
-        (some (λ (y : Split). eqb y.section section) (rows (columns starts.now ends.now units.now rest.now) n) ≡ false)
-        (LastOf section (columns starts.now ends.now units.now rest.now) n) }
+        (some (λ (y : Split). eqb y.section section) (rows (columns_of splits.now) n) ≡ false)
+        (LastOf section (columns_of splits.now) n) }
 {
     for j in (0..n).rev() {
-        let y = row(starts, ends, units, rest, j);
+        let y = row(splits, j);
         if y.section == section {
             return Some(j);
         }
@@ -349,7 +231,16 @@ fn cut_last(
     ensures { rows (columns starts.now ends.new units.now rest.now) n
         ≡ cut_last section end (rows (columns starts.now ends.old units.now rest.now) n) }
 {
-    let Some(k) = last_of(starts, ends, units, rest, n, section) else {
+    let Some(k) = last_of(
+        &SplitColumns {
+            starts,
+            ends: &*ends,
+            units,
+            rest,
+        },
+        n,
+        section,
+    ) else {
         return;
     };
     if ends[k] <= end {
@@ -359,54 +250,23 @@ fn cut_last(
 }
 
 // The splitting end of section k, which has this head.
-fn end_at(
-    b: &[u8],
-    places: &[u32],
-    order: &[u16],
-    name_bytes: &[u8],
-    name_places: &[u32],
-    name_lengths: &[u8],
-    heads: &[u8],
-    head_places: &[u32],
-    image: &[u8],
-    image_places: &[u32],
-    k: usize,
-    head: Section,
-) -> Result<u32, Short>
-    requires { Tables b.now places.now order.now name_bytes.now name_places.now name_lengths.now
-        × Kept heads.now head_places.now image.now image_places.now name_places.now
-        × (k < length head_places.now) × (head ≡ head_of heads.now head_places.now k) }
+fn end_at(obj: &Obj, image: &Table, k: usize, head: Section) -> Result<u32, Short>
+    requires { TablesIn obj.now
+        × Kept obj.now.heads.bytes.now obj.now.heads.places.now image.now.bytes.now image.now.places.now obj.now.names.places.now
+        × (k < length obj.now.heads.places.now) × (head ≡ head_of obj.now.heads.bytes.now obj.now.heads.places.now k) }
     ensures { end_meaning k head.address result
-        ≡ splitting_end (image_of b.now places.now name_bytes.now name_places.now name_lengths.now) k
-        (head_of heads.now head_places.now k)
-        (bytes_of image.now image_places.now k (head_of heads.now head_places.now k)) }
+        ≡ splitting_end (image_in obj.now) k
+        (head_of obj.now.heads.bytes.now obj.now.heads.places.now k)
+        (bytes_of image.now.bytes.now image.now.places.now k (head_of obj.now.heads.bytes.now obj.now.heads.places.now k)) }
 {
-    let bytes = section_bytes(image, image_places, k, head);
-    end_for_section(
-        b,
-        places,
-        order,
-        name_bytes,
-        name_places,
-        name_lengths,
-        k as u16,
-        head,
-        bytes,
-    )
+    let bytes = section_bytes(image.bytes, image.places, k, head);
+    end_for_section(&obj.symbols, obj.order, &obj.names, k as u16, head, bytes)
 }
 
 // Section k: "where the splitting end isn't the section's end", its last split.
 fn cut_section(
-    b: &[u8],
-    places: &[u32],
-    order: &[u16],
-    name_bytes: &[u8],
-    name_places: &[u32],
-    name_lengths: &[u8],
-    heads: &[u8],
-    head_places: &[u32],
-    image: &[u8],
-    image_places: &[u32],
+    obj: &Obj,
+    image: &Table,
     starts: &[u32],
     ends: &mut [u32],
     units: &[u16],
@@ -414,29 +274,16 @@ fn cut_section(
     n: usize,
     k: usize,
 ) -> Result<(), Refusal>
-    requires { Tables b.now places.now order.now name_bytes.now name_places.now name_lengths.now
-        × Kept heads.now head_places.now image.now image_places.now name_places.now
-        × Long (columns starts.now ends.old units.now rest.now) n × (k < length head_places.now) }
+    requires { TablesIn obj.now
+        × Kept obj.now.heads.bytes.now obj.now.heads.places.now image.now.bytes.now image.now.places.now obj.now.names.places.now
+        × Long (columns starts.now ends.old units.now rest.now) n × (k < length obj.now.heads.places.now) }
     ensures { seen result (rows (columns starts.now ends.new units.now rest.now) n)
-        ≡ cut_section (image_of b.now places.now name_bytes.now name_places.now name_lengths.now)
-        (sections_of heads.now head_places.now image.now image_places.now) k
+        ≡ cut_section (image_in obj.now)
+        (sections_of obj.now.heads.bytes.now obj.now.heads.places.now image.now.bytes.now image.now.places.now) k
         (rows (columns starts.now ends.old units.now rest.now) n) }
 {
-    let head = section_at(heads, head_places, k);
-    let end = end_at(
-        b,
-        places,
-        order,
-        name_bytes,
-        name_places,
-        name_lengths,
-        heads,
-        head_places,
-        image,
-        image_places,
-        k,
-        head,
-    );
+    let head = section_at(&obj.heads, k);
+    let end = end_at(obj, image, k, head);
     match end {
         Ok(low) => {
             if head.address + head.size == low {
@@ -451,49 +298,24 @@ fn cut_section(
 
 // All sections, in their order.
 fn cut_sections(
-    b: &[u8],
-    places: &[u32],
-    order: &[u16],
-    name_bytes: &[u8],
-    name_places: &[u32],
-    name_lengths: &[u8],
-    heads: &[u8],
-    head_places: &[u32],
-    image: &[u8],
-    image_places: &[u32],
+    obj: &Obj,
+    image: &Table,
     starts: &[u32],
     ends: &mut [u32],
     units: &[u16],
     rest: &[u64],
     n: usize,
 ) -> Result<(), Refusal>
-    requires { Tables b.now places.now order.now name_bytes.now name_places.now name_lengths.now
-        × Kept heads.now head_places.now image.now image_places.now name_places.now
+    requires { TablesIn obj.now
+        × Kept obj.now.heads.bytes.now obj.now.heads.places.now image.now.bytes.now image.now.places.now obj.now.names.places.now
         × Long (columns starts.now ends.old units.now rest.now) n }
     ensures { seen result (rows (columns starts.now ends.new units.now rest.now) n)
-        ≡ cut_from (image_of b.now places.now name_bytes.now name_places.now name_lengths.now)
-        (sections_of heads.now head_places.now image.now image_places.now) (length head_places.now) 0
+        ≡ cut_from (image_in obj.now)
+        (sections_of obj.now.heads.bytes.now obj.now.heads.places.now image.now.bytes.now image.now.places.now) (length obj.now.heads.places.now) 0
         (rows (columns starts.now ends.old units.now rest.now) n) }
 {
-    for k in 0..head_places.len() {
-        cut_section(
-            b,
-            places,
-            order,
-            name_bytes,
-            name_places,
-            name_lengths,
-            heads,
-            head_places,
-            image,
-            image_places,
-            starts,
-            ends,
-            units,
-            rest,
-            n,
-            k,
-        )?;
+    for k in 0..obj.heads.places.len() {
+        cut_section(obj, image, starts, ends, units, rest, n, k)?;
     }
     Ok(())
 }
@@ -502,16 +324,8 @@ fn cut_sections(
 
 // The first n rows trimmed. `falls` is room for a number of each row.
 pub fn trim(
-    b: &[u8],
-    places: &[u32],
-    order: &[u16],
-    name_bytes: &[u8],
-    name_places: &[u32],
-    name_lengths: &[u8],
-    heads: &[u8],
-    head_places: &[u32],
-    image: &[u8],
-    image_places: &[u32],
+    obj: &Obj,
+    image: &Table,
     starts: &[u32],
     ends: &mut [u32],
     units: &[u16],
@@ -519,47 +333,26 @@ pub fn trim(
     n: usize,
     falls: &mut [u32],
 ) -> Result<(), Refusal>
-    requires { Tables b.now places.now order.now name_bytes.now name_places.now name_lengths.now
-        × Sound (symbol_of b.now places.now) (length places.now)
-        × Kept heads.now head_places.now image.now image_places.now name_places.now
-        × AllPlaced (length head_places.now) (columns starts.now ends.old units.now rest.now) n × (n ≤ length falls.old) }
+    requires { TablesIn obj.now
+        × Sound (symbol_of obj.now.symbols.bytes.now obj.now.symbols.places.now) (length obj.now.symbols.places.now)
+        × Kept obj.now.heads.bytes.now obj.now.heads.places.now image.now.bytes.now image.now.places.now obj.now.names.places.now
+        × AllPlaced (length obj.now.heads.places.now) (columns starts.now ends.old units.now rest.now) n × (n ≤ length falls.old) }
     ensures { seen result (rows (columns starts.now ends.new units.now rest.now) n)
-        ≡ trimmed (image_of b.now places.now name_bytes.now name_places.now name_lengths.now)
-        (sections_of heads.now head_places.now image.now image_places.now)
+        ≡ trimmed (image_in obj.now)
+        (sections_of obj.now.heads.bytes.now obj.now.heads.places.now image.now.bytes.now image.now.places.now)
         (rows (columns starts.now ends.old units.now rest.now) n) }
 {
     find_falls(
-        b,
-        places,
-        order,
-        name_bytes,
-        name_places,
-        name_lengths,
-        heads,
-        head_places,
-        starts,
-        ends,
-        units,
-        rest,
+        obj,
+        &SplitColumns {
+            starts,
+            ends: &*ends,
+            units,
+            rest,
+        },
         n,
         falls,
     )?;
     carry_out(starts, ends, units, rest, n, falls)?;
-    cut_sections(
-        b,
-        places,
-        order,
-        name_bytes,
-        name_places,
-        name_lengths,
-        heads,
-        head_places,
-        image,
-        image_places,
-        starts,
-        ends,
-        units,
-        rest,
-        n,
-    )
+    cut_sections(obj, image, starts, ends, units, rest, n)
 }

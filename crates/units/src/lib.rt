@@ -5,16 +5,16 @@ ghost use Rattle.std.specs.Prelude.{◌≡◌, length, get_or, replicate};
 ghost use Rattle.obj.specs.Records.{unit_at, Held};
 ghost use Rattle.units.specs.Units.{unit_names, Listed, Numbered};
 
-use obj::unit_at;
+use obj::{Table, unit_at};
 
 // The number of the unit of each name: "Of units with one name the last takes the pieces"; how many units there are, for a name that no unit has.
-pub fn number_units(b: &[u8], places: &[u32], column: &mut [u16])
-    requires { Listed b.now places.now column.old }
-    ensures { Numbered column.new (unit_names b.now places.now) }
+pub fn number_units(table: &Table, column: &mut [u16])
+    requires { Listed table.now.bytes.now table.now.places.now column.old }
+    ensures { Numbered column.new (unit_names table.now.bytes.now table.now.places.now) }
 {
-    column.fill(places.len() as u16);
-    for k in 0..places.len() {
-        let name = usize::from(unit_at(b, places, k).name);
+    column.fill(table.places.len() as u16);
+    for k in 0..table.places.len() {
+        let name = usize::from(unit_at(table, k).name);
         column[name] = k as u16;
     }
 }

@@ -2,7 +2,7 @@
 ghost use Rattle.std.specs.Prelude.{◌≡◌, false, ◌&&◌, leb, ltb, ◌+◌, ◌<◌, ◌≤◌, length};
 ghost use Rattle.align.specs.Align.{bad_align};
 ghost use Rattle.obj.specs.Answers.{meaning};
-ghost use Rattle.sections.specs.Image.{image_of};
+ghost use Rattle.sections.specs.Image.{image_in};
 ghost use Rattle.sections.specs.Alignment.{chosen};
 ghost use Rattle.sections.specs.Sections.{sections_of, head_of};
 ghost use Rattle.units.specs.Units.{unit_names, Numbered};
@@ -11,9 +11,9 @@ ghost use Rattle.walk.specs.Steps.{SectionThere, SectionNamed, Asked, between_of
 
 use crate::{Step, refuse_at};
 use names::name_at;
-use obj::{Refusal, Section, Split, section_at};
+use obj::{Refusal, Section, Split, Table, section_at};
 use pieces::piece_bytes;
-use sections::{Alignment, alignment_of, default_alignment, is_zero, section_bytes};
+use sections::{Alignment, Obj, alignment_of, default_alignment, is_zero, section_bytes};
 use symbol_order::number;
 use symbols::Backwards;
 
@@ -28,22 +28,14 @@ fn is_inside(head: Section, from: u32, to: u32) -> bool
 }
 
 // "bytes between two, or from the last to the splitting end, must be zero": 72, 73, or nothing where they are or where there are none.
-fn between(
-    heads: &[u8],
-    head_places: &[u32],
-    image: &[u8],
-    image_places: &[u32],
-    n: usize,
-    from: u32,
-    to: u32,
-) -> Option<u16>
-    requires { SectionThere heads.now head_places.now image.now image_places.now n }
-    ensures { result ≡ between_of (sections_of heads.now head_places.now image.now image_places.now) n from to }
+fn between(heads: &Table, image: &Table, n: usize, from: u32, to: u32) -> Option<u16>
+    requires { SectionThere heads.now.bytes.now heads.now.places.now image.now.bytes.now image.now.places.now n }
+    ensures { result ≡ between_of (sections_of heads.now.bytes.now heads.now.places.now image.now.bytes.now image.now.places.now) n from to }
 {
     if from < to {
-        let head = section_at(heads, head_places, n);
+        let head = section_at(heads, n);
         if is_inside(head, from, to) {
-            let bytes = section_bytes(image, image_places, n, head);
+            let bytes = section_bytes(image.bytes, image.places, n, head);
             let start = head.address;
             let part = piece_bytes(bytes, (from - start) as usize, (to - start) as usize);
             if is_zero(part) {
@@ -67,33 +59,20 @@ fn value_of(a: Alignment) -> u32
 }
 
 // "Alignment of a split" in section n, asked from `start` on; its range may be asked backwards (11).
-fn alignment_at(
-    symbols: &[u8],
-    symbol_places: &[u32],
-    order: &[u16],
-    name_bytes: &[u8],
-    name_places: &[u32],
-    name_lengths: &[u8],
-    heads: &[u8],
-    head_places: &[u32],
-    n: usize,
-    s: Split,
-    start: u32,
-) -> Result<u32, Backwards>
-    requires { Asked symbols.now symbol_places.now order.now name_bytes.now name_places.now name_lengths.now
-        × SectionNamed heads.now head_places.now name_places.now n
+fn alignment_at(obj: &Obj, n: usize, s: Split, start: u32) -> Result<u32, Backwards>
+    requires { Asked obj.now.symbols.bytes.now obj.now.symbols.places.now obj.now.order.now obj.now.names.bytes.now obj.now.names.places.now obj.now.names.lengths.now
+        × SectionNamed obj.now.heads.bytes.now obj.now.heads.places.now obj.now.names.places.now n
         × (bad_align s.alignment ≡ false) }
     ensures { AlignedAt
-        (alignment_in (image_of symbols.now symbol_places.now name_bytes.now name_places.now name_lengths.now) (head_of heads.now head_places.now n) n start s)
+        (alignment_in (image_in obj.now) (head_of obj.now.heads.bytes.now obj.now.heads.places.now n) n start s)
         n start result }
 {
-    let head = section_at(heads, head_places, n);
+    let head = section_at(&obj.heads, n);
     let k = head.name as usize;
-    let least = default_alignment(head, name_at(name_bytes, name_places, name_lengths, k));
+    let least = default_alignment(head, name_at(&obj.names, k));
     let alignment = alignment_of(
-        symbols,
-        symbol_places,
-        order,
+        &obj.symbols,
+        obj.order,
         n as u16,
         least,
         s.alignment,
@@ -105,37 +84,28 @@ fn alignment_at(
 
 // What the split s at `current` asks for, where the next one, or the splitting end, is at `next`.
 pub fn choose(
-    symbols: &[u8],
-    symbol_places: &[u32],
-    order: &[u16],
-    name_bytes: &[u8],
-    name_places: &[u32],
-    name_lengths: &[u8],
-    heads: &[u8],
-    head_places: &[u32],
-    image: &[u8],
-    image_places: &[u32],
-    units: &[u8],
-    unit_places: &[u32],
+    obj: &Obj,
+    image: &Table,
+    unit_table: &Table,
     unit_numbers: &[u16],
     n: usize,
     s: Split,
     current: u32,
     next: u32,
 ) -> Result<Step, Refusal>
-    requires { Asked symbols.now symbol_places.now order.now name_bytes.now name_places.now name_lengths.now
-        × SectionThere heads.now head_places.now image.now image_places.now n
-        × SectionNamed heads.now head_places.now name_places.now n
-        × Numbered unit_numbers.now (unit_names units.now unit_places.now)
+    requires { Asked obj.now.symbols.bytes.now obj.now.symbols.places.now obj.now.order.now obj.now.names.bytes.now obj.now.names.places.now obj.now.names.lengths.now
+        × SectionThere obj.now.heads.bytes.now obj.now.heads.places.now image.now.bytes.now image.now.places.now n
+        × SectionNamed obj.now.heads.bytes.now obj.now.heads.places.now obj.now.names.places.now n
+        × Numbered unit_numbers.now (unit_names unit_table.now.bytes.now unit_table.now.places.now)
         × (s.unit < length unit_numbers.now)
         × (bad_align s.alignment ≡ false) }
-    ensures { (meaning result ≡ decide (image_of symbols.now symbol_places.now name_bytes.now name_places.now name_lengths.now) (sections_of heads.now head_places.now image.now image_places.now) (unit_names units.now unit_places.now) n current next s)
-        × Sane (length unit_places.now) current s result }
+    ensures { (meaning result ≡ decide (image_in obj.now) (sections_of obj.now.heads.bytes.now obj.now.heads.places.now image.now.bytes.now image.now.places.now) (unit_names unit_table.now.bytes.now unit_table.now.places.now) n current next s)
+        × Sane (length unit_table.now.places.now) current s result }
 {
     if s.start != current {
         return refuse_at(71, n, current);
     }
-    let fault = between(heads, head_places, image, image_places, n, s.end, next);
+    let fault = between(&obj.heads, image, n, s.end, next);
     if let Some(fault) = fault {
         return refuse_at(fault, n, current);
     }
@@ -143,22 +113,10 @@ pub fn choose(
         return Ok(Step::Skip);
     }
     let unit = number(unit_numbers, s.unit as usize);
-    if unit == unit_places.len() {
+    if unit == unit_table.places.len() {
         return refuse_at(74, n, current);
     }
-    let asked = alignment_at(
-        symbols,
-        symbol_places,
-        order,
-        name_bytes,
-        name_places,
-        name_lengths,
-        heads,
-        head_places,
-        n,
-        s,
-        current,
-    );
+    let asked = alignment_at(obj, n, s, current);
     let Ok(alignment) = asked else {
         return refuse_at(11, n, current);
     };

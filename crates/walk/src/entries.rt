@@ -9,8 +9,8 @@ ghost use Rattle.relocs.specs.Relocs.{reloc_of, Readable};
 ghost use Rattle.walk.specs.Walk.{passed_over, entry_of, add_symbol, add_symbols, reloc_entry, add_relocs};
 ghost use Rattle.walk.specs.Adding.{Entries, Lying, Adds, Above};
 
-use names::{is_linker_generated_label, is_vector_table_end, name_at};
-use obj::{Split, Symbol, reloc_at, symbol_at};
+use names::{Names, is_linker_generated_label, is_vector_table_end, name_at};
+use obj::{Split, Symbol, Table, reloc_at, symbol_at};
 use piece_columns::{has_symbol, push_symbol};
 use pieces::{PieceReloc, PieceSymbol, add_piece_reloc};
 use symbol_order::number;
@@ -67,11 +67,8 @@ fn entry_of(unit: u16, place: u16, s: Split, i: u16, y: Symbol) -> PieceSymbol
 
 // Symbol i of a split, "each once per unit", behind the first k entries: how many there are then, or nothing if there is no room for another.
 fn add_symbol(
-    symbols: &[u8],
-    symbol_places: &[u32],
-    name_bytes: &[u8],
-    name_places: &[u32],
-    name_lengths: &[u8],
+    symbols: &Table,
+    names: &Names,
     s: Split,
     unit: u16,
     place: u16,
@@ -81,14 +78,14 @@ fn add_symbol(
     chains: &mut [u16],
     out: &mut [u8],
 ) -> Option<usize>
-    requires { Held 20 symbols.now symbol_places.now i
-        × SymbolNames symbols.now symbol_places.now name_bytes.now name_places.now name_lengths.now
-        × (s.start ≤ (symbol_of symbols.now symbol_places.now i).address)
-        × Entries (length symbol_places.now) room chains.old out.old k }
-    ensures { Adds (add_symbol (image_of symbols.now symbol_places.now name_bytes.now name_places.now name_lengths.now) unit place s (symbols_in out.old k) i) room chains.new out.new result }
+    requires { Held 20 symbols.now.bytes.now symbols.now.places.now i
+        × SymbolNames symbols.now.bytes.now symbols.now.places.now names.now.bytes.now names.now.places.now names.now.lengths.now
+        × (s.start ≤ (symbol_of symbols.now.bytes.now symbols.now.places.now i).address)
+        × Entries (length symbols.now.places.now) room chains.old out.old k }
+    ensures { Adds (add_symbol (image_of symbols.now.bytes.now symbols.now.places.now names.now.bytes.now names.now.places.now names.now.lengths.now) unit place s (symbols_in out.old k) i) room chains.new out.new result }
 {
-    let y = symbol_at(symbols, symbol_places, i);
-    let name = name_at(name_bytes, name_places, name_lengths, y.name as usize);
+    let y = symbol_at(symbols, i);
+    let name = name_at(names, y.name as usize);
     if is_passed_over(name, s, y) | has_symbol(chains, out, k, unit, i) {
         return Some(k);
     }
@@ -101,11 +98,8 @@ fn add_symbol(
 
 // The symbols of a split, whose numbers are `part`, behind the first `made` entries: how many there are then, if there is room.
 pub fn add_symbols(
-    symbols: &[u8],
-    symbol_places: &[u32],
-    name_bytes: &[u8],
-    name_places: &[u32],
-    name_lengths: &[u8],
+    symbols: &Table,
+    names: &Names,
     part: &[u16],
     s: Split,
     unit: u16,
@@ -115,19 +109,16 @@ pub fn add_symbols(
     chains: &mut [u16],
     out: &mut [u8],
 ) -> Option<usize>
-    requires { Lying symbols.now symbol_places.now part.now s.start
-        × SymbolNames symbols.now symbol_places.now name_bytes.now name_places.now name_lengths.now
-        × Entries (length symbol_places.now) room chains.old out.old made }
-    ensures { Adds (add_symbols (image_of symbols.now symbol_places.now name_bytes.now name_places.now name_lengths.now) unit place s (symbols_in out.old made) part.now) room chains.new out.new result }
+    requires { Lying symbols.now.bytes.now symbols.now.places.now part.now s.start
+        × SymbolNames symbols.now.bytes.now symbols.now.places.now names.now.bytes.now names.now.places.now names.now.lengths.now
+        × Entries (length symbols.now.places.now) room chains.old out.old made }
+    ensures { Adds (add_symbols (image_of symbols.now.bytes.now symbols.now.places.now names.now.bytes.now names.now.places.now names.now.lengths.now) unit place s (symbols_in out.old made) part.now) room chains.new out.new result }
 {
     let mut k = made;
     for i in 0..part.len() {
         k = add_symbol(
             symbols,
-            symbol_places,
-            name_bytes,
-            name_places,
-            name_lengths,
+            names,
             s,
             unit,
             place,
@@ -143,21 +134,13 @@ pub fn add_symbols(
 
 // The relocations of a piece that starts at `start`, whose numbers are `part`, behind the first `made`: "Relocation offsets in a piece are rounded down to
 // fours."
-pub fn add_relocs(
-    relocs: &[u8],
-    reloc_places: &[u32],
-    part: &[u16],
-    start: u32,
-    place: u16,
-    made: usize,
-    out: &mut [u8],
-)
-    requires { Above relocs.now reloc_places.now part.now start × (8 * (made + length part.now) ≤ length out.old) }
-    ensures { relocs_in out.new (made + length part.now) ≡ add_relocs (reloc_of relocs.now reloc_places.now) place start (relocs_in out.old made) part.now }
+pub fn add_relocs(relocs: &Table, part: &[u16], start: u32, place: u16, made: usize, out: &mut [u8])
+    requires { Above relocs.now.bytes.now relocs.now.places.now part.now start × (8 * (made + length part.now) ≤ length out.old) }
+    ensures { relocs_in out.new (made + length part.now) ≡ add_relocs (reloc_of relocs.now.bytes.now relocs.now.places.now) place start (relocs_in out.old made) part.now }
 {
     for i in 0..part.len() {
         let k = number(part, i);
-        let r = reloc_at(relocs, reloc_places, k);
+        let r = reloc_at(relocs, k);
         add_piece_reloc(
             out,
             made + i,

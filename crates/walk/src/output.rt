@@ -2,7 +2,7 @@
 ghost use Rattle.std.specs.Prelude.{◌≡◌, true, cond, not, ◌&&◌, ◌||◌, eqb, ltb, ◌%◌, ◌≤◌, ◌<◌, length};
 ghost use Rattle.symbol_order.specs.Order.{symbol_of, Order};
 ghost use Rattle.symbols.specs.Ranges.{has_symbols};
-ghost use Rattle.sections.specs.Image.{image_of, Tables};
+ghost use Rattle.sections.specs.Image.{image_in, TablesIn};
 ghost use Rattle.sections.specs.Sections.{head_of};
 ghost use Rattle.relocs.specs.Relocs.{reloc_of};
 ghost use Rattle.splits.specs.Questions.{is_common};
@@ -11,10 +11,11 @@ ghost use Rattle.walk.specs.Giving.{counts_in, Beside, PieceSide, PieceGives, pi
 
 use crate::entries::{add_relocs, add_symbols};
 use crate::{Counts, refuse_at};
-use obj::{Refusal, Section, Split, section_at};
+use obj::{Refusal, Section, Split, Table, section_at};
 use piece_columns::{count_of, push_piece};
 use pieces::Piece;
 use relocs::range;
+use sections::Obj;
 use symbols::{for_section_through, has_symbols};
 
 // "rename 2 (0xFFFF none)"
@@ -46,21 +47,14 @@ fn piece_of(head: Section, n: u16, unit: u16, number: u16, alignment: u32, s: Sp
 }
 
 // "11 start above end, asked of a section that has such records; or a piece of negative length"; `part` are the section's relocations.
-fn is_backwards(
-    symbols: &[u8],
-    symbol_places: &[u32],
-    order: &[u16],
-    part: &[u16],
-    n: usize,
-    s: Split,
-) -> bool
-    requires { Order symbols.now symbol_places.now order.now × (n < 65535) }
-    ensures { result ≡ (ltb s.end s.start && ((not (eqb (length part.now) 0) || has_symbols (symbol_of symbols.now symbol_places.now) (length symbol_places.now) n) || not (is_common s))) }
+fn is_backwards(symbols: &Table, order: &[u16], part: &[u16], n: usize, s: Split) -> bool
+    requires { Order symbols.now.bytes.now symbols.now.places.now order.now × (n < 65535) }
+    ensures { result ≡ (ltb s.end s.start && ((not (eqb (length part.now) 0) || has_symbols (symbol_of symbols.now.bytes.now symbols.now.places.now) (length symbols.now.places.now) n) || not (is_common s))) }
 {
     if s.start <= s.end {
         return false;
     }
-    ((part.len() != 0) | has_symbols(symbols, symbol_places, order, n as u16)) | (s.flags % 2 != 1)
+    ((part.len() != 0) | has_symbols(symbols, order, n as u16)) | (s.flags % 2 != 1)
 }
 
 // The relocations and the piece of a split that is not common, if there is room; `part` are the section's relocations.
@@ -68,10 +62,8 @@ fn give_piece(
     counts: &mut [u16],
     pieces: &mut [u8],
     offsets: &mut [u8],
-    heads: &[u8],
-    head_places: &[u32],
-    relocs: &[u8],
-    reloc_places: &[u32],
+    heads: &Table,
+    relocs: &Table,
     part: &[u16],
     n: usize,
     s: Split,
@@ -81,30 +73,22 @@ fn give_piece(
     made: Counts,
 ) -> Option<Counts>
     requires { PieceSide room made counts.old pieces.old offsets.old
-        × SectionRelocs relocs.now reloc_places.now part.now n
-        × Sided heads.now head_places.now n s
+        × SectionRelocs relocs.now.bytes.now relocs.now.places.now part.now n
+        × Sided heads.now.bytes.now heads.now.places.now n s
         × (unit < length counts.old) × (unit < 65536) × (s.start ≤ s.end) }
     ensures { PieceGives
-        (pieces_with (head_of heads.now head_places.now n) n unit alignment s pieces.old made)
-        (relocs_with (reloc_of relocs.now reloc_places.now) (length reloc_places.now) n s offsets.old made)
+        (pieces_with (head_of heads.now.bytes.now heads.now.places.now n) n unit alignment s pieces.old made)
+        (relocs_with (reloc_of relocs.now.bytes.now relocs.now.places.now) (length relocs.now.places.now) n s offsets.old made)
         room made counts.new pieces.new offsets.new result }
 {
-    let inside = range(relocs, reloc_places, part, s.start, s.end);
+    let inside = range(relocs, part, s.start, s.end);
     let most = made.relocs + inside.len();
     if (room.relocs < most) | (room.pieces <= made.pieces) {
         return None;
     }
     let place = made.pieces as u16;
-    add_relocs(
-        relocs,
-        reloc_places,
-        inside,
-        s.start,
-        place,
-        made.relocs,
-        offsets,
-    );
-    let head = section_at(heads, head_places, n);
+    add_relocs(relocs, inside, s.start, place, made.relocs, offsets);
+    let head = section_at(heads, n);
     let number = count_of(counts, pieces, made.pieces, unit);
     let p = piece_of(head, n as u16, unit as u16, number, alignment, s);
     push_piece(counts, pieces, made.pieces, p);
@@ -121,16 +105,8 @@ pub fn give(
     pieces: &mut [u8],
     entries: &mut [u8],
     offsets: &mut [u8],
-    symbols: &[u8],
-    symbol_places: &[u32],
-    order: &[u16],
-    name_bytes: &[u8],
-    name_places: &[u32],
-    name_lengths: &[u8],
-    heads: &[u8],
-    head_places: &[u32],
-    relocs: &[u8],
-    reloc_places: &[u32],
+    obj: &Obj,
+    relocs: &Table,
     part: &[u16],
     n: usize,
     s: Split,
@@ -139,31 +115,35 @@ pub fn give(
     room: Counts,
     made: Counts,
 ) -> Result<Counts, Refusal>
-    requires { Beside (length symbol_places.now) room made scratch.old pieces.old entries.old offsets.old
-        × Tables symbols.now symbol_places.now order.now name_bytes.now name_places.now name_lengths.now
-        × SectionRelocs relocs.now reloc_places.now part.now n
-        × Sided heads.now head_places.now n s
+    requires { Beside (length obj.now.symbols.places.now) room made scratch.old pieces.old entries.old offsets.old
+        × TablesIn obj.now
+        × SectionRelocs relocs.now.bytes.now relocs.now.places.now part.now n
+        × Sided obj.now.heads.bytes.now obj.now.heads.places.now n s
         × (unit < length (counts_in scratch.old)) × (unit < 65536) × (fits alignment s.start ≡ true) }
     ensures { GivesOut
-        (image_of symbols.now symbol_places.now name_bytes.now name_places.now name_lengths.now)
-        (head_of heads.now head_places.now)
-        (reloc_of relocs.now reloc_places.now)
-        (length reloc_places.now)
+        (image_in obj.now)
+        (head_of obj.now.heads.bytes.now obj.now.heads.places.now)
+        (reloc_of relocs.now.bytes.now relocs.now.places.now)
+        (length relocs.now.places.now)
         n unit alignment s room made
         pieces.old entries.old offsets.old
         scratch.new pieces.new entries.new offsets.new
         result }
 {
-    if is_backwards(symbols, symbol_places, order, part, n, s) {
+    if is_backwards(&obj.symbols, obj.order, part, n, s) {
         return refuse_at(11, n, s.start);
     }
-    let inside = for_section_through(symbols, symbol_places, order, n as u16, s.start, s.end);
+    let inside = for_section_through(
+        obj.symbols.bytes,
+        obj.symbols.places,
+        obj.order,
+        n as u16,
+        s.start,
+        s.end,
+    );
     let added = add_symbols(
-        symbols,
-        symbol_places,
-        name_bytes,
-        name_places,
-        name_lengths,
+        &obj.symbols,
+        &obj.names,
         inside,
         s,
         unit as u16,
@@ -188,10 +168,8 @@ pub fn give(
         &mut scratch[8192..],
         pieces,
         offsets,
-        heads,
-        head_places,
+        &obj.heads,
         relocs,
-        reloc_places,
         part,
         n,
         s,

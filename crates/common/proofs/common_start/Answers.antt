@@ -1,7 +1,7 @@
 -- `common::common_start` meets its contract: the given start, or that of the first common row. Assumes nothing.
 use mathlib.Core.Path.{ap, ◌∙◌}
 use Rattle.lists.specs.Outcome.{accepted}
-use Rattle.splits.specs.Columns.{columns, rows}
+use Rattle.splits.specs.Columns.{rows, columns_of}
 use Rattle.common.specs.declared.Bss.{Bss}
 use Rattle.common.specs.Common.{common_start, start_meaning}
 use Rattle.common.specs.Sections.{bss_in, first_of, given_of}
@@ -12,13 +12,13 @@ pub returns-in-Some : goal.returns-in-Some
 unfolding common_start
 returns-in-Some c =
     let a = c.args in
-    rw c.in-Some.is (ap start_meaning c.given_start.ensures ∙ ap (λ (b : Bss). start_meaning (given_of c.in-Some.start b)) c.by_name-bss.ensures ∙ given_is c.in-Some.start (bss_in a.name_bytes.now a.name_places.now a.name_lengths.now a.heads.now a.places.now))
+    rw c.in-Some.is (ap start_meaning c.given_start.ensures ∙ ap (λ (b : Bss). start_meaning (given_of c.in-Some.start b)) c.by_name-bss.ensures ∙ given_is c.in-Some.start (bss_in a.names.now.bytes.now a.names.now.places.now a.names.now.lengths.now a.heads.now.bytes.now a.heads.now.places.now))
 
 pub returns-in-None : goal.returns-in-None
 unfolding common_start
 returns-in-None c =
     let a = c.args in
-    let l = rows (columns a.starts.now a.ends.now a.units.now a.rest.now) a.n in
+    let l = rows (columns_of a.splits.now) a.n in
     rw c.in-None.is
     (ap accepted
-    (c.common_bss_start.ensures ∙ ap (λ (b : Bss). first_of b l) c.by_name-bss.ensures ∙ first_is (bss_in a.name_bytes.now a.name_places.now a.name_lengths.now a.heads.now a.places.now) l))
+    (c.common_bss_start.ensures ∙ ap (λ (b : Bss). first_of b l) c.by_name-bss.ensures ∙ first_is (bss_in a.names.now.bytes.now a.names.now.places.now a.names.now.lengths.now a.heads.now.bytes.now a.heads.now.places.now) l))

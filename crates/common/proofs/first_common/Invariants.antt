@@ -2,11 +2,11 @@
 use mathlib.Core.Path.{◌≡◌}
 use Prim.Native.Nat.{◌-◌}
 use Rattle.lists.specs.Rows.{tabulate, keep_if}
-use Rattle.splits.specs.Columns.{columns, row_at}
+use Rattle.splits.specs.Columns.{row_at, columns_of}
 use Rattle.common.specs.Common.{common_in}
 use Rattle.common.proofs.first_common.Given as goal
 
 abbrev pub invariant-loop-i : goal.invariant-loop-i
 invariant-loop-i l =
-    keep_if (common_in l.section) (tabulate (row_at (columns l.starts l.ends l.units l.rest)) 0 (l.n - 0))
-    ≡ keep_if (common_in l.section) (tabulate (row_at (columns l.starts l.ends l.units l.rest)) l.i (l.n - l.i))
+    keep_if (common_in l.section) (tabulate (row_at (columns_of l.splits)) 0 (l.n - 0))
+    ≡ keep_if (common_in l.section) (tabulate (row_at (columns_of l.splits)) l.i (l.n - l.i))

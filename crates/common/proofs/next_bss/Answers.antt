@@ -10,19 +10,19 @@ pub returns-then-is_bss_at : goal.returns-then-is_bss_at
 returns-then-is_bss_at c =
     let l = c.loop-k in
     let a = c.args in
-    let p = bss_at a.name_bytes.now a.name_places.now a.name_lengths.now a.heads.now a.places.now in
-    first_hit p (λ j. j) (length a.places.now) a.from l.k c.loop-k-test.true (l.invariant ∙ filter_hit p (λ j. j) (length a.places.now) l.k c.loop-k-test.true (sym c.is_bss_at.ensures ∙ c.if-is_bss_at.true))
+    let p = bss_at a.names.now.bytes.now a.names.now.places.now a.names.now.lengths.now a.heads.now.bytes.now a.heads.now.places.now in
+    first_hit p (λ j. j) (length a.heads.now.places.now) a.from l.k c.loop-k-test.true (l.invariant ∙ filter_hit p (λ j. j) (length a.heads.now.places.now) l.k c.loop-k-test.true (sym c.is_bss_at.ensures ∙ c.if-is_bss_at.true))
 
 pub loop-k-preserved : goal.loop-k-preserved
 loop-k-preserved c =
     let l = c.loop-k in
     let a = c.args in
-    let p = bss_at a.name_bytes.now a.name_places.now a.name_lengths.now a.heads.now a.places.now in
-    l.invariant ∙ filter_miss p (λ j. j) (length a.places.now) l.k c.loop-k-test.true (sym c.is_bss_at.ensures ∙ c.if-is_bss_at.false)
+    let p = bss_at a.names.now.bytes.now a.names.now.places.now a.names.now.lengths.now a.heads.now.bytes.now a.heads.now.places.now in
+    l.invariant ∙ filter_miss p (λ j. j) (length a.heads.now.places.now) l.k c.loop-k-test.true (sym c.is_bss_at.ensures ∙ c.if-is_bss_at.false)
 
 pub returns : goal.returns
 returns c =
     let l = c.loop-k in
     let a = c.args in
-    let p = bss_at a.name_bytes.now a.name_places.now a.name_lengths.now a.heads.now a.places.now in
-    first_none p (λ j. j) (length a.places.now) a.from (l.invariant ∙ filter_none p (λ j. j) (length a.places.now) l.k c.loop-k-test.false)
+    let p = bss_at a.names.now.bytes.now a.names.now.places.now a.names.now.lengths.now a.heads.now.bytes.now a.heads.now.places.now in
+    first_none p (λ j. j) (length a.heads.now.places.now) a.from (l.invariant ∙ filter_none p (λ j. j) (length a.heads.now.places.now) l.k c.loop-k-test.false)

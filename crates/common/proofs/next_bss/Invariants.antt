@@ -8,5 +8,5 @@ use Rattle.common.proofs.next_bss.Given as goal
 
 abbrev pub invariant-loop-k : goal.invariant-loop-k
 invariant-loop-k l =
-    keep_if (bss_at l.name_bytes l.name_places l.name_lengths l.heads l.places) (tabulate (λ j. j) l.from (length l.places - l.from))
-    ≡ keep_if (bss_at l.name_bytes l.name_places l.name_lengths l.heads l.places) (tabulate (λ j. j) l.k (length l.places - l.k))
+    keep_if (bss_at l.names.bytes.now l.names.places.now l.names.lengths.now l.heads.bytes.now l.heads.places.now) (tabulate (λ j. j) l.from (length l.heads.places.now - l.from))
+    ≡ keep_if (bss_at l.names.bytes.now l.names.places.now l.names.lengths.now l.heads.bytes.now l.heads.places.now) (tabulate (λ j. j) l.k (length l.heads.places.now - l.k))

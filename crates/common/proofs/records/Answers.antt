@@ -4,7 +4,7 @@ use mathlib.Core.Path.{refl, ◌∙◌}
 use lib.ListN.{length-set, length-replicate}
 use Rattle.lists.proofs.Rows.{fill_turn, fill_done}
 use Rattle.obj.specs.declared.Split.{Split}
-use Rattle.splits.specs.Columns.{columns, row_at}
+use Rattle.splits.specs.Columns.{row_at, columns_of}
 use Rattle.common.specs.Records.{no_split}
 use Rattle.common.proofs.records.Goals as goal
 
@@ -16,11 +16,11 @@ loop-i-preserved c =
     let l = c.loop-i in
     let a = c.args in (
       length-set l.table l.i c.row.result ∙ l.invariant.0,
-      fill_turn (row_at (columns a.starts.now a.ends.now a.units.now a.rest.now)) a.n l.i l.table c.row.result c.loop-i-test.true (let q = l.invariant.0 in omega arith) c.row.ensures l.invariant.1,
+      fill_turn (row_at (columns_of a.splits.now)) a.n l.i l.table c.row.result c.loop-i-test.true (let q = l.invariant.0 in omega arith) c.row.ensures l.invariant.1,
     )
 
 pub returns : goal.returns
 returns c =
     let l = c.loop-i in
     let a = c.args in
-    fill_done (row_at (columns a.starts.now a.ends.now a.units.now a.rest.now)) a.n l.i l.table (omega arith) l.invariant.1
+    fill_done (row_at (columns_of a.splits.now)) a.n l.i l.table (omega arith) l.invariant.1

@@ -3,7 +3,7 @@ use Rattle.std.proofs.Common.{◌∙◌, length, zero-le}
 use Rattle.std.proofs.lemmas.Result.{err_from_is_err_and}
 use Rattle.names.specs.Names.{names_of}
 use Rattle.tables.specs.Records.{sections_in}
-use Rattle.sections.specs.Image.{image_of}
+use Rattle.sections.specs.Image.{image_in}
 use Rattle.sections.specs.Sections.{sections_of}
 use Rattle.splits.specs.Columns.{columns}
 use Rattle.splits.proofs.Rows.{same, long_same}
@@ -24,14 +24,14 @@ pub enter_gaps-requires : goal.enter_gaps-requires
 enter_gaps-requires c =
     let a = c.args in
     let q = c.requires in
-    let g = image_of a.symbols.now a.symbol_places.now a.name_bytes.now a.name_places.now a.name_lengths.now in
-    let sections = sections_of a.heads.now a.head_places.now a.image.now a.image_places.now in
+    let g = image_in a.obj.now in
+    let sections = sections_of a.obj.now.heads.bytes.now a.obj.now.heads.places.now a.image.now.bytes.now a.image.now.places.now in
     let t = columns a.starts.now a.ends.now a.units.now a.rest.now in
     let o = c.find_gaps in (
       q.3,
       q.4,
-      all_held a.heads.now a.head_places.now a.image.now a.image_places.now a.name_places.now q.1,
-      named_tables a.heads.now a.head_places.now a.image.now a.image_places.now a.name_places.now q.1 a.symbols.now a.symbol_places.now a.order.now a.name_bytes.now a.name_lengths.now a.buckets.now a.chain.now q.0 q.8 q.9,
+      all_held a.obj.now.heads.bytes.now a.obj.now.heads.places.now a.image.now.bytes.now a.image.now.places.now a.obj.now.names.places.now q.1,
+      named_tables a.obj.now.heads.bytes.now a.obj.now.heads.places.now a.image.now.bytes.now a.image.now.places.now a.obj.now.names.places.now q.1 a.obj.now.symbols.bytes.now a.obj.now.symbols.places.now a.obj.now.order.now a.obj.now.names.bytes.now a.obj.now.names.lengths.now a.index.now.heads.now a.index.now.chain.now q.0 q.8 q.9,
       q.10,
       found_gaps_lem g sections t a.n a.keys.now a.gap_ends.now o.new.keys o.new.gap_ends _ q.2 q.7 o.auto.keys o.auto.gap_ends o.ensures.0 c.in_ok-count.was,
     )
@@ -40,14 +40,14 @@ pub returns-in_err-count : goal.returns-in_err-count
 returns-in_err-count c =
     let a = c.args in
     let q = c.requires in
-    let g = image_of a.symbols.now a.symbol_places.now a.name_bytes.now a.name_places.now a.name_lengths.now in
-    let sections = sections_of a.heads.now a.head_places.now a.image.now a.image_places.now in
-    let names = names_of a.name_bytes.now a.name_places.now a.name_lengths.now (length a.name_places.now) in
+    let g = image_in a.obj.now in
+    let sections = sections_of a.obj.now.heads.bytes.now a.obj.now.heads.places.now a.image.now.bytes.now a.image.now.places.now in
+    let names = names_of a.obj.now.names.bytes.now a.obj.now.names.places.now a.obj.now.names.lengths.now (length a.obj.now.names.places.now) in
     let t = columns a.starts.now a.ends.now a.units.now a.rest.now in
     let o = c.find_gaps in
     let p = err_from_is_err_and c.from_residual.result c.from_residual.ensures.1 in
     rw (p.1, p.2) (
-      filled_refused g sections t a.n (given (sections_in a.heads.now a.head_places.now) a.cap) (ceilings names a.most a.most_bytes) names o.new.keys o.new.gap_ends _ o.ensures.0 c.in_err-count.was,
+      filled_refused g sections t a.n (given (sections_in a.obj.now.heads.bytes.now a.obj.now.heads.places.now) a.cap) (ceilings names a.most a.most_bytes) names o.new.keys o.new.gap_ends _ o.ensures.0 c.in_err-count.was,
       stand_none (beside a.added_bytes.now a.added_places.now a.added_lengths.now) a.most a.most_bytes q.10,
       zero-le,
     )
@@ -55,10 +55,10 @@ returns-in_err-count c =
 pub returns : goal.returns
 returns c =
     let a = c.args in
-    let g = image_of a.symbols.now a.symbol_places.now a.name_bytes.now a.name_places.now a.name_lengths.now in
-    let sections = sections_of a.heads.now a.head_places.now a.image.now a.image_places.now in
-    let names = names_of a.name_bytes.now a.name_places.now a.name_lengths.now (length a.name_places.now) in
+    let g = image_in a.obj.now in
+    let sections = sections_of a.obj.now.heads.bytes.now a.obj.now.heads.places.now a.image.now.bytes.now a.image.now.places.now in
+    let names = names_of a.obj.now.names.bytes.now a.obj.now.names.places.now a.obj.now.names.lengths.now (length a.obj.now.names.places.now) in
     let t = columns a.starts.now a.ends.now a.units.now a.rest.now in
     let o = c.find_gaps in
     let e = c.enter_gaps.ensures in
-    (e.0 ∙ filled_found g sections t a.n (given (sections_in a.heads.now a.head_places.now) a.cap) (ceilings names a.most a.most_bytes) names o.new.keys o.new.gap_ends _ o.ensures.0 c.in_ok-count.was, e.1, e.2)
+    (e.0 ∙ filled_found g sections t a.n (given (sections_in a.obj.now.heads.bytes.now a.obj.now.heads.places.now) a.cap) (ceilings names a.most a.most_bytes) names o.new.keys o.new.gap_ends _ o.ensures.0 c.in_ok-count.was, e.1, e.2)

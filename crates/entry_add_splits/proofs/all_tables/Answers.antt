@@ -36,16 +36,16 @@ returns-in_err-take_sections c =
 pub slice_bounds-from_splits-end : goal.slice_bounds-from_splits-end
 slice_bounds-from_splits-end c =
     let t = c.take_sections in
-    let n = taken_few 15 _ c.args.sections.now _ _ t.ensures (ap meaning c.in_ok-take_sections.was) in
+    let n = taken_few 15 _ c.args.lent.now.sections.now _ _ t.ensures (ap meaning c.in_ok-take_sections.was) in
     omega (arith, n, t.auto.places, c.check_names.auto.places, c.requires.places_long)
 
 pub slice_bounds-from_splits-end-2 : goal.slice_bounds-from_splits-end-2
 slice_bounds-from_splits-end-2 c =
-    sym (taken-count 15 _ c.args.sections.now _ _ c.take_sections.ensures (ap meaning c.in_ok-take_sections.was))
+    sym (taken-count 15 _ c.args.lent.now.sections.now _ _ c.take_sections.ensures (ap meaning c.in_ok-take_sections.was))
 
 pub from_splits-requires : goal.from_splits-requires
 from_splits-requires c =
-    taken-held 15 _ c.args.sections.now _ _ c.take_sections.ensures (ap meaning c.in_ok-take_sections.was) (omega arith)
+    taken-held 15 _ c.args.lent.now.sections.now _ _ c.take_sections.ensures (ap meaning c.in_ok-take_sections.was) (omega arith)
 
 pub returns : goal.returns
 unfolding add_splits_of from_sections from_splits
@@ -58,4 +58,4 @@ returns c =
     gives_goes told
     (gives_as (lengths_as _ _ _ _ (s.stored told).sizes)
     (gives_goes (sym t.ensures.said ∙ too)
-    (gives_as (heads_as _ a.sections.now _ _ _ (taken_places 15 _ a.sections.now _ _ t.ensures too)) c.from_splits.ensures)))
+    (gives_as (heads_as _ a.lent.now.sections.now _ _ _ (taken_places 15 _ a.lent.now.sections.now _ _ t.ensures too)) c.from_splits.ensures)))

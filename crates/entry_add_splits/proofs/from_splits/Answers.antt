@@ -26,7 +26,7 @@ returns-in_err-n c =
     let w = c.with_columns in
     let p = err_from_is_err_and c.from_residual.result c.from_residual.ensures.1 in
     rw (p.1, p.2)
-    (gives_as (ap (from_splits a.lengths.now (sections_in a.heads.now a.head_places.now) a.splits.now a.partials.now) c.room_of-room.ensures)
+    (gives_as (ap (from_splits a.lengths.now (sections_in a.heads.now.bytes.now a.heads.now.places.now) a.lent.now.splits.now a.lent.now.partials.now) c.room_of-room.ensures)
     (gives_refused (sym (ap (λ (r : Result ℕ Refusal). merged r (columns w.new.starts w.new.ends w.new.units w.new.rest)) c.in_err-n.was) ∙ w.ensures.0)))
 
 pub give_splits-requires : goal.give_splits-requires
@@ -50,5 +50,5 @@ pub returns : goal.returns
 returns c =
     let a = c.args in
     let w = c.with_columns in
-    gives_as (ap (from_splits a.lengths.now (sections_in a.heads.now a.head_places.now) a.splits.now a.partials.now) c.room_of-room.ensures)
+    gives_as (ap (from_splits a.lengths.now (sections_in a.heads.now.bytes.now a.heads.now.places.now) a.lent.now.splits.now a.lent.now.partials.now) c.room_of-room.ensures)
     (gives_laid (sym (ap (λ (r : Result ℕ Refusal). merged r (columns w.new.starts w.new.ends w.new.units w.new.rest)) c.in_ok-n.was) ∙ w.ensures.0) c.give_splits.ensures)

@@ -40,12 +40,12 @@ returns-in_err-take_partials c =
 pub slice_bounds-add_splits-end : goal.slice_bounds-add_splits-end
 slice_bounds-add_splits-end c =
     let u = c.take_partials in
-    let n = taken_few partial_width _ c.args.partials.now _ _ u.ensures (ap meaning c.in_ok-take_partials.was) in
+    let n = taken_few partial_width _ c.args.lent.now.partials.now _ _ u.ensures (ap meaning c.in_ok-take_partials.was) in
     omega (arith, n, u.auto.places, c.take_split_columns.auto.places, c.requires.1.places_long)
 
 pub slice_bounds-add_splits-end-2 : goal.slice_bounds-add_splits-end-2
 slice_bounds-add_splits-end-2 c =
-    sym (taken-count partial_width _ c.args.partials.now _ _ c.take_partials.ensures (ap meaning c.in_ok-take_partials.was))
+    sym (taken-count partial_width _ c.args.lent.now.partials.now _ _ c.take_partials.ensures (ap meaning c.in_ok-take_partials.was))
 
 pub add_splits-requires : goal.add_splits-requires
 add_splits-requires c =
@@ -59,9 +59,9 @@ add_splits-requires c =
         units = omega (arith, h, t.auto.units, q.units_long);
         rest = omega (arith, h, t.auto.rest, q.rest_long);
       },
-      (table_passed split_width _ s.args.splits.now _ (sym t.ensures.said ∙ ap meaning c.in_ok-take_split_columns.was)).1,
+      (table_passed split_width _ s.args.lent.now.splits.now _ (sym t.ensures.said ∙ ap meaning c.in_ok-take_split_columns.was)).1,
       s.requires.0,
-      partials_mergeable _ _ s.args.partials.now _ (omega arith) (ap meaning c.in_ok-take_partials.was) c.take_partials.ensures,
+      partials_mergeable _ _ s.args.lent.now.partials.now _ (omega arith) (ap meaning c.in_ok-take_partials.was) c.take_partials.ensures,
     )
 
 pub returns : goal.returns
@@ -74,8 +74,8 @@ returns c =
     let told = ap meaning c.in_ok-take_split_columns.was in
     let told-too = ap meaning c.in_ok-take_partials.was in (
       o.ensures.0
-          ∙ merged_as (sections_in a.heads.now a.head_places.now) a.room (columns t.new.starts t.new.ends t.new.units t.new.rest) (length a.splits.now / split_width) (stage_splits a.splits.now) a.partials.now
-          (t.ensures.taken (sym t.ensures.said ∙ told)) (taken_places partial_width _ a.partials.now _ _ u.ensures told-too)
+          ∙ merged_as (sections_in a.heads.now.bytes.now a.heads.now.places.now) a.room (columns t.new.starts t.new.ends t.new.units t.new.rest) (length a.lent.now.splits.now / split_width) (stage_splits a.lent.now.splits.now) a.lent.now.partials.now
+          (t.ensures.taken (sym t.ensures.said ∙ told)) (taken_places partial_width _ a.lent.now.partials.now _ _ u.ensures told-too)
           ∙ then_goes u.ensures.said _ told-too
           ∙ then_goes t.ensures.said _ told,
       o.ensures.1,

@@ -13,7 +13,7 @@ pub returns-in_err-check_names : goal.returns-in_err-check_names
 unfolding tables_of
 returns-in_err-check_names c =
     let a = c.args in
-    let said = c.check_names.ensures.said ∙ ap (λ (m : Ceilings). names_check m.names a.ends.now a.bytes.now) c.main_ceilings-most.ensures in
+    let said = c.check_names.ensures.said ∙ ap (λ (m : Ceilings). names_check m.names a.lent.now.name_ends.now a.lent.now.name_bytes.now) c.main_ceilings-most.ensures in
     rw (same_err c.from_residual.result c.check_names.result c.from_residual.ensures.1 c.in_err-check_names.was)
     (then_stops said _ (ap meaning c.in_err-check_names.was))
 
@@ -24,7 +24,7 @@ returns c =
     let e = ap meaning c.in_ok-check_names.was in
     let s = c.check_names.ensures in
     let k = s.stored (sym s.said ∙ e) in
-    let said = s.said ∙ ap (λ (m : Ceilings). names_check m.names a.ends.now a.bytes.now) c.main_ceilings-most.ensures in
+    let said = s.said ∙ ap (λ (m : Ceilings). names_check m.names a.lent.now.name_ends.now a.lent.now.name_bytes.now) c.main_ceilings-most.ensures in
     c.named_tables.ensures
     ∙ lengths_as _ _ _ _ _ _ _ _ (length-take-le _ _ k.named.measured) k.sizes
     ∙ then_goes said _ e

@@ -19,21 +19,21 @@ returns-in_err-take_image c =
 pub slice_bounds-from_symbols-end : goal.slice_bounds-from_symbols-end
 slice_bounds-from_symbols-end c =
     let t = c.take_image in
-    let n = taken_few 15 _ c.args.sections.now _ _ t.ensures (ap meaning c.in_ok-take_image.was) in
+    let n = taken_few 15 _ c.args.lent.now.sections.now _ _ t.ensures (ap meaning c.in_ok-take_image.was) in
     omega (arith, (few c.main_ceilings-most.ensures).of_sections, t.auto.places, c.requires.heads_long)
 
 pub slice_bounds-from_symbols-end-2 : goal.slice_bounds-from_symbols-end-2
-slice_bounds-from_symbols-end-2 c = sym (taken-count 15 _ c.args.sections.now _ _ c.take_image.ensures (ap meaning c.in_ok-take_image.was))
+slice_bounds-from_symbols-end-2 c = sym (taken-count 15 _ c.args.lent.now.sections.now _ _ c.take_image.ensures (ap meaning c.in_ok-take_image.was))
 
 pub from_symbols-requires : goal.from_symbols-requires
 from_symbols-requires c =
     let t = c.take_image in
     let f = few c.main_ceilings-most.ensures in
     let e = ap meaning c.in_ok-take_image.was in
-    let n = taken_few 15 _ c.args.sections.now _ _ t.ensures e in (
-      taken-held 15 _ c.args.sections.now _ _ t.ensures e (omega (arith, f.of_sections)),
+    let n = taken_few 15 _ c.args.lent.now.sections.now _ _ t.ensures e in (
+      taken-held 15 _ c.args.lent.now.sections.now _ _ t.ensures e (omega (arith, f.of_sections)),
       c.requires.places_long,
-      rw (taken-count 15 _ c.args.sections.now _ _ t.ensures e) (omega (arith, f.of_sections, c.requires.floors_long)),
+      rw (taken-count 15 _ c.args.lent.now.sections.now _ _ t.ensures e) (omega (arith, f.of_sections, c.requires.floors_long)),
     )
 
 pub returns : goal.returns
@@ -43,5 +43,5 @@ returns c =
     let e = ap meaning c.in_ok-take_image.was in
     let said = below _ _ _ _ _ t.ensures.said (ap (λ (m : Ceilings). m.sections) c.main_ceilings-most.ensures) in
     c.from_symbols.ensures
-    ∙ heads_as _ _ c.args.sections.now _ _ _ _ (taken_places 15 _ c.args.sections.now _ _ t.ensures e)
+    ∙ heads_as _ _ c.args.lent.now.sections.now _ _ _ _ (taken_places 15 _ c.args.lent.now.sections.now _ _ t.ensures e)
     ∙ then_goes said _ e

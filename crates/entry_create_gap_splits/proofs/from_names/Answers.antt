@@ -18,14 +18,14 @@ pub returns-in_err-fit_names : goal.returns-in_err-fit_names
 unfolding gap_splits_of
 returns-in_err-fit_names c =
     rw (same_err c.from_residual.result c.fit_names.result c.from_residual.ensures.1 c.in_err-fit_names.was)
-    (gives_stops _ (c.fit_names.ensures ∙ ap₂ (λ (m b : ℕ). fit_check m b c.args.name_ends.now) c.names_room-most.ensures c.bytes_room-most_bytes.ensures) (ap meaning c.in_err-fit_names.was))
+    (gives_stops _ (c.fit_names.ensures ∙ ap₂ (λ (m b : ℕ). fit_check m b c.args.lent.now.name_ends.now) c.names_room-most.ensures c.bytes_room-most_bytes.ensures) (ap meaning c.in_err-fit_names.was))
 
 pub returns-in_err-check_names : goal.returns-in_err-check_names
 unfolding gap_splits_of
 returns-in_err-check_names c =
     rw (same_err c.from_residual-in_err-check_names.result c.check_names.result c.from_residual-in_err-check_names.ensures.1 c.in_err-check_names.was)
     (gives_goes
-    (ap₂ (λ (m b : ℕ). fit_check m b c.args.name_ends.now) (sym c.names_room-most.ensures) (sym c.bytes_room-most_bytes.ensures) ∙ sym c.fit_names.ensures ∙ ap meaning c.in_ok-fit_names.was)
+    (ap₂ (λ (m b : ℕ). fit_check m b c.args.lent.now.name_ends.now) (sym c.names_room-most.ensures) (sym c.bytes_room-most_bytes.ensures) ∙ sym c.fit_names.ensures ∙ ap meaning c.in_ok-fit_names.was)
     (gives_stops _ c.check_names.ensures.said (ap meaning c.in_err-check_names.was)))
 
 pub slice_bounds-with_sections-end : goal.slice_bounds-with_sections-end
@@ -74,9 +74,9 @@ returns c =
     let passed = sym c.check_names.ensures.said ∙ ap meaning c.in_ok-check_names.was in
     let stored = c.check_names.ensures.stored passed in
     gives_goes
-    (ap₂ (λ (m b : ℕ). fit_check m b a.name_ends.now) (sym c.names_room-most.ensures) (sym c.bytes_room-most_bytes.ensures) ∙ fit)
+    (ap₂ (λ (m b : ℕ). fit_check m b a.lent.now.name_ends.now) (sym c.names_room-most.ensures) (sym c.bytes_room-most_bytes.ensures) ∙ fit)
     (gives_goes passed
     (gives_as
     (names_as _ _ _ _ _ _ stored (length a.out_ends.now) (length a.out_bytes.now) _ _ _ c.names_room-most.ensures c.bytes_room-most_bytes.ensures c.last_end-end.ensures fit passed
-    a.sections.now a.section_places.now a.image.now a.symbols.now a.splits.now (length a.out.now))
+    a.lent.now.sections.now a.lent.now.section_places.now a.lent.now.image.now a.lent.now.symbols.now a.lent.now.splits.now (length a.out.now))
     c.with_sections.ensures))

@@ -19,10 +19,10 @@ returns-in_err-take_image c =
     (gives_stops _ c.take_image.ensures.said (ap meaning c.in_err-take_image.was))
 
 pub slice_bounds-with_symbols-end : goal.slice_bounds-with_symbols-end
-slice_bounds-with_symbols-end c = omega (arith, taken_few 15 64 c.args.sections.now _ _ c.take_image.ensures (ap meaning c.in_ok-take_image.was), c.take_image.auto.places, c.requires.2)
+slice_bounds-with_symbols-end c = omega (arith, taken_few 15 64 c.args.lent.now.sections.now _ _ c.take_image.ensures (ap meaning c.in_ok-take_image.was), c.take_image.auto.places, c.requires.2)
 
 pub slice_bounds-with_symbols-end-2 : goal.slice_bounds-with_symbols-end-2
-slice_bounds-with_symbols-end-2 c = sym (taken-count 15 64 c.args.sections.now _ _ c.take_image.ensures (ap meaning c.in_ok-take_image.was))
+slice_bounds-with_symbols-end-2 c = sym (taken-count 15 64 c.args.lent.now.sections.now _ _ c.take_image.ensures (ap meaning c.in_ok-take_image.was))
 
 pub slice_bounds-with_symbols-end-3 : goal.slice_bounds-with_symbols-end-3
 slice_bounds-with_symbols-end-3 c = c.take_image_places-p.ensures.inside
@@ -40,13 +40,13 @@ with_symbols-requires c =
     let passed = sym t.ensures.said ∙ e in (
       q.0,
       record {
-        all = taken-held 15 64 a.sections.now _ _ t.ensures e (omega arith);
+        all = taken-held 15 64 a.lent.now.sections.now _ _ t.ensures e (omega arith);
         kept =
-            sections_kept 64 a.name_lengths.now a.section_places.now a.image.now a.sections.now passed (omega arith) _ _ _ _
-            (taken_places 15 64 a.sections.now _ _ t.ensures e) q.0.paired p.ensures (p.auto.column ∙ q.3);
+            sections_kept 64 a.names.now.lengths.now a.lent.now.section_places.now a.lent.now.image.now a.lent.now.sections.now passed (omega arith) _ _ _ _
+            (taken_places 15 64 a.lent.now.sections.now _ _ t.ensures e) q.0.paired p.ensures (p.auto.column ∙ q.3);
         short =
-            sections_short 64 a.name_lengths.now a.section_places.now a.image.now a.sections.now passed _ a.name_bytes.now a.name_places.now
-            (taken_places 15 64 a.sections.now _ _ t.ensures e);
+            sections_short 64 a.names.now.lengths.now a.lent.now.section_places.now a.lent.now.image.now a.lent.now.sections.now passed _ a.names.now.bytes.now a.names.now.places.now
+            (taken_places 15 64 a.lent.now.sections.now _ _ t.ensures e);
       },
       q.1,
     )
@@ -62,10 +62,10 @@ returns c =
     let passed = sym t.ensures.said ∙ e in
     gives_goes passed
     (gives_as
-    (sections_as a.name_bytes.now a.name_places.now a.name_lengths.now a.sections.now a.image.now _ _ a.section_places.now a.symbols.now a.splits.now
-    (ceilings (names_of a.name_bytes.now a.name_places.now a.name_lengths.now (length a.name_places.now)) a.most a.most_bytes) (length a.out.now)
-    (taken_places 15 64 a.sections.now _ _ t.ensures e)
+    (sections_as a.names.now.bytes.now a.names.now.places.now a.names.now.lengths.now a.lent.now.sections.now a.lent.now.image.now _ _ a.lent.now.section_places.now a.lent.now.symbols.now a.lent.now.splits.now
+    (ceilings (names_of a.names.now.bytes.now a.names.now.places.now a.names.now.lengths.now (length a.names.now.places.now)) a.most a.most_bytes) (length a.out.now)
+    (taken_places 15 64 a.lent.now.sections.now _ _ t.ensures e)
     (λ n h.
-    place_is 64 a.name_lengths.now a.section_places.now a.image.now a.sections.now passed _ _ p.ensures n
-    (omega (arith, h, taken_few 15 64 a.sections.now _ _ t.ensures e, p.auto.column, q.3))))
+    place_is 64 a.names.now.lengths.now a.lent.now.section_places.now a.lent.now.image.now a.lent.now.sections.now passed _ _ p.ensures n
+    (omega (arith, h, taken_few 15 64 a.lent.now.sections.now _ _ t.ensures e, p.auto.column, q.3))))
     c.with_symbols.ensures)

@@ -32,7 +32,7 @@ slice_bounds-with_splits-end c =
     let a = c.args in
     let t = c.take_symbol_order in
     let passed = sym c.take_symbol_order.ensures.said ∙ ap (λ (r : Result ℕ Refusal). meaning (answered r)) c.in_ok-ordered.was in
-    let few = (table_passed 20 4096 a.symbols.now _ passed).1 in
+    let few = (table_passed 20 4096 a.lent.now.symbols.now _ passed).1 in
     omega (arith, few, t.auto.places, c.requires.3.places_long)
 
 pub slice_bounds-with_splits-end-2 : goal.slice_bounds-with_splits-end-2
@@ -40,8 +40,8 @@ slice_bounds-with_splits-end-2 c =
     let a = c.args in
     let t = c.take_symbol_order in
     let passed = sym c.take_symbol_order.ensures.said ∙ ap (λ (r : Result ℕ Refusal). meaning (answered r)) c.in_ok-ordered.was in
-    let few = (table_passed 20 4096 a.symbols.now _ passed).1 in
-    let inside : length a.symbols.now / 20 ≤ length t.new.places = omega (arith, few, t.auto.places, c.requires.3.places_long) in
+    let few = (table_passed 20 4096 a.lent.now.symbols.now _ passed).1 in
+    let inside : length a.lent.now.symbols.now / 20 ≤ length t.new.places = omega (arith, few, t.auto.places, c.requires.3.places_long) in
     sym (length-take-le _ _ inside)
 
 pub slice_bounds-with_splits-end-3 : goal.slice_bounds-with_splits-end-3
@@ -49,7 +49,7 @@ slice_bounds-with_splits-end-3 c =
     let a = c.args in
     let t = c.take_symbol_order in
     let passed = sym c.take_symbol_order.ensures.said ∙ ap (λ (r : Result ℕ Refusal). meaning (answered r)) c.in_ok-ordered.was in
-    let few = (table_passed 20 4096 a.symbols.now _ passed).1 in
+    let few = (table_passed 20 4096 a.lent.now.symbols.now _ passed).1 in
     let is = ap ordered c.in_ok-ordered.was in
     omega (arith, is, t.ensures.small, few, t.auto.order, c.requires.3.order_long)
 
@@ -58,7 +58,7 @@ slice_bounds-with_splits-end-4 c =
     let a = c.args in
     let t = c.take_symbol_order in
     let passed = sym c.take_symbol_order.ensures.said ∙ ap (λ (r : Result ℕ Refusal). meaning (answered r)) c.in_ok-ordered.was in
-    let few = (table_passed 20 4096 a.symbols.now _ passed).1 in
+    let few = (table_passed 20 4096 a.lent.now.symbols.now _ passed).1 in
     let is = ap ordered c.in_ok-ordered.was in
     sym (length-take-le _ _ (omega (arith, is, t.ensures.small, few, t.auto.order, c.requires.3.order_long)))
 
@@ -67,17 +67,17 @@ with_splits-requires c =
     let a = c.args in
     let t = c.take_symbol_order in
     let passed = sym c.take_symbol_order.ensures.said ∙ ap (λ (r : Result ℕ Refusal). meaning (answered r)) c.in_ok-ordered.was in
-    let few = (table_passed 20 4096 a.symbols.now _ passed).1 in
-    let inside : length a.symbols.now / 20 ≤ length t.new.places = omega (arith, few, t.auto.places, c.requires.3.places_long) in
+    let few = (table_passed 20 4096 a.lent.now.symbols.now _ passed).1 in
+    let inside : length a.lent.now.symbols.now / 20 ≤ length t.new.places = omega (arith, few, t.auto.places, c.requires.3.places_long) in
     let q = c.requires in
-    let count = length a.name_lengths.now in
-    let placed : take (length a.symbols.now / 20) t.new.places ≡ stage_places 20 (length a.symbols.now / 20) = t.ensures.placed passed in (
-      tables-taken 4096 count (sections_in a.heads.now a.head_places.now) a.symbols.now passed (omega arith) _ _ _ _ _ (Ok _) (rw c.in_ok-ordered.was at t.ensures) (sym q.0.paired) q.0.named,
-      rw (placed, length-stage_places) (symbols_sound 4096 count (sections_in a.heads.now a.head_places.now) a.symbols.now passed),
+    let count = length a.names.now.lengths.now in
+    let placed : take (length a.lent.now.symbols.now / 20) t.new.places ≡ stage_places 20 (length a.lent.now.symbols.now / 20) = t.ensures.placed passed in (
+      tables-taken 4096 count (sections_in a.heads.now.bytes.now a.heads.now.places.now) a.lent.now.symbols.now passed (omega arith) _ _ _ _ _ (Ok _) (rw c.in_ok-ordered.was at t.ensures) (sym q.0.paired) q.0.named,
+      rw (placed, length-stage_places) (symbols_sound 4096 count (sections_in a.heads.now.bytes.now a.heads.now.places.now) a.lent.now.symbols.now passed),
       q.0,
       q.1,
       q.2,
-      omega (arith, few, length-take-le (length a.symbols.now / 20) t.new.places inside),
+      omega (arith, few, length-take-le (length a.lent.now.symbols.now / 20) t.new.places inside),
     )
 
 pub returns : goal.returns
@@ -86,8 +86,8 @@ returns c =
     let a = c.args in
     let t = c.take_symbol_order in
     let passed = sym c.take_symbol_order.ensures.said ∙ ap (λ (r : Result ℕ Refusal). meaning (answered r)) c.in_ok-ordered.was in
-    let few = (table_passed 20 4096 a.symbols.now _ passed).1 in
-    let names = names_of a.name_bytes.now a.name_places.now a.name_lengths.now (length a.name_places.now) in
+    let few = (table_passed 20 4096 a.lent.now.symbols.now _ passed).1 in
+    let names = names_of a.names.now.bytes.now a.names.now.places.now a.names.now.lengths.now (length a.names.now.places.now) in
     gives_goes passed
-    (gives_as (ap (λ (l : List ℕ). from_splits a.name_lengths.now (sections_in a.heads.now a.head_places.now) (image_of a.symbols.now l a.name_bytes.now a.name_places.now a.name_lengths.now) (sections_of a.heads.now a.head_places.now a.image.now a.image_places.now) (ceilings names a.most a.most_bytes) names a.splits.now (length a.out.now)) (t.ensures.placed passed))
+    (gives_as (ap (λ (l : List ℕ). from_splits a.names.now.lengths.now (sections_in a.heads.now.bytes.now a.heads.now.places.now) (image_of a.lent.now.symbols.now l a.names.now.bytes.now a.names.now.places.now a.names.now.lengths.now) (sections_of a.heads.now.bytes.now a.heads.now.places.now a.image.now.bytes.now a.image.now.places.now) (ceilings names a.most a.most_bytes) names a.lent.now.splits.now (length a.out.now)) (t.ensures.placed passed))
     c.with_splits.ensures)

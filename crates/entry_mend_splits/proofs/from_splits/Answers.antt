@@ -29,7 +29,7 @@ unfolding from_splits
 returns-in_err-take_split_columns c =
     rw (same_err c.from_residual.result c.take_split_columns.result c.from_residual.ensures.1 c.in_err-take_split_columns.was)
     (let a = c.args in
-    gives_as (ap (λ (room : ℕ). from_splits a.lengths.now (sections_in a.heads.now a.head_places.now) a.splits.now room (length a.lines.now)) c.room_of.ensures)
+    gives_as (ap (λ (room : ℕ). from_splits a.lengths.now (sections_in a.heads.now.bytes.now a.heads.now.places.now) a.splits.now room (length a.lines.now)) c.room_of.ensures)
     (gives_stops _ c.take_split_columns.ensures.said (ap meaning c.in_err-take_split_columns.was)))
 
 pub mend_table-r-requires : goal.mend_table-r-requires
@@ -72,6 +72,6 @@ returns c =
     let s = c in
     let a = s.args in
     let told = ap meaning c.in_ok-take_split_columns.was in
-    gives_as (ap (λ (room : ℕ). from_splits a.lengths.now (sections_in a.heads.now a.head_places.now) a.splits.now room (length a.lines.now)) c.room_of.ensures)
-    (mended_gives a.lengths.now (sections_in a.heads.now a.head_places.now) a.splits.now _ (columns t.new.starts t.new.ends t.new.units t.new.rest) (columns t.new.starts w.new.ends t.new.units t.new.rest) _ t.ensures.said told
+    gives_as (ap (λ (room : ℕ). from_splits a.lengths.now (sections_in a.heads.now.bytes.now a.heads.now.places.now) a.splits.now room (length a.lines.now)) c.room_of.ensures)
+    (mended_gives a.lengths.now (sections_in a.heads.now.bytes.now a.heads.now.places.now) a.splits.now _ (columns t.new.starts t.new.ends t.new.units t.new.rest) (columns t.new.starts w.new.ends t.new.units t.new.rest) _ t.ensures.said told
     (omega (arith, c.room_of.ensures, room_fits (length a.out.now))) s.requires.1 (t.ensures.taken (sym t.ensures.said ∙ told)) w.ensures c.give_mended.ensures)

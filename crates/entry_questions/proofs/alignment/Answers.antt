@@ -9,57 +9,57 @@ use Rattle.obj.specs.Answers.{meaning}
 use Rattle.lists.specs.Outcome.{accepted}
 use Rattle.sections.specs.declared.Alignment.{Alignment}
 use Rattle.sections.specs.Alignment.{chosen}
-use Rattle.sections.specs.Image.{image_of}
+use Rattle.sections.specs.Image.{image_in}
 use Rattle.sections.specs.Sections.{head_of}
 use Rattle.entry_questions.specs.Entry.{split_of}
 use Rattle.entry_questions.proofs.Laws.{no_split, alignment_given, alignment_refused}
 use Rattle.entry_questions.proofs.alignment.Goals as goal
 
-pub returns-then-split_places-k : goal.returns-then-split_places-k
-returns-then-split_places-k c =
+pub returns-then-splits-k : goal.returns-then-splits-k
+returns-then-splits-k c =
     let a = c.args in
-    let g = image_of a.symbols.now a.symbol_places.now a.name_bytes.now a.name_places.now a.name_lengths.now in
-    let head = head_of a.heads.now a.head_places.now in
-    let count = length a.split_places.now in
-    let split = split_of a.splits.now a.split_places.now in
-    ap (λ (x : Result ℕ Refusal). meaning x) c.refuse.ensures ∙ sym (no_split g head count split a.which c.if-split_places-k.true)
+    let g = image_in a.obj.now in
+    let head = head_of a.obj.now.heads.bytes.now a.obj.now.heads.places.now in
+    let count = length a.splits.now.places.now in
+    let split = split_of a.splits.now.bytes.now a.splits.now.places.now in
+    ap (λ (x : Result ℕ Refusal). meaning x) c.refuse.ensures ∙ sym (no_split g head count split a.which c.if-splits-k.true)
 
 pub returns-in_default : goal.returns-in_default
 returns-in_default c =
     let a = c.args in
-    let g = image_of a.symbols.now a.symbol_places.now a.name_bytes.now a.name_places.now a.name_lengths.now in
-    let head = head_of a.heads.now a.head_places.now in
-    let count = length a.split_places.now in
-    let split = split_of a.splits.now a.split_places.now in
+    let g = image_in a.obj.now in
+    let head = head_of a.obj.now.heads.bytes.now a.obj.now.heads.places.now in
+    let count = length a.splits.now.places.now in
+    let split = split_of a.splits.now.bytes.now a.splits.now.places.now in
     ap (λ (x : Result ℕ Refusal). meaning x) c.refuse-in_default.ensures
-    ∙ alignment_refused g head count split a.which c.if-split_places-k.false c.split_at-s.ensures c.section_at-head.ensures c.name_at-name.ensures c.default_alignment-least.ensures c.in_default.ensures
+    ∙ alignment_refused g head count split a.which c.if-splits-k.false c.split_at-s.ensures c.section_at-head.ensures c.name_at-name.ensures c.default_alignment-least.ensures c.in_default.ensures
 
 pub returns-in-Given : goal.returns-in-Given
 returns-in-Given c =
     let a = c.args in
-    let g = image_of a.symbols.now a.symbol_places.now a.name_bytes.now a.name_places.now a.name_lengths.now in
-    let head = head_of a.heads.now a.head_places.now in
-    let count = length a.split_places.now in
-    let split = split_of a.splits.now a.split_places.now in
+    let g = image_in a.obj.now in
+    let head = head_of a.obj.now.heads.bytes.now a.obj.now.heads.places.now in
+    let count = length a.splits.now.places.now in
+    let split = split_of a.splits.now.bytes.now a.splits.now.places.now in
     ap (λ (x : Alignment). accepted (chosen x).value) (sym c.in-Given.is)
-    ∙ alignment_given g head count split a.which c.if-split_places-k.false c.split_at-s.ensures c.section_at-head.ensures c.name_at-name.ensures c.default_alignment-least.ensures (chosen c.in-Ok.chosen) c.in-Ok.ensures
+    ∙ alignment_given g head count split a.which c.if-splits-k.false c.split_at-s.ensures c.section_at-head.ensures c.name_at-name.ensures c.default_alignment-least.ensures (chosen c.in-Ok.chosen) c.in-Ok.ensures
 
 pub returns-in-FromSymbol : goal.returns-in-FromSymbol
 returns-in-FromSymbol c =
     let a = c.args in
-    let g = image_of a.symbols.now a.symbol_places.now a.name_bytes.now a.name_places.now a.name_lengths.now in
-    let head = head_of a.heads.now a.head_places.now in
-    let count = length a.split_places.now in
-    let split = split_of a.splits.now a.split_places.now in
+    let g = image_in a.obj.now in
+    let head = head_of a.obj.now.heads.bytes.now a.obj.now.heads.places.now in
+    let count = length a.splits.now.places.now in
+    let split = split_of a.splits.now.bytes.now a.splits.now.places.now in
     ap (λ (x : Alignment). accepted (chosen x).value) (sym c.in-FromSymbol.is)
-    ∙ alignment_given g head count split a.which c.if-split_places-k.false c.split_at-s.ensures c.section_at-head.ensures c.name_at-name.ensures c.default_alignment-least.ensures (chosen c.in-Ok.chosen) c.in-Ok.ensures
+    ∙ alignment_given g head count split a.which c.if-splits-k.false c.split_at-s.ensures c.section_at-head.ensures c.name_at-name.ensures c.default_alignment-least.ensures (chosen c.in-Ok.chosen) c.in-Ok.ensures
 
 pub returns-in-Default : goal.returns-in-Default
 returns-in-Default c =
     let a = c.args in
-    let g = image_of a.symbols.now a.symbol_places.now a.name_bytes.now a.name_places.now a.name_lengths.now in
-    let head = head_of a.heads.now a.head_places.now in
-    let count = length a.split_places.now in
-    let split = split_of a.splits.now a.split_places.now in
+    let g = image_in a.obj.now in
+    let head = head_of a.obj.now.heads.bytes.now a.obj.now.heads.places.now in
+    let count = length a.splits.now.places.now in
+    let split = split_of a.splits.now.bytes.now a.splits.now.places.now in
     ap (λ (x : Alignment). accepted (chosen x).value) (sym c.in-Default.is)
-    ∙ alignment_given g head count split a.which c.if-split_places-k.false c.split_at-s.ensures c.section_at-head.ensures c.name_at-name.ensures c.default_alignment-least.ensures (chosen c.in-Ok.chosen) c.in-Ok.ensures
+    ∙ alignment_given g head count split a.which c.if-splits-k.false c.split_at-s.ensures c.section_at-head.ensures c.name_at-name.ensures c.default_alignment-least.ensures (chosen c.in-Ok.chosen) c.in-Ok.ensures

@@ -15,12 +15,12 @@ unfolding answer_of
 returns c =
     let a = c.args in
     c.with_columns.ensures
-    ∙ columns_as _ _ _ _ _ _ (let s = c.check_names.ensures in s.stored (sym s.said ∙ ap meaning c.in_ok-check_names.was)) a.sections.now a.section_places.now a.image.now a.symbols.now a.splits.now a.question
-    ∙ then_goes (let a = c.args in c.check_names.ensures.said ∙ ap (λ (m : Ceilings). names_check m.names a.ends.now a.bytes.now) c.main_ceilings-most.ensures) _ (ap meaning c.in_ok-check_names.was)
+    ∙ columns_as _ _ _ _ _ _ (let s = c.check_names.ensures in s.stored (sym s.said ∙ ap meaning c.in_ok-check_names.was)) a.lent.now.sections.now a.lent.now.section_places.now a.lent.now.image.now a.lent.now.symbols.now a.lent.now.splits.now a.question
+    ∙ then_goes (let a = c.args in c.check_names.ensures.said ∙ ap (λ (m : Ceilings). names_check m.names a.lent.now.name_ends.now a.lent.now.name_bytes.now) c.main_ceilings-most.ensures) _ (ap meaning c.in_ok-check_names.was)
 
 pub returns-in_err-check_names : goal.returns-in_err-check_names
 unfolding answer_of
 returns-in_err-check_names c =
     let a = c.args in
     let p = err_from_is_err_and c.from_residual.result c.from_residual.ensures.1 in
-    rw (p.1, p.2) (asked_stops _ (c.in_err-check_names.ensures.said ∙ ap (λ (m : Ceilings). names_check m.names a.ends.now a.bytes.now) c.main_ceilings-most.ensures))
+    rw (p.1, p.2) (asked_stops _ (c.in_err-check_names.ensures.said ∙ ap (λ (m : Ceilings). names_check m.names a.lent.now.name_ends.now a.lent.now.name_bytes.now) c.main_ceilings-most.ensures))

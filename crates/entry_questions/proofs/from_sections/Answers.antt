@@ -23,18 +23,18 @@ use Rattle.entry_questions.proofs.from_sections.Goals as goal
 
 pub slice_bounds-take_symbol_order-end : goal.slice_bounds-take_symbol_order-end
 slice_bounds-take_symbol_order-end c =
-    let n = taken_few 15 _ c.args.sections.now _ _ c.take_image.ensures (ap meaning c.in_ok-take_image.was) in
+    let n = taken_few 15 _ c.args.lent.now.sections.now _ _ c.take_image.ensures (ap meaning c.in_ok-take_image.was) in
     omega (arith, (few c.main_ceilings-most.ensures).of_sections, c.take_image.auto.places, c.requires.1.heads_long)
 
 pub slice_bounds-take_symbol_order-end-2 : goal.slice_bounds-take_symbol_order-end-2
 slice_bounds-take_symbol_order-end-2 c =
-    sym (taken-count 15 _ c.args.sections.now _ _ c.take_image.ensures (ap meaning c.in_ok-take_image.was))
+    sym (taken-count 15 _ c.args.lent.now.sections.now _ _ c.take_image.ensures (ap meaning c.in_ok-take_image.was))
 
 pub take_symbol_order-requires : goal.take_symbol_order-requires
 take_symbol_order-requires c =
     let p = c.requires.1 in
     let f = few c.main_ceilings-most.ensures in (
-      taken-held 15 _ c.args.sections.now _ _ c.take_image.ensures (ap meaning c.in_ok-take_image.was) (omega (arith, f.of_sections)),
+      taken-held 15 _ c.args.lent.now.sections.now _ _ c.take_image.ensures (ap meaning c.in_ok-take_image.was) (omega (arith, f.of_sections)),
       record {
         few = f.of_symbols;
         places_long = omega (arith, f.of_symbols, p.symbols_long);
@@ -45,88 +45,88 @@ take_symbol_order-requires c =
 
 pub slice_bounds-take_splits-end : goal.slice_bounds-take_splits-end
 slice_bounds-take_splits-end c =
-    let few_sections : length c.args.sections.now / 15 ≤ 64 = omega (arith, taken_few 15 _ c.args.sections.now _ _ c.take_image.ensures (ap meaning c.in_ok-take_image.was), (few c.main_ceilings-most.ensures).of_sections) in
-    let heads_inside : length c.args.sections.now / 15 ≤ length c.take_image.new.places = omega (arith, few_sections, c.take_image.auto.places, c.requires.1.heads_long) in
+    let few_sections : length c.args.lent.now.sections.now / 15 ≤ 64 = omega (arith, taken_few 15 _ c.args.lent.now.sections.now _ _ c.take_image.ensures (ap meaning c.in_ok-take_image.was), (few c.main_ceilings-most.ensures).of_sections) in
+    let heads_inside : length c.args.lent.now.sections.now / 15 ≤ length c.take_image.new.places = omega (arith, few_sections, c.take_image.auto.places, c.requires.1.heads_long) in
     heads_inside
 
 pub slice_bounds-take_splits-end-2 : goal.slice_bounds-take_splits-end-2
 slice_bounds-take_splits-end-2 c =
-    let few_sections : length c.args.sections.now / 15 ≤ 64 = omega (arith, taken_few 15 _ c.args.sections.now _ _ c.take_image.ensures (ap meaning c.in_ok-take_image.was), (few c.main_ceilings-most.ensures).of_sections) in
-    let heads_inside : length c.args.sections.now / 15 ≤ length c.take_image.new.places = omega (arith, few_sections, c.take_image.auto.places, c.requires.1.heads_long) in
+    let few_sections : length c.args.lent.now.sections.now / 15 ≤ 64 = omega (arith, taken_few 15 _ c.args.lent.now.sections.now _ _ c.take_image.ensures (ap meaning c.in_ok-take_image.was), (few c.main_ceilings-most.ensures).of_sections) in
+    let heads_inside : length c.args.lent.now.sections.now / 15 ≤ length c.take_image.new.places = omega (arith, few_sections, c.take_image.auto.places, c.requires.1.heads_long) in
     sym (length-take-le _ _ heads_inside)
 
 pub take_splits-requires : goal.take_splits-requires
 take_splits-requires c =
     let f = few c.main_ceilings-most.ensures in (
-      taken-held 15 _ c.args.sections.now _ _ c.take_image.ensures (ap meaning c.in_ok-take_image.was) (omega (arith, f.of_sections)),
+      taken-held 15 _ c.args.lent.now.sections.now _ _ c.take_image.ensures (ap meaning c.in_ok-take_image.was) (omega (arith, f.of_sections)),
       record { few = omega (arith, f.of_splits); long = omega (arith, f.of_splits, c.requires.1.splits_long) },
     )
 
 pub slice_bounds-ask-end : goal.slice_bounds-ask-end
 slice_bounds-ask-end c =
-    let few_symbols : length c.args.symbols.now / 20 ≤ 4096 = omega (arith, (table_passed 20 _ c.args.symbols.now _ (sym c.in_ok-ordered.ensures.said)).1, (few c.main_ceilings-most.ensures).of_symbols) in
+    let few_symbols : length c.args.lent.now.symbols.now / 20 ≤ 4096 = omega (arith, (table_passed 20 _ c.args.lent.now.symbols.now _ (sym c.in_ok-ordered.ensures.said)).1, (few c.main_ceilings-most.ensures).of_symbols) in
     (omega (arith, few_symbols, c.take_symbol_order.auto.places, c.requires.1.symbols_long))
 
 pub slice_bounds-ask-end-2 : goal.slice_bounds-ask-end-2
 slice_bounds-ask-end-2 c =
-    let few_symbols : length c.args.symbols.now / 20 ≤ 4096 = omega (arith, (table_passed 20 _ c.args.symbols.now _ (sym c.in_ok-ordered.ensures.said)).1, (few c.main_ceilings-most.ensures).of_symbols) in
-    let symbols_inside : length c.args.symbols.now / 20 ≤ length c.take_symbol_order.new.places = omega (arith, few_symbols, c.take_symbol_order.auto.places, c.requires.1.symbols_long) in
+    let few_symbols : length c.args.lent.now.symbols.now / 20 ≤ 4096 = omega (arith, (table_passed 20 _ c.args.lent.now.symbols.now _ (sym c.in_ok-ordered.ensures.said)).1, (few c.main_ceilings-most.ensures).of_symbols) in
+    let symbols_inside : length c.args.lent.now.symbols.now / 20 ≤ length c.take_symbol_order.new.places = omega (arith, few_symbols, c.take_symbol_order.auto.places, c.requires.1.symbols_long) in
     sym (length-take-le _ _ symbols_inside)
 
 pub slice_bounds-ask-end-3 : goal.slice_bounds-ask-end-3
 slice_bounds-ask-end-3 c =
-    let few_symbols : length c.args.symbols.now / 20 ≤ 4096 = omega (arith, (table_passed 20 _ c.args.symbols.now _ (sym c.in_ok-ordered.ensures.said)).1, (few c.main_ceilings-most.ensures).of_symbols) in
+    let few_symbols : length c.args.lent.now.symbols.now / 20 ≤ 4096 = omega (arith, (table_passed 20 _ c.args.lent.now.symbols.now _ (sym c.in_ok-ordered.ensures.said)).1, (few c.main_ceilings-most.ensures).of_symbols) in
     (omega (arith, c.in_ok-ordered.ensures.small, few_symbols, c.take_symbol_order.auto.order, c.requires.1.order_long))
 
 pub slice_bounds-ask-end-4 : goal.slice_bounds-ask-end-4
 slice_bounds-ask-end-4 c =
-    let few_symbols : length c.args.symbols.now / 20 ≤ 4096 = omega (arith, (table_passed 20 _ c.args.symbols.now _ (sym c.in_ok-ordered.ensures.said)).1, (few c.main_ceilings-most.ensures).of_symbols) in
+    let few_symbols : length c.args.lent.now.symbols.now / 20 ≤ 4096 = omega (arith, (table_passed 20 _ c.args.lent.now.symbols.now _ (sym c.in_ok-ordered.ensures.said)).1, (few c.main_ceilings-most.ensures).of_symbols) in
     let order_inside : c.in_ok-ordered.ordered ≤ length c.take_symbol_order.new.order = omega (arith, c.in_ok-ordered.ensures.small, few_symbols, c.take_symbol_order.auto.order, c.requires.1.order_long) in
     sym (length-take-le _ _ order_inside)
 
 pub slice_bounds-ask-end-5 : goal.slice_bounds-ask-end-5
 slice_bounds-ask-end-5 c =
-    let few_sections : length c.args.sections.now / 15 ≤ 64 = omega (arith, taken_few 15 _ c.args.sections.now _ _ c.take_image.ensures (ap meaning c.in_ok-take_image.was), (few c.main_ceilings-most.ensures).of_sections) in
-    let heads_inside : length c.args.sections.now / 15 ≤ length c.take_image.new.places = omega (arith, few_sections, c.take_image.auto.places, c.requires.1.heads_long) in
+    let few_sections : length c.args.lent.now.sections.now / 15 ≤ 64 = omega (arith, taken_few 15 _ c.args.lent.now.sections.now _ _ c.take_image.ensures (ap meaning c.in_ok-take_image.was), (few c.main_ceilings-most.ensures).of_sections) in
+    let heads_inside : length c.args.lent.now.sections.now / 15 ≤ length c.take_image.new.places = omega (arith, few_sections, c.take_image.auto.places, c.requires.1.heads_long) in
     heads_inside
 
 pub slice_bounds-ask-end-6 : goal.slice_bounds-ask-end-6
 slice_bounds-ask-end-6 c =
-    let few_sections : length c.args.sections.now / 15 ≤ 64 = omega (arith, taken_few 15 _ c.args.sections.now _ _ c.take_image.ensures (ap meaning c.in_ok-take_image.was), (few c.main_ceilings-most.ensures).of_sections) in
-    let heads_inside : length c.args.sections.now / 15 ≤ length c.take_image.new.places = omega (arith, few_sections, c.take_image.auto.places, c.requires.1.heads_long) in
+    let few_sections : length c.args.lent.now.sections.now / 15 ≤ 64 = omega (arith, taken_few 15 _ c.args.lent.now.sections.now _ _ c.take_image.ensures (ap meaning c.in_ok-take_image.was), (few c.main_ceilings-most.ensures).of_sections) in
+    let heads_inside : length c.args.lent.now.sections.now / 15 ≤ length c.take_image.new.places = omega (arith, few_sections, c.take_image.auto.places, c.requires.1.heads_long) in
     sym (length-take-le _ _ heads_inside)
 
 pub slice_bounds-ask-end-9 : goal.slice_bounds-ask-end-9
-slice_bounds-ask-end-9 c = (omega (arith, taken_few split_width _ c.args.splits.now _ _ c.take_splits.ensures (ap meaning c.in_ok-take_splits.was), (few c.main_ceilings-most.ensures).of_splits, c.take_splits.auto.places, c.requires.1.splits_long))
+slice_bounds-ask-end-9 c = (omega (arith, taken_few split_width _ c.args.lent.now.splits.now _ _ c.take_splits.ensures (ap meaning c.in_ok-take_splits.was), (few c.main_ceilings-most.ensures).of_splits, c.take_splits.auto.places, c.requires.1.splits_long))
 
 pub slice_bounds-ask-end-10 : goal.slice_bounds-ask-end-10
 slice_bounds-ask-end-10 c =
-    let splits_inside : length c.args.splits.now / split_width ≤ length c.take_splits.new.places = omega (arith, taken_few split_width _ c.args.splits.now _ _ c.take_splits.ensures (ap meaning c.in_ok-take_splits.was), (few c.main_ceilings-most.ensures).of_splits, c.take_splits.auto.places, c.requires.1.splits_long) in
+    let splits_inside : length c.args.lent.now.splits.now / split_width ≤ length c.take_splits.new.places = omega (arith, taken_few split_width _ c.args.lent.now.splits.now _ _ c.take_splits.ensures (ap meaning c.in_ok-take_splits.was), (few c.main_ceilings-most.ensures).of_splits, c.take_splits.auto.places, c.requires.1.splits_long) in
     sym (length-take-le _ _ splits_inside)
 
 pub ask-requires : goal.ask-requires
 ask-requires c =
     let a = c.args in
     let f = few c.main_ceilings-most.ensures in (
-      tables-taken _ _ _ a.symbols.now (sym c.in_ok-ordered.ensures.said) f.of_symbols (c.take_symbol_order.new.places) (c.take_symbol_order.new.order) _ _ _ (Ok c.in_ok-ordered.ordered) c.in_ok-ordered.ensures
+      tables-taken _ _ _ a.lent.now.symbols.now (sym c.in_ok-ordered.ensures.said) f.of_symbols (c.take_symbol_order.new.places) (c.take_symbol_order.new.order) _ _ _ (Ok c.in_ok-ordered.ordered) c.in_ok-ordered.ensures
           (sym c.requires.0.paired) c.requires.0.named,
-      sections_kept _ _ _ a.image.now a.sections.now (sym c.take_image.ensures.said ∙ (ap meaning c.in_ok-take_image.was)) f.of_sections (c.take_image.new.places) (c.take_image_places-p.new.column) _ _ (taken_places 15 _ c.args.sections.now _ _ c.take_image.ensures (ap meaning c.in_ok-take_image.was))
+      sections_kept _ _ _ a.lent.now.image.now a.lent.now.sections.now (sym c.take_image.ensures.said ∙ (ap meaning c.in_ok-take_image.was)) f.of_sections (c.take_image.new.places) (c.take_image_places-p.new.column) _ _ (taken_places 15 _ c.args.lent.now.sections.now _ _ c.take_image.ensures (ap meaning c.in_ok-take_image.was))
           c.requires.0.paired c.take_image_places-p.ensures (c.take_image_places-p.auto.column ∙ c.requires.1.image_long),
-      homes_taken _ _ _ a.splits.now (sym c.take_splits.ensures.said ∙ (ap meaning c.in_ok-take_splits.was)) (omega (arith, f.of_splits))
-          (taken_places split_width _ a.splits.now _ _ c.take_splits.ensures (ap meaning c.in_ok-take_splits.was)) (length-map (take (length a.sections.now / 15) (c.take_image.new.places)) (section_at a.sections.now)),
+      homes_taken _ _ _ a.lent.now.splits.now (sym c.take_splits.ensures.said ∙ (ap meaning c.in_ok-take_splits.was)) (omega (arith, f.of_splits))
+          (taken_places split_width _ a.lent.now.splits.now _ _ c.take_splits.ensures (ap meaning c.in_ok-take_splits.was)) (length-map (take (length a.lent.now.sections.now / 15) (c.take_image.new.places)) (section_at a.lent.now.sections.now)),
     )
 
 pub returns : goal.returns
 unfolding from_sections
 returns c =
-    let few_sections : length c.args.sections.now / 15 ≤ 64 = omega (arith, taken_few 15 _ c.args.sections.now _ _ c.take_image.ensures (ap meaning c.in_ok-take_image.was), (few c.main_ceilings-most.ensures).of_sections) in
+    let few_sections : length c.args.lent.now.sections.now / 15 ≤ 64 = omega (arith, taken_few 15 _ c.args.lent.now.sections.now _ _ c.take_image.ensures (ap meaning c.in_ok-take_image.was), (few c.main_ceilings-most.ensures).of_sections) in
     let a = c.args in
     c.ask.ensures
-    ∙ question_as a.symbols.now a.sections.now a.image.now a.splits.now a.section_places.now _ _ _ _ _ _ _ a.question
-    (c.in_ok-ordered.ensures.placed (sym c.in_ok-ordered.ensures.said)) (taken_places 15 _ c.args.sections.now _ _ c.take_image.ensures (ap meaning c.in_ok-take_image.was)) (taken_places split_width _ a.splits.now _ _ c.take_splits.ensures (ap meaning c.in_ok-take_splits.was))
-    (λ n h. place_is _ a.name_lengths.now a.section_places.now a.image.now a.sections.now (sym c.take_image.ensures.said ∙ (ap meaning c.in_ok-take_image.was)) (c.take_image_places-p.new.column) _ c.take_image_places-p.ensures n (omega (arith, h, few_sections, (c.take_image_places-p.auto.column ∙ c.requires.1.image_long))))
-    ∙ then_goes (let a = c.args in below _ _ _ _ _ c.take_splits.ensures.said (ap (λ (m : Ceilings). m.splits) c.main_ceilings-most.ensures) ∙ ap (λ (l : List ℕ). splits_check 1024 a.name_lengths.now (sections_in a.sections.now l) a.splits.now) (taken_places 15 _ c.args.sections.now _ _ c.take_image.ensures (ap meaning c.in_ok-take_image.was))) _ (ap meaning c.in_ok-take_splits.was)
-    ∙ then_goes (below _ _ _ _ _ c.in_ok-ordered.ensures.said (ap (λ (m : Ceilings). m.symbols) c.main_ceilings-most.ensures) ∙ ap (λ (l : List ℕ). symbols_check 4096 (length a.name_lengths.now) (sections_in a.sections.now l) a.symbols.now) (taken_places 15 _ a.sections.now _ _ c.take_image.ensures (ap meaning c.in_ok-take_image.was))) _ refl
+    ∙ question_as a.lent.now.symbols.now a.lent.now.sections.now a.lent.now.image.now a.lent.now.splits.now a.lent.now.section_places.now _ _ _ _ _ _ _ a.question
+    (c.in_ok-ordered.ensures.placed (sym c.in_ok-ordered.ensures.said)) (taken_places 15 _ c.args.lent.now.sections.now _ _ c.take_image.ensures (ap meaning c.in_ok-take_image.was)) (taken_places split_width _ a.lent.now.splits.now _ _ c.take_splits.ensures (ap meaning c.in_ok-take_splits.was))
+    (λ n h. place_is _ a.names.now.lengths.now a.lent.now.section_places.now a.lent.now.image.now a.lent.now.sections.now (sym c.take_image.ensures.said ∙ (ap meaning c.in_ok-take_image.was)) (c.take_image_places-p.new.column) _ c.take_image_places-p.ensures n (omega (arith, h, few_sections, (c.take_image_places-p.auto.column ∙ c.requires.1.image_long))))
+    ∙ then_goes (let a = c.args in below _ _ _ _ _ c.take_splits.ensures.said (ap (λ (m : Ceilings). m.splits) c.main_ceilings-most.ensures) ∙ ap (λ (l : List ℕ). splits_check 1024 a.names.now.lengths.now (sections_in a.lent.now.sections.now l) a.lent.now.splits.now) (taken_places 15 _ c.args.lent.now.sections.now _ _ c.take_image.ensures (ap meaning c.in_ok-take_image.was))) _ (ap meaning c.in_ok-take_splits.was)
+    ∙ then_goes (below _ _ _ _ _ c.in_ok-ordered.ensures.said (ap (λ (m : Ceilings). m.symbols) c.main_ceilings-most.ensures) ∙ ap (λ (l : List ℕ). symbols_check 4096 (length a.names.now.lengths.now) (sections_in a.lent.now.sections.now l) a.lent.now.symbols.now) (taken_places 15 _ a.lent.now.sections.now _ _ c.take_image.ensures (ap meaning c.in_ok-take_image.was))) _ refl
     ∙ then_goes (below _ _ _ _ _ c.take_image.ensures.said (ap (λ (m : Ceilings). m.sections) c.main_ceilings-most.ensures)) _ (ap meaning c.in_ok-take_image.was)
 
 pub returns-in_err-take_image : goal.returns-in_err-take_image
@@ -141,7 +141,7 @@ returns-in_err-ordered c =
     let a = c.args in
     let p = err_from_is_err_and c.from_residual-in_err-ordered.result c.from_residual-in_err-ordered.ensures.1 in
     rw (p.1, p.2)
-    (asked_stops _ (below _ _ _ _ _ c.in_err-ordered.ensures.said (ap (λ (m : Ceilings). m.symbols) c.main_ceilings-most.ensures) ∙ ap (λ (l : List ℕ). symbols_check 4096 (length a.name_lengths.now) (sections_in a.sections.now l) a.symbols.now) (taken_places 15 _ a.sections.now _ _ c.take_image.ensures (ap meaning c.in_ok-take_image.was)))
+    (asked_stops _ (below _ _ _ _ _ c.in_err-ordered.ensures.said (ap (λ (m : Ceilings). m.symbols) c.main_ceilings-most.ensures) ∙ ap (λ (l : List ℕ). symbols_check 4096 (length a.names.now.lengths.now) (sections_in a.lent.now.sections.now l) a.lent.now.symbols.now) (taken_places 15 _ a.lent.now.sections.now _ _ c.take_image.ensures (ap meaning c.in_ok-take_image.was)))
     ∙ then_goes (below _ _ _ _ _ c.take_image.ensures.said (ap (λ (m : Ceilings). m.sections) c.main_ceilings-most.ensures)) _ (ap meaning c.in_ok-take_image.was))
 
 pub returns-in_err-take_splits : goal.returns-in_err-take_splits
@@ -150,6 +150,6 @@ returns-in_err-take_splits c =
     let a = c.args in
     let p = err_from_is_err_and c.from_residual-in_err-take_splits.result c.from_residual-in_err-take_splits.ensures.1 in
     rw (p.1, p.2)
-    (asked_stops _ (below _ _ _ _ _ c.in_err-take_splits.ensures.said (ap (λ (m : Ceilings). m.splits) c.main_ceilings-most.ensures) ∙ ap (λ (l : List ℕ). splits_check 1024 a.name_lengths.now (sections_in a.sections.now l) a.splits.now) (taken_places 15 _ a.sections.now _ _ c.take_image.ensures (ap meaning c.in_ok-take_image.was)))
-    ∙ then_goes (below _ _ _ _ _ c.in_ok-ordered.ensures.said (ap (λ (m : Ceilings). m.symbols) c.main_ceilings-most.ensures) ∙ ap (λ (l : List ℕ). symbols_check 4096 (length a.name_lengths.now) (sections_in a.sections.now l) a.symbols.now) (taken_places 15 _ a.sections.now _ _ c.take_image.ensures (ap meaning c.in_ok-take_image.was))) _ refl
+    (asked_stops _ (below _ _ _ _ _ c.in_err-take_splits.ensures.said (ap (λ (m : Ceilings). m.splits) c.main_ceilings-most.ensures) ∙ ap (λ (l : List ℕ). splits_check 1024 a.names.now.lengths.now (sections_in a.lent.now.sections.now l) a.lent.now.splits.now) (taken_places 15 _ a.lent.now.sections.now _ _ c.take_image.ensures (ap meaning c.in_ok-take_image.was)))
+    ∙ then_goes (below _ _ _ _ _ c.in_ok-ordered.ensures.said (ap (λ (m : Ceilings). m.symbols) c.main_ceilings-most.ensures) ∙ ap (λ (l : List ℕ). symbols_check 4096 (length a.names.now.lengths.now) (sections_in a.lent.now.sections.now l) a.lent.now.symbols.now) (taken_places 15 _ a.lent.now.sections.now _ _ c.take_image.ensures (ap meaning c.in_ok-take_image.was))) _ refl
     ∙ then_goes (below _ _ _ _ _ c.take_image.ensures.said (ap (λ (m : Ceilings). m.sections) c.main_ceilings-most.ensures)) _ (ap meaning c.in_ok-take_image.was))

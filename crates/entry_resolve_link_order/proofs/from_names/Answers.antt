@@ -13,7 +13,7 @@ section_tables-requires c =
     let t = c.check_names in
     let passed = sym t.ensures.said ∙ ap meaning c.in_ok-check_names.was in
     let stored = t.ensures.stored passed in
-    names-taken _ _ _ _ _ _ _ stored (names_few a.name_ends.now a.name_bytes.now passed)
+    names-taken _ _ _ _ _ _ _ stored (names_few a.lent.now.name_ends.now a.lent.now.name_bytes.now passed)
 
 pub returns : goal.returns
 returns c =
@@ -21,10 +21,10 @@ returns c =
     let t = c.check_names in
     let passed = sym t.ensures.said ∙ ap meaning c.in_ok-check_names.was in
     let stored = t.ensures.stored passed in
-    from_names_as a.name_ends.now a.name_bytes.now t.new.places t.new.lengths t.new.heads t.new.chain a.sections.now a.split_bytes.now a.unit_bytes.now (length a.out.now) stored passed
+    from_names_as a.lent.now.name_ends.now a.lent.now.name_bytes.now t.new.places t.new.lengths t.new.heads t.new.chain a.lent.now.sections.now a.lent.now.splits.now a.lent.now.units.now (length a.out.now) stored passed
     c.section_tables.ensures
 
 pub returns-in_err-check_names : goal.returns-in_err-check_names
 unfolding resolve_of
 returns-in_err-check_names c =
-    refused_table _ _ _ _ _ c.from_residual.result c.check_names.ensures.said c.in_err-check_names.was c.from_residual.ensures.1 (low_names c.args.name_ends.now c.args.name_bytes.now)
+    refused_table _ _ _ _ _ c.from_residual.result c.check_names.ensures.said c.in_err-check_names.was c.from_residual.ensures.1 (low_names c.args.lent.now.name_ends.now c.args.lent.now.name_bytes.now)

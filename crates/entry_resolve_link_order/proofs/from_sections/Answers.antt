@@ -15,7 +15,7 @@ slice_bounds-split_tables-end c =
     let a = s.args in
     let t = c.take_sections in
     let told = ap meaning c.in_ok-take_sections.was in
-    omega (arith, taken_few 15 _ a.sections.now _ _ t.ensures told, t.auto.places, s.requires.1)
+    omega (arith, taken_few 15 _ a.lent.now.sections.now _ _ t.ensures told, t.auto.places, s.requires.1)
 
 pub slice_bounds-split_tables-end-2 : goal.slice_bounds-split_tables-end-2
 slice_bounds-split_tables-end-2 c =
@@ -23,7 +23,7 @@ slice_bounds-split_tables-end-2 c =
     let a = s.args in
     let t = c.take_sections in
     let told = ap meaning c.in_ok-take_sections.was in
-    sym (taken-count 15 _ a.sections.now _ _ t.ensures told)
+    sym (taken-count 15 _ a.lent.now.sections.now _ _ t.ensures told)
 
 pub split_tables-requires : goal.split_tables-requires
 split_tables-requires c =
@@ -31,7 +31,7 @@ split_tables-requires c =
     let a = s.args in
     let t = c.take_sections in
     let told = ap meaning c.in_ok-take_sections.was in
-    sections_taken a.lengths.now a.sections.now _ a.name_bytes.now a.name_places.now t.ensures told s.requires.0
+    sections_taken a.names.now.lengths.now a.lent.now.sections.now _ a.names.now.bytes.now a.names.now.places.now t.ensures told s.requires.0
 
 pub returns : goal.returns
 returns c =
@@ -39,9 +39,9 @@ returns c =
     let a = s.args in
     let t = c.take_sections in
     let told = ap meaning c.in_ok-take_sections.was in
-    from_sections_as a.lengths.now a.sections.now a.name_bytes.now a.name_places.now a.split_bytes.now a.unit_bytes.now (length a.out.now) _ (taken_places 15 _ a.sections.now _ _ t.ensures told) (sym t.ensures.said ∙ told) c.split_tables.ensures
+    from_sections_as a.names.now.lengths.now a.lent.now.sections.now a.names.now.bytes.now a.names.now.places.now a.lent.now.splits.now a.lent.now.units.now (length a.out.now) _ (taken_places 15 _ a.lent.now.sections.now _ _ t.ensures told) (sym t.ensures.said ∙ told) c.split_tables.ensures
 
 pub returns-in_err-take_sections : goal.returns-in_err-take_sections
 unfolding from_sections
 returns-in_err-take_sections c =
-    refused_table _ _ _ _ _ c.from_residual.result c.take_sections.ensures.said c.in_err-take_sections.was c.from_residual.ensures.1 (low_sections c.args.lengths.now c.args.sections.now)
+    refused_table _ _ _ _ _ c.from_residual.result c.take_sections.ensures.said c.in_err-take_sections.was c.from_residual.ensures.1 (low_sections c.args.names.now.lengths.now c.args.lent.now.sections.now)

@@ -17,7 +17,7 @@ from_units-requires c =
     let told = ap meaning c.in_ok-take_split_columns.was in
     let col = columns t.new.starts t.new.ends t.new.units t.new.rest in
     let q = s.requires.1 in (
-      splits-taken a.lengths.now a.heads.now a.head_places.now a.name_bytes.now a.name_places.now a.split_bytes.now col t.ensures told s.requires.0 (record {
+      splits-taken a.names.now.lengths.now a.heads.now.bytes.now a.heads.now.places.now a.names.now.bytes.now a.names.now.places.now a.lent.now.splits.now col t.ensures told s.requires.0 (record {
         starts = omega (arith, t.auto.starts, q.starts_long);
         ends = omega (arith, t.auto.ends, q.ends_long);
         units = omega (arith, t.auto.units, q.units_long);
@@ -33,9 +33,9 @@ returns c =
     let t = c.take_split_columns in
     let told = ap meaning c.in_ok-take_split_columns.was in
     let col = columns t.new.starts t.new.ends t.new.units t.new.rest in
-    from_splits_as _ _ a.lengths.now _ a.split_bytes.now a.unit_bytes.now (length a.out.now) (rows_taken a.lengths.now a.heads.now a.head_places.now a.name_bytes.now a.name_places.now a.split_bytes.now col t.ensures told) (sym t.ensures.said ∙ told) c.from_units.ensures
+    from_splits_as _ _ a.names.now.lengths.now _ a.lent.now.splits.now a.lent.now.units.now (length a.out.now) (rows_taken a.names.now.lengths.now a.heads.now.bytes.now a.heads.now.places.now a.names.now.bytes.now a.names.now.places.now a.lent.now.splits.now col t.ensures told) (sym t.ensures.said ∙ told) c.from_units.ensures
 
 pub returns-in_err-take_split_columns : goal.returns-in_err-take_split_columns
 unfolding from_splits
 returns-in_err-take_split_columns c =
-    refused_table _ _ _ _ _ c.from_residual.result c.take_split_columns.ensures.said c.in_err-take_split_columns.was c.from_residual.ensures.1 (low_splits c.args.lengths.now _ c.args.split_bytes.now)
+    refused_table _ _ _ _ _ c.from_residual.result c.take_split_columns.ensures.said c.in_err-take_split_columns.was c.from_residual.ensures.1 (low_splits c.args.names.now.lengths.now _ c.args.lent.now.splits.now)

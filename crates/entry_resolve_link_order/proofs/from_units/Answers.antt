@@ -31,7 +31,7 @@ ordered-requires c =
     let a = s.args in
     let t = c.take_units in
     let told = ap meaning c.in_ok-take_units.was in
-    (s.requires.0, units_taken a.lengths.now a.unit_bytes.now _ t.ensures told s.requires.0.few)
+    (s.requires.0, units_taken a.names.now.lengths.now a.unit_bytes.now _ t.ensures told s.requires.0.few)
 
 pub returns : goal.returns
 returns c =
@@ -39,9 +39,9 @@ returns c =
     let a = s.args in
     let t = c.take_units in
     let told = ap meaning c.in_ok-take_units.was in
-    from_units_as _ _ a.lengths.now a.unit_bytes.now (length a.out.now) _ (taken_places 8 _ a.unit_bytes.now _ _ t.ensures told) (sym t.ensures.said ∙ told) c.ordered.ensures
+    from_units_as _ _ a.names.now.lengths.now a.unit_bytes.now (length a.out.now) _ (taken_places 8 _ a.unit_bytes.now _ _ t.ensures told) (sym t.ensures.said ∙ told) c.ordered.ensures
 
 pub returns-in_err-take_units : goal.returns-in_err-take_units
 unfolding from_units
 returns-in_err-take_units c =
-    refused_table _ _ _ _ _ c.from_residual.result c.take_units.ensures.said c.in_err-take_units.was c.from_residual.ensures.1 (low_units c.args.lengths.now c.args.unit_bytes.now)
+    refused_table _ _ _ _ _ c.from_residual.result c.take_units.ensures.said c.in_err-take_units.was c.from_residual.ensures.1 (low_units c.args.names.now.lengths.now c.args.unit_bytes.now)

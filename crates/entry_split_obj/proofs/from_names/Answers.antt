@@ -17,14 +17,14 @@ use Rattle.entry_split_obj.proofs.from_names.Goals as goal
 pub with_sections-requires : goal.with_sections-requires
 with_sections-requires c =
     let a = c.args in
-    (names-taken _ _ _ _ _ _ (let s = c.check_names.ensures in s.stored (sym s.said ∙ ap meaning c.in_ok-check_names.was)), omega (arith, lengths_count _ _ _ _ _ _ (let s = c.check_names.ensures in s.stored (sym s.said ∙ ap meaning c.in_ok-check_names.was)), names_few 4096 a.name_ends.now a.name_bytes.now (sym c.check_names.ensures.said ∙ (ap meaning c.in_ok-check_names.was))))
+    (names-taken _ _ _ _ _ _ (let s = c.check_names.ensures in s.stored (sym s.said ∙ ap meaning c.in_ok-check_names.was)), omega (arith, lengths_count _ _ _ _ _ _ (let s = c.check_names.ensures in s.stored (sym s.said ∙ ap meaning c.in_ok-check_names.was)), names_few 4096 a.lent.now.name_ends.now a.lent.now.name_bytes.now (sym c.check_names.ensures.said ∙ (ap meaning c.in_ok-check_names.was))))
 
 pub returns : goal.returns
 unfolding split_obj_of
 returns c =
     let a = c.args in
     gives_goes (sym c.check_names.ensures.said ∙ (ap meaning c.in_ok-check_names.was))
-    (gives_as (names_as _ _ _ _ _ _ (let s = c.check_names.ensures in s.stored (sym s.said ∙ ap meaning c.in_ok-check_names.was)) a.sections.now a.section_places.now a.image.now a.symbols.now a.relocs.now a.splits.now a.unit_table.now (room_in (length a.pieces.now) (length a.entries.now) (length a.offsets.now)))
+    (gives_as (names_as _ _ _ _ _ _ (let s = c.check_names.ensures in s.stored (sym s.said ∙ ap meaning c.in_ok-check_names.was)) a.lent.now.sections.now a.lent.now.section_places.now a.lent.now.image.now a.lent.now.symbols.now a.lent.now.relocs.now a.lent.now.splits.now a.lent.now.units.now (room_in (length a.pieces.now) (length a.entries.now) (length a.offsets.now)))
     c.with_sections.ensures)
 
 pub returns-in_err-check_names : goal.returns-in_err-check_names

@@ -10,7 +10,7 @@ use lib.ListN.{length}
 use lib.Seq.{length-take-le}
 use Rattle.obj.specs.Answers.{meaning}
 use Rattle.stage_tables.proofs.Laws.{taken_few, taken_places}
-use Rattle.sections.specs.Image.{image_of}
+use Rattle.sections.specs.Image.{image_in}
 use Rattle.sections.specs.Sections.{sections_of}
 use Rattle.tables.specs.Records.{sections_in}
 use Rattle.stage_walk.specs.Room.{room_in}
@@ -21,11 +21,11 @@ use Rattle.entry_split_obj.proofs.Lines.{relocs_as}
 use Rattle.entry_split_obj.proofs.from_relocs.Goals as goal
 
 pub slice_bounds-with_splits-end : goal.slice_bounds-with_splits-end
-slice_bounds-with_splits-end c = omega (arith, taken_few 23 4096 c.args.relocs.now _ _ c.take_relocs.ensures (ap meaning c.in_ok-take_relocs.was), c.take_relocs.auto.places, c.requires.4)
+slice_bounds-with_splits-end c = omega (arith, taken_few 23 4096 c.args.lent.now.relocs.now _ _ c.take_relocs.ensures (ap meaning c.in_ok-take_relocs.was), c.take_relocs.auto.places, c.requires.4)
 
 pub slice_bounds-with_splits-end-2 : goal.slice_bounds-with_splits-end-2
 slice_bounds-with_splits-end-2 c =
-    let inside : length c.args.relocs.now / 23 ≤ length c.take_relocs.new.places = omega (arith, taken_few 23 4096 c.args.relocs.now _ _ c.take_relocs.ensures (ap meaning c.in_ok-take_relocs.was), c.take_relocs.auto.places, c.requires.4) in
+    let inside : length c.args.lent.now.relocs.now / 23 ≤ length c.take_relocs.new.places = omega (arith, taken_few 23 4096 c.args.lent.now.relocs.now _ _ c.take_relocs.ensures (ap meaning c.in_ok-take_relocs.was), c.take_relocs.auto.places, c.requires.4) in
     sym (length-take-le _ _ inside)
 
 pub with_splits-requires : goal.with_splits-requires
@@ -33,7 +33,7 @@ with_splits-requires c =
     let a = c.args in (
       c.requires.0,
       c.requires.1,
-      relocs_taken (sections_in a.heads.now a.head_places.now) (length a.symbol_places.now) a.relocs.now (sym c.take_relocs.ensures.said ∙ (ap meaning c.in_ok-take_relocs.was)) _ (taken_places 23 4096 a.relocs.now _ _ c.take_relocs.ensures (ap meaning c.in_ok-take_relocs.was)),
+      relocs_taken (sections_in a.obj.now.heads.bytes.now a.obj.now.heads.places.now) (length a.obj.now.symbols.places.now) a.lent.now.relocs.now (sym c.take_relocs.ensures.said ∙ (ap meaning c.in_ok-take_relocs.was)) _ (taken_places 23 4096 a.lent.now.relocs.now _ _ c.take_relocs.ensures (ap meaning c.in_ok-take_relocs.was)),
       c.requires.2,
       c.requires.3,
     )
@@ -43,7 +43,7 @@ unfolding from_relocs
 returns c =
     let a = c.args in
     gives_goes (sym c.take_relocs.ensures.said ∙ (ap meaning c.in_ok-take_relocs.was))
-    (gives_as (relocs_as a.name_lengths.now (sections_in a.heads.now a.head_places.now) (image_of a.symbols.now a.symbol_places.now a.name_bytes.now a.name_places.now a.name_lengths.now) (sections_of a.heads.now a.head_places.now a.image.now a.image_places.now) a.relocs.now _ a.splits.now a.unit_table.now (room_in (length a.pieces.now) (length a.entries.now) (length a.offsets.now)) (taken_places 23 4096 a.relocs.now _ _ c.take_relocs.ensures (ap meaning c.in_ok-take_relocs.was)))
+    (gives_as (relocs_as a.obj.now.names.lengths.now (sections_in a.obj.now.heads.bytes.now a.obj.now.heads.places.now) (image_in a.obj.now) (sections_of a.obj.now.heads.bytes.now a.obj.now.heads.places.now a.image.now.bytes.now a.image.now.places.now) a.lent.now.relocs.now _ a.lent.now.splits.now a.lent.now.units.now (room_in (length a.pieces.now) (length a.entries.now) (length a.offsets.now)) (taken_places 23 4096 a.lent.now.relocs.now _ _ c.take_relocs.ensures (ap meaning c.in_ok-take_relocs.was)))
     c.with_splits.ensures)
 
 pub returns-in_err-take_relocs : goal.returns-in_err-take_relocs

@@ -18,10 +18,10 @@ use Rattle.entry_split_obj.proofs.from_sections.Goals as goal
 
 pub slice_bounds-with_symbols-end : goal.slice_bounds-with_symbols-end
 slice_bounds-with_symbols-end c =
-    omega (arith, taken_few 15 64 c.args.sections.now _ _ c.take_image.ensures (ap meaning c.in_ok-take_image.was), c.take_image.auto.places, c.requires.2)
+    omega (arith, taken_few 15 64 c.args.lent.now.sections.now _ _ c.take_image.ensures (ap meaning c.in_ok-take_image.was), c.take_image.auto.places, c.requires.2)
 
 pub slice_bounds-with_symbols-end-2 : goal.slice_bounds-with_symbols-end-2
-slice_bounds-with_symbols-end-2 c = sym (taken-count 15 64 c.args.sections.now _ _ c.take_image.ensures (ap meaning c.in_ok-take_image.was))
+slice_bounds-with_symbols-end-2 c = sym (taken-count 15 64 c.args.lent.now.sections.now _ _ c.take_image.ensures (ap meaning c.in_ok-take_image.was))
 
 pub with_symbols-requires : goal.with_symbols-requires
 with_symbols-requires c =
@@ -29,10 +29,10 @@ with_symbols-requires c =
     let e = (ap meaning c.in_ok-take_image.was) in (
       c.requires.0,
       record {
-        all = taken-held 15 64 a.sections.now _ _ c.take_image.ensures e (omega arith);
+        all = taken-held 15 64 a.lent.now.sections.now _ _ c.take_image.ensures e (omega arith);
         kept =
-            sections_kept 64 a.name_lengths.now a.section_places.now a.image.now a.sections.now (sym c.take_image.ensures.said ∙ e) (omega arith) _ _ _ _
-            (taken_places 15 64 a.sections.now _ _ c.take_image.ensures e) c.requires.0.paired c.take_image_places-p.ensures (c.take_image_places-p.auto.column ∙ c.requires.3);
+            sections_kept 64 a.names.now.lengths.now a.lent.now.section_places.now a.lent.now.image.now a.lent.now.sections.now (sym c.take_image.ensures.said ∙ e) (omega arith) _ _ _ _
+            (taken_places 15 64 a.lent.now.sections.now _ _ c.take_image.ensures e) c.requires.0.paired c.take_image_places-p.ensures (c.take_image_places-p.auto.column ∙ c.requires.3);
       },
       c.requires.1,
     )
@@ -45,11 +45,11 @@ returns c =
     let passed = sym c.take_image.ensures.said ∙ e in
     gives_goes passed
     (gives_as
-    (sections_as a.name_bytes.now a.name_places.now a.name_lengths.now a.sections.now a.image.now _ _ a.section_places.now a.symbols.now a.relocs.now a.splits.now a.unit_table.now (room_in (length a.pieces.now) (length a.entries.now) (length a.offsets.now))
-    (taken_places 15 64 a.sections.now _ _ c.take_image.ensures e)
+    (sections_as a.names.now.bytes.now a.names.now.places.now a.names.now.lengths.now a.lent.now.sections.now a.lent.now.image.now _ _ a.lent.now.section_places.now a.lent.now.symbols.now a.lent.now.relocs.now a.lent.now.splits.now a.lent.now.units.now (room_in (length a.pieces.now) (length a.entries.now) (length a.offsets.now))
+    (taken_places 15 64 a.lent.now.sections.now _ _ c.take_image.ensures e)
     (λ n h.
-    place_is 64 a.name_lengths.now a.section_places.now a.image.now a.sections.now passed _ _ c.take_image_places-p.ensures n
-    (omega (arith, h, taken_few 15 64 a.sections.now _ _ c.take_image.ensures e, c.take_image_places-p.auto.column, c.requires.3))))
+    place_is 64 a.names.now.lengths.now a.lent.now.section_places.now a.lent.now.image.now a.lent.now.sections.now passed _ _ c.take_image_places-p.ensures n
+    (omega (arith, h, taken_few 15 64 a.lent.now.sections.now _ _ c.take_image.ensures e, c.take_image_places-p.auto.column, c.requires.3))))
     c.with_symbols.ensures)
 
 pub returns-in_err-take_image : goal.returns-in_err-take_image

@@ -38,4 +38,4 @@ returns c =
     let a = c.args in
     let told = sym s.said ∙ ap meaning c.in_ok-check_names.was in
     gives_goes told
-    (gives_as (names_as _ _ _ _ _ _ (s.stored told) a.sections.now a.section_places.now a.image.now a.symbols.now a.splits.now (length a.out.now)) c.with_sections.ensures)
+    (gives_as (names_as _ _ _ _ _ _ (s.stored told) a.lent.now.sections.now a.lent.now.section_places.now a.lent.now.image.now a.lent.now.symbols.now a.lent.now.splits.now (length a.out.now)) c.with_sections.ensures)

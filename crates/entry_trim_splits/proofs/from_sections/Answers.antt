@@ -22,11 +22,11 @@ returns-in_err-take_image c =
 pub slice_bounds-with_symbols-end : goal.slice_bounds-with_symbols-end
 slice_bounds-with_symbols-end c =
     let t = c.take_image in
-    let n = taken_few 15 64 c.args.sections.now _ _ t.ensures (ap meaning c.in_ok-take_image.was) in
+    let n = taken_few 15 64 c.args.lent.now.sections.now _ _ t.ensures (ap meaning c.in_ok-take_image.was) in
     omega (arith, n, t.auto.places, c.requires.1)
 
 pub slice_bounds-with_symbols-end-2 : goal.slice_bounds-with_symbols-end-2
-slice_bounds-with_symbols-end-2 c = sym (taken-count 15 64 c.args.sections.now _ _ c.take_image.ensures (ap meaning c.in_ok-take_image.was))
+slice_bounds-with_symbols-end-2 c = sym (taken-count 15 64 c.args.lent.now.sections.now _ _ c.take_image.ensures (ap meaning c.in_ok-take_image.was))
 
 pub slice_bounds-with_symbols-end-4 : goal.slice_bounds-with_symbols-end-4
 slice_bounds-with_symbols-end-4 c = sym (length-take-le _ _ c.take_image_places-p.ensures.inside)
@@ -39,10 +39,10 @@ with_symbols-requires c =
     let e = ap meaning c.in_ok-take_image.was in (
       c.requires.0,
       record {
-        all = taken-held 15 64 a.sections.now _ _ t.ensures e (omega arith);
+        all = taken-held 15 64 a.lent.now.sections.now _ _ t.ensures e (omega arith);
         kept =
-            sections_kept 64 a.name_lengths.now a.section_places.now a.image.now a.sections.now (sym t.ensures.said ∙ e) (omega arith) _ _ _ _
-            (taken_places 15 64 a.sections.now _ _ t.ensures e) c.requires.0.paired p.ensures (p.auto.column ∙ c.requires.2);
+            sections_kept 64 a.names.now.lengths.now a.lent.now.section_places.now a.lent.now.image.now a.lent.now.sections.now (sym t.ensures.said ∙ e) (omega arith) _ _ _ _
+            (taken_places 15 64 a.lent.now.sections.now _ _ t.ensures e) c.requires.0.paired p.ensures (p.auto.column ∙ c.requires.2);
       },
     )
 
@@ -56,9 +56,9 @@ returns c =
     let passed = sym t.ensures.said ∙ e in
     gives_goes passed
     (gives_as
-    (sections_as a.name_bytes.now a.name_places.now a.name_lengths.now a.sections.now a.image.now _ _ a.section_places.now a.symbols.now a.splits.now (length a.out.now)
-    (taken_places 15 64 a.sections.now _ _ t.ensures e)
+    (sections_as a.names.now.bytes.now a.names.now.places.now a.names.now.lengths.now a.lent.now.sections.now a.lent.now.image.now _ _ a.lent.now.section_places.now a.lent.now.symbols.now a.lent.now.splits.now (length a.out.now)
+    (taken_places 15 64 a.lent.now.sections.now _ _ t.ensures e)
     (λ n h.
-    place_is 64 a.name_lengths.now a.section_places.now a.image.now a.sections.now passed _ _ p.ensures n
-    (omega (arith, h, taken_few 15 64 a.sections.now _ _ t.ensures e, p.auto.column, c.requires.2))))
+    place_is 64 a.names.now.lengths.now a.lent.now.section_places.now a.lent.now.image.now a.lent.now.sections.now passed _ _ p.ensures n
+    (omega (arith, h, taken_few 15 64 a.lent.now.sections.now _ _ t.ensures e, p.auto.column, c.requires.2))))
     c.with_symbols.ensures)

@@ -10,7 +10,7 @@ use Rattle.obj.proofs.Errors.{same_err}
 use Rattle.tables.specs.Records.{sections_in}
 use Rattle.stage_tables.specs.StageTables.{splits_check}
 use Rattle.stage_tables.proofs.Laws.{table_passed}
-use Rattle.sections.specs.Image.{image_of}
+use Rattle.sections.specs.Image.{image_in}
 use Rattle.sections.specs.Sections.{sections_of}
 use Rattle.splits.specs.Columns.{columns}
 use Rattle.stage_splits.specs.StageSplits.{room_of}
@@ -40,16 +40,16 @@ unfolding from_splits
 returns-in_err-take_split_columns c =
     let a = c.args in
     let t = c.take_split_columns in
-    let heads = sections_in a.heads.now a.head_places.now in
-    let said = t.ensures.said ∙ ap (λ (k : ℕ). splits_check k a.name_lengths.now heads a.splits.now) c.room_of-room.ensures in
+    let heads = sections_in a.obj.now.heads.bytes.now a.obj.now.heads.places.now in
+    let said = t.ensures.said ∙ ap (λ (k : ℕ). splits_check k a.obj.now.names.lengths.now heads a.splits.now) c.room_of-room.ensures in
     rw (same_err c.from_residual.result t.result c.from_residual.ensures.1 c.in_err-take_split_columns.was) (gives_stops _ said (ap meaning c.in_err-take_split_columns.was))
 
 pub trim_rows-requires : goal.trim_rows-requires
 trim_rows-requires c =
     let a = c.args in
     let t = c.take_split_columns in
-    let heads = sections_in a.heads.now a.head_places.now in
-    let said = t.ensures.said ∙ ap (λ (k : ℕ). splits_check k a.name_lengths.now heads a.splits.now) c.room_of-room.ensures in
+    let heads = sections_in a.obj.now.heads.bytes.now a.obj.now.heads.places.now in
+    let said = t.ensures.said ∙ ap (λ (k : ℕ). splits_check k a.obj.now.names.lengths.now heads a.splits.now) c.room_of-room.ensures in
     let e = ap meaning c.in_ok-take_split_columns.was in
     let passed = sym t.ensures.said ∙ e in
     let few = (table_passed split_width (room_of (length a.out.now)) a.splits.now _ (sym said ∙ e)).1 in
@@ -60,7 +60,7 @@ trim_rows-requires c =
       c.requires.0,
       c.requires.1,
       c.requires.2.kept,
-      rows-placed _ a.name_lengths.now heads a.splits.now (columns last.starts last.ends last.units last.rest) passed
+      rows-placed _ a.obj.now.names.lengths.now heads a.splits.now (columns last.starts last.ends last.units last.rest) passed
           (t.ensures.taken passed)
           (record {
             starts = omega (arith, few, low, long.starts_long, kept.starts);
@@ -68,7 +68,7 @@ trim_rows-requires c =
             units = omega (arith, few, low, long.units_long, kept.units);
             rest = omega (arith, few, low, long.rest_long, kept.rest);
           })
-          (length a.head_places.now) (length-map a.head_places.now (section_at a.heads.now)),
+          (length a.obj.now.heads.places.now) (length-map a.obj.now.heads.places.now (section_at a.obj.now.heads.bytes.now)),
       omega (arith, few, low, long.falls_long),
       omega (arith, few, low),
       omega (arith, few, room_fits (length a.out.now)),
@@ -79,11 +79,11 @@ unfolding from_splits
 returns c =
     let a = c.args in
     let t = c.take_split_columns in
-    let heads = sections_in a.heads.now a.head_places.now in
-    let said = t.ensures.said ∙ ap (λ (k : ℕ). splits_check k a.name_lengths.now heads a.splits.now) c.room_of-room.ensures in
+    let heads = sections_in a.obj.now.heads.bytes.now a.obj.now.heads.places.now in
+    let said = t.ensures.said ∙ ap (λ (k : ℕ). splits_check k a.obj.now.names.lengths.now heads a.splits.now) c.room_of-room.ensures in
     let e = ap meaning c.in_ok-take_split_columns.was in
     gives_goes (sym said ∙ e)
     (gives_as
-    (ap (trimmed (image_of a.symbols.now a.symbol_places.now a.name_bytes.now a.name_places.now a.name_lengths.now) (sections_of a.heads.now a.head_places.now a.image.now a.image_places.now))
+    (ap (trimmed (image_in a.obj.now) (sections_of a.obj.now.heads.bytes.now a.obj.now.heads.places.now a.image.now.bytes.now a.image.now.places.now))
     (t.ensures.taken (sym t.ensures.said ∙ e)))
     c.trim_rows.ensures)

@@ -25,7 +25,7 @@ slice_bounds-with_splits-end c =
     let a = c.args in
     let t = c.take_symbol_order in
     let o = c.in_ok-ordered.ensures in
-    let few = symbols_few (length a.name_lengths.now) (sections_in a.heads.now a.head_places.now) a.symbols.now _ _ (Ok c.in_ok-ordered.ordered) o refl in
+    let few = symbols_few (length a.names.now.lengths.now) (sections_in a.heads.now.bytes.now a.heads.now.places.now) a.lent.now.symbols.now _ _ (Ok c.in_ok-ordered.ordered) o refl in
     omega (arith, few, t.auto.places, c.requires.2.places_long)
 
 pub slice_bounds-with_splits-end-2 : goal.slice_bounds-with_splits-end-2
@@ -33,7 +33,7 @@ slice_bounds-with_splits-end-2 c =
     let a = c.args in
     let t = c.take_symbol_order in
     let o = c.in_ok-ordered.ensures in
-    let few = symbols_few (length a.name_lengths.now) (sections_in a.heads.now a.head_places.now) a.symbols.now _ _ (Ok c.in_ok-ordered.ordered) o refl in
+    let few = symbols_few (length a.names.now.lengths.now) (sections_in a.heads.now.bytes.now a.heads.now.places.now) a.lent.now.symbols.now _ _ (Ok c.in_ok-ordered.ordered) o refl in
     sym (length-take-le _ _ (omega (arith, few, t.auto.places, c.requires.2.places_long)))
 
 pub slice_bounds-with_splits-end-3 : goal.slice_bounds-with_splits-end-3
@@ -41,7 +41,7 @@ slice_bounds-with_splits-end-3 c =
     let a = c.args in
     let t = c.take_symbol_order in
     let o = c.in_ok-ordered.ensures in
-    let few = symbols_few (length a.name_lengths.now) (sections_in a.heads.now a.head_places.now) a.symbols.now _ _ (Ok c.in_ok-ordered.ordered) o refl in
+    let few = symbols_few (length a.names.now.lengths.now) (sections_in a.heads.now.bytes.now a.heads.now.places.now) a.lent.now.symbols.now _ _ (Ok c.in_ok-ordered.ordered) o refl in
     omega (arith, o.small, few, t.auto.order, c.requires.2.order_long)
 
 pub slice_bounds-with_splits-end-4 : goal.slice_bounds-with_splits-end-4
@@ -49,19 +49,19 @@ slice_bounds-with_splits-end-4 c =
     let a = c.args in
     let t = c.take_symbol_order in
     let o = c.in_ok-ordered.ensures in
-    let few = symbols_few (length a.name_lengths.now) (sections_in a.heads.now a.head_places.now) a.symbols.now _ _ (Ok c.in_ok-ordered.ordered) o refl in
+    let few = symbols_few (length a.names.now.lengths.now) (sections_in a.heads.now.bytes.now a.heads.now.places.now) a.lent.now.symbols.now _ _ (Ok c.in_ok-ordered.ordered) o refl in
     sym (length-take-le _ _ (omega (arith, o.small, few, t.auto.order, c.requires.2.order_long)))
 
 pub with_splits-requires : goal.with_splits-requires
 with_splits-requires c =
     let s = c in
     let a = s.args in
-    let heads = sections_in a.heads.now a.head_places.now in
+    let heads = sections_in a.heads.now.bytes.now a.heads.now.places.now in
     let o = c.in_ok-ordered.ensures in
     let r = Ok c.in_ok-ordered.ordered in
-    let count = length a.name_lengths.now in (
-      tables-taken 4096 count heads a.symbols.now (symbols_passed count heads a.symbols.now _ _ r o refl) (omega arith) _ _ _ _ _ r o (sym s.requires.0.paired) s.requires.0.named,
-      sound_taken count heads a.symbols.now _ _ r o refl,
+    let count = length a.names.now.lengths.now in (
+      tables-taken 4096 count heads a.lent.now.symbols.now (symbols_passed count heads a.lent.now.symbols.now _ _ r o refl) (omega arith) _ _ _ _ _ r o (sym s.requires.0.paired) s.requires.0.named,
+      sound_taken count heads a.lent.now.symbols.now _ _ r o refl,
       s.requires.1,
     )
 
@@ -72,6 +72,6 @@ returns c =
     let o = c.in_ok-ordered.ensures in
     gives_goes (sym o.said)
     (gives_as
-    (symbols_as (length a.name_lengths.now) (sections_in a.heads.now a.head_places.now) a.symbols.now _ _ (Ok c.in_ok-ordered.ordered) o refl
-    a.name_bytes.now a.name_places.now a.name_lengths.now (sections_of a.heads.now a.head_places.now a.image.now a.image_places.now) a.splits.now (length a.out.now))
+    (symbols_as (length a.names.now.lengths.now) (sections_in a.heads.now.bytes.now a.heads.now.places.now) a.lent.now.symbols.now _ _ (Ok c.in_ok-ordered.ordered) o refl
+    a.names.now.bytes.now a.names.now.places.now a.names.now.lengths.now (sections_of a.heads.now.bytes.now a.heads.now.places.now a.image.now.bytes.now a.image.now.places.now) a.lent.now.splits.now (length a.out.now))
     c.with_splits.ensures)

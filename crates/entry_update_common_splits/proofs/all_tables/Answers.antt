@@ -56,6 +56,6 @@ returns c =
     let a = c.args in
     gives_goes told
     (gives_as
-    (start_as _ _ _ a.sections.now a.splits.now (not (eqb a.has_start 0)) a.start (length a.out.now) c.then_some.ensures
-    ∙ names_as a.sections.now a.splits.now (not (eqb a.has_start 0)) a.start (length a.out.now) (s.stored told))
+    (start_as _ _ _ a.lent.now.sections.now a.lent.now.splits.now (not (eqb a.has_start 0)) a.start (length a.out.now) c.then_some.ensures
+    ∙ names_as a.lent.now.sections.now a.lent.now.splits.now (not (eqb a.has_start 0)) a.start (length a.out.now) (s.stored told))
     c.named_tables.ensures)

@@ -25,19 +25,19 @@ returns-in_err-take_sections c =
 pub slice_bounds-with_columns-end : goal.slice_bounds-with_columns-end
 slice_bounds-with_columns-end c =
     let t = c.take_sections in
-    let n = taken_few 15 64 c.args.sections.now _ _ t.ensures (ap meaning c.in_ok-take_sections.was) in
+    let n = taken_few 15 64 c.args.lent.now.sections.now _ _ t.ensures (ap meaning c.in_ok-take_sections.was) in
     omega (arith, n, t.auto.places, c.requires.1)
 
 pub slice_bounds-with_columns-end-2 : goal.slice_bounds-with_columns-end-2
 slice_bounds-with_columns-end-2 c =
-    sym (taken-count 15 64 c.args.sections.now _ _ c.take_sections.ensures (ap meaning c.in_ok-take_sections.was))
+    sym (taken-count 15 64 c.args.lent.now.sections.now _ _ c.take_sections.ensures (ap meaning c.in_ok-take_sections.was))
 
 pub with_columns-requires : goal.with_columns-requires
 with_columns-requires c =
     let t = c.take_sections in
     let a = c.args in
     let e = ap meaning c.in_ok-take_sections.was in
-    (sections_of_lem a.sections.now _ c.requires.0 t.ensures e, taken-held 15 64 a.sections.now _ _ t.ensures e (omega arith))
+    (sections_of_lem a.lent.now.sections.now _ c.requires.0 t.ensures e, taken-held 15 64 a.lent.now.sections.now _ _ t.ensures e (omega arith))
 
 pub returns : goal.returns
 unfolding from_sections
@@ -47,6 +47,6 @@ returns c =
     let e = ap meaning c.in_ok-take_sections.was in
     gives_goes (sym t.ensures.said ∙ e)
     (gives_as
-    (ap (λ (l : List ℕ). from_splits a.name_lengths.now (sections_in a.sections.now l) (bss_in a.name_bytes.now a.name_places.now a.name_lengths.now a.sections.now l) a.splits.now (is_some a.given) (unwrap_or a.given 0) (length a.out.now))
-    (taken_places 15 64 a.sections.now _ _ t.ensures e))
+    (ap (λ (l : List ℕ). from_splits a.names.now.lengths.now (sections_in a.lent.now.sections.now l) (bss_in a.names.now.bytes.now a.names.now.places.now a.names.now.lengths.now a.lent.now.sections.now l) a.lent.now.splits.now (is_some a.given) (unwrap_or a.given 0) (length a.out.now))
+    (taken_places 15 64 a.lent.now.sections.now _ _ t.ensures e))
     c.with_columns.ensures)

@@ -38,16 +38,16 @@ unfolding from_splits
 returns-in_err-take_split_columns c =
     let a = c.args in
     let t = c.take_split_columns in
-    let heads = sections_in a.heads.now a.head_places.now in
-    let said = t.ensures.said ∙ ap (λ (k : ℕ). splits_check k a.name_lengths.now heads a.splits.now) c.room_of-room.ensures in
+    let heads = sections_in a.heads.now.bytes.now a.heads.now.places.now in
+    let said = t.ensures.said ∙ ap (λ (k : ℕ). splits_check k a.names.now.lengths.now heads a.splits.now) c.room_of-room.ensures in
     rw (same_err c.from_residual.result t.result c.from_residual.ensures.1 c.in_err-take_split_columns.was) (gives_stops _ said (ap meaning c.in_err-take_split_columns.was))
 
 pub update-requires : goal.update-requires
 update-requires c =
     let a = c.args in
     let t = c.take_split_columns in
-    let heads = sections_in a.heads.now a.head_places.now in
-    let said = t.ensures.said ∙ ap (λ (k : ℕ). splits_check k a.name_lengths.now heads a.splits.now) c.room_of-room.ensures in
+    let heads = sections_in a.heads.now.bytes.now a.heads.now.places.now in
+    let said = t.ensures.said ∙ ap (λ (k : ℕ). splits_check k a.names.now.lengths.now heads a.splits.now) c.room_of-room.ensures in
     let few = (table_passed split_width (room_of (length a.out.now)) a.splits.now _ (sym said ∙ ap meaning c.in_ok-take_split_columns.was)).1 in
     let low = room_low (length a.out.now) in
     let long = c.requires.2 in
@@ -68,10 +68,10 @@ unfolding from_splits
 returns c =
     let a = c.args in
     let t = c.take_split_columns in
-    let heads = sections_in a.heads.now a.head_places.now in
-    let said = t.ensures.said ∙ ap (λ (k : ℕ). splits_check k a.name_lengths.now heads a.splits.now) c.room_of-room.ensures in
+    let heads = sections_in a.heads.now.bytes.now a.heads.now.places.now in
+    let said = t.ensures.said ∙ ap (λ (k : ℕ). splits_check k a.names.now.lengths.now heads a.splits.now) c.room_of-room.ensures in
     let e = ap meaning c.in_ok-take_split_columns.was in
     gives_goes (sym said ∙ e)
     (gives_as
-    (ap (common_of (is_some a.given) (unwrap_or a.given 0) (bss_in a.name_bytes.now a.name_places.now a.name_lengths.now a.heads.now a.head_places.now)) (t.ensures.taken (sym t.ensures.said ∙ e)))
+    (ap (common_of (is_some a.given) (unwrap_or a.given 0) (bss_in a.names.now.bytes.now a.names.now.places.now a.names.now.lengths.now a.heads.now.bytes.now a.heads.now.places.now)) (t.ensures.taken (sym t.ensures.said ∙ e)))
     c.update.ensures)

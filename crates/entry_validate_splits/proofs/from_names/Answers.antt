@@ -28,5 +28,5 @@ returns c =
     let a = c.args in
     let told = ap meaning c.in_ok-check_names.was in
     c.with_sections.ensures
-    ∙ names_as _ _ _ _ _ _ a.sections.now a.symbols.now a.splits.now (s.stored (sym s.said ∙ told))
+    ∙ names_as _ _ _ _ _ _ a.lent.now.sections.now a.lent.now.symbols.now a.lent.now.splits.now (s.stored (sym s.said ∙ told))
     ∙ then_goes s.said _ told

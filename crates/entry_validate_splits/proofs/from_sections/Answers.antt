@@ -21,14 +21,14 @@ returns-in_err-take_sections c =
 pub slice_bounds-with_symbols-end : goal.slice_bounds-with_symbols-end
 slice_bounds-with_symbols-end c =
     let t = c.take_sections in
-    let n = taken_few 15 64 c.args.sections.now _ _ t.ensures (ap meaning c.in_ok-take_sections.was) in
+    let n = taken_few 15 64 c.args.lent.now.sections.now _ _ t.ensures (ap meaning c.in_ok-take_sections.was) in
     omega (arith, n, t.auto.places, c.requires)
 
 pub slice_bounds-with_symbols-end-2 : goal.slice_bounds-with_symbols-end-2
-slice_bounds-with_symbols-end-2 c = sym (taken-count 15 64 c.args.sections.now _ _ c.take_sections.ensures (ap meaning c.in_ok-take_sections.was))
+slice_bounds-with_symbols-end-2 c = sym (taken-count 15 64 c.args.lent.now.sections.now _ _ c.take_sections.ensures (ap meaning c.in_ok-take_sections.was))
 
 pub with_symbols-requires : goal.with_symbols-requires
-with_symbols-requires c = taken-held 15 64 c.args.sections.now _ _ c.take_sections.ensures (ap meaning c.in_ok-take_sections.was) (omega arith)
+with_symbols-requires c = taken-held 15 64 c.args.lent.now.sections.now _ _ c.take_sections.ensures (ap meaning c.in_ok-take_sections.was) (omega arith)
 
 pub returns : goal.returns
 unfolding from_sections
@@ -37,5 +37,5 @@ returns c =
     let a = c.args in
     let e = ap meaning c.in_ok-take_sections.was in
     c.with_symbols.ensures
-    ∙ ap (λ (l : List ℕ). from_symbols a.name_lengths.now (sections_in a.sections.now l) a.symbols.now a.splits.now) (taken_places 15 64 a.sections.now _ _ t.ensures e)
+    ∙ ap (λ (l : List ℕ). from_symbols a.name_lengths.now (sections_in a.lent.now.sections.now l) a.lent.now.symbols.now a.lent.now.splits.now) (taken_places 15 64 a.lent.now.sections.now _ _ t.ensures e)
     ∙ then_goes t.ensures.said _ e

@@ -42,5 +42,5 @@ returns c =
     let a = c.args in
     let e = ap meaning c.in_ok-take_split_columns.was in
     c.validate.ensures
-    ∙ ap (validate (symbol_of a.symbols.now a.symbol_places.now) (length a.symbol_places.now)) (t.ensures.taken (sym t.ensures.said ∙ e))
+    ∙ ap (validate (symbol_of a.symbols.now.bytes.now a.symbols.now.places.now) (length a.symbols.now.places.now)) (t.ensures.taken (sym t.ensures.said ∙ e))
     ∙ then_goes t.ensures.said _ e

@@ -23,7 +23,7 @@ slice_bounds-with_splits-end c =
     let a = c.args in
     let t = c.take_symbol_order in
     let o = c.in_ok-ordered.ensures in
-    let few = symbols_few (length a.name_lengths.now) (sections_in a.heads.now a.head_places.now) a.symbols.now _ _ (Ok c.in_ok-ordered.ordered) o refl in
+    let few = symbols_few (length a.name_lengths.now) (sections_in a.heads.now.bytes.now a.heads.now.places.now) a.lent.now.symbols.now _ _ (Ok c.in_ok-ordered.ordered) o refl in
     omega (arith, few, t.auto.places, c.requires.1.places_long)
 
 pub slice_bounds-with_splits-end-2 : goal.slice_bounds-with_splits-end-2
@@ -31,7 +31,7 @@ slice_bounds-with_splits-end-2 c =
     let a = c.args in
     let t = c.take_symbol_order in
     let o = c.in_ok-ordered.ensures in
-    let few = symbols_few (length a.name_lengths.now) (sections_in a.heads.now a.head_places.now) a.symbols.now _ _ (Ok c.in_ok-ordered.ordered) o refl in
+    let few = symbols_few (length a.name_lengths.now) (sections_in a.heads.now.bytes.now a.heads.now.places.now) a.lent.now.symbols.now _ _ (Ok c.in_ok-ordered.ordered) o refl in
     sym (length-take-le _ _ (omega (arith, few, t.auto.places, c.requires.1.places_long)))
 
 pub slice_bounds-with_splits-end-3 : goal.slice_bounds-with_splits-end-3
@@ -39,7 +39,7 @@ slice_bounds-with_splits-end-3 c =
     let a = c.args in
     let t = c.take_symbol_order in
     let o = c.in_ok-ordered.ensures in
-    let few = symbols_few (length a.name_lengths.now) (sections_in a.heads.now a.head_places.now) a.symbols.now _ _ (Ok c.in_ok-ordered.ordered) o refl in
+    let few = symbols_few (length a.name_lengths.now) (sections_in a.heads.now.bytes.now a.heads.now.places.now) a.lent.now.symbols.now _ _ (Ok c.in_ok-ordered.ordered) o refl in
     omega (arith, o.small, few, t.auto.order, c.requires.1.order_long)
 
 pub slice_bounds-with_splits-end-4 : goal.slice_bounds-with_splits-end-4
@@ -47,17 +47,17 @@ slice_bounds-with_splits-end-4 c =
     let a = c.args in
     let t = c.take_symbol_order in
     let o = c.in_ok-ordered.ensures in
-    let few = symbols_few (length a.name_lengths.now) (sections_in a.heads.now a.head_places.now) a.symbols.now _ _ (Ok c.in_ok-ordered.ordered) o refl in
+    let few = symbols_few (length a.name_lengths.now) (sections_in a.heads.now.bytes.now a.heads.now.places.now) a.lent.now.symbols.now _ _ (Ok c.in_ok-ordered.ordered) o refl in
     sym (length-take-le _ _ (omega (arith, o.small, few, t.auto.order, c.requires.1.order_long)))
 
 pub with_splits-requires : goal.with_splits-requires
 with_splits-requires c =
     let a = c.args in
     let o = c.in_ok-ordered.ensures in
-    let heads = sections_in a.heads.now a.head_places.now in (
+    let heads = sections_in a.heads.now.bytes.now a.heads.now.places.now in (
       c.requires.0,
-      order_taken (length a.name_lengths.now) heads a.symbols.now _ _ (Ok c.in_ok-ordered.ordered) o refl,
-      sound_taken (length a.name_lengths.now) heads a.symbols.now _ _ (Ok c.in_ok-ordered.ordered) o refl,
+      order_taken (length a.name_lengths.now) heads a.lent.now.symbols.now _ _ (Ok c.in_ok-ordered.ordered) o refl,
+      sound_taken (length a.name_lengths.now) heads a.lent.now.symbols.now _ _ (Ok c.in_ok-ordered.ordered) o refl,
     )
 
 pub returns : goal.returns
@@ -66,5 +66,5 @@ returns c =
     let a = c.args in
     let o = c.in_ok-ordered.ensures in
     c.with_splits.ensures
-    ∙ symbols_as (length a.name_lengths.now) (sections_in a.heads.now a.head_places.now) a.symbols.now _ _ (Ok c.in_ok-ordered.ordered) o refl a.name_lengths.now a.splits.now
+    ∙ symbols_as (length a.name_lengths.now) (sections_in a.heads.now.bytes.now a.heads.now.places.now) a.lent.now.symbols.now _ _ (Ok c.in_ok-ordered.ordered) o refl a.name_lengths.now a.lent.now.splits.now
     ∙ then_goes o.said _ refl

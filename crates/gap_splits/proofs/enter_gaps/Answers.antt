@@ -35,7 +35,7 @@ enter_gap-requires c =
       q.3,
       l.invariant.stand,
       rw es (section_here _ _ _ _ q.5 _ t),
-      absent_here (section_names a.heads.now a.head_places.now a.name_bytes.now a.name_places.now a.name_lengths.now) (given (sections_in a.heads.now a.head_places.now) a.cap) (names_of a.name_bytes.now a.name_places.now a.name_lengths.now (length a.name_places.now)) a.most a.most_bytes a.cap a.keys.now a.gap_ends.now a.count (beside l.added_bytes l.added_places l.added_lengths) l.done.names l.i es ef (l.invariant.fresh l.i (omega arith) t),
+      absent_here (section_names a.heads.now.bytes.now a.heads.now.places.now a.table_names.now.bytes.now a.table_names.now.places.now a.table_names.now.lengths.now) (given (sections_in a.heads.now.bytes.now a.heads.now.places.now) a.cap) (names_of a.table_names.now.bytes.now a.table_names.now.places.now a.table_names.now.lengths.now (length a.table_names.now.places.now)) a.most a.most_bytes a.cap a.keys.now a.gap_ends.now a.count (beside l.added_bytes l.added_places l.added_lengths) l.done.names l.i es ef (l.invariant.fresh l.i (omega arith) t),
     )
 
 pub returns-in_err-done : goal.returns-in_err-done
@@ -58,7 +58,7 @@ loop-i-preserved c =
     let l = c.loop-i in
     let o = c.enter_gap in
     let here = gap_here a.keys.now a.gap_ends.now l.i c.section_of-section.ensures c.start_of-start.ensures in
-    goes_on _ _ _ _ _ _ _ _ _ _ _ _ _ _ _ l.i l.invariant c.loop-i-test.true (length a.head_places.now) q.5 q.3.few _ _ _ here o.ensures c.in_ok-done.was
+    goes_on _ _ _ _ _ _ _ _ _ _ _ _ _ _ _ l.i l.invariant c.loop-i-test.true (length a.heads.now.places.now) q.5 q.3.few _ _ _ here o.ensures c.in_ok-done.was
     (record {
       starts = o.auto.starts ∙ l.invariant.same_table.starts;
       ends = o.auto.ends ∙ l.invariant.same_table.ends;

@@ -12,7 +12,7 @@ pub returns-in-Some : goal.returns-in-Some
 returns-in-Some c =
     let s = c in
     let a = s.args in
-    let base = names_of a.name_bytes.now a.name_places.now a.name_lengths.now (length a.name_places.now) in
+    let base = names_of a.table_names.now.bytes.now a.table_names.now.places.now a.table_names.now.lengths.now (length a.table_names.now.places.now) in
     let old = beside a.added_bytes.now a.added_places.now a.added_lengths.now in
     let f = c.in-Some.ensures in
     numbered_there base a.x.now old a.names a.used a.most a.most_bytes s.requires.2 f.0.is f.1
@@ -21,8 +21,8 @@ pub returns-then-done : goal.returns-then-done
 returns-then-done c =
     let s = c in
     let a = s.args in
-    let base = names_of a.name_bytes.now a.name_places.now a.name_lengths.now (length a.name_places.now) in
-    let long = length-names a.name_bytes.now a.name_places.now a.name_lengths.now (length a.name_places.now) in
+    let base = names_of a.table_names.now.bytes.now a.table_names.now.places.now a.table_names.now.lengths.now (length a.table_names.now.places.now) in
+    let long = length-names a.table_names.now.bytes.now a.table_names.now.places.now a.table_names.now.lengths.now (length a.table_names.now.places.now) in
     let old = beside a.added_bytes.now a.added_places.now a.added_lengths.now in
     let o = c.append-done in
     let new = beside o.new.bytes o.new.places o.new.lengths in
@@ -31,14 +31,14 @@ returns-then-done c =
 
 pub overflow_cast-result-then-done : goal.overflow_cast-result-then-done
 overflow_cast-result-then-done c =
-    let long = length-names c.args.name_bytes.now c.args.name_places.now c.args.name_lengths.now (length c.args.name_places.now) in
+    let long = length-names c.args.table_names.now.bytes.now c.args.table_names.now.places.now c.args.table_names.now.lengths.now (length c.args.table_names.now.places.now) in
     omega (arith, long, c.requires.1.few, c.requires.2.few, c.requires.2.room.few)
 
 pub returns : goal.returns
 returns c =
     let s = c in
     let a = s.args in
-    let base = names_of a.name_bytes.now a.name_places.now a.name_lengths.now (length a.name_places.now) in
+    let base = names_of a.table_names.now.bytes.now a.table_names.now.places.now a.table_names.now.lengths.now (length a.table_names.now.places.now) in
     let old = beside a.added_bytes.now a.added_places.now a.added_lengths.now in
     let o = c.append-done in
     let new = beside o.new.bytes o.new.places o.new.lengths in

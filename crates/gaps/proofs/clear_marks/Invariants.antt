@@ -5,4 +5,4 @@ use Rattle.gaps.specs.Found.{Unmarked}
 use Rattle.gaps.proofs.clear_marks.Given as goal
 
 abbrev pub invariant-loop-j : goal.invariant-loop-j
-invariant-loop-j l = Unmarked (symbol_of l.b l.places) (take l.j l.part) l.initial.marks l.marks
+invariant-loop-j l = Unmarked (symbol_of l.table.bytes.now l.table.places.now) (take l.j l.part) l.initial.marks l.marks

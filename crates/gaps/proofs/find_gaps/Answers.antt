@@ -1,9 +1,9 @@
 -- The gaps of each section enter after those found.
 use Rattle.std.proofs.Common.{◌∙◌, sym, ap, arith}
 use Rattle.std.proofs.lemmas.Result.{err_from_is_err_and}
-use Rattle.sections.specs.Image.{image_of}
+use Rattle.sections.specs.Image.{image_in}
 use Rattle.sections.specs.Sections.{sections_of}
-use Rattle.splits.specs.Columns.{columns}
+use Rattle.splits.specs.Columns.{columns_of}
 use Rattle.gaps.specs.Found.{searched}
 use Rattle.gaps.proofs.Sections.{search_start, search_space, search_refused, search_on, search_done}
 use Rattle.gaps.proofs.find_gaps.Goals as goal
@@ -11,9 +11,9 @@ use Rattle.gaps.proofs.find_gaps.Goals as goal
 pub loop-k-init : goal.loop-k-init
 loop-k-init c =
     let a = c.args in
-    let g = image_of a.b.now a.places.now a.name_bytes.now a.name_places.now a.name_lengths.now in
-    let sections = sections_of a.heads.now a.head_places.now a.image.now a.image_places.now in
-    record { holds = search_start g sections (columns a.starts.now a.ends.now a.units.now a.rest.now) a.n a.keys.now a.gap_ends.now; clean = c.requires.4 }
+    let g = image_in a.obj.now in
+    let sections = sections_of a.obj.now.heads.bytes.now a.obj.now.heads.places.now a.image.now.bytes.now a.image.now.places.now in
+    record { holds = search_start g sections (columns_of a.splits.now) a.n a.keys.now a.gap_ends.now; clean = c.requires.4 }
 
 pub gaps_of-requires : goal.gaps_of-requires
 gaps_of-requires c =

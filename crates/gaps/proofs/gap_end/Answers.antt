@@ -14,7 +14,7 @@ end_at-end-requires c =
     let a = c.args in
     let stopped = c.stop_of-j in (
       part_readable _ _ _ c.requires.0 _ _ c.for_section_range-part.ensures,
-      still_markable (symbol_of a.b.now a.places.now) (length a.places.now) a.marks.now stopped.new.marks c.requires.1 stopped.auto.marks,
+      still_markable (symbol_of a.table.now.bytes.now a.table.now.places.now) (length a.table.now.places.now) a.marks.now stopped.new.marks c.requires.1 stopped.auto.marks,
       stopped.ensures,
       c.requires.3,
     )
@@ -24,7 +24,7 @@ clear_marks-requires c =
     let a = c.args in
     let stopped = c.stop_of-j in (
       readable_take _ _ _ stopped.result (part_readable _ _ _ c.requires.0 _ _ c.for_section_range-part.ensures),
-      still_markable (symbol_of a.b.now a.places.now) (length a.places.now) a.marks.now stopped.new.marks c.requires.1 stopped.auto.marks,
+      still_markable (symbol_of a.table.now.bytes.now a.table.now.places.now) (length a.table.now.places.now) a.marks.now stopped.new.marks c.requires.1 stopped.auto.marks,
     )
 
 pub returns : goal.returns
@@ -32,5 +32,5 @@ returns c =
     let a = c.args in
     let stopped = c.stop_of-j in (
       c.end_at-end.ensures ∙ end_of_part _ _ _ _ _ _ c.for_section_range-part.ensures,
-      all_clean (symbol_of a.b.now a.places.now) (take stopped.result c.for_section_range-part.result.now) stopped.new.marks a.current c.for_section_range-part.result.now c.clear_marks.new.marks stopped.result refl stopped.ensures c.clear_marks.ensures,
+      all_clean (symbol_of a.table.now.bytes.now a.table.now.places.now) (take stopped.result c.for_section_range-part.result.now) stopped.new.marks a.current c.for_section_range-part.result.now c.clear_marks.new.marks stopped.result refl stopped.ensures c.clear_marks.ensures,
     )

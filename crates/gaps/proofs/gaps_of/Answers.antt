@@ -10,14 +10,14 @@ use Rattle.align.specs.Align.{good_align}
 use Rattle.obj.specs.declared.Section.{Section}
 use Rattle.names.specs.Names.{name_at}
 use Rattle.symbol_order.specs.Order.{symbol_of}
-use Rattle.sections.specs.Image.{image_of, Whole}
+use Rattle.sections.specs.Image.{Whole, image_in}
 use Rattle.sections.specs.Bytes.{bytes_of}
 use Rattle.sections.specs.Sections.{head_of, sections_of}
 use Rattle.sections.specs.Alignment.{default_alignment}
 use Rattle.sections.specs.Ends.{splitting_end, end_meaning}
 use Rattle.sections.proofs.Good.{default_good}
 use Rattle.sections.proofs.Kept.{kept_whole, end_within}
-use Rattle.splits.specs.Columns.{columns, rows}
+use Rattle.splits.specs.Columns.{rows, columns_of}
 use Rattle.gap_columns.specs.Columns.{gaps_in}
 use Rattle.gaps.specs.Gaps.{gaps_from, below, default_of, into}
 use Rattle.gaps.specs.Found.{Space}
@@ -27,23 +27,23 @@ use Rattle.gaps.proofs.gaps_of.Goals as goal
 pub end_for_section-requires : goal.end_for_section-requires
 end_for_section-requires c =
     let a = c.args in
-    let g = image_of a.b.now a.places.now a.name_bytes.now a.name_places.now a.name_lengths.now in
-    let s = sections_of a.heads.now a.head_places.now a.image.now a.image_places.now in
-    let bytes : c.section_bytes-bytes.result.now ≡ s.bytes a.k = c.section_bytes-bytes.ensures ∙ ap (bytes_of a.image.now a.image_places.now a.k) c.section_at-head.ensures in
+    let g = image_in a.obj.now in
+    let s = sections_of a.obj.now.heads.bytes.now a.obj.now.heads.places.now a.image.now.bytes.now a.image.now.places.now in
+    let bytes : c.section_bytes-bytes.result.now ≡ s.bytes a.k = c.section_bytes-bytes.ensures ∙ ap (bytes_of a.image.now.bytes.now a.image.now.places.now a.k) c.section_at-head.ensures in
     let whole = kept_whole _ _ _ _ _ c.requires.1 a.k c.requires.5 in (
       c.requires.0,
-      subst (λ (h : Section). Whole h c.section_bytes-bytes.result.now a.name_places.now) (sym c.section_at-head.ensures)
-          (subst (λ (l : List ℕ). Whole (head_of a.heads.now a.head_places.now a.k) l a.name_places.now) (sym bytes) whole),
+      subst (λ (h : Section). Whole h c.section_bytes-bytes.result.now a.obj.now.names.places.now) (sym c.section_at-head.ensures)
+          (subst (λ (l : List ℕ). Whole (head_of a.obj.now.heads.bytes.now a.obj.now.heads.places.now a.k) l a.obj.now.names.places.now) (sym bytes) whole),
     )
 
 pub returns-in_default : goal.returns-in_default
 returns-in_default c =
     let a = c.args in
-    let g = image_of a.b.now a.places.now a.name_bytes.now a.name_places.now a.name_lengths.now in
-    let s = sections_of a.heads.now a.head_places.now a.image.now a.image_places.now in
-    let bytes : c.section_bytes-bytes.result.now ≡ s.bytes a.k = c.section_bytes-bytes.ensures ∙ ap (bytes_of a.image.now a.image_places.now a.k) c.section_at-head.ensures in
+    let g = image_in a.obj.now in
+    let s = sections_of a.obj.now.heads.bytes.now a.obj.now.heads.places.now a.image.now.bytes.now a.image.now.places.now in
+    let bytes : c.section_bytes-bytes.result.now ≡ s.bytes a.k = c.section_bytes-bytes.ensures ∙ ap (bytes_of a.image.now.bytes.now a.image.now.places.now a.k) c.section_at-head.ensures in
     let last = ap₂ (splitting_end g a.k) c.section_at-head.ensures bytes in
-    let l = rows (columns a.starts.now a.ends.now a.units.now a.rest.now) a.n in
+    let l = rows (columns_of a.splits.now) a.n in
     rw c.refuse.ensures (
       section_short g s a.k l (gaps_in a.keys.now a.gap_ends.now a.count) 10 a.k c.section_at-head.result.address (c.in_default.ensures ∙ last),
       c.requires.2.clean,
@@ -52,19 +52,19 @@ returns-in_default c =
 pub section_gaps-requires : goal.section_gaps-requires
 section_gaps-requires c =
     let a = c.args in
-    let g = image_of a.b.now a.places.now a.name_bytes.now a.name_places.now a.name_lengths.now in
-    let s = sections_of a.heads.now a.head_places.now a.image.now a.image_places.now in
-    let bytes : c.section_bytes-bytes.result.now ≡ s.bytes a.k = c.section_bytes-bytes.ensures ∙ ap (bytes_of a.image.now a.image_places.now a.k) c.section_at-head.ensures in
+    let g = image_in a.obj.now in
+    let s = sections_of a.obj.now.heads.bytes.now a.obj.now.heads.places.now a.image.now.bytes.now a.image.now.places.now in
+    let bytes : c.section_bytes-bytes.result.now ≡ s.bytes a.k = c.section_bytes-bytes.ensures ∙ ap (bytes_of a.image.now.bytes.now a.image.now.places.now a.k) c.section_at-head.ensures in
     let last = ap₂ (splitting_end g a.k) c.section_at-head.ensures bytes in
     let is : accepted c.in-Ok.end ≡ splitting_end g a.k (s.head a.k) (s.bytes a.k) = sym (ap (end_meaning a.k c.section_at-head.result.address) c.in-Ok.is) ∙ c.end_for_section.ensures ∙ last in
-    let name : ℕ → List ℕ = name_at a.name_bytes.now a.name_places.now a.name_lengths.now in
+    let name : ℕ → List ℕ = name_at a.obj.now.names.bytes.now a.obj.now.names.places.now a.obj.now.names.lengths.now in
     let least : c.default_alignment-least.result ≡ default_of g s a.k =
     c.default_alignment-least.ensures ∙ ap₂ default_alignment c.section_at-head.ensures (c.name_at-name.ensures ∙ ap name (ap (λ (h : Section). h.name) c.section_at-head.ensures)) in
     let p = c.requires in
     let end = c.in-Ok.end in
     let within = end_within g a.k (s.head a.k) (s.bytes a.k) end (sym is) in (
       p.2,
-      subst (λ (h : Section). Space (symbol_of a.b.now a.places.now) (length a.places.now) a.k h.address end (rows (columns a.starts.now a.ends.now a.units.now a.rest.now) a.n) a.keys.now a.gap_ends.now a.count)
+      subst (λ (h : Section). Space (symbol_of a.obj.now.symbols.bytes.now a.obj.now.symbols.places.now) (length a.obj.now.symbols.places.now) a.k h.address end (rows (columns_of a.splits.now) a.n) a.keys.now a.gap_ends.now a.count)
           (sym c.section_at-head.ensures) (p.6 end),
       p.3,
       p.4,
@@ -75,15 +75,15 @@ section_gaps-requires c =
 pub returns : goal.returns
 returns c =
     let a = c.args in
-    let g = image_of a.b.now a.places.now a.name_bytes.now a.name_places.now a.name_lengths.now in
-    let s = sections_of a.heads.now a.head_places.now a.image.now a.image_places.now in
-    let bytes : c.section_bytes-bytes.result.now ≡ s.bytes a.k = c.section_bytes-bytes.ensures ∙ ap (bytes_of a.image.now a.image_places.now a.k) c.section_at-head.ensures in
+    let g = image_in a.obj.now in
+    let s = sections_of a.obj.now.heads.bytes.now a.obj.now.heads.places.now a.image.now.bytes.now a.image.now.places.now in
+    let bytes : c.section_bytes-bytes.result.now ≡ s.bytes a.k = c.section_bytes-bytes.ensures ∙ ap (bytes_of a.image.now.bytes.now a.image.now.places.now a.k) c.section_at-head.ensures in
     let last = ap₂ (splitting_end g a.k) c.section_at-head.ensures bytes in
     let is : accepted c.in-Ok.end ≡ splitting_end g a.k (s.head a.k) (s.bytes a.k) = sym (ap (end_meaning a.k c.section_at-head.result.address) c.in-Ok.is) ∙ c.end_for_section.ensures ∙ last in
-    let name : ℕ → List ℕ = name_at a.name_bytes.now a.name_places.now a.name_lengths.now in
+    let name : ℕ → List ℕ = name_at a.obj.now.names.bytes.now a.obj.now.names.places.now a.obj.now.names.lengths.now in
     let least : c.default_alignment-least.result ≡ default_of g s a.k =
     c.default_alignment-least.ensures ∙ ap₂ default_alignment c.section_at-head.ensures (c.name_at-name.ensures ∙ ap name (ap (λ (h : Section). h.name) c.section_at-head.ensures)) in
-    let l = rows (columns a.starts.now a.ends.now a.units.now a.rest.now) a.n in
+    let l = rows (columns_of a.splits.now) a.n in
     let before = gaps_in a.keys.now a.gap_ends.now a.count in
     let end = c.in-Ok.end in (
       c.section_gaps.ensures.0

@@ -27,7 +27,7 @@ gap_end-requires c =
     let l = c.loop-count in
     let follows : align_up l.at a.alignment < a.next = omega (arith, c.if-next-align_up.false, c.align_up.ensures.is) in (
       c.requires.0.symbols,
-      still_markable (symbol_of a.b.now a.places.now) (length a.places.now) a.marks.now l.marks c.requires.0.markable l.auto.marks,
+      still_markable (symbol_of a.table.now.bytes.now a.table.now.places.now) (length a.table.now.places.now) a.marks.now l.marks c.requires.0.markable l.auto.marks,
       l.invariant.clean,
       before_next _ _ _ _ _ _ _ _ _ c.requires.4 _ _ _ _ l.invariant.holds follows,
     )
@@ -66,6 +66,6 @@ returns-in-Err c =
     let a = c.args in
     let l = c.loop-count in
     let follows : align_up l.at a.alignment < a.next = omega (arith, c.if-next-align_up.false, c.align_up.ensures.is) in
-    let is : gap_end (symbol_of a.b.now a.places.now) (length a.places.now) a.section l.at a.next ≡ refused c.end_number.result a.section l.at =
+    let is : gap_end (symbol_of a.table.now.bytes.now a.table.now.places.now) (length a.table.now.places.now) a.section l.at a.next ≡ refused c.end_number.result a.section l.at =
     rw c.end_number.ensures (sym c.gap_end.ensures.0 ∙ ap (end_meaning a.section l.at) c.in-Err.is) in
     rw c.refuse.ensures (turn_refused _ _ _ _ _ _ _ _ _ c.requires.4 _ _ _ _ l.invariant.holds follows _ _ _ is, c.gap_end.ensures.1)

@@ -9,7 +9,7 @@ use Rattle.gaps.proofs.gaps_to.Given as goal
 
 abbrev pub invariant-loop-count : goal.invariant-loop-count
 invariant-loop-count l =
-    record { holds : Turning (symbol_of l.b l.places) (length l.places) l.section l.current l.next l.alignment l.initial.keys l.initial.gap_ends l.count l.keys l.gap_ends l.found l.at; clean : Clean l.marks }
+    record { holds : Turning (symbol_of l.table.bytes.now l.table.places.now) (length l.table.places.now) l.section l.current l.next l.alignment l.initial.keys l.initial.gap_ends l.count l.keys l.gap_ends l.found l.at; clean : Clean l.marks }
 
 abbrev pub decreases-loop-count : goal.decreases-loop-count
 decreases-loop-count l = l.next - l.at

@@ -42,7 +42,7 @@ gaps_before-requires c =
     let low = walk_low _ _ _ _ _ _ _ _ _ _ _ p.2 p.5 _ _ _ _ _ l.invariant.holds h _ c.row-s.ensures in (
       record {
         symbols = p.0.symbols;
-        markable = still_markable (symbol_of a.b.now a.places.now) (length a.places.now) a.marks.now l.marks p.0.markable l.auto.marks;
+        markable = still_markable (symbol_of a.table.now.bytes.now a.table.now.places.now) (length a.table.now.places.now) a.marks.now l.marks p.0.markable l.auto.marks;
         clean = l.invariant.clean;
       },
       walk_room _ _ _ _ _ _ _ _ _ _ _ p.2 p.5 _ _ _ _ _ l.invariant.holds h _ c.row-s.ensures,
@@ -96,7 +96,7 @@ gaps_to-requires c =
     let h = c.if-end-current.false in (
       record {
         symbols = p.0.symbols;
-        markable = still_markable (symbol_of a.b.now a.places.now) (length a.places.now) a.marks.now l.marks p.0.markable l.auto.marks;
+        markable = still_markable (symbol_of a.table.now.bytes.now a.table.now.places.now) (length a.table.now.places.now) a.marks.now l.marks p.0.markable l.auto.marks;
         clean = l.invariant.clean;
       },
       space_before _ _ _ _ _ _ _ _ _ _ (omega arith) l.invariant.holds.space,

@@ -3,14 +3,14 @@
 use Prim.Native.Nat.{◌-◌}
 use lib.ListN.{length}
 use Rattle.symbol_order.specs.Order.{symbol_of}
-use Rattle.splits.specs.Columns.{columns}
+use Rattle.splits.specs.Columns.{columns_of}
 use Rattle.gaps.specs.Found.{Clean}
 use Rattle.gaps.proofs.Passes.{Walking}
 use Rattle.gaps.proofs.section_gaps.Given as goal
 
 abbrev pub invariant-loop-i : goal.invariant-loop-i
 invariant-loop-i l =
-    record { holds : Walking (symbol_of l.b l.places) (length l.places) l.section l.least l.end l.start (columns l.starts l.ends l.units l.rest) l.n l.initial.keys l.initial.gap_ends l.count l.keys l.gap_ends l.found l.current l.i; clean : Clean l.marks }
+    record { holds : Walking (symbol_of l.table.bytes.now l.table.places.now) (length l.table.places.now) l.section l.least l.end l.start (columns_of l.splits) l.n l.initial.keys l.initial.gap_ends l.count l.keys l.gap_ends l.found l.current l.i; clean : Clean l.marks }
 
 abbrev pub decreases-loop-i : goal.decreases-loop-i
 decreases-loop-i l = l.n - l.i

@@ -4,4 +4,4 @@ use Rattle.gaps.proofs.Marks.{Passing}
 use Rattle.gaps.proofs.stop_of.Given as goal
 
 abbrev pub invariant-loop-j : goal.invariant-loop-j
-invariant-loop-j l = Passing (symbol_of l.b l.places) l.current l.part l.marks l.j
+invariant-loop-j l = Passing (symbol_of l.table.bytes.now l.table.places.now) l.current l.part l.marks l.j

@@ -10,7 +10,7 @@ use Rattle.number_names.proofs.Laid.{count_back}
 use Rattle.import_rows.proofs.name_number.Goals as goal
 use Rattle.import_rows.proofs.name_number.Goals.{After-unwrap_or}
 
-number : (c : After-unwrap_or) (names : List (List ℕ)) → Known names c.args.ends.now c.args.bytes.now c.args.heads.now c.args.chain.now
+number : (c : After-unwrap_or) (names : List (List ℕ)) → Known names c.args.ends.now c.args.bytes.now c.args.index.now.heads.now c.args.index.now.chain.now
     → c.unwrap_or.result ≡ number_of names (string_at c.args.strings.now c.args.at)
 number c names k =
     c.unwrap_or.ensures

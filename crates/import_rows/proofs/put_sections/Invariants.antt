@@ -10,5 +10,5 @@ use Rattle.import_rows.proofs.put_sections.Given as goal
 
 abbrev pub invariant-loop-i : goal.invariant-loop-i
 invariant-loop-i l =
-    ((names : List (List ℕ)) → Known names l.ends l.bytes l.heads l.chain
+    ((names : List (List ℕ)) → Known names l.ends l.bytes l.index.heads.now l.index.chain.now
     → Writing (map section_record (map (λ k. head_of names l.strings (header_of l.headers k)) (drop l.i l.taken))) (sections_table (map (λ k. head_of names l.strings (header_of l.headers k)) l.taken)) l.initial.out l.out (15 * l.i))

@@ -12,5 +12,5 @@ use Rattle.import_rows.proofs.put_symbols.Given as goal
 
 abbrev pub invariant-loop-i : goal.invariant-loop-i
 invariant-loop-i l =
-    ((names : List (List ℕ)) → Known names l.ends l.bytes l.heads l.chain
+    ((names : List (List ℕ)) → Known names l.ends l.bytes l.index.heads.now l.index.chain.now
     → Writing (map symbol_record (map (symbol_of names l.strings l.taken) (tabulate (λ k. symbol_entry_at l.table (16 * k)) l.i (length l.table / 16 - l.i)))) (symbols_table (map (symbol_of names l.strings l.taken) (entries_of l.table))) l.initial.out l.out (20 * (l.i - 1)))

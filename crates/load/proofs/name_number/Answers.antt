@@ -11,24 +11,24 @@ pub returns-then-is_some : goal.returns-then-is_some
 returns-then-is_some c =
     let a = c.args in
     ap fault_as
-    (name_again _ a.file.now a.at a.len a.n a.places.now a.lengths.now a.heads.now a.chain.now c.requires.1 c.requires.0 _ c.find_name.ensures (sym c.is_some.ensures ∙ c.if-is_some.true))
+    (name_again _ a.file.now a.at a.len a.n a.places.now a.lengths.now a.index.now.heads.now a.index.now.chain.now c.requires.1 c.requires.0 _ c.find_name.ensures (sym c.is_some.ensures ∙ c.if-is_some.true))
 
 pub returns-then-c-n : goal.returns-then-c-n
 returns-then-c-n c =
     let a = c.args in
     ap fault_as
-    (name_over _ a.file.now a.at a.len a.n a.places.now a.lengths.now a.heads.now a.chain.now c.requires.1 c.requires.0 _ c.find_name.ensures (sym c.is_some.ensures ∙ c.if-is_some.false) c.if-c-n.true)
+    (name_over _ a.file.now a.at a.len a.n a.places.now a.lengths.now a.index.now.heads.now a.index.now.chain.now c.requires.1 c.requires.0 _ c.find_name.ensures (sym c.is_some.ensures ∙ c.if-is_some.false) c.if-c-n.true)
 
 pub returns-then-bad_name : goal.returns-then-bad_name
 returns-then-bad_name c =
     let a = c.args in
     ap fault_as
-    (name_faulty _ a.file.now a.at a.len a.n a.places.now a.lengths.now a.heads.now a.chain.now c.requires.1 c.requires.0 _ c.find_name.ensures (sym c.is_some.ensures ∙ c.if-is_some.false) c.if-c-n.false
+    (name_faulty _ a.file.now a.at a.len a.n a.places.now a.lengths.now a.index.now.heads.now a.index.now.chain.now c.requires.1 c.requires.0 _ c.find_name.ensures (sym c.is_some.ensures ∙ c.if-is_some.false) c.if-c-n.false
     (c.bad_name.ensures ∙ ap name_bad (part_is a.file.now {a = a.at} {b = a.len} a.at a.len refl refl)) c.if-bad_name.true)
 
 pub returns : goal.returns
 returns c =
     let a = c.args in
     ap fault_as
-    (name_passes _ a.file.now a.at a.len a.n a.places.now a.lengths.now a.heads.now a.chain.now c.requires.1 c.requires.0 _ c.find_name.ensures (sym c.is_some.ensures ∙ c.if-is_some.false) c.if-c-n.false
+    (name_passes _ a.file.now a.at a.len a.n a.places.now a.lengths.now a.index.now.heads.now a.index.now.chain.now c.requires.1 c.requires.0 _ c.find_name.ensures (sym c.is_some.ensures ∙ c.if-is_some.false) c.if-c-n.false
     (c.bad_name.ensures ∙ ap name_bad (part_is a.file.now {a = a.at} {b = a.len} a.at a.len refl refl)) c.if-bad_name.false)

@@ -5,7 +5,7 @@ use Rattle.std.specs.Option.{unwrap_or}
 use Rattle.lists.specs.Rows.{tabulate}
 use Rattle.lists.proofs.Parts.{tabulate_all}
 use Rattle.obj.specs.Answers.{meaning}
-use Rattle.splits.specs.Columns.{columns, row_of, row_at}
+use Rattle.splits.specs.Columns.{row_of, row_at, columns_of}
 use Rattle.mend.specs.Mend.{mend_check}
 use Rattle.mend.proofs.Steps.{gets, check_stops, check_goes, check_ended}
 use Rattle.mend.proofs.check_ends.Goals as goal
@@ -13,16 +13,16 @@ use Rattle.mend.proofs.check_ends.Goals as goal
 pub loop-i-init : goal.loop-i-init
 loop-i-init c = ap (mend_check _) (tabulate_all _ _)
 
-pub returns-then-end-starts : goal.returns-then-end-starts
+pub returns-then-end-splits : goal.returns-then-end-splits
 unfolding row_of
-returns-then-end-starts c =
+returns-then-end-splits c =
     let a = c.args in
     let l = c.loop-i in
-    let f = row_at (columns a.starts.now a.ends.now a.units.now a.rest.now) in
+    let f = row_at (columns_of a.splits.now) in
     ap meaning c.refuse.ensures
     ∙ check_stops a.section_ends.now f a.n l.i c.loop-i-test.true _
-    (c.unwrap_or-end.ensures ∙ ap (λ (d : Option ℕ). unwrap_or d (get_or a.ends.now l.i 0)) c.decide.ensures ∙ gets a.section_ends.now (f l.i) (tabulate f (l.i + 1) (a.n - (l.i + 1))))
-    c.if-end-starts.true
+    (c.unwrap_or-end.ensures ∙ ap (λ (d : Option ℕ). unwrap_or d (get_or a.splits.now.ends.now l.i 0)) c.decide.ensures ∙ gets a.section_ends.now (f l.i) (tabulate f (l.i + 1) (a.n - (l.i + 1))))
+    c.if-end-splits.true
     ∙ l.invariant
 
 pub loop-i-preserved : goal.loop-i-preserved
@@ -30,15 +30,15 @@ unfolding row_of
 loop-i-preserved c =
     let a = c.args in
     let l = c.loop-i in
-    let f = row_at (columns a.starts.now a.ends.now a.units.now a.rest.now) in
+    let f = row_at (columns_of a.splits.now) in
     check_goes a.section_ends.now f a.n l.i c.loop-i-test.true _
-    (c.unwrap_or-end.ensures ∙ ap (λ (d : Option ℕ). unwrap_or d (get_or a.ends.now l.i 0)) c.decide.ensures ∙ gets a.section_ends.now (f l.i) (tabulate f (l.i + 1) (a.n - (l.i + 1))))
-    c.if-end-starts.false
+    (c.unwrap_or-end.ensures ∙ ap (λ (d : Option ℕ). unwrap_or d (get_or a.splits.now.ends.now l.i 0)) c.decide.ensures ∙ gets a.section_ends.now (f l.i) (tabulate f (l.i + 1) (a.n - (l.i + 1))))
+    c.if-end-splits.false
     ∙ l.invariant
 
 pub returns : goal.returns
 returns c =
     let a = c.args in
     let l = c.loop-i in
-    let f = row_at (columns a.starts.now a.ends.now a.units.now a.rest.now) in
+    let f = row_at (columns_of a.splits.now) in
     check_ended a.section_ends.now f a.n l.i c.loop-i-test.false ∙ l.invariant

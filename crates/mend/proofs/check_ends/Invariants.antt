@@ -2,10 +2,10 @@
 use mathlib.Core.Path.{◌≡◌}
 use Prim.Native.Nat.{◌-◌}
 use Rattle.lists.specs.Rows.{tabulate}
-use Rattle.splits.specs.Columns.{columns, row_at, rows}
+use Rattle.splits.specs.Columns.{row_at, rows, columns_of}
 use Rattle.mend.specs.Mend.{mend_check}
 use Rattle.mend.proofs.check_ends.Given as goal
 
 abbrev pub invariant-loop-i : goal.invariant-loop-i
 invariant-loop-i l =
-    mend_check l.section_ends (tabulate (row_at (columns l.starts l.ends l.units l.rest)) l.i (l.n - l.i)) ≡ mend_check l.section_ends (rows (columns l.starts l.ends l.units l.rest) l.n)
+    mend_check l.section_ends (tabulate (row_at (columns_of l.splits)) l.i (l.n - l.i)) ≡ mend_check l.section_ends (rows (columns_of l.splits) l.n)

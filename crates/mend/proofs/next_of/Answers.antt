@@ -1,24 +1,24 @@
 -- `mend::next_of` meets its contract: the row after, if there is one and it is of the section. Assumes nothing.
-use Rattle.splits.specs.Columns.{columns, row_of, row_at}
+use Rattle.splits.specs.Columns.{row_of, row_at, columns_of}
 use Rattle.mend.proofs.Steps.{next_none, next_other, next_same}
 use Rattle.mend.proofs.next_of.Goals as goal
 
 pub returns-then-n-k : goal.returns-then-n-k
 returns-then-n-k c =
     let a = c.args in
-    let f = row_at (columns a.starts.now a.ends.now a.units.now a.rest.now) in
+    let f = row_at (columns_of a.splits.now) in
     next_none f (f a.i) a.i a.n c.if-n-k.true
 
-pub returns-then-rest-k : goal.returns-then-rest-k
+pub returns-then-splits-k : goal.returns-then-splits-k
 unfolding row_of
-returns-then-rest-k c =
+returns-then-splits-k c =
     let a = c.args in
-    let f = row_at (columns a.starts.now a.ends.now a.units.now a.rest.now) in
-    next_other f (f a.i) a.i a.n c.if-n-k.false c.if-rest-k.true
+    let f = row_at (columns_of a.splits.now) in
+    next_other f (f a.i) a.i a.n c.if-n-k.false c.if-splits-k.true
 
 pub returns : goal.returns
 unfolding row_of
 returns c =
     let a = c.args in
-    let f = row_at (columns a.starts.now a.ends.now a.units.now a.rest.now) in
-    next_same f (f a.i) a.i a.n c.if-n-k.false c.if-rest-k.false
+    let f = row_at (columns_of a.splits.now) in
+    next_same f (f a.i) a.i a.n c.if-n-k.false c.if-splits-k.false

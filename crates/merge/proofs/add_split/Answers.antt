@@ -31,7 +31,7 @@ pub push-requires : goal.push-requires
 push-requires c =
     let l = c.loop-starts in
     let a = c.args in
-    let g = given (sections_in a.heads.now a.head_places.now) a.cap in
+    let g = given (sections_in a.heads.now.bytes.now a.heads.now.places.now) a.cap in
     let x = columns l.starts l.ends l.units l.rest in
     let pushes : decide g (rows x l.k) l.s ≡ accepted push = sym c.decide_round.ensures.0 ∙ ap decided (c.in_ok-decide_round.was ∙ ap Ok c.in-Push.is) in
     (long_same _ _ (l.k + 1) _ l.invariant.long (omega (arith, push_below g x l.k l.s pushes)) c.requires.0, l.invariant.good)
@@ -40,7 +40,7 @@ pub returns-in-Push : goal.returns-in-Push
 returns-in-Push c =
     let l = c.loop-starts in
     let a = c.args in
-    let g = given (sections_in a.heads.now a.head_places.now) a.cap in
+    let g = given (sections_in a.heads.now.bytes.now a.heads.now.places.now) a.cap in
     let x = columns l.starts l.ends l.units l.rest in
     let pushes : decide g (rows x l.k) l.s ≡ accepted push = sym c.decide_round.ensures.0 ∙ ap decided (c.in_ok-decide_round.was ∙ ap Ok c.in-Push.is) in
     (ap accepted c.push.ensures ∙ sym (round_push _ _ l.s pushes) ∙ l.invariant.merges, omega (arith, push_below g x l.k l.s pushes))
@@ -49,7 +49,7 @@ pub returns-in-Some : goal.returns-in-Some
 returns-in-Some c =
     let l = c.loop-starts in
     let a = c.args in
-    let g = given (sections_in a.heads.now a.head_places.now) a.cap in
+    let g = given (sections_in a.heads.now.bytes.now a.heads.now.places.now) a.cap in
     let x = columns l.starts l.ends l.units l.rest in
     let joins : decide g (rows x l.k) l.s ≡ accepted (join c.in-Join.joint) = sym c.decide_round.ensures.0 ∙ ap decided (c.in_ok-decide_round.was ∙ ap Ok c.in-Join.is) in
     let made = c.in-Some.ensures in
@@ -59,7 +59,7 @@ pub loop-starts-smaller : goal.loop-starts-smaller
 loop-starts-smaller c =
     let l = c.loop-starts in
     let a = c.args in
-    let g = given (sections_in a.heads.now a.head_places.now) a.cap in
+    let g = given (sections_in a.heads.now.bytes.now a.heads.now.places.now) a.cap in
     let x = columns l.starts l.ends l.units l.rest in
     let joins : decide g (rows x l.k) l.s ≡ accepted (join c.in-Join.joint) = sym c.decide_round.ensures.0 ∙ ap decided (c.in_ok-decide_round.was ∙ ap Ok c.in-Join.is) in
     let y = columns c.join-k.new.starts c.join-k.new.ends c.join-k.new.units c.join-k.new.rest in
@@ -72,7 +72,7 @@ pub loop-starts-preserved : goal.loop-starts-preserved
 loop-starts-preserved c =
     let l = c.loop-starts in
     let a = c.args in
-    let g = given (sections_in a.heads.now a.head_places.now) a.cap in
+    let g = given (sections_in a.heads.now.bytes.now a.heads.now.places.now) a.cap in
     let x = columns l.starts l.ends l.units l.rest in
     let joins : decide g (rows x l.k) l.s ≡ accepted (join c.in-Join.joint) = sym c.decide_round.ensures.0 ∙ ap decided (c.in_ok-decide_round.was ∙ ap Ok c.in-Join.is) in
     let y = columns c.join-k.new.starts c.join-k.new.ends c.join-k.new.units c.join-k.new.rest in

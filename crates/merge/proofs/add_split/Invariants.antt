@@ -12,8 +12,8 @@ invariant-loop-starts l = record {
   few : l.k ≤ l.cap;
   long : Same (columns l.starts l.ends l.units l.rest) (columns l.initial.starts l.initial.ends l.initial.units l.initial.rest);
   good : Good l.s.alignment;
-  merges : merge_one (given (sections_in l.heads l.head_places) l.cap) (rows (columns l.starts l.ends l.units l.rest) l.k) l.s
-      ≡ merge_one (given (sections_in l.heads l.head_places) l.cap) (rows (columns l.initial.starts l.initial.ends l.initial.units l.initial.rest) l.initial.k) l.initial.s;
+  merges : merge_one (given (sections_in l.heads.bytes.now l.heads.places.now) l.cap) (rows (columns l.starts l.ends l.units l.rest) l.k) l.s
+      ≡ merge_one (given (sections_in l.heads.bytes.now l.heads.places.now) l.cap) (rows (columns l.initial.starts l.initial.ends l.initial.units l.initial.rest) l.initial.k) l.initial.s;
 }
 
 abbrev pub decreases-loop-starts : goal.decreases-loop-starts

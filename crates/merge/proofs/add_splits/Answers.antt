@@ -40,7 +40,7 @@ returns-in_err-k c =
     let o = c.add_split in
     let p = err_from_is_err_and c.from_residual.result c.from_residual.ensures.1 in
     rw (p.1, p.2) (
-      sym (places_refused a.partials.now a.partial_places.now _ _ l.i c.loop-i-test.true _ c.partial_at-new.ensures
+      sym (places_refused a.partials.now.bytes.now a.partials.now.places.now _ _ l.i c.loop-i-test.true _ c.partial_at-new.ensures
           (sym o.ensures.0 ∙ ap (λ (r : Result ℕ Refusal). merged r (columns o.new.starts o.new.ends o.new.units o.new.rest)) c.in_err-k.was))
           ∙ l.invariant.merges,
       omega arith,
@@ -59,7 +59,7 @@ loop-i-preserved c =
         units = o.auto.units ∙ l.invariant.long.units;
         rest = o.auto.rest ∙ l.invariant.long.rest;
       };
-      merges = sym (places_on a.partials.now a.partial_places.now _ _ l.i c.loop-i-test.true _ c.partial_at-new.ensures
+      merges = sym (places_on a.partials.now.bytes.now a.partials.now.places.now _ _ l.i c.loop-i-test.true _ c.partial_at-new.ensures
           (sym o.ensures.0 ∙ ap (λ (r : Result ℕ Refusal). merged r (columns o.new.starts o.new.ends o.new.units o.new.rest)) c.in_ok-k.was))
           ∙ l.invariant.merges;
     }
@@ -68,4 +68,4 @@ pub returns : goal.returns
 returns c =
     let l = c.loop-i in
     let a = c.args in
-    (sym (places_done a.partials.now a.partial_places.now _ _ l.i c.loop-i-test.false) ∙ l.invariant.merges, l.invariant.few)
+    (sym (places_done a.partials.now.bytes.now a.partials.now.places.now _ _ l.i c.loop-i-test.false) ∙ l.invariant.merges, l.invariant.few)

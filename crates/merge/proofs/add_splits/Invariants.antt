@@ -11,7 +11,7 @@ abbrev pub invariant-loop-i : goal.invariant-loop-i
 invariant-loop-i l = record {
   few : l.k ≤ l.cap;
   long : Same (columns l.starts l.ends l.units l.rest) (columns l.initial.starts l.initial.ends l.initial.units l.initial.rest);
-  merges : merge_all (given (sections_in l.heads l.head_places) l.cap) (rows (columns l.starts l.ends l.units l.rest) l.k) (partials_from l.partials l.partial_places l.i)
-      ≡ merge_all (given (sections_in l.heads l.head_places) l.cap) (rows (columns l.initial.starts l.initial.ends l.initial.units l.initial.rest) l.initial.k)
-      (partials_in l.partials l.partial_places);
+  merges : merge_all (given (sections_in l.heads.bytes.now l.heads.places.now) l.cap) (rows (columns l.starts l.ends l.units l.rest) l.k) (partials_from l.partials.bytes.now l.partials.places.now l.i)
+      ≡ merge_all (given (sections_in l.heads.bytes.now l.heads.places.now) l.cap) (rows (columns l.initial.starts l.initial.ends l.initial.units l.initial.rest) l.initial.k)
+      (partials_in l.partials.bytes.now l.partials.places.now);
 }

@@ -1,7 +1,7 @@
 -- `merge::decide_own` meets its contract: the first and the second split of the unit say which line of the definition it is.
 -- Assumes nothing.
 use mathlib.Core.Path.{sym, ap, ◌∙◌}
-use Rattle.splits.specs.Columns.{columns, rows}
+use Rattle.splits.specs.Columns.{rows, columns_of}
 use Rattle.splits.proofs.Rows.{good_row}
 use Rattle.merge.specs.Merge.{on_old}
 use Rattle.merge.proofs.Decisions.{own_full, own_pushed, own_several, own_one, answers}
@@ -10,19 +10,19 @@ use Rattle.merge.proofs.decide_own.Goals as goal
 pub returns-then-cap-n : goal.returns-then-cap-n
 returns-then-cap-n c =
     let a = c.args in
-    let k = columns a.starts.now a.ends.now a.units.now a.rest.now in
+    let k = columns_of a.splits.now in
     answers _ c.refuse_at.ensures (own_full a.cap k a.n a.new c.in_default.ensures c.if-cap-n.true)
 
 pub returns-in_default : goal.returns-in_default
 returns-in_default c =
     let a = c.args in
-    let k = columns a.starts.now a.ends.now a.units.now a.rest.now in
+    let k = columns_of a.splits.now in
     (sym (own_pushed a.cap k a.n a.new c.in_default.ensures c.if-cap-n.false), tt)
 
 pub returns-then-is_some : goal.returns-then-is_some
 returns-then-is_some c =
     let a = c.args in
-    let k = columns a.starts.now a.ends.now a.units.now a.rest.now in
+    let k = columns_of a.splits.now in
     let i = c.in-Some.ensures in
     let second = c.next_of_unit-second in
     answers _ c.refuse_at-then-is_some.ensures (own_several a.cap k a.n a.new c.in-Some.i i.0 i.1 second.result second.ensures (sym c.is_some.ensures ∙ c.if-is_some.true))
@@ -35,7 +35,7 @@ decide_old-requires c =
 pub returns : goal.returns
 returns c =
     let a = c.args in
-    let k = columns a.starts.now a.ends.now a.units.now a.rest.now in
+    let k = columns_of a.splits.now in
     let i = c.in-Some.ensures in
     let second = c.next_of_unit-second in
     let d = c.decide_old.ensures in (

@@ -7,4 +7,4 @@ returns c =
     let a = c.args in
     let e = c.section_end-limit in
     made_once _ _ _ c.join_and_push.result
-    (λ made m. (at_once a.heads.now a.head_places.now a.joint c.if-head_places-section.false e.result e.ensures c.if-joint-limit.false _ _ a.n made m, m.small)) c.join_and_push.ensures
+    (λ made m. (at_once a.heads.now.bytes.now a.heads.now.places.now a.joint c.if-heads-section.false e.result e.ensures c.if-joint-limit.false _ _ a.n made m, m.small)) c.join_and_push.ensures

@@ -8,7 +8,7 @@ use Rattle.tables.specs.Tables.{record_check}
 use Rattle.tables.proofs.Loops.{no_fault, some_fault}
 use Rattle.name_table.proofs.Laws.{not_cut, searched, fault_cut, fault_asked}
 use Rattle.name_table.proofs.name_fault.Goals as goal
-use Rattle.name_table.proofs.name_fault.Goals.{Else-end-start}
+use Rattle.name_table.proofs.name_fault.Goals.{After-name-1}
 
 pub returns-then-end-start : goal.returns-then-end-start
 unfolding any_of any_from
@@ -18,9 +18,9 @@ returns-then-end-start c =
     ∙ ap (λ (f : ℕ). record_check f c.args.k) (fault_cut _ _ _ c.start_of-start.ensures.is c.end_of-end.ensures.is c.if-end-start.true)
 
 -- the name is not cut
-whole : (c : Else-end-start)
+whole : (c : After-name-1)
     → (c.start_of-start.result ≤ c.end_of-end.result)
-    × (c.end_of-end.result ≤ length c.args.bytes.now)
+    × (c.end_of-end.result ≤ length c.args.names.now.bytes.now)
 unfolding any_of any_from
 whole c = not_cut _ c.start_of-start.result c.end_of-end.result c.if-end-start.false
 

@@ -6,4 +6,4 @@ use Rattle.names.proofs.name_at.Goals as goal
 
 pub returns : goal.returns
 unfolding name_at
-returns c = let a = c.args in part_is a.bytes.now {a = get_or a.places.now a.k 0} (get_or a.places.now a.k 0) (get_or a.lengths.now a.k 0) refl c.from.ensures
+returns c = let a = c.args in part_is a.names.now.bytes.now {a = get_or a.names.now.places.now a.k 0} (get_or a.names.now.places.now a.k 0) (get_or a.names.now.lengths.now a.k 0) refl c.from.ensures

@@ -7,7 +7,7 @@ use Rattle.number_names.specs.Numbers.{Known}
 use Rattle.number_names.proofs.find_name.Given as goal
 
 abbrev pub invariant-loop-cur : goal.invariant-loop-cur
-invariant-loop-cur l = (names : List (List ℕ)) → Known names l.ends l.bytes l.heads l.chain → Search names l.x l.cur
+invariant-loop-cur l = (names : List (List ℕ)) → Known names l.ends l.bytes l.index.heads.now l.index.chain.now → Search names l.x l.cur
 
 abbrev pub decreases-loop-cur : goal.decreases-loop-cur
 decreases-loop-cur l = l.cur

@@ -3,7 +3,7 @@ use mathlib.Core.Path.{◌≡◌, sym, ap, ◌∙◌}
 use mathlib.Core.Bool.{false}
 use Prim.Native.Nat.{◌/◌}
 use lib.ListN.{length}
-use Rattle.splits.specs.Columns.{columns}
+use Rattle.splits.specs.Columns.{columns_of}
 use Rattle.order_numbers.specs.Numbers.{order_twice}
 use Rattle.link_graph.specs.Graph.{graph_of}
 use Rattle.link_graph.specs.Columns.{given_of}
@@ -14,8 +14,8 @@ pub returns : goal.returns
 returns c =
     let a = c.args in
     let m = c.make_graph-made in
-    let col = columns a.starts.now a.ends.now a.units.now a.rest.now in
-    let g = given_of col a.n a.heads.now a.head_places.now a.name_bytes.now a.name_places.now a.name_lengths.now a.unit_bytes.now a.unit_places.now in
+    let col = columns_of a.splits.now in
+    let g = given_of col a.n a.heads.now.bytes.now a.heads.now.places.now a.names.now.bytes.now a.names.now.places.now a.names.now.lengths.now a.unit_table.now.bytes.now a.unit_table.now.places.now in
     let first : order_twice g.units ≡ false = sym c.order_twice.ensures ∙ c.if-order_twice.false in
     resolves_as
     (same_sort _ (graph_of g) (length a.out.now / 8) (ap length m.ensures.nodes_are) m.ensures.starts m.ensures.goals ∙ sorted_stage g (length a.out.now / 8) first)
@@ -24,6 +24,6 @@ returns c =
 pub returns-then-order_twice : goal.returns-then-order_twice
 returns-then-order_twice c =
     let a = c.args in
-    let col = columns a.starts.now a.ends.now a.units.now a.rest.now in
-    let g = given_of col a.n a.heads.now a.head_places.now a.name_bytes.now a.name_places.now a.name_lengths.now a.unit_bytes.now a.unit_places.now in
+    let col = columns_of a.splits.now in
+    let g = given_of col a.n a.heads.now.bytes.now a.heads.now.places.now a.names.now.bytes.now a.names.now.places.now a.names.now.lengths.now a.unit_table.now.bytes.now a.unit_table.now.places.now in
     rw c.refused.ensures (order_twice_resolves g (length a.out.now / 8) a.out.now (sym c.order_twice.ensures ∙ c.if-order_twice.true))

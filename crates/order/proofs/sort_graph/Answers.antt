@@ -6,7 +6,7 @@ use native.Mathlib.Omega.{arith}
 use lib.ListN.{length, drop}
 use Rattle.lists.specs.Sort.{All}
 use Rattle.tables.specs.Records.{units_in}
-use Rattle.splits.specs.Columns.{columns, rows}
+use Rattle.splits.specs.Columns.{rows, columns_of}
 use Rattle.toposort.specs.Search.{Graph}
 use Rattle.order.proofs.Stage.{sorts_in, left_inside, nodes-named, kept_long, kept-nodes, kept-fits, sorted_resolves}
 use Rattle.order.proofs.sort_graph.Goals as goal
@@ -20,7 +20,7 @@ write_records-requires c =
     let t = c.toposort-r in
     let fits : c.room_of-room.result ≤ length a.table.now = omega (arith, c.room_of-room.ensures.low, s.requires.table_long) in
     let sorted = sorts_in g c.room_of-room.result a.table.now fits t.ensures in
-    let col = columns a.starts.now a.ends.now a.units.now a.rest.now in
+    let col = columns_of a.splits.now in
     let left = kept-nodes g size c.room_of-room.result t.result t.new.table (drop c.room_of-room.result a.table.now) c.kept-m.result s.requires.within.nodes c.room_of-room.ensures sorted c.kept-m.ensures in
     let long = kept_long g size c.room_of-room.result t.result t.new.table (drop c.room_of-room.result a.table.now) c.kept-m.result s.requires.within.nodes c.room_of-room.ensures sorted c.kept-m.ensures in
     let room = kept-fits g size c.room_of-room.result t.result t.new.table (drop c.room_of-room.result a.table.now) c.kept-m.result s.requires.within.nodes c.room_of-room.ensures sorted c.kept-m.ensures in (
@@ -43,6 +43,6 @@ returns c =
     let t = c.toposort-r in
     let fits : c.room_of-room.result ≤ length a.table.now = omega (arith, c.room_of-room.ensures.low, s.requires.table_long) in
     let sorted = sorts_in g c.room_of-room.result a.table.now fits t.ensures in
-    let col = columns a.starts.now a.ends.now a.units.now a.rest.now in
+    let col = columns_of a.splits.now in
     sorted_resolves g size c.room_of-room.result t.result t.new.table (drop c.room_of-room.result a.table.now) c.kept-m.result s.requires.within.nodes c.room_of-room.ensures sorted c.kept-m.ensures
-    (rows col a.n) (units_in a.unit_bytes.now a.unit_places.now) c.linked.result a.out.now _ refl c.linked.ensures c.write_records.ensures
+    (rows col a.n) (units_in a.unit_table.now.bytes.now a.unit_table.now.places.now) c.linked.result a.out.now _ refl c.linked.ensures c.write_records.ensures

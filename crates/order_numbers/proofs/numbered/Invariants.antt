@@ -12,4 +12,4 @@ use Rattle.order_numbers.proofs.numbered.Given as goal
 abbrev pub invariant-loop-i : goal.invariant-loop-i
 invariant-loop-i l =
     (l.k ≤ l.i)
-    × (take l.k l.numbers ++ keep_if (λ y. has_order (unit_of l.b l.places y)) (tabulate (λ x. x) l.i (length l.places - l.i)) ≡ unsorted l.b l.places)
+    × (take l.k l.numbers ++ keep_if (λ y. has_order (unit_of l.table.bytes.now l.table.places.now y)) (tabulate (λ x. x) l.i (length l.table.places.now - l.i)) ≡ unsorted l.table.bytes.now l.table.places.now)

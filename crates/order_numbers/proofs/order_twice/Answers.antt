@@ -28,23 +28,23 @@ returns-then-order_in c =
     let a = c.args in
     let l = c.loop-i in
     let e = word_same (unit_fits _ _) (unit_fits _ _) c.order_in.ensures c.order_in-in-loop-i.ensures c.if-order_in.true in
-    sym (ap (λ (t : Bool). t || next_same (drop l.i (map (rank_at a.b.now a.places.now) a.s.now))) (eq-eqb _ _ e))
-    ∙ sym (map_turn (rank_at a.b.now a.places.now) a.s.now l.i l.invariant.0 c.loop-i-test.true)
+    sym (ap (λ (t : Bool). t || next_same (drop l.i (map (rank_at a.table.now.bytes.now a.table.now.places.now) a.s.now))) (eq-eqb _ _ e))
+    ∙ sym (map_turn (rank_at a.table.now.bytes.now a.table.now.places.now) a.s.now l.i l.invariant.0 c.loop-i-test.true)
     ∙ l.invariant.1
-    ∙ ap (λ (t : List ℕ). next_same (map (rank_at a.b.now a.places.now) t)) c.requires.1
-    ∙ twice_next a.b.now a.places.now
+    ∙ ap (λ (t : List ℕ). next_same (map (rank_at a.table.now.bytes.now a.table.now.places.now) t)) c.requires.1
+    ∙ twice_next a.table.now.bytes.now a.table.now.places.now
 
 pub loop-i-preserved : goal.loop-i-preserved
 loop-i-preserved c =
     let a = c.args in
     let l = c.loop-i in
-    let r = map (rank_at a.b.now a.places.now) a.s.now in
+    let r = map (rank_at a.table.now.bytes.now a.table.now.places.now) a.s.now in
     let e = word_other (unit_fits _ _) (unit_fits _ _) c.order_in.ensures c.order_in-in-loop-i.ensures c.if-order_in.false in
     let z : l.i ≡ l.i + 1 - 1 = omega arith in (
       omega arith,
       subst (λ (k : ℕ). next_same (drop k r) ≡ next_same r) z
           (sym (ap (λ (t : Bool). t || next_same (drop l.i r)) (ne_eqb _ _ e))
-          ∙ sym (map_turn (rank_at a.b.now a.places.now) a.s.now l.i l.invariant.0 c.loop-i-test.true)
+          ∙ sym (map_turn (rank_at a.table.now.bytes.now a.table.now.places.now) a.s.now l.i l.invariant.0 c.loop-i-test.true)
           ∙ l.invariant.1),
     )
 
@@ -52,7 +52,7 @@ pub returns : goal.returns
 returns c =
     let a = c.args in
     let l = c.loop-i in
-    sym (next_none (map (rank_at a.b.now a.places.now) a.s.now) (l.i - 1) (omega (arith, length-map a.s.now (rank_at a.b.now a.places.now), c.loop-i-test.false)))
+    sym (next_none (map (rank_at a.table.now.bytes.now a.table.now.places.now) a.s.now) (l.i - 1) (omega (arith, length-map a.s.now (rank_at a.table.now.bytes.now a.table.now.places.now), c.loop-i-test.false)))
     ∙ l.invariant.1
-    ∙ ap (λ (t : List ℕ). next_same (map (rank_at a.b.now a.places.now) t)) c.requires.1
-    ∙ twice_next a.b.now a.places.now
+    ∙ ap (λ (t : List ℕ). next_same (map (rank_at a.table.now.bytes.now a.table.now.places.now) t)) c.requires.1
+    ∙ twice_next a.table.now.bytes.now a.table.now.places.now

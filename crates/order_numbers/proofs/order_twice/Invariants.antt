@@ -9,4 +9,4 @@ use Rattle.order_numbers.specs.Numbers.{next_same}
 use Rattle.order_numbers.proofs.order_twice.Given as goal
 
 abbrev pub invariant-loop-i : goal.invariant-loop-i
-invariant-loop-i l = (0 < l.i) × (next_same (drop (l.i - 1) (map (rank_at l.b l.places) l.s)) ≡ next_same (map (rank_at l.b l.places) l.s))
+invariant-loop-i l = (0 < l.i) × (next_same (drop (l.i - 1) (map (rank_at l.table.bytes.now l.table.places.now) l.s)) ≡ next_same (map (rank_at l.table.bytes.now l.table.places.now) l.s))

@@ -19,7 +19,7 @@ sort-requires c =
     let n = c in
     let s = c in (
       omega (arith, whole, n.numbered-k.ensures.small, s.requires.0.worked),
-      record { whole = s.requires.1; inside = subst (λ (l : List ℕ). All (λ i. i < length s.args.places.now) l) (sym n.numbered-k.ensures.is) (all_keep _ (numbers-below _)) },
+      record { whole = s.requires.1; inside = subst (λ (l : List ℕ). All (λ i. i < length s.args.table.now.places.now) l) (sym n.numbered-k.ensures.is) (all_keep _ (numbers-below _)) },
     )
 
 pub returns : goal.returns

@@ -11,10 +11,10 @@ use Rattle.print_run.proofs.print_lines.Given as goal
 abbrev pub invariant-loop-next : goal.invariant-loop-next
 invariant-loop-next g l =
     (length l.line ≡ length l.initial.line)
-    × Valid (length l.unit_places) l.cursor
+    × Valid (length l.unit_table.places.now) l.cursor
     × Listed
     (run_of
-    (tables_of l.base_bytes l.base_places l.base_lengths (beside l.added_bytes l.added_places l.added_lengths) l.symbol_places l.reloc_places l.units l.unit_places l.pieces l.entries
+    (tables_of l.base.bytes.now l.base.places.now l.base.lengths.now (beside l.added.bytes.now l.added.places.now l.added.lengths.now) l.symbol_places l.reloc_places l.unit_table.bytes.now l.unit_table.places.now l.pieces l.entries
     l.offsets (record { pieces = l.piece_count; symbols = l.entry_count; relocs = l.offset_count })))
     (g.W.Write.contents l.initial.out)
     l.cursor
@@ -25,6 +25,6 @@ decreases-loop-next g l =
     length
     (rest
     (run_of
-    (tables_of l.base_bytes l.base_places l.base_lengths (beside l.added_bytes l.added_places l.added_lengths) l.symbol_places l.reloc_places l.units l.unit_places l.pieces l.entries
+    (tables_of l.base.bytes.now l.base.places.now l.base.lengths.now (beside l.added.bytes.now l.added.places.now l.added.lengths.now) l.symbol_places l.reloc_places l.unit_table.bytes.now l.unit_table.places.now l.pieces l.entries
     l.offsets (record { pieces = l.piece_count; symbols = l.entry_count; relocs = l.offset_count })))
     l.cursor)

@@ -14,5 +14,5 @@ returns g c =
     let a = c.args in
     subst (λ (text : List ℕ). OnOk c.print_lines.result (Appends (g.W.Write.contents a.out.now) (g.W.Write.contents c.print_lines.new.out) text))
     (listed_lent a.file.now a.places.now a.lengths.now a.units.now a.pieces.now a.entries.now a.offsets.now a.counts
-    (beside a.added_bytes.now a.added_places.now a.added_lengths.now) a.n a.made c.fill_places.new.places c.fill_places.ensures)
+    (beside a.added.now.bytes.now a.added.now.places.now a.added.now.lengths.now) a.n a.made c.fill_places.new.places c.fill_places.ensures)
     c.print_lines.ensures

@@ -9,4 +9,4 @@ pub reloc_at-requires : goal.reloc_at-requires
 reloc_at-requires c = held_at _ _ _ c.requires.1 _ _ c.requires.0 c.number.ensures
 
 pub returns : goal.returns
-returns c = ap (λ (r : Reloc). r.address) (c.reloc_at.ensures ∙ ap (reloc_of c.args.b.now c.args.places.now) c.number.ensures)
+returns c = ap (λ (r : Reloc). r.address) (c.reloc_at.ensures ∙ ap (reloc_of c.args.table.now.bytes.now c.args.table.now.places.now) c.number.ensures)

@@ -14,12 +14,12 @@ pub search-requires : goal.search-requires
 search-requires c =
     let s = c in
     let l = c.loop-lo in
-    let h = place-below (address_of s.args.b.now s.args.places.now) s.args.address s.args.part.now (l.lo + (l.lo - s.args.from)) 0 (omega arith) (omega (arith, c.address_in.ensures)) in
+    let h = place-below (address_of s.args.table.now.bytes.now s.args.table.now.places.now) s.args.address s.args.part.now (l.lo + (l.lo - s.args.from)) 0 (omega arith) (omega (arith, c.address_in.ensures)) in
     (s.requires.0, l.invariant.1, h, omega arith)
 
 pub loop-lo-preserved : goal.loop-lo-preserved
 loop-lo-preserved c =
     let s = c in
     let l = c.loop-lo in
-    let h = place_above (address_of s.args.b.now s.args.places.now) s.args.address s.args.part.now (l.lo + (l.lo - s.args.from)) 0 s.requires.0.sorted (omega arith) (omega (arith, c.address_in.ensures)) in
+    let h = place_above (address_of s.args.table.now.bytes.now s.args.table.now.places.now) s.args.address s.args.part.now (l.lo + (l.lo - s.args.from)) 0 s.requires.0.sorted (omega arith) (omega (arith, c.address_in.ensures)) in
     (omega arith, omega (arith, h), l.invariant.2)

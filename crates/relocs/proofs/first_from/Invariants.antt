@@ -8,7 +8,7 @@ use Rattle.relocs.specs.Relocs.{address_of}
 use Rattle.relocs.proofs.first_from.Given as goal
 
 abbrev pub invariant-loop-lo : goal.invariant-loop-lo
-invariant-loop-lo l = let p = first_in (at_least (address_of l.b l.places) l.address) l.part in (l.from ≤ l.lo) × (l.lo ≤ p) × (p ≤ length l.part)
+invariant-loop-lo l = let p = first_in (at_least (address_of l.table.bytes.now l.table.places.now) l.address) l.part in (l.from ≤ l.lo) × (l.lo ≤ p) × (p ≤ length l.part)
 
 abbrev pub decreases-loop-lo : goal.decreases-loop-lo
 decreases-loop-lo l = length l.part - l.lo

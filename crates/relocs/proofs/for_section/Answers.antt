@@ -22,18 +22,18 @@ pub loop-i-preserved : goal.loop-i-preserved
 loop-i-preserved c =
     let l = c.loop-i in
     let a = c.args in
-    let p : ℕ → Bool = λ y. eqb (reloc_of a.b.now a.places.now y).section a.section in
+    let p : ℕ → Bool = λ y. eqb (reloc_of a.table.now.bytes.now a.table.now.places.now y).section a.section in
     let read = ap (λ r. eqb r.section a.section) (sym c.reloc_at.ensures) in
     elim c.if-reloc_at-section.branch [
       | then-reloc_at-section w ↦
           let e : p l.i ≡ true = read ∙ eq-eqb _ _ w.if-reloc_at-section.true in
-          (omega (arith, w.k-is), rw (w.k-is, w.part-is) (keep_more l.k l.part l.i _ (omega arith) ∙ ap (λ (r : List ℕ). take l.k l.part ++ r) (sym (number_kept p l.i (length a.places.now) c.loop-i-test.true e)) ∙ l.invariant.1))
+          (omega (arith, w.k-is), rw (w.k-is, w.part-is) (keep_more l.k l.part l.i _ (omega arith) ∙ ap (λ (r : List ℕ). take l.k l.part ++ r) (sym (number_kept p l.i (length a.table.now.places.now) c.loop-i-test.true e)) ∙ l.invariant.1))
       | else-reloc_at-section w ↦
           let e : p l.i ≡ false = read ∙ ne_eqb _ _ w.if-reloc_at-section.false in
-          (omega (arith, w.k-is), rw (w.k-is, w.part-is) (ap (λ (r : List ℕ). take l.k l.part ++ r) (sym (number_passed p l.i (length a.places.now) c.loop-i-test.true e)) ∙ l.invariant.1))
+          (omega (arith, w.k-is), rw (w.k-is, w.part-is) (ap (λ (r : List ℕ). take l.k l.part ++ r) (sym (number_passed p l.i (length a.table.now.places.now) c.loop-i-test.true e)) ∙ l.invariant.1))
     ]
 
 pub returns : goal.returns
 returns c =
     let l = c.loop-i in
-    record { small = omega arith; is = sym (number_end _ l.i (length c.args.places.now) c.loop-i-test.false (take l.k l.part)) ∙ l.invariant.1 }
+    record { small = omega arith; is = sym (number_end _ l.i (length c.args.table.now.places.now) c.loop-i-test.false (take l.k l.part)) ∙ l.invariant.1 }

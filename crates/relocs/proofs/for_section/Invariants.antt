@@ -7,4 +7,4 @@ use Rattle.relocs.proofs.for_section.Given as goal
 abbrev pub invariant-loop-i : goal.invariant-loop-i
 invariant-loop-i l =
     (l.k ≤ l.i)
-    × (take l.k l.part ++ keep_if (λ y. eqb (reloc_of l.b l.places y).section l.section) (tabulate (λ x. x) l.i (length l.places - l.i)) ≡ relocs_of (reloc_of l.b l.places) (length l.places) l.section)
+    × (take l.k l.part ++ keep_if (λ y. eqb (reloc_of l.table.bytes.now l.table.places.now y).section l.section) (tabulate (λ x. x) l.i (length l.table.places.now - l.i)) ≡ relocs_of (reloc_of l.table.bytes.now l.table.places.now) (length l.table.places.now) l.section)

@@ -4,7 +4,7 @@ use mathlib.Core.List.{[]}
 use lib.ListN.{length}
 use Rattle.std.proofs.lemmas.Result.{err_from_is_err_and}
 use Rattle.loaded.specs.Tables.{tables_with}
-use Rattle.splits.specs.Columns.{columns}
+use Rattle.splits.specs.Columns.{columns_of}
 use Rattle.stage_walk.specs.Room.{room_in}
 use Rattle.run.proofs.Linking.{splits-taken, units_taken}
 use Rattle.run.proofs.Answering.{entered_tabled, unlinked_right, order_whole, order_named, refused_right, made_right, refused_before, entered_before}
@@ -14,10 +14,10 @@ pub returns-in_err-entered : goal.returns-in_err-entered
 returns-in_err-entered c =
     let p = err_from_is_err_and c.from_residual.result c.from_residual.ensures.1 in
     let a = c.args in
-    let t = tables_with a.names.now a.lengths.now a.sections.now a.symbols.now a.relocs.now [] a.unit_places.now in
+    let t = tables_with a.loaded.now.names.now a.loaded.now.lengths.now a.loaded.now.sections.now a.loaded.now.symbols.now a.loaded.now.relocs.now [] a.loaded.now.units.now in
     let room = room_in (length a.pieces.now) (length a.entries.now) (length a.offsets.now) in
-    let table = columns a.starts.now a.ends.now a.units.now a.rest.now in
-    rw (p.1, p.2) (refused_before a.file.now t room table a.out_units.now a.pieces.now a.entries.now a.offsets.now (length a.out_units.now / 8) a.e c.in_err-entered.was)
+    let table = columns_of a.splits.now in
+    rw (p.1, p.2) (refused_before a.loaded.now.file.now t room table a.out_units.now a.pieces.now a.entries.now a.offsets.now (length a.out_units.now / 8) a.e c.in_err-entered.was)
 
 pub ordered-linked-requires : goal.ordered-linked-requires
 ordered-linked-requires c =
@@ -28,14 +28,14 @@ pub walk_with_columns-requires : goal.walk_with_columns-requires
 walk_with_columns-requires c =
     let a = c.args in
     let q = c.requires in
-    let t = tables_with a.names.now a.lengths.now a.sections.now a.symbols.now a.relocs.now [] a.unit_places.now in
+    let t = tables_with a.loaded.now.names.now a.loaded.now.lengths.now a.loaded.now.sections.now a.loaded.now.symbols.now a.loaded.now.relocs.now [] a.loaded.now.units.now in
     let room = room_in (length a.pieces.now) (length a.entries.now) (length a.offsets.now) in
-    let table = columns a.starts.now a.ends.now a.units.now a.rest.now in
+    let table = columns_of a.splits.now in
     let x = c.in_ok-entered.entered in
     let w = entered_tabled c.in_ok-entered.was q.1 in
     let o = c.ordered-linked in
     let is = c.in_ok-k.was in
-    (q.0, w, order_whole a.file.now t room table x.names x.used x.splits o.new.out [] [] [] q.0.usable w (length a.out_units.now) o.ensures _ is, order_named a.file.now t room table x.names x.used x.splits o.new.out [] [] [] q.0.usable w (length a.out_units.now) o.ensures _ is)
+    (q.0, w, order_whole a.loaded.now.file.now t room table x.names x.used x.splits o.new.out [] [] [] q.0.usable w (length a.out_units.now) o.ensures _ is, order_named a.loaded.now.file.now t room table x.names x.used x.splits o.new.out [] [] [] q.0.usable w (length a.out_units.now) o.ensures _ is)
 
 pub returns-in_err-k : goal.returns-in_err-k
 returns-in_err-k c =
@@ -43,15 +43,15 @@ returns-in_err-k c =
     let p = err_from_is_err_and r.result r.ensures.1 in
     let a = c.args in
     let q = c.requires in
-    let t = tables_with a.names.now a.lengths.now a.sections.now a.symbols.now a.relocs.now [] a.unit_places.now in
+    let t = tables_with a.loaded.now.names.now a.loaded.now.lengths.now a.loaded.now.sections.now a.loaded.now.symbols.now a.loaded.now.relocs.now [] a.loaded.now.units.now in
     let room = room_in (length a.pieces.now) (length a.entries.now) (length a.offsets.now) in
-    let table = columns a.starts.now a.ends.now a.units.now a.rest.now in
+    let table = columns_of a.splits.now in
     let x = c.in_ok-entered.entered in
     let w = entered_tabled c.in_ok-entered.was q.1 in
     let o = c.ordered-linked in
     rw (p.1, p.2)
-    (entered_before a.file.now t room table o.new.out a.pieces.now a.entries.now a.offsets.now (length a.out_units.now / 8) a.e c.in_ok-entered.was
-    (unlinked_right a.file.now t room table x.names x.used x.splits o.new.out a.pieces.now a.entries.now a.offsets.now q.0.usable w (length a.out_units.now) o.ensures _ c.in_err-k.was))
+    (entered_before a.loaded.now.file.now t room table o.new.out a.pieces.now a.entries.now a.offsets.now (length a.out_units.now / 8) a.e c.in_ok-entered.was
+    (unlinked_right a.loaded.now.file.now t room table x.names x.used x.splits o.new.out a.pieces.now a.entries.now a.offsets.now q.0.usable w (length a.out_units.now) o.ensures _ c.in_err-k.was))
 
 pub returns-in_err-made : goal.returns-in_err-made
 returns-in_err-made c =
@@ -59,27 +59,27 @@ returns-in_err-made c =
     let p = err_from_is_err_and r.result r.ensures.1 in
     let a = c.args in
     let q = c.requires in
-    let t = tables_with a.names.now a.lengths.now a.sections.now a.symbols.now a.relocs.now [] a.unit_places.now in
+    let t = tables_with a.loaded.now.names.now a.loaded.now.lengths.now a.loaded.now.sections.now a.loaded.now.symbols.now a.loaded.now.relocs.now [] a.loaded.now.units.now in
     let room = room_in (length a.pieces.now) (length a.entries.now) (length a.offsets.now) in
-    let table = columns a.starts.now a.ends.now a.units.now a.rest.now in
+    let table = columns_of a.splits.now in
     let x = c.in_ok-entered.entered in
     let w = entered_tabled c.in_ok-entered.was q.1 in
     let o = c.ordered-linked in
     let k = c.walk_with_columns.new in
     rw (p.1, p.2)
-    (entered_before a.file.now t room table o.new.out k.pieces k.entries k.offsets (length a.out_units.now / 8) a.e c.in_ok-entered.was
-    (refused_right a.file.now t room table x.names x.used x.splits o.new.out k.pieces k.entries k.offsets q.0.usable w (length a.out_units.now) o.ensures _ c.in_ok-k.was _ c.in_err-made.ensures))
+    (entered_before a.loaded.now.file.now t room table o.new.out k.pieces k.entries k.offsets (length a.out_units.now / 8) a.e c.in_ok-entered.was
+    (refused_right a.loaded.now.file.now t room table x.names x.used x.splits o.new.out k.pieces k.entries k.offsets q.0.usable w (length a.out_units.now) o.ensures _ c.in_ok-k.was _ c.in_err-made.ensures))
 
 pub returns : goal.returns
 returns c =
     let a = c.args in
     let q = c.requires in
-    let t = tables_with a.names.now a.lengths.now a.sections.now a.symbols.now a.relocs.now [] a.unit_places.now in
+    let t = tables_with a.loaded.now.names.now a.loaded.now.lengths.now a.loaded.now.sections.now a.loaded.now.symbols.now a.loaded.now.relocs.now [] a.loaded.now.units.now in
     let room = room_in (length a.pieces.now) (length a.entries.now) (length a.offsets.now) in
-    let table = columns a.starts.now a.ends.now a.units.now a.rest.now in
+    let table = columns_of a.splits.now in
     let x = c.in_ok-entered.entered in
     let w = entered_tabled c.in_ok-entered.was q.1 in
     let o = c.ordered-linked in
     let k = c.walk_with_columns.new in
-    entered_before a.file.now t room table o.new.out k.pieces k.entries k.offsets (length a.out_units.now / 8) a.e c.in_ok-entered.was
-    (made_right a.file.now t room table x.names x.used x.splits o.new.out k.pieces k.entries k.offsets q.0.usable w (length a.out_units.now) o.ensures _ c.in_ok-k.was _ c.in_ok-made.ensures)
+    entered_before a.loaded.now.file.now t room table o.new.out k.pieces k.entries k.offsets (length a.out_units.now / 8) a.e c.in_ok-entered.was
+    (made_right a.loaded.now.file.now t room table x.names x.used x.splits o.new.out k.pieces k.entries k.offsets q.0.usable w (length a.out_units.now) o.ensures _ c.in_ok-k.was _ c.in_ok-made.ensures)

@@ -3,7 +3,7 @@ use native.Mathlib.Omega.{arith}
 use lib.ListN.{length, take}
 use lib.Seq.{length-take-le}
 use Rattle.loaded.proofs.Laws.{few_symbols}
-use Rattle.splits.specs.Columns.{columns, rows}
+use Rattle.splits.specs.Columns.{rows, columns_of}
 use Rattle.stage_walk.specs.Room.{room_in}
 use Rattle.run.proofs.Walking.{units_listed, ready, walked_as}
 use Rattle.run.proofs.walk_units.Goals as goal
@@ -19,7 +19,7 @@ walk_columns-requires c =
     let q = c.requires in
     let n = c.number_units in
     let count = length-take-le a.k c.fill_places.new.places (omega (arith, q.2.few, q.4.places_long, c.fill_places.auto.places)) in (
-      ready q.0 a.unit_table.now (take a.k c.fill_places.new.places) n.new.column (columns a.starts.now a.ends.now a.units.now a.rest.now) a.n q.1 n.ensures
+      ready q.0 a.unit_table.now (take a.k c.fill_places.new.places) n.new.column (columns_of a.splits.now) a.n q.1 n.ensures
           (omega (arith, count, q.2.few)) (omega (arith, n.auto.column, q.4.numbers_long)),
       few_symbols q.0.usable,
     )
@@ -27,5 +27,5 @@ walk_columns-requires c =
 pub returns : goal.returns
 returns c =
     let a = c.args in
-    walked_as c.requires.0 (rows (columns a.starts.now a.ends.now a.units.now a.rest.now) a.n) a.unit_table.now _ a.k
+    walked_as c.requires.0 (rows (columns_of a.splits.now) a.n) a.unit_table.now _ a.k
     (room_in (length a.pieces.now) (length a.entries.now) (length a.offsets.now)) c.fill_places.ensures c.walk_columns.ensures

@@ -31,4 +31,4 @@ pub returns : goal.returns
 returns c =
     let a = c.args in
     let e = c.split_table.ensures in
-    (e.0 ∙ table_of_parts a.file.now (tables_with a.names.now a.lengths.now a.sections.now a.symbols.now a.relocs.now a.partials.now a.unit_places.now) _ _, e.1, e.2)
+    (e.0 ∙ table_of_parts a.loaded.now.file.now (tables_with a.loaded.now.names.now a.loaded.now.lengths.now a.loaded.now.sections.now a.loaded.now.symbols.now a.loaded.now.relocs.now a.loaded.now.partials.now a.loaded.now.units.now) _ _, e.1, e.2)

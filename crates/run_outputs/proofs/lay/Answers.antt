@@ -4,7 +4,7 @@ use mathlib.Core.Path.{sym, ap, ◌∙◌}
 use Prim.Native.Nat.{◌*◌}
 use lib.ListN.{length}
 use Rattle.outputs.specs.Outputs.{counts_of}
-use Rattle.splits.specs.Columns.{columns}
+use Rattle.splits.specs.Columns.{columns_of}
 use Rattle.gap_splits.specs.Answers.{beside}
 use Rattle.stage_walk.proofs.Room.{cleared}
 use Rattle.run_outputs.proofs.Laws.{kept-listed}
@@ -15,8 +15,8 @@ returns c =
     let a = c.args in
     let q = c.requires in
     let k = a.k in
-    let beside' = beside a.added_bytes.now a.added_places.now a.added_lengths.now in
-    let table = columns a.starts.now a.ends.now a.units.now a.rest.now in
+    let beside' = beside a.added.now.bytes.now a.added.now.places.now a.added.now.lengths.now in
+    let table = columns_of a.splits.now in
     let names = c.lay_names.ensures in
     let output = c.lay_output.ensures in
     record {

@@ -12,16 +12,16 @@ pub put_names-requires : goal.put_names-requires
 put_names-requires c =
     let a = c.args in
     let q = c.requires in
-    let long = flat_bytes (added (beside a.added_bytes.now a.added_places.now a.added_lengths.now) a.names) in
+    let long = flat_bytes (added (beside a.added.now.bytes.now a.added.now.places.now a.added.now.lengths.now) a.names) in
     (q.0.packed.named, omega (arith, q.1), omega (arith, long, q.0.sum, q.0.short), omega (arith, long, q.0.sum, q.0.low))
 
 pub returns : goal.returns
 returns c =
     let a = c.args in
     let q = c.requires in
-    let names = added (beside a.added_bytes.now a.added_places.now a.added_lengths.now) a.names in
+    let names = added (beside a.added.now.bytes.now a.added.now.places.now a.added.now.lengths.now) a.names in
     let put = c.put_names.ensures in
-    let count = length-names a.added_bytes.now a.added_places.now a.added_lengths.now a.names in (
+    let count = length-names a.added.now.bytes.now a.added.now.places.now a.added.now.lengths.now a.names in (
       ends_laid names a.out_ends.now a.out_bytes.now _ _ put (sym count) q.1 c.clear_from.ensures,
       bytes_laid names a.out_ends.now a.out_bytes.now _ _ put q.0.sum q.0.short c.clear_from-2.ensures,
     )

@@ -24,13 +24,13 @@ pub returns-in_err-n : goal.returns-in_err-n
 returns-in_err-n c =
     let a = c.args in
     let q = c.requires in
-    let t = tables_with a.names.now a.lengths.now a.sections.now a.symbols.now [] a.partials.now [] in
-    let room = ceilings (names_of a.file.now a.names.now a.lengths.now (length a.names.now)) a.most a.most_bytes in
+    let t = tables_with a.loaded.now.names.now a.loaded.now.lengths.now a.loaded.now.sections.now a.loaded.now.symbols.now [] a.loaded.now.partials.now [] in
+    let room = ceilings (names_of a.loaded.now.file.now a.loaded.now.names.now a.loaded.now.lengths.now (length a.loaded.now.names.now)) a.most a.most_bytes in
     let m = c.merge_partials in
     let table = columns m.new.starts m.new.ends m.new.units m.new.rest in
     let p = err_from_is_err_and c.from_residual.result c.from_residual.ensures.1 in
     let refused = sym (ap (λ (r : Result ℕ Refusal). merged r table) c.in_err-n.was) ∙ m.ensures.0 in
-    rw (p.1, p.2) (merge_refused a.file.now t a.cap room a.images.now q.1 refused, stand_none _ _ _ q.10, omega arith)
+    rw (p.1, p.2) (merge_refused a.loaded.now.file.now t a.cap room a.loaded.now.images.now q.1 refused, stand_none _ _ _ q.10, omega arith)
 
 pub create_gap_splits-requires : goal.create_gap_splits-requires
 create_gap_splits-requires c =
@@ -54,21 +54,21 @@ pub returns-in_err-filled : goal.returns-in_err-filled
 returns-in_err-filled c =
     let a = c.args in
     let q = c.requires in
-    let t = tables_with a.names.now a.lengths.now a.sections.now a.symbols.now [] a.partials.now [] in
-    let room = ceilings (names_of a.file.now a.names.now a.lengths.now (length a.names.now)) a.most a.most_bytes in
+    let t = tables_with a.loaded.now.names.now a.loaded.now.lengths.now a.loaded.now.sections.now a.loaded.now.symbols.now [] a.loaded.now.partials.now [] in
+    let room = ceilings (names_of a.loaded.now.file.now a.loaded.now.names.now a.loaded.now.lengths.now (length a.loaded.now.names.now)) a.most a.most_bytes in
     let m = c.merge_partials in
     let table = columns m.new.starts m.new.ends m.new.units m.new.rest in
     let merges = sym (ap (λ (r : Result ℕ Refusal). merged r table) c.in_ok-n.was) ∙ m.ensures.0 in
     let f = c.create_gap_splits in
     let p = err_from_is_err_and c.from_residual-in_err-filled.result c.from_residual-in_err-filled.ensures.1 in
-    rw (p.1, p.2) (gaps_refused a.file.now t a.cap room a.images.now q.1 merges c.in_err-filled.ensures.0, stand_none _ _ _ c.in_err-filled.ensures.1.room, omega arith)
+    rw (p.1, p.2) (gaps_refused a.loaded.now.file.now t a.cap room a.loaded.now.images.now q.1 merges c.in_err-filled.ensures.0, stand_none _ _ _ c.in_err-filled.ensures.1.room, omega arith)
 
 pub check_and_trim-requires : goal.check_and_trim-requires
 check_and_trim-requires c =
     let a = c.args in
     let q = c.requires in
-    let t = tables_with a.names.now a.lengths.now a.sections.now a.symbols.now [] a.partials.now [] in
-    let room = ceilings (names_of a.file.now a.names.now a.lengths.now (length a.names.now)) a.most a.most_bytes in
+    let t = tables_with a.loaded.now.names.now a.loaded.now.lengths.now a.loaded.now.sections.now a.loaded.now.symbols.now [] a.loaded.now.partials.now [] in
+    let room = ceilings (names_of a.loaded.now.file.now a.loaded.now.names.now a.loaded.now.lengths.now (length a.loaded.now.names.now)) a.most a.most_bytes in
     let m = c.merge_partials in
     let table = columns m.new.starts m.new.ends m.new.units m.new.rest in
     let merges = sym (ap (λ (r : Result ℕ Refusal). merged r table) c.in_ok-n.was) ∙ m.ensures.0 in
@@ -76,7 +76,7 @@ check_and_trim-requires c =
       tables-ordered q.0 _ q.2,
       symbols_sound q.0,
       images_kept q.0 _ q.1,
-      rows-placed q.0 a.cap room a.images.now q.1 _ (gaps_given a.file.now t a.cap room a.images.now q.1 merges c.in_ok-filled.ensures.0) _ _ refl
+      rows-placed q.0 a.cap room a.loaded.now.images.now q.1 _ (gaps_given a.loaded.now.file.now t a.cap room a.loaded.now.images.now q.1 merges c.in_ok-filled.ensures.0) _ _ refl
           (long_same _ _ _ _ (record { starts = f.auto.starts ∙ m.auto.starts; ends = f.auto.ends ∙ m.auto.ends; units = f.auto.units ∙ m.auto.units; rest = f.auto.rest ∙ m.auto.rest })
           c.in_ok-filled.ensures.2 q.4),
       omega (arith, c.in_ok-filled.ensures.2, q.11),
@@ -86,22 +86,22 @@ pub returns-in_err-check_and_trim : goal.returns-in_err-check_and_trim
 returns-in_err-check_and_trim c =
     let a = c.args in
     let q = c.requires in
-    let t = tables_with a.names.now a.lengths.now a.sections.now a.symbols.now [] a.partials.now [] in
-    let room = ceilings (names_of a.file.now a.names.now a.lengths.now (length a.names.now)) a.most a.most_bytes in
+    let t = tables_with a.loaded.now.names.now a.loaded.now.lengths.now a.loaded.now.sections.now a.loaded.now.symbols.now [] a.loaded.now.partials.now [] in
+    let room = ceilings (names_of a.loaded.now.file.now a.loaded.now.names.now a.loaded.now.lengths.now (length a.loaded.now.names.now)) a.most a.most_bytes in
     let m = c.merge_partials in
     let table = columns m.new.starts m.new.ends m.new.units m.new.rest in
     let merges = sym (ap (λ (r : Result ℕ Refusal). merged r table) c.in_ok-n.was) ∙ m.ensures.0 in
     let p = err_from_is_err_and c.from_residual-in_err-check_and_trim.result c.from_residual-in_err-check_and_trim.ensures.1 in
     rw (p.1, p.2)
-    (trim_refused a.file.now t a.cap room a.images.now q.1 merges c.in_ok-filled.ensures.0 c.in_err-check_and_trim.ensures, stand_none _ _ _ c.in_ok-filled.ensures.1.room, omega arith)
+    (trim_refused a.loaded.now.file.now t a.cap room a.loaded.now.images.now q.1 merges c.in_ok-filled.ensures.0 c.in_err-check_and_trim.ensures, stand_none _ _ _ c.in_ok-filled.ensures.1.room, omega arith)
 
 pub returns : goal.returns
 returns c =
     let a = c.args in
     let q = c.requires in
-    let t = tables_with a.names.now a.lengths.now a.sections.now a.symbols.now [] a.partials.now [] in
-    let room = ceilings (names_of a.file.now a.names.now a.lengths.now (length a.names.now)) a.most a.most_bytes in
+    let t = tables_with a.loaded.now.names.now a.loaded.now.lengths.now a.loaded.now.sections.now a.loaded.now.symbols.now [] a.loaded.now.partials.now [] in
+    let room = ceilings (names_of a.loaded.now.file.now a.loaded.now.names.now a.loaded.now.lengths.now (length a.loaded.now.names.now)) a.most a.most_bytes in
     let m = c.merge_partials in
     let table = columns m.new.starts m.new.ends m.new.units m.new.rest in
     let merges = sym (ap (λ (r : Result ℕ Refusal). merged r table) c.in_ok-n.was) ∙ m.ensures.0 in
-    (all_accepted a.file.now t a.cap room a.images.now q.1 merges c.in_ok-filled.ensures.0 c.in_ok-check_and_trim.ensures, c.in_ok-filled.ensures.1, c.in_ok-filled.ensures.2)
+    (all_accepted a.loaded.now.file.now t a.cap room a.loaded.now.images.now q.1 merges c.in_ok-filled.ensures.0 c.in_ok-check_and_trim.ensures, c.in_ok-filled.ensures.1, c.in_ok-filled.ensures.2)

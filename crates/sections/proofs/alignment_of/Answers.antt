@@ -14,10 +14,10 @@ pub returns-in_err-highest : goal.returns-in_err-highest
 returns-in_err-highest c =
     let a = c.args in
     let p = err_from_is_err_and c.from_residual.result c.from_residual.ensures.1 in
-    rw p.1 (backwards_asked (symbol_of a.b.now a.places.now) (length a.places.now) a.section a.least a.own a.start a.end c.if-own-ne0.false c.in_err-highest.ensures)
+    rw p.1 (backwards_asked (symbol_of a.table.now.bytes.now a.table.now.places.now) (length a.table.now.places.now) a.section a.least a.own a.start a.end c.if-own-ne0.false c.in_err-highest.ensures)
 
 pub returns : goal.returns
 returns c =
     let a = c.args in
     ap accepted c.larger_of.ensures
-    ∙ by_symbols (symbol_of a.b.now a.places.now) (length a.places.now) a.section a.least a.own a.start a.end c.if-own-ne0.false _ c.in_ok-highest.ensures
+    ∙ by_symbols (symbol_of a.table.now.bytes.now a.table.now.places.now) (length a.table.now.places.now) a.section a.least a.own a.start a.end c.if-own-ne0.false _ c.in_ok-highest.ensures

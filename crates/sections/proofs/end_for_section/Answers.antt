@@ -14,7 +14,7 @@ use Rattle.sections.proofs.end_for_section.Goals as goal
 use Rattle.sections.proofs.end_for_section.Goals.{After-is_pointer_list-list}
 
 abbrev image : After-is_pointer_list-list → Image
-image c = let s = c.args in image_of s.b.now s.places.now s.name_bytes.now s.name_places.now s.name_lengths.now
+image c = let s = c.args in image_of s.table.now.bytes.now s.table.now.places.now s.names.now.bytes.now s.names.now.places.now s.names.now.lengths.now
 
 -- whether it is a list of pointers
 listed : (c : After-is_pointer_list-list) → c.is_pointer_list-list.result ≡ is_pointer_list ((image c).name c.args.head.name)

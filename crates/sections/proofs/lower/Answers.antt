@@ -17,12 +17,12 @@ use Rattle.sections.proofs.lower.Goals as goal
 use Rattle.sections.proofs.lower.Goals.{After-is_linker_generated_object, After-is_object_below, After-number}
 
 -- the number at j - 1 is a symbol's
-inside : (c : After-number) → c.number.result < length c.args.places.now
+inside : (c : After-number) → c.number.result < length c.args.table.now.places.now
 inside c = rw c.number.ensures (all_at _ 0 c.requires.readable.inside (omega arith))
 
 -- after the test: the symbol that it is about
 abbrev image : After-is_object_below → Image
-image c = let s = c.args in image_of s.b.now s.places.now s.name_bytes.now s.name_places.now s.name_lengths.now
+image c = let s = c.args in image_of s.table.now.bytes.now s.table.now.places.now s.names.now.bytes.now s.names.now.places.now s.names.now.lengths.now
 
 abbrev here : After-is_object_below → ℕ
 here c = get_or c.args.part.now (c.loop-j.j - 1) 0
@@ -56,7 +56,7 @@ loop-j-preserved-then-is_linker_generated_object c =
     let l = c.loop-j in
     let a = (goal.at.loop-j-preserved-then-is_linker_generated_object c).After-is_object_below in
     let n = named (goal.at.loop-j-preserved-then-is_linker_generated_object c).After-is_linker_generated_object in
-    let h : (symbol_of c.args.b.now c.args.places.now (here a)).address < l.low = object_below_lem l.low ((image a).symbol (here a)) (tested a ∙ c.if-is_object_below.true) in
+    let h : (symbol_of c.args.table.now.bytes.now c.args.table.now.places.now (here a)).address < l.low = object_below_lem l.low ((image a).symbol (here a)) (tested a ∙ c.if-is_object_below.true) in
     let e = ap (λ (y : Symbol). y.address) (is a) in (
       omega (arith, h, e, l.invariant.0),
       ap (λ (m : ℕ). lowered (image a) m (reverse (take (l.j - 1) c.args.part.now))) e

@@ -8,4 +8,4 @@ use Rattle.sections.proofs.lower.Given as goal
 abbrev pub invariant-loop-j : goal.invariant-loop-j
 invariant-loop-j l =
     (l.low ≤ l.end)
-    × (lowered (image_of l.b l.places l.name_bytes l.name_places l.name_lengths) l.low (reverse (take l.j l.part)) ≡ lowered (image_of l.b l.places l.name_bytes l.name_places l.name_lengths) l.end (reverse l.part))
+    × (lowered (image_of l.table.bytes.now l.table.places.now l.names.bytes.now l.names.places.now l.names.lengths.now) l.low (reverse (take l.j l.part)) ≡ lowered (image_of l.table.bytes.now l.table.places.now l.names.bytes.now l.names.places.now l.names.lengths.now) l.end (reverse l.part))

@@ -12,4 +12,4 @@ returns c =
     let a = c.args in
     let s = a.s in
     c.alignment_of.ensures
-    ∙ ap (λ (least : ℕ). alignment_of (symbol_of a.b.now a.places.now) (length a.places.now) s.section least s.alignment a.start s.end) (rw c.from.ensures at c.default_of-least.ensures)
+    ∙ ap (λ (least : ℕ). alignment_of (symbol_of a.obj.now.symbols.bytes.now a.obj.now.symbols.places.now) (length a.obj.now.symbols.places.now) s.section least s.alignment a.start s.end) (rw c.from.ensures at c.default_of-least.ensures)

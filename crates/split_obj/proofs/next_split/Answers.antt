@@ -4,7 +4,7 @@ use mathlib.Core.Path.{sym, ◌∙◌}
 use native.Mathlib.Omega.{arith}
 use borrow.Author.Tests.{lt-ltb, le-ltb}
 use Rattle.lists.proofs.FilterRows.{filter_hit, filter_miss, filter_none}
-use Rattle.splits.specs.Columns.{columns, row_of, row_at}
+use Rattle.splits.specs.Columns.{row_of, row_at, columns_of}
 use Rattle.splits.specs.Questions.{within}
 use Rattle.split_obj.proofs.next_split.Goals as goal
 
@@ -14,7 +14,7 @@ returns-then-is_within c =
     let l = c.loop-i in
     let a = c.args in
     let h = c.loop-i-test.true in
-    let f = row_at (columns a.starts.now a.ends.now a.units.now a.rest.now) in
+    let f = row_at (columns_of a.splits.now) in
     let p = sym c.is_within.ensures ∙ c.if-is_within.true in
     record {
       is = l.invariant.2 ∙ filter_hit (within a.n a.low a.end) f a.rows l.i h p ∙ rw (lt-ltb l.i a.rows h);
@@ -28,7 +28,7 @@ unfolding row_of
 loop-i-preserved c =
     let l = c.loop-i in
     let a = c.args in
-    let f = row_at (columns a.starts.now a.ends.now a.units.now a.rest.now) in
+    let f = row_at (columns_of a.splits.now) in
     let miss = filter_miss (within a.n a.low a.end) f a.rows l.i c.loop-i-test.true (sym c.is_within.ensures ∙ c.if-is_within.false) in
     (omega arith, omega arith, l.invariant.2 ∙ miss)
 
@@ -37,7 +37,7 @@ returns c =
     let l = c.loop-i in
     let a = c.args in
     let h = c.loop-i-test.false in
-    let f = row_at (columns a.starts.now a.ends.now a.units.now a.rest.now) in
+    let f = row_at (columns_of a.splits.now) in
     record {
       is = l.invariant.2 ∙ filter_none (within a.n a.low a.end) f a.rows l.i h ∙ rw (le-ltb a.rows a.rows (omega arith));
       past = omega arith;

@@ -3,7 +3,7 @@
 use mathlib.Core.Path.{◌≡◌}
 use Prim.Native.Nat.{◌-◌, ◌≤◌}
 use Rattle.lists.specs.Rows.{tabulate, keep_if}
-use Rattle.splits.specs.Columns.{columns, row_at}
+use Rattle.splits.specs.Columns.{row_at, columns_of}
 use Rattle.splits.specs.Questions.{within}
 use Rattle.split_obj.proofs.next_split.Given as goal
 
@@ -11,8 +11,8 @@ abbrev pub invariant-loop-i : goal.invariant-loop-i
 invariant-loop-i l =
     (l.from ≤ l.i)
     × (l.i ≤ l.rows)
-    × (keep_if (within l.n l.low l.end) (tabulate (row_at (columns l.starts l.ends l.units l.rest)) l.from (l.rows - l.from))
-    ≡ keep_if (within l.n l.low l.end) (tabulate (row_at (columns l.starts l.ends l.units l.rest)) l.i (l.rows - l.i)))
+    × (keep_if (within l.n l.low l.end) (tabulate (row_at (columns_of l.splits)) l.from (l.rows - l.from))
+    ≡ keep_if (within l.n l.low l.end) (tabulate (row_at (columns_of l.splits)) l.i (l.rows - l.i)))
 
 abbrev pub decreases-loop-i : goal.decreases-loop-i
 decreases-loop-i l = l.rows - l.i

@@ -13,7 +13,7 @@ use Rattle.obj.specs.declared.Refusal.{Refusal}
 use Rattle.obj.specs.declared.Split.{Split}
 use Rattle.sections.specs.Sections.{head_of}
 use Rattle.sections.proofs.Kept.{kept-held, kept_lies, kept_whole}
-use Rattle.splits.specs.Columns.{columns, row_at}
+use Rattle.splits.specs.Columns.{row_at, columns_of}
 use Rattle.splits.proofs.Rows.{good_row}
 use Rattle.splits.proofs.Alignment.{alignment_good}
 use Rattle.walk.specs.declared.Step.{Step}
@@ -32,7 +32,7 @@ section_end-found-requires c =
     let p = c.sections in
     let n = p.n in
     let below : n < a.last = let h = p.invariant.0.up in let d = c.if-n-last.false in omega arith in
-    let there : n < length a.head_places.now = omega (arith, below, c.requires.0.within) in
+    let there : n < length a.obj.now.heads.places.now = omega (arith, below, c.requires.0.within) in
     let few : n < 64 = omega (arith, there, c.requires.0.kept.few) in
     let kept = c.requires.0.kept in
     record {
@@ -49,7 +49,7 @@ choose-requires c =
     let p = c.sections in
     let n = p.n in
     let below : n < a.last = let h = p.invariant.0.up in let d = c.if-n-last.false in omega arith in
-    let there : n < length a.head_places.now = omega (arith, below, c.requires.0.within) in
+    let there : n < length a.obj.now.heads.places.now = omega (arith, below, c.requires.0.within) in
     let few : n < 64 = omega (arith, there, c.requires.0.kept.few) in
     let kept = c.requires.0.kept in
     let q = c.loop-current in
@@ -70,8 +70,8 @@ returns-in_err-step c =
     let p = c.sections in
     let n = p.n in
     let below : n < a.last = let h = p.invariant.0.up in let d = c.if-n-last.false in omega arith in
-    let k = columns a.starts.now a.ends.now a.units.now a.rest.now in
-    let t = tables_input a.symbols.now a.symbol_places.now a.name_bytes.now a.name_places.now a.name_lengths.now a.heads.now a.head_places.now a.image.now a.image_places.now a.relocs.now a.reloc_places.now k a.rows a.unit_table.now a.unit_places.now a.room in
+    let k = columns_of a.splits.now in
+    let t = tables_input a.obj.now.symbols.bytes.now a.obj.now.symbols.places.now a.obj.now.names.bytes.now a.obj.now.names.places.now a.obj.now.names.lengths.now a.obj.now.heads.bytes.now a.obj.now.heads.places.now a.image.now.bytes.now a.image.now.places.now a.relocs.now.bytes.now a.relocs.now.places.now k a.rows a.unit_table.now.bytes.now a.unit_table.now.places.now a.room in
     let q = c.loop-current in
     let low = c.section_start-low.result in
     let end = c.in-Ok.end in
@@ -91,8 +91,8 @@ loop-current-preserved-in-Skip c =
     let p = c.sections in
     let n = p.n in
     let below : n < a.last = let h = p.invariant.0.up in let d = c.if-n-last.false in omega arith in
-    let k = columns a.starts.now a.ends.now a.units.now a.rest.now in
-    let t = tables_input a.symbols.now a.symbol_places.now a.name_bytes.now a.name_places.now a.name_lengths.now a.heads.now a.head_places.now a.image.now a.image_places.now a.relocs.now a.reloc_places.now k a.rows a.unit_table.now a.unit_places.now a.room in
+    let k = columns_of a.splits.now in
+    let t = tables_input a.obj.now.symbols.bytes.now a.obj.now.symbols.places.now a.obj.now.names.bytes.now a.obj.now.names.places.now a.obj.now.names.lengths.now a.obj.now.heads.bytes.now a.obj.now.heads.places.now a.image.now.bytes.now a.image.now.places.now a.relocs.now.bytes.now a.relocs.now.places.now k a.rows a.unit_table.now.bytes.now a.unit_table.now.places.now a.room in
     let q = c.loop-current in
     let low = c.section_start-low.result in
     let end = c.in-Ok.end in
@@ -113,7 +113,7 @@ pub loop-a-init : goal.loop-a-init
 loop-a-init c =
     let a = c.args in
     let q = c.loop-current in
-    let gives = subst (λ (x : Step). Sane (length a.unit_places.now) q.current c.row-s.result (Ok x)) c.in-Give.is c.in_ok-step.ensures.1 in
+    let gives = subst (λ (x : Step). Sane (length a.unit_table.now.places.now) q.current c.row-s.result (Ok x)) c.in-Give.is c.in_ok-step.ensures.1 in
     halving_starts _ _ gives.least gives.most
 
 pub loop-a-preserved : goal.loop-a-preserved
@@ -126,7 +126,7 @@ give-requires c =
     let p = c.sections in
     let n = p.n in
     let below : n < a.last = let h = p.invariant.0.up in let d = c.if-n-last.false in omega arith in
-    let there : n < length a.head_places.now = omega (arith, below, c.requires.0.within) in
+    let there : n < length a.obj.now.heads.places.now = omega (arith, below, c.requires.0.within) in
     let few : n < 64 = omega (arith, there, c.requires.0.kept.few) in
     let kept = c.requires.0.kept in
     let q = c.loop-current in
@@ -134,8 +134,8 @@ give-requires c =
     let end = c.in-Ok.end in
     let out = output_in q.pieces q.entries q.offsets q.done in
     let small : q.i < a.rows = let h = q.invariant.0.small in let d = c.if-i-rows.false in omega arith in
-    let gives = subst (λ (x : Step). Sane (length a.unit_places.now) q.current c.row-s.result (Ok x)) c.in-Give.is c.in_ok-step.ensures.1 in
-    let k = columns a.starts.now a.ends.now a.units.now a.rest.now in
+    let gives = subst (λ (x : Step). Sane (length a.unit_table.now.places.now) q.current c.row-s.result (Ok x)) c.in-Give.is c.in_ok-step.ensures.1 in
+    let k = columns_of a.splits.now in
     let ready = c.requires.0 in
     let tabled = q.invariant.0.tabled in (
       tabled.beside,
@@ -145,7 +145,7 @@ give-requires c =
         held = kept-held _ _ _ _ _ kept n there;
         few = omega (arith, few);
         low =
-            subst (λ (y : Split). (head_of a.heads.now a.head_places.now n).address ≤ y.start) (sym c.row-s.ensures)
+            subst (λ (y : Split). (head_of a.obj.now.heads.bytes.now a.obj.now.heads.places.now n).address ≤ y.start) (sym c.row-s.ensures)
             (subst (λ (m : ℕ). m ≤ (row_at k q.i).start) c.section_start-low.ensures (row_low n low end k q.i (q.invariant.0.passes small)));
       },
       omega (arith, gives.listed, tabled.counts_long, length-counts q.scratch),
@@ -159,8 +159,8 @@ returns-in_err-done-in-Give c =
     let p = c.sections in
     let n = p.n in
     let below : n < a.last = let h = p.invariant.0.up in let d = c.if-n-last.false in omega arith in
-    let k = columns a.starts.now a.ends.now a.units.now a.rest.now in
-    let t = tables_input a.symbols.now a.symbol_places.now a.name_bytes.now a.name_places.now a.name_lengths.now a.heads.now a.head_places.now a.image.now a.image_places.now a.relocs.now a.reloc_places.now k a.rows a.unit_table.now a.unit_places.now a.room in
+    let k = columns_of a.splits.now in
+    let t = tables_input a.obj.now.symbols.bytes.now a.obj.now.symbols.places.now a.obj.now.names.bytes.now a.obj.now.names.places.now a.obj.now.names.lengths.now a.obj.now.heads.bytes.now a.obj.now.heads.places.now a.image.now.bytes.now a.image.now.places.now a.relocs.now.bytes.now a.relocs.now.places.now k a.rows a.unit_table.now.bytes.now a.unit_table.now.places.now a.room in
     let q = c.loop-current in
     let low = c.section_start-low.result in
     let end = c.in-Ok.end in
@@ -169,12 +169,12 @@ returns-in_err-done-in-Give c =
     q.invariant.0.same
     ∙ goes_section t n a.last (output_in p.pieces p.entries p.offsets p.done) _ p.invariant.0.same below low c.section_start-low.ensures end c.in-Ok.ensures k a.rows c.next_split-i.result refl c.next_split-i.ensures in
     let small : q.i < a.rows = let h = q.invariant.0.small in let d = c.if-i-rows.false in omega arith in
-    let gives = subst (λ (x : Step). Sane (length a.unit_places.now) q.current c.row-s.result (Ok x)) c.in-Give.is c.in_ok-step.ensures.1 in
+    let gives = subst (λ (x : Step). Sane (length a.unit_table.now.places.now) q.current c.row-s.result (Ok x)) c.in-Give.is c.in_ok-step.ensures.1 in
     let r = c.in_err-done-in-Give.field-0.0 in
     let gone = err_from_is_err_and c.from_residual-in_err-done-in-Give.result c.from_residual-in_err-done-in-Give.ensures.1 in
     refused_at _ _ _ _ _ _ _ r _ (gone.1 ∙ ap (λ (x : Refusal). Err x) gone.2)
     (ends_refused t a.last n low end k a.rows q.current q.i out _ carried c.loop-current-test.true small c.next_split-j.result c.start_of-next.result c.next_split-j.ensures c.start_of-next.ensures c.row-s.result c.row-s.ensures c.in-Give.unit c.in-Give.alignment (ap (λ (x : Step). accepted x) (sym c.in-Give.is) ∙ c.in_ok-step.ensures.0) c.loop-a.a (half_fits _ _ _ c.loop-a.invariant c.if-current-a-eq0.true) gives.starts r
-    (c.in_err-done-in-Give.ensures.is (length a.head_places.now) t.sections.bytes t.splits t.units))
+    (c.in_err-done-in-Give.ensures.is (length a.obj.now.heads.places.now) t.sections.bytes t.splits t.units))
 
 pub loop-current-preserved : goal.loop-current-preserved
 loop-current-preserved c =
@@ -182,15 +182,15 @@ loop-current-preserved c =
     let p = c.sections in
     let n = p.n in
     let below : n < a.last = let h = p.invariant.0.up in let d = c.if-n-last.false in omega arith in
-    let k = columns a.starts.now a.ends.now a.units.now a.rest.now in
-    let t = tables_input a.symbols.now a.symbol_places.now a.name_bytes.now a.name_places.now a.name_lengths.now a.heads.now a.head_places.now a.image.now a.image_places.now a.relocs.now a.reloc_places.now k a.rows a.unit_table.now a.unit_places.now a.room in
+    let k = columns_of a.splits.now in
+    let t = tables_input a.obj.now.symbols.bytes.now a.obj.now.symbols.places.now a.obj.now.names.bytes.now a.obj.now.names.places.now a.obj.now.names.lengths.now a.obj.now.heads.bytes.now a.obj.now.heads.places.now a.image.now.bytes.now a.image.now.places.now a.relocs.now.bytes.now a.relocs.now.places.now k a.rows a.unit_table.now.bytes.now a.unit_table.now.places.now a.room in
     let q = c.loop-current in
     let low = c.section_start-low.result in
     let end = c.in-Ok.end in
     let out = output_in q.pieces q.entries q.offsets q.done in
     let whole = splits_left t a.last n low end k a.rows low c.next_split-i.result (output_in p.pieces p.entries p.offsets p.done) in
     let small : q.i < a.rows = let h = q.invariant.0.small in let d = c.if-i-rows.false in omega arith in
-    let gives = subst (λ (x : Step). Sane (length a.unit_places.now) q.current c.row-s.result (Ok x)) c.in-Give.is c.in_ok-step.ensures.1 in
+    let gives = subst (λ (x : Step). Sane (length a.unit_table.now.places.now) q.current c.row-s.result (Ok x)) c.in-Give.is c.in_ok-step.ensures.1 in
     let hits = c.next_split-j.ensures in
     let made = c.in_ok-done-in-Give.ensures in
     let lengths = q.invariant.1 in
@@ -199,7 +199,7 @@ loop-current-preserved c =
         small = hits.small;
         passes = hits.passes;
         same = goes_given t a.last n low end k a.rows q.current q.i out whole q.invariant.0.same c.loop-current-test.true small c.next_split-j.result c.start_of-next.result c.next_split-j.ensures c.start_of-next.ensures c.row-s.result c.row-s.ensures c.in-Give.unit c.in-Give.alignment (ap (λ (x : Step). accepted x) (sym c.in-Give.is) ∙ c.in_ok-step.ensures.0) c.loop-a.a (half_fits _ _ _ c.loop-a.invariant c.if-current-a-eq0.true) gives.starts _
-            (made.is (length a.head_places.now) t.sections.bytes t.splits t.units);
+            (made.is (length a.obj.now.heads.places.now) t.sections.bytes t.splits t.units);
         tabled = record {
           beside = made.beside;
           counts_long = omega (arith, tabled.counts_long, c.give.auto.scratch);
@@ -221,8 +221,8 @@ sections-preserved c =
     let p = c.sections in
     let n = p.n in
     let below : n < a.last = let h = p.invariant.0.up in let d = c.if-n-last.false in omega arith in
-    let k = columns a.starts.now a.ends.now a.units.now a.rest.now in
-    let t = tables_input a.symbols.now a.symbol_places.now a.name_bytes.now a.name_places.now a.name_lengths.now a.heads.now a.head_places.now a.image.now a.image_places.now a.relocs.now a.reloc_places.now k a.rows a.unit_table.now a.unit_places.now a.room in
+    let k = columns_of a.splits.now in
+    let t = tables_input a.obj.now.symbols.bytes.now a.obj.now.symbols.places.now a.obj.now.names.bytes.now a.obj.now.names.places.now a.obj.now.names.lengths.now a.obj.now.heads.bytes.now a.obj.now.heads.places.now a.image.now.bytes.now a.image.now.places.now a.relocs.now.bytes.now a.relocs.now.places.now k a.rows a.unit_table.now.bytes.now a.unit_table.now.places.now a.room in
     let q = c.loop-current in
     let low = c.section_start-low.result in
     let end = c.in-Ok.end in
@@ -250,8 +250,8 @@ pub returns-then-n-last : goal.returns-then-n-last
 returns-then-n-last c =
     let a = c.args in
     let p = c.sections in
-    let k = columns a.starts.now a.ends.now a.units.now a.rest.now in
-    let t = tables_input a.symbols.now a.symbol_places.now a.name_bytes.now a.name_places.now a.name_lengths.now a.heads.now a.head_places.now a.image.now a.image_places.now a.relocs.now a.reloc_places.now k a.rows a.unit_table.now a.unit_places.now a.room in
+    let k = columns_of a.splits.now in
+    let t = tables_input a.obj.now.symbols.bytes.now a.obj.now.symbols.places.now a.obj.now.names.bytes.now a.obj.now.names.places.now a.obj.now.names.lengths.now a.obj.now.heads.bytes.now a.obj.now.heads.places.now a.image.now.bytes.now a.image.now.places.now a.relocs.now.bytes.now a.relocs.now.places.now k a.rows a.unit_table.now.bytes.now a.unit_table.now.places.now a.room in
     (sections_done t p.n a.last (output_in p.pieces p.entries p.offsets p.done) _ p.invariant.0.same c.if-n-last.true, p.invariant.0.tabled.beside)
 
 pub returns-in_default : goal.returns-in_default
@@ -260,8 +260,8 @@ returns-in_default c =
     let p = c.sections in
     let n = p.n in
     let below : n < a.last = let h = p.invariant.0.up in let d = c.if-n-last.false in omega arith in
-    let k = columns a.starts.now a.ends.now a.units.now a.rest.now in
-    let t = tables_input a.symbols.now a.symbol_places.now a.name_bytes.now a.name_places.now a.name_lengths.now a.heads.now a.head_places.now a.image.now a.image_places.now a.relocs.now a.reloc_places.now k a.rows a.unit_table.now a.unit_places.now a.room in
+    let k = columns_of a.splits.now in
+    let t = tables_input a.obj.now.symbols.bytes.now a.obj.now.symbols.places.now a.obj.now.names.bytes.now a.obj.now.names.places.now a.obj.now.names.lengths.now a.obj.now.heads.bytes.now a.obj.now.heads.places.now a.image.now.bytes.now a.image.now.places.now a.relocs.now.bytes.now a.relocs.now.places.now k a.rows a.unit_table.now.bytes.now a.unit_table.now.places.now a.room in
     refused_at _ _ _ _ _ _ _ _ _ c.refuse_at-answer.ensures
     (ends_short t n a.last (output_in p.pieces p.entries p.offsets p.done) _ p.invariant.0.same below c.section_start-low.result c.section_start-low.ensures c.in_default.ensures)
 
@@ -271,8 +271,8 @@ returns-then-i-rows c =
     let p = c.sections in
     let n = p.n in
     let below : n < a.last = let h = p.invariant.0.up in let d = c.if-n-last.false in omega arith in
-    let k = columns a.starts.now a.ends.now a.units.now a.rest.now in
-    let t = tables_input a.symbols.now a.symbol_places.now a.name_bytes.now a.name_places.now a.name_lengths.now a.heads.now a.head_places.now a.image.now a.image_places.now a.relocs.now a.reloc_places.now k a.rows a.unit_table.now a.unit_places.now a.room in
+    let k = columns_of a.splits.now in
+    let t = tables_input a.obj.now.symbols.bytes.now a.obj.now.symbols.places.now a.obj.now.names.bytes.now a.obj.now.names.places.now a.obj.now.names.lengths.now a.obj.now.heads.bytes.now a.obj.now.heads.places.now a.image.now.bytes.now a.image.now.places.now a.relocs.now.bytes.now a.relocs.now.places.now k a.rows a.unit_table.now.bytes.now a.unit_table.now.places.now a.room in
     let q = c.loop-current in
     let low = c.section_start-low.result in
     let end = c.in-Ok.end in
@@ -290,8 +290,8 @@ returns-then-a-le4 c =
     let p = c.sections in
     let n = p.n in
     let below : n < a.last = let h = p.invariant.0.up in let d = c.if-n-last.false in omega arith in
-    let k = columns a.starts.now a.ends.now a.units.now a.rest.now in
-    let t = tables_input a.symbols.now a.symbol_places.now a.name_bytes.now a.name_places.now a.name_lengths.now a.heads.now a.head_places.now a.image.now a.image_places.now a.relocs.now a.reloc_places.now k a.rows a.unit_table.now a.unit_places.now a.room in
+    let k = columns_of a.splits.now in
+    let t = tables_input a.obj.now.symbols.bytes.now a.obj.now.symbols.places.now a.obj.now.names.bytes.now a.obj.now.names.places.now a.obj.now.names.lengths.now a.obj.now.heads.bytes.now a.obj.now.heads.places.now a.image.now.bytes.now a.image.now.places.now a.relocs.now.bytes.now a.relocs.now.places.now k a.rows a.unit_table.now.bytes.now a.unit_table.now.places.now a.room in
     let q = c.loop-current in
     let low = c.section_start-low.result in
     let end = c.in-Ok.end in

@@ -2,7 +2,7 @@
 -- halving gives what the whole halving gives; each way out is a law of proofs/Carried.antt. Assumes nothing.
 use Prim.Native.Nat.{◌-◌}
 use lib.ListN.{length}
-use Rattle.splits.specs.Columns.{columns}
+use Rattle.splits.specs.Columns.{columns_of}
 use Rattle.walk.specs.Walk.{halved, walk_sections}
 use Rattle.walk.specs.Giving.{output_in}
 use Rattle.split_obj.proofs.Halving.{Halving}
@@ -17,9 +17,9 @@ decreases-loop-a l = l.a
 
 abbrev pub invariant-loop-current : goal.invariant-loop-current
 invariant-loop-current l =
-    AtSplit (tables_input l.symbols l.symbol_places l.name_bytes l.name_places l.name_lengths l.heads l.head_places l.image l.image_places l.relocs l.reloc_places (columns l.starts l.ends l.units l.rest) l.rows l.unit_table l.unit_places l.room)
-    (splits_left (tables_input l.symbols l.symbol_places l.name_bytes l.name_places l.name_lengths l.heads l.head_places l.image l.image_places l.relocs l.reloc_places (columns l.starts l.ends l.units l.rest) l.rows l.unit_table l.unit_places l.room) l.last l.n l.low l.end (columns l.starts l.ends l.units l.rest) l.rows l.initial.current l.initial.i (output_in l.initial.pieces l.initial.entries l.initial.offsets l.initial.done))
-    (length l.symbol_places) (length l.reloc_places) (length l.unit_places) l.last l.n l.low l.end (columns l.starts l.ends l.units l.rest) l.rows l.current l.i l.done l.scratch l.part l.pieces l.entries l.offsets
+    AtSplit (tables_input l.obj.symbols.bytes.now l.obj.symbols.places.now l.obj.names.bytes.now l.obj.names.places.now l.obj.names.lengths.now l.obj.heads.bytes.now l.obj.heads.places.now l.image.bytes.now l.image.places.now l.relocs.bytes.now l.relocs.places.now (columns_of l.splits) l.rows l.unit_table.bytes.now l.unit_table.places.now l.room)
+    (splits_left (tables_input l.obj.symbols.bytes.now l.obj.symbols.places.now l.obj.names.bytes.now l.obj.names.places.now l.obj.names.lengths.now l.obj.heads.bytes.now l.obj.heads.places.now l.image.bytes.now l.image.places.now l.relocs.bytes.now l.relocs.places.now (columns_of l.splits) l.rows l.unit_table.bytes.now l.unit_table.places.now l.room) l.last l.n l.low l.end (columns_of l.splits) l.rows l.initial.current l.initial.i (output_in l.initial.pieces l.initial.entries l.initial.offsets l.initial.done))
+    (length l.obj.symbols.places.now) (length l.relocs.places.now) (length l.unit_table.places.now) l.last l.n l.low l.end (columns_of l.splits) l.rows l.current l.i l.done l.scratch l.part l.pieces l.entries l.offsets
     × Lengths l.initial.scratch l.part l.initial.pieces l.initial.entries l.initial.offsets l.scratch l.part l.pieces l.entries l.offsets
 
 abbrev pub decreases-loop-current : goal.decreases-loop-current
@@ -27,9 +27,9 @@ decreases-loop-current l = l.rows - l.i
 
 abbrev pub invariant-sections : goal.invariant-sections
 invariant-sections l =
-    AtSection (tables_input l.symbols l.symbol_places l.name_bytes l.name_places l.name_lengths l.heads l.head_places l.image l.image_places l.relocs l.reloc_places (columns l.starts l.ends l.units l.rest) l.rows l.unit_table l.unit_places l.room)
-    (walk_sections (tables_input l.symbols l.symbol_places l.name_bytes l.name_places l.name_lengths l.heads l.head_places l.image l.image_places l.relocs l.reloc_places (columns l.starts l.ends l.units l.rest) l.rows l.unit_table l.unit_places l.room) l.initial.n (l.last - l.initial.n) (output_in l.initial.pieces l.initial.entries l.initial.offsets l.initial.done))
-    (length l.symbol_places) (length l.reloc_places) (length l.unit_places) l.last l.n l.done l.scratch l.part l.pieces l.entries l.offsets
+    AtSection (tables_input l.obj.symbols.bytes.now l.obj.symbols.places.now l.obj.names.bytes.now l.obj.names.places.now l.obj.names.lengths.now l.obj.heads.bytes.now l.obj.heads.places.now l.image.bytes.now l.image.places.now l.relocs.bytes.now l.relocs.places.now (columns_of l.splits) l.rows l.unit_table.bytes.now l.unit_table.places.now l.room)
+    (walk_sections (tables_input l.obj.symbols.bytes.now l.obj.symbols.places.now l.obj.names.bytes.now l.obj.names.places.now l.obj.names.lengths.now l.obj.heads.bytes.now l.obj.heads.places.now l.image.bytes.now l.image.places.now l.relocs.bytes.now l.relocs.places.now (columns_of l.splits) l.rows l.unit_table.bytes.now l.unit_table.places.now l.room) l.initial.n (l.last - l.initial.n) (output_in l.initial.pieces l.initial.entries l.initial.offsets l.initial.done))
+    (length l.obj.symbols.places.now) (length l.relocs.places.now) (length l.unit_table.places.now) l.last l.n l.done l.scratch l.part l.pieces l.entries l.offsets
     × Lengths l.initial.scratch l.initial.part l.initial.pieces l.initial.entries l.initial.offsets l.scratch l.part l.pieces l.entries l.offsets
 
 abbrev pub decreases-sections : goal.decreases-sections

@@ -20,4 +20,4 @@ pub returns : goal.returns
 returns c =
     let l = c.loop-i in
     let a = c.args in
-    tabulate_list (split_at a.b.now) (row_at (columns l.starts l.ends l.units l.rest)) a.places.now 0 (λ k h. l.invariant.2 k (omega arith))
+    tabulate_list (split_at a.table.now.bytes.now) (row_at (columns l.starts l.ends l.units l.rest)) a.table.now.places.now 0 (λ k h. l.invariant.2 k (omega arith))

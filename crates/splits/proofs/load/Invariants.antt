@@ -10,6 +10,6 @@ use Rattle.splits.proofs.load.Given as goal
 
 abbrev pub invariant-loop-i : goal.invariant-loop-i
 invariant-loop-i l =
-    (l.i ≤ length l.places)
+    (l.i ≤ length l.table.places.now)
     × Same (columns l.starts l.ends l.units l.rest) (columns l.initial.starts l.initial.ends l.initial.units l.initial.rest)
-    × ((k : ℕ) → k < l.i → row_at (columns l.starts l.ends l.units l.rest) k ≡ split_at l.b (get_or l.places k 0))
+    × ((k : ℕ) → k < l.i → row_at (columns l.starts l.ends l.units l.rest) k ≡ split_at l.table.bytes.now (get_or l.table.places.now k 0))

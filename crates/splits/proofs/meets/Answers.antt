@@ -8,7 +8,7 @@ use lib.ListN.{get_or}
 use Rattle.lists.specs.Rows.{tabulate, some}
 use Rattle.lists.proofs.SomeRows.{some_ended}
 use Rattle.obj.specs.declared.Split.{Split}
-use Rattle.splits.specs.Columns.{columns, row_of, row_at}
+use Rattle.splits.specs.Columns.{row_of, row_at, columns_of}
 use Rattle.splits.specs.Questions.{within, is_auto, is_by_hand, is_of_other}
 use Rattle.splits.proofs.Blocks.{some_jump}
 use Rattle.splits.proofs.Meeting.{left_first, or_yes}
@@ -19,7 +19,7 @@ loop-i-init c =
     let a = c.args in
     let r = c.next_within-i in
     let h = r.ensures in
-    let c₀ = columns a.starts.now a.ends.now a.units.now a.rest.now in
+    let c₀ = columns_of a.splits.now in
     let p = within a.section a.from a.to in (
       h.1,
       h.3,
@@ -40,11 +40,11 @@ loop-i-preserved c =
     let t = c.loop-i-test.true in
     let r = c.next_within-i-in-loop-i in
     let h = r.ensures in
-    let f = row_at (columns a.starts.now a.ends.now a.units.now a.rest.now) in
+    let f = row_at (columns_of a.splits.now) in
     let p = within a.section a.from a.to in
     let inside = l.invariant.1 t in
     let by_hand = c.is_hand-by_hand.ensures in
-    let of_other = not (eqb (get_or a.units.now l.i 0) a.unit) in
+    let of_other = not (eqb (get_or a.splits.now.units.now l.i 0) a.unit) in
     let left : (Split → Bool) → Bool = λ q. some q (tabulate f r.result (a.n - r.result)) in (
       h.1,
       h.3,
@@ -64,7 +64,7 @@ pub returns : goal.returns
 returns c =
     let l = c.loop-i in
     let a = c.args in
-    let f = row_at (columns a.starts.now a.ends.now a.units.now a.rest.now) in
+    let f = row_at (columns_of a.splits.now) in
     record {
       any = sym (some_ended _ f a.n l.i l.any c.loop-i-test.false) ∙ l.invariant.2;
       hand = sym (some_ended _ f a.n l.i l.hand c.loop-i-test.false) ∙ l.invariant.3;

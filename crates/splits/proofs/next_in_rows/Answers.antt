@@ -4,7 +4,7 @@ use mathlib.Core.Path.{sym, ◌∙◌}
 use native.Mathlib.Omega.{arith}
 use borrow.Author.Tests.{lt-ltb, le-ltb}
 use Rattle.lists.proofs.FilterRows.{filter_hit, filter_miss, filter_none}
-use Rattle.splits.specs.Columns.{columns, row_of, row_at}
+use Rattle.splits.specs.Columns.{row_of, row_at, columns_of}
 use Rattle.splits.specs.Questions.{of_unit}
 use Rattle.splits.proofs.next_in_rows.Goals as goal
 
@@ -14,7 +14,7 @@ returns-then-is_of_unit c =
     let l = c.loop-i in
     let a = c.args in
     let h = c.loop-i-test.true in
-    let f = row_at (columns a.starts.now a.ends.now a.units.now a.rest.now) in (
+    let f = row_at (columns_of a.splits.now) in (
       record {
         is = l.invariant.2 ∙ filter_hit (of_unit a.section a.unit) f a.n l.i h (sym c.is_of_unit.ensures ∙ c.if-is_of_unit.true) ∙ rw (lt-ltb l.i a.n h);
         past = omega arith;
@@ -28,7 +28,7 @@ unfolding row_of
 loop-i-preserved c =
     let l = c.loop-i in
     let a = c.args in
-    let f = row_at (columns a.starts.now a.ends.now a.units.now a.rest.now) in
+    let f = row_at (columns_of a.splits.now) in
     let miss = filter_miss (of_unit a.section a.unit) f a.n l.i c.loop-i-test.true (sym c.is_of_unit.ensures ∙ c.if-is_of_unit.false) in
     (omega arith, omega arith, l.invariant.2 ∙ miss)
 
@@ -37,7 +37,7 @@ returns c =
     let l = c.loop-i in
     let a = c.args in
     let h = c.loop-i-test.false in
-    let f = row_at (columns a.starts.now a.ends.now a.units.now a.rest.now) in
+    let f = row_at (columns_of a.splits.now) in
     record {
       is = l.invariant.2 ∙ filter_none (of_unit a.section a.unit) f a.n l.i h ∙ rw (le-ltb a.n a.n (omega arith));
       past = omega arith;

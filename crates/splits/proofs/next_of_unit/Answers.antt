@@ -3,7 +3,7 @@
 use mathlib.Core.Path.{◌∙◌}
 use Prim.Native.Nat.{◌+◌}
 use native.Mathlib.Omega.{arith}
-use Rattle.splits.specs.Columns.{columns}
+use Rattle.splits.specs.Columns.{columns_of}
 use Rattle.splits.specs.Questions.{of_unit}
 use Rattle.splits.proofs.Blocks.{block_hit, block_miss, next_from}
 use Rattle.splits.proofs.next_of_unit.Goals as goal
@@ -13,7 +13,7 @@ returns-in-Some c =
     let l = c.loop-i in
     let a = c.args in
     let h = c.in-Some.ensures in
-    let c₀ = columns a.starts.now a.ends.now a.units.now a.rest.now in (
+    let c₀ = columns_of a.splits.now in (
       record {
         is = l.invariant.2 ∙ block_hit (of_unit a.section a.unit) c₀ a.n (l.i + 32) l.i _ (omega arith) (omega arith) h.0 h.1;
         past = omega (arith, h.0.past);
@@ -26,7 +26,7 @@ pub loop-i-preserved : goal.loop-i-preserved
 loop-i-preserved c =
     let l = c.loop-i in
     let a = c.args in
-    let c₀ = columns a.starts.now a.ends.now a.units.now a.rest.now in
+    let c₀ = columns_of a.splits.now in
     let miss = block_miss (of_unit a.section a.unit) c₀ a.n (l.i + 32) l.i (l.i + 32) (omega arith) (omega arith) c.in_default.ensures (omega arith) in
     (omega arith, omega arith, l.invariant.2 ∙ miss)
 
@@ -34,4 +34,4 @@ pub returns : goal.returns
 returns c =
     let l = c.loop-i in
     let a = c.args in
-    next_from (of_unit a.section a.unit) (columns a.starts.now a.ends.now a.units.now a.rest.now) a.n a.at l.i l.invariant.0 l.invariant.2 _ c.next_in_rows.ensures
+    next_from (of_unit a.section a.unit) (columns_of a.splits.now) a.n a.at l.i l.invariant.0 l.invariant.2 _ c.next_in_rows.ensures

@@ -7,7 +7,7 @@ use Prim.Native.Nat.{ℕ, ◌+◌, ◌-◌, ◌*◌}
 use lib.Seq.{sets}
 use Rattle.lists.specs.Rows.{tabulate}
 use Rattle.obj.specs.declared.Split.{Split}
-use Rattle.splits.specs.Columns.{columns, row_at}
+use Rattle.splits.specs.Columns.{row_at, columns_of}
 use Rattle.splits.specs.Bytes.{split_bytes, table_bytes}
 use Rattle.obj.specs.Records.{split_width}
 use Rattle.splits.proofs.Bytes.{written_turn, written_all}
@@ -17,7 +17,7 @@ pub loop-i-preserved : goal.loop-i-preserved
 loop-i-preserved c =
     let l = c.loop-i in
     let a = c.args in
-    let f = row_at (columns a.starts.now a.ends.now a.units.now a.rest.now) in
+    let f = row_at (columns_of a.splits.now) in
     let w = c.put_split.ensures ∙ ap (λ (s : Split). sets l.out (split_width * l.i) (split_bytes s)) c.row.ensures in (
       omega arith,
       c.put_split.auto.out ∙ l.invariant.1,
@@ -29,5 +29,5 @@ loop-i-preserved c =
 pub returns : goal.returns
 returns c =
     let a = c.args in
-    let f = row_at (columns a.starts.now a.ends.now a.units.now a.rest.now) in
+    let f = row_at (columns_of a.splits.now) in
     sym (written_all c.loop-i.out f a.n c.loop-i.i c.loop-i-test.false) ∙ c.loop-i.invariant.2

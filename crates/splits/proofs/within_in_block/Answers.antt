@@ -2,14 +2,14 @@
 -- Assumes nothing.
 use mathlib.Core.Path.{sym, ◌∙◌}
 use native.Mathlib.Omega.{arith}
-use Rattle.splits.specs.Columns.{columns}
+use Rattle.splits.specs.Columns.{columns_of}
 use Rattle.splits.proofs.Blocks.{starts_none}
 use Rattle.splits.proofs.within_in_block.Goals as goal
 
 pub returns : goal.returns
 returns c =
     let a = c.args in
-    let c₀ = columns a.starts.now a.ends.now a.units.now a.rest.now in (
+    let c₀ = columns_of a.splits.now in (
       omega arith,
       omega arith,
       starts_none a.section a.from a.to c₀ a.at 32 (sym c.holds_start.ensures ∙ c.if-holds_start.false),

@@ -2,7 +2,7 @@
 -- Assumes nothing.
 use mathlib.Core.Path.{sym, ◌∙◌}
 use native.Mathlib.Omega.{arith}
-use Rattle.splits.specs.Columns.{columns, row_of, row_at}
+use Rattle.splits.specs.Columns.{row_of, row_at, columns_of}
 use Rattle.splits.specs.Questions.{within}
 use Rattle.splits.proofs.Blocks.{none_more}
 use Rattle.splits.proofs.within_in_rows.Goals as goal
@@ -18,5 +18,5 @@ unfolding row_of
 loop-i-preserved c =
     let l = c.loop-i in
     let a = c.args in
-    let f = row_at (columns a.starts.now a.ends.now a.units.now a.rest.now) in
+    let f = row_at (columns_of a.splits.now) in
     (omega arith, omega arith, none_more (λ k. within a.section a.from a.to (f k)) a.at l.i l.invariant.2 (sym c.is_within.ensures ∙ c.if-is_within.false))

@@ -12,7 +12,7 @@ pub create_gap_splits-requires : goal.create_gap_splits-requires
 create_gap_splits-requires c =
     let a = c.args in
     let q = c.requires in
-    let count = length-names a.name_bytes.now a.name_places.now a.name_lengths.now (length a.name_places.now) in (
+    let count = length-names a.obj.now.names.bytes.now a.obj.now.names.places.now a.obj.now.names.lengths.now (length a.obj.now.names.places.now) in (
       q.0,
       q.3.kept,
       q.1,
@@ -53,7 +53,7 @@ returns-in_err-filled c =
     rw (p.1, p.2)
     (gives_refused
     (sym c.create_gap_splits.ensures.0
-    ∙ ap (meant (names_of a.name_bytes.now a.name_places.now a.name_lengths.now (length a.name_places.now)) (beside n.added_bytes n.added_places n.added_lengths) (columns n.starts n.ends n.units n.rest)) c.in_err-filled.was) refl)
+    ∙ ap (meant (names_of a.obj.now.names.bytes.now a.obj.now.names.places.now a.obj.now.names.lengths.now (length a.obj.now.names.places.now)) (beside n.added_bytes n.added_places n.added_lengths) (columns n.starts n.ends n.units n.rest)) c.in_err-filled.was) refl)
 
 pub returns : goal.returns
 returns c =
@@ -61,5 +61,5 @@ returns c =
     let n = c.create_gap_splits.new in
     gives_laid
     (sym c.create_gap_splits.ensures.0
-    ∙ ap (meant (names_of a.name_bytes.now a.name_places.now a.name_lengths.now (length a.name_places.now)) (beside n.added_bytes n.added_places n.added_lengths) (columns n.starts n.ends n.units n.rest)) c.in_ok-filled.was)
+    ∙ ap (meant (names_of a.obj.now.names.bytes.now a.obj.now.names.places.now a.obj.now.names.lengths.now (length a.obj.now.names.places.now)) (beside n.added_bytes n.added_places n.added_lengths) (columns n.starts n.ends n.units n.rest)) c.in_ok-filled.was)
     refl c.give_filled.ensures

@@ -5,7 +5,7 @@ use Rattle.obj.specs.Answers.{meaning}
 use Rattle.names.specs.Names.{names_of}
 use Rattle.tables.specs.Records.{sections_in}
 use Rattle.stage_tables.proofs.Laws.{table_passed}
-use Rattle.sections.specs.Image.{image_of}
+use Rattle.sections.specs.Image.{image_in}
 use Rattle.sections.specs.Sections.{sections_of}
 use Rattle.splits.specs.Columns.{columns}
 use Rattle.stage_splits.proofs.Laws.{room_low, room_fits}
@@ -25,9 +25,9 @@ take_split_columns-requires c =
 pub returns-in_err-take_split_columns : goal.returns-in_err-take_split_columns
 returns-in_err-take_split_columns c =
     let a = c.args in
-    let base = (names_of a.name_bytes.now a.name_places.now a.name_lengths.now (length a.name_places.now)) in
+    let base = (names_of a.obj.now.names.bytes.now a.obj.now.names.places.now a.obj.now.names.lengths.now (length a.obj.now.names.places.now)) in
     rw (same_err c.from_residual.result c.take_split_columns.result c.from_residual.ensures.1 c.in_err-take_split_columns.was)
-    (splits_stop a.name_lengths.now (sections_in a.heads.now a.head_places.now) (image_of a.symbols.now a.symbol_places.now a.name_bytes.now a.name_places.now a.name_lengths.now) (sections_of a.heads.now a.head_places.now a.image.now a.image_places.now) (ceilings base a.most a.most_bytes) base a.splits.now c.room_of-room.ensures c.take_split_columns.ensures.said (ap meaning c.in_err-take_split_columns.was))
+    (splits_stop a.obj.now.names.lengths.now (sections_in a.obj.now.heads.bytes.now a.obj.now.heads.places.now) (image_in a.obj.now) (sections_of a.obj.now.heads.bytes.now a.obj.now.heads.places.now a.image.now.bytes.now a.image.now.places.now) (ceilings base a.most a.most_bytes) base a.splits.now c.room_of-room.ensures c.take_split_columns.ensures.said (ap meaning c.in_err-take_split_columns.was))
 
 pub fill_rows-requires : goal.fill_rows-requires
 fill_rows-requires c =
@@ -58,5 +58,5 @@ pub returns : goal.returns
 returns c =
     let a = c.args in
     let t = c.take_split_columns in
-    let base = (names_of a.name_bytes.now a.name_places.now a.name_lengths.now (length a.name_places.now)) in
-    splits_go a.name_lengths.now (sections_in a.heads.now a.head_places.now) (image_of a.symbols.now a.symbol_places.now a.name_bytes.now a.name_places.now a.name_lengths.now) (sections_of a.heads.now a.head_places.now a.image.now a.image_places.now) (ceilings base a.most a.most_bytes) base a.splits.now (columns t.new.starts t.new.ends t.new.units t.new.rest) c.room_of-room.ensures t.ensures (ap meaning c.in_ok-take_split_columns.was) c.fill_rows.ensures
+    let base = (names_of a.obj.now.names.bytes.now a.obj.now.names.places.now a.obj.now.names.lengths.now (length a.obj.now.names.places.now)) in
+    splits_go a.obj.now.names.lengths.now (sections_in a.obj.now.heads.bytes.now a.obj.now.heads.places.now) (image_in a.obj.now) (sections_of a.obj.now.heads.bytes.now a.obj.now.heads.places.now a.image.now.bytes.now a.image.now.places.now) (ceilings base a.most a.most_bytes) base a.splits.now (columns t.new.starts t.new.ends t.new.units t.new.rest) c.room_of-room.ensures t.ensures (ap meaning c.in_ok-take_split_columns.was) c.fill_rows.ensures

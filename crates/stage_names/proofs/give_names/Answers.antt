@@ -12,16 +12,16 @@ pub put_names-end-requires : goal.put_names-end-requires
 put_names-end-requires c =
     let a = c.args in
     let q = c.requires in
-    let e = length-names a.bytes.now a.places.now a.lengths.now (length a.places.now) in
-    let f = length-names a.added_bytes.now a.added_places.now a.added_lengths.now a.names in
+    let e = length-names a.table_names.now.bytes.now a.table_names.now.places.now a.table_names.now.lengths.now (length a.table_names.now.places.now) in
+    let f = length-names a.added.now.bytes.now a.added.now.places.now a.added.now.lengths.now a.names in
     (q.0, omega (arith, q.2.long_ends, e), omega (arith, q.2.long_bytes), omega (arith, q.2.short))
 
 pub put_names-last-requires : goal.put_names-last-requires
 put_names-last-requires c =
     let a = c.args in
     let q = c.requires in
-    let e = length-names a.bytes.now a.places.now a.lengths.now (length a.places.now) in
-    let f = length-names a.added_bytes.now a.added_places.now a.added_lengths.now a.names in
+    let e = length-names a.table_names.now.bytes.now a.table_names.now.places.now a.table_names.now.lengths.now (length a.table_names.now.places.now) in
+    let f = length-names a.added.now.bytes.now a.added.now.places.now a.added.now.lengths.now a.names in
     let o = c.put_names-end in
     let r = o.ensures.last in
     (q.1, omega (arith, q.2.long_ends, e, f, o.auto.out_ends), omega (arith, q.2.long_bytes, r, o.auto.out_bytes), omega (arith, q.2.short, r))
@@ -30,7 +30,7 @@ pub returns : goal.returns
 returns c =
     let a = c.args in
     let q = c.requires in
-    let e = length-names a.bytes.now a.places.now a.lengths.now (length a.places.now) in
-    let f = length-names a.added_bytes.now a.added_places.now a.added_lengths.now a.names in
-    given-names (names_of a.bytes.now a.places.now a.lengths.now (length a.places.now)) (names_of a.added_bytes.now a.added_places.now a.added_lengths.now a.names) a.out_ends.now a.out_bytes.now q.2
+    let e = length-names a.table_names.now.bytes.now a.table_names.now.places.now a.table_names.now.lengths.now (length a.table_names.now.places.now) in
+    let f = length-names a.added.now.bytes.now a.added.now.places.now a.added.now.lengths.now a.names in
+    given-names (names_of a.table_names.now.bytes.now a.table_names.now.places.now a.table_names.now.lengths.now (length a.table_names.now.places.now)) (names_of a.added.now.bytes.now a.added.now.places.now a.added.now.lengths.now a.names) a.out_ends.now a.out_bytes.now q.2
     (sym e) (sym f) c.put_names-end.ensures c.put_names-last.ensures c.clear_from.ensures c.clear_from-2.ensures

@@ -5,14 +5,14 @@ use Prim.Native.Nat.{ℕ}
 use lib.ListN.{length}
 use Rattle.lists.proofs.Rows.{length-tabulate}
 use Rattle.outputs.specs.Outputs.{counts_of, store_count}
-use Rattle.splits.specs.Columns.{columns, row_at}
+use Rattle.splits.specs.Columns.{row_at, columns_of}
 use Rattle.stage_splits.proofs.Laws.{one_count}
 use Rattle.stage_splits.proofs.give_splits.Goals as goal
 
 pub returns : goal.returns
 returns c =
     let a = c.args in
-    let k = length-tabulate (row_at (columns a.starts.now a.ends.now a.units.now a.rest.now)) 0 a.n in
+    let k = length-tabulate (row_at (columns_of a.splits.now)) 0 a.n in
     record {
       splits = c.put_splits.ensures;
       counted =

@@ -6,7 +6,7 @@ use Rattle.lists.specs.Rows.{clear_from}
 use Rattle.lists.proofs.Rows.{length-tabulate}
 use Rattle.obj.specs.Records.{split_width}
 use Rattle.outputs.proofs.Laws.{laid-after}
-use Rattle.splits.specs.Columns.{columns, row_at, rows}
+use Rattle.splits.specs.Columns.{row_at, rows, columns_of}
 use Rattle.splits.specs.Bytes.{table_bytes}
 use Rattle.splits.proofs.Bytes.{length-table_bytes}
 use Rattle.stage_splits.proofs.put_splits.Goals as goal
@@ -14,7 +14,7 @@ use Rattle.stage_splits.proofs.put_splits.Goals as goal
 pub returns : goal.returns
 returns c =
     let a = c.args in
-    let t = columns a.starts.now a.ends.now a.units.now a.rest.now in
+    let t = columns_of a.splits.now in
     let l = rows t a.n in
     let m = length-table_bytes l in
     let k = length-tabulate (row_at t) 0 a.n in

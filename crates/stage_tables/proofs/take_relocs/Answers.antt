@@ -15,7 +15,7 @@ use Rattle.obj.proofs.Errors.{same_err}
 pub returns-in_err-fill_table : goal.returns-in_err-fill_table
 returns-in_err-fill_table c =
     let a = c.args in
-    let fault : List ℕ → ℕ → ℕ = λ p. reloc_fault (sections_in a.heads.now a.head_places.now) a.symbols (relocs_in a.b.now p) in
+    let fault : List ℕ → ℕ → ℕ = λ p. reloc_fault (sections_in a.heads.now.bytes.now a.heads.now.places.now) a.symbols (relocs_in a.b.now p) in
     rw (same_err c.from_residual.result c.fill_table.result c.from_residual.ensures.1 c.in_err-fill_table.was)
     (size_refused 23 _ c.args.b.now _ c.fill_table.ensures (fault (stage_places 23 (length c.args.b.now / 23))) (ap meaning c.in_err-fill_table.was))
 
@@ -34,5 +34,5 @@ check_relocs-requires c =
 pub returns : goal.returns
 returns c =
     let a = c.args in
-    let fault : List ℕ → ℕ → ℕ = λ p. reloc_fault (sections_in a.heads.now a.head_places.now) a.symbols (relocs_in a.b.now p) in
+    let fault : List ℕ → ℕ → ℕ = λ p. reloc_fault (sections_in a.heads.now.bytes.now a.heads.now.places.now) a.symbols (relocs_in a.b.now p) in
     records_said 23 _ c.args.b.now _ c.fill_table.ensures (ap meaning c.in_ok-fill_table.was) fault c.check_relocs.ensures

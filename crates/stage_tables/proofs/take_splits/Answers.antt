@@ -15,7 +15,7 @@ use Rattle.obj.proofs.Errors.{same_err}
 pub returns-in_err-fill_table : goal.returns-in_err-fill_table
 returns-in_err-fill_table c =
     let a = c.args in
-    let fault : List ℕ → ℕ → ℕ = λ p. split_fault a.lengths.now (sections_in a.heads.now a.head_places.now) (splits_in a.b.now p) in
+    let fault : List ℕ → ℕ → ℕ = λ p. split_fault a.lengths.now (sections_in a.heads.now.bytes.now a.heads.now.places.now) (splits_in a.b.now p) in
     rw (same_err c.from_residual.result c.fill_table.result c.from_residual.ensures.1 c.in_err-fill_table.was)
     (size_refused split_width _ c.args.b.now _ c.fill_table.ensures (fault (stage_places split_width (length c.args.b.now / split_width))) (ap meaning c.in_err-fill_table.was))
 
@@ -34,5 +34,5 @@ check_splits-requires c =
 pub returns : goal.returns
 returns c =
     let a = c.args in
-    let fault : List ℕ → ℕ → ℕ = λ p. split_fault a.lengths.now (sections_in a.heads.now a.head_places.now) (splits_in a.b.now p) in
+    let fault : List ℕ → ℕ → ℕ = λ p. split_fault a.lengths.now (sections_in a.heads.now.bytes.now a.heads.now.places.now) (splits_in a.b.now p) in
     records_said split_width _ c.args.b.now _ c.fill_table.ensures (ap meaning c.in_ok-fill_table.was) fault c.check_splits.ensures

@@ -9,7 +9,7 @@ use native.Mathlib.Omega.{arith}
 use lib.ListN.{length}
 use Rattle.obj.specs.Answers.{meaning}
 use Rattle.stage_tables.proofs.Laws.{table_passed}
-use Rattle.sections.specs.Image.{image_of}
+use Rattle.sections.specs.Image.{image_in}
 use Rattle.sections.specs.Sections.{sections_of}
 use Rattle.relocs.specs.Relocs.{reloc_of}
 use Rattle.splits.specs.Columns.{columns, rows as rows_of}
@@ -32,7 +32,7 @@ with_units-requires c =
       c.requires.0,
       c.requires.1,
       c.requires.2,
-      rows_named 1024 a.name_lengths.now (sections_in a.heads.now a.head_places.now) a.splits.now (columns last.starts last.ends last.units last.rest) passed (c.take_split_columns.ensures.taken passed)
+      rows_named 1024 a.obj.now.names.lengths.now (sections_in a.obj.now.heads.bytes.now a.obj.now.heads.places.now) a.splits.now (columns last.starts last.ends last.units last.rest) passed (c.take_split_columns.ensures.taken passed)
           (record {
             starts = omega (arith, few, long.starts_long, kept.starts);
             ends = omega (arith, few, long.ends_long, kept.ends);
@@ -47,7 +47,7 @@ pub returns : goal.returns
 returns c =
     let a = c.args in
     let passed = sym c.take_split_columns.ensures.said ∙ ap meaning c.in_ok-take_split_columns.was in
-    splits_go a.name_lengths.now (sections_in a.heads.now a.head_places.now) (image_of a.symbols.now a.symbol_places.now a.name_bytes.now a.name_places.now a.name_lengths.now) (sections_of a.heads.now a.head_places.now a.image.now a.image_places.now) (reloc_of a.relocs.now a.reloc_places.now) (length a.reloc_places.now) a.splits.now a.unit_table.now
+    splits_go a.obj.now.names.lengths.now (sections_in a.obj.now.heads.bytes.now a.obj.now.heads.places.now) (image_in a.obj.now) (sections_of a.obj.now.heads.bytes.now a.obj.now.heads.places.now a.image.now.bytes.now a.image.now.places.now) (reloc_of a.relocs.now.bytes.now a.relocs.now.places.now) (length a.relocs.now.places.now) a.splits.now a.unit_table.now
     (rows_of (columns c.take_split_columns.new.starts c.take_split_columns.new.ends c.take_split_columns.new.units c.take_split_columns.new.rest) (length a.splits.now / split_width)) (room_in (length a.pieces.now) (length a.entries.now) (length a.offsets.now)) c.with_units.result c.with_units.new.pieces c.with_units.new.entries c.with_units.new.offsets
     passed (c.take_split_columns.ensures.taken passed) c.with_units.ensures
 

@@ -10,10 +10,10 @@ use lib.ListN.{length, take}
 use lib.Seq.{length-take-le}
 use Rattle.obj.specs.Answers.{meaning}
 use Rattle.stage_tables.proofs.Laws.{taken_few, taken_places}
-use Rattle.sections.specs.Image.{image_of}
+use Rattle.sections.specs.Image.{image_in}
 use Rattle.sections.specs.Sections.{sections_of}
 use Rattle.relocs.specs.Relocs.{reloc_of}
-use Rattle.splits.specs.Columns.{columns, rows as rows_of}
+use Rattle.splits.specs.Columns.{rows as rows_of, columns_of}
 use Rattle.stage_walk.specs.Room.{room_in}
 use Rattle.stage_walk.specs.Lines.{from_units}
 use Rattle.stage_walk.proofs.Passed.{units_listed}
@@ -31,7 +31,7 @@ slice_bounds-number_units-end-2 c =
 pub number_units-requires : goal.number_units-requires
 number_units-requires c =
     let a = c.args in
-    units_listed a.name_lengths.now a.unit_table.now (sym c.take_units.ensures.said ∙ ap meaning c.in_ok-take_units.was) _ _ (taken_places 8 1024 c.args.unit_table.now _ _ c.take_units.ensures (ap meaning c.in_ok-take_units.was))
+    units_listed a.obj.now.names.lengths.now a.unit_table.now (sym c.take_units.ensures.said ∙ ap meaning c.in_ok-take_units.was) _ _ (taken_places 8 1024 c.args.unit_table.now _ _ c.take_units.ensures (ap meaning c.in_ok-take_units.was))
     (omega (arith, c.requires.4, c.requires.6.numbers_long))
 
 pub slice_bounds-walk_columns-end : goal.slice_bounds-walk_columns-end
@@ -45,7 +45,7 @@ slice_bounds-walk_columns-end-2 c =
 pub returns : goal.returns
 returns c =
     let a = c.args in
-    units_go a.name_lengths.now (image_of a.symbols.now a.symbol_places.now a.name_bytes.now a.name_places.now a.name_lengths.now) (sections_of a.heads.now a.head_places.now a.image.now a.image_places.now) (reloc_of a.relocs.now a.reloc_places.now) (length a.reloc_places.now) (rows_of (columns a.starts.now a.ends.now a.units.now a.rest.now) a.rows) a.unit_table.now
+    units_go a.obj.now.names.lengths.now (image_in a.obj.now) (sections_of a.obj.now.heads.bytes.now a.obj.now.heads.places.now a.image.now.bytes.now a.image.now.places.now) (reloc_of a.relocs.now.bytes.now a.relocs.now.places.now) (length a.relocs.now.places.now) (rows_of (columns_of a.splits.now) a.rows) a.unit_table.now
     (take (length a.unit_table.now / 8) c.take_units.new.places) (room_in (length a.pieces.now) (length a.entries.now) (length a.offsets.now)) c.walk_columns.result c.walk_columns.new.pieces c.walk_columns.new.entries c.walk_columns.new.offsets
     (sym c.take_units.ensures.said ∙ ap meaning c.in_ok-take_units.was) (taken_places 8 1024 c.args.unit_table.now _ _ c.take_units.ensures (ap meaning c.in_ok-take_units.was)) c.walk_columns.ensures
 

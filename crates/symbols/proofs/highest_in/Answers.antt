@@ -19,7 +19,7 @@ returns c =
     let a = c.args in
     sym (passes 11 _ _ _ _ (sym c.is_backwards.ensures ∙ c.if-is_backwards.false)
     ∙ ap accepted (sym (c.highest_of.ensures
-    ∙ ap (λ (l : List ℕ). highest_of (symbol_of a.b.now a.places.now) (keep_if (λ i. sized (symbol_of a.b.now a.places.now i)) l)) c.for_section_range-part.ensures)))
+    ∙ ap (λ (l : List ℕ). highest_of (symbol_of a.table.now.bytes.now a.table.now.places.now) (keep_if (λ i. sized (symbol_of a.table.now.bytes.now a.table.now.places.now i)) l)) c.for_section_range-part.ensures)))
 
 pub returns-then-is_backwards : goal.returns-then-is_backwards
 unfolding highest_in

@@ -13,9 +13,9 @@ pub loop-k-preserved : goal.loop-k-preserved
 loop-k-preserved c =
     let a = c.args in
     let l = c.loop-k in
-    let e : c.raised-most.result ≡ raise l.most (symbol_of a.b.now a.places.now (get_or a.part.now l.k-index 0)) =
-    c.raised-most.ensures ∙ ap (raise l.most) (c.symbol_at.ensures ∙ ap (symbol_of a.b.now a.places.now) c.from.ensures) in
-    rw e (sym (highest_turn (symbol_of a.b.now a.places.now) a.part.now l.k-index l.most c.loop-k-test.true) ∙ l.invariant)
+    let e : c.raised-most.result ≡ raise l.most (symbol_of a.table.now.bytes.now a.table.now.places.now (get_or a.part.now l.k-index 0)) =
+    c.raised-most.ensures ∙ ap (raise l.most) (c.symbol_at.ensures ∙ ap (symbol_of a.table.now.bytes.now a.table.now.places.now) c.from.ensures) in
+    rw e (sym (highest_turn (symbol_of a.table.now.bytes.now a.table.now.places.now) a.part.now l.k-index l.most c.loop-k-test.true) ∙ l.invariant)
 
 pub returns : goal.returns
 returns c = sym (highest_end _ _ _ _ c.loop-k-test.false) ∙ c.loop-k.invariant

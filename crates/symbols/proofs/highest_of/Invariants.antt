@@ -5,4 +5,4 @@ use Rattle.symbols.proofs.Laws.{highest_from}
 use Rattle.symbols.proofs.highest_of.Given as goal
 
 abbrev pub invariant-loop-k : goal.invariant-loop-k
-invariant-loop-k l = max l.most (highest_from (symbol_of l.b l.places) l.part l.k-index) ≡ highest_from (symbol_of l.b l.places) l.part 0
+invariant-loop-k l = max l.most (highest_from (symbol_of l.table.bytes.now l.table.places.now) l.part l.k-index) ≡ highest_from (symbol_of l.table.bytes.now l.table.places.now) l.part 0

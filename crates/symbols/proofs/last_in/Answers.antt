@@ -25,4 +25,4 @@ returns c =
     let a = c.args in
     sym (passes 11 _ _ _ _ (sym c.is_backwards.ensures ∙ c.if-is_backwards.false)
     ∙ ap accepted (sym (c.last_of.ensures
-    ∙ ap (λ (l : List ℕ). last_or None (keep_if (λ i. sized_unstripped false (symbol_of a.b.now a.places.now i)) l)) c.for_section_range-part.ensures)))
+    ∙ ap (λ (l : List ℕ). last_or None (keep_if (λ i. sized_unstripped false (symbol_of a.table.now.bytes.now a.table.now.places.now i)) l)) c.for_section_range-part.ensures)))

@@ -7,5 +7,5 @@ use Rattle.symbols.proofs.last_of.Given as goal
 
 abbrev pub invariant-loop-j : goal.invariant-loop-j
 invariant-loop-j l =
-    last_or None (keep_if (λ i. sized_unstripped l.objects (symbol_of l.b l.places i)) (take l.j l.part))
-    ≡ last_or None (keep_if (λ i. sized_unstripped l.objects (symbol_of l.b l.places i)) l.part)
+    last_or None (keep_if (λ i. sized_unstripped l.objects (symbol_of l.table.bytes.now l.table.places.now i)) (take l.j l.part))
+    ≡ last_or None (keep_if (λ i. sized_unstripped l.objects (symbol_of l.table.bytes.now l.table.places.now i)) l.part)

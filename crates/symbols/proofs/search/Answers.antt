@@ -14,12 +14,12 @@ pub loop-lo-preserved-then-key_in-key : goal.loop-lo-preserved-then-key_in-key
 loop-lo-preserved-then-key_in-key c =
     let s = c in
     let l = c.loop-lo in
-    let h = place_above (key_at s.args.b.now s.args.places.now) s.args.key s.args.order.now (l.lo + (l.hi - l.lo) / 2) 0 (order_sorted _ _ _ s.requires.0) (omega arith) (omega (arith, c.key_in.ensures)) in
+    let h = place_above (key_at s.args.table.now.bytes.now s.args.table.now.places.now) s.args.key s.args.order.now (l.lo + (l.hi - l.lo) / 2) 0 (order_sorted _ _ _ s.requires.0) (omega arith) (omega (arith, c.key_in.ensures)) in
     (omega (arith, h), l.invariant.1, l.invariant.2)
 
 pub loop-lo-preserved : goal.loop-lo-preserved
 loop-lo-preserved c =
     let s = c in
     let l = c.loop-lo in
-    let h = place-below (key_at s.args.b.now s.args.places.now) s.args.key s.args.order.now (l.lo + (l.hi - l.lo) / 2) 0 (omega arith) (omega (arith, c.key_in.ensures)) in
+    let h = place-below (key_at s.args.table.now.bytes.now s.args.table.now.places.now) s.args.key s.args.order.now (l.lo + (l.hi - l.lo) / 2) 0 (omega arith) (omega (arith, c.key_in.ensures)) in
     (l.invariant.0, h, omega arith)

@@ -7,6 +7,6 @@ use Rattle.tables.proofs.check_relocs.Given as goal
 
 abbrev pub invariant-loop-i : goal.invariant-loop-i
 invariant-loop-i l = record {
-  going : Going (reloc_fault (sections_in l.heads l.head_places) l.symbols (relocs_in l.b l.places)) (length l.places) l.i;
-  left : Floors (relocs_in l.b l.places) l.i l.floors;
+  going : Going (reloc_fault (sections_in l.heads.bytes.now l.heads.places.now) l.symbols (relocs_in l.table.bytes.now l.table.places.now)) (length l.table.places.now) l.i;
+  left : Floors (relocs_in l.table.bytes.now l.table.places.now) l.i l.floors;
 }

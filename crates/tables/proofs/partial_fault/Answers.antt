@@ -9,5 +9,5 @@ returns c =
     let a = c.args in
     c.refuse_if.ensures
     ∙ ap (λ (n : ℕ). record_check n a.k)
-    (partial_fault_is a.lengths.now a.b.now a.places.now _ c.requires.1 65535 c.read_partial-s.ensures
+    (partial_fault_is a.lengths.now a.table.now.bytes.now a.table.now.places.now _ c.requires.1 65535 c.read_partial-s.ensures
     c.length_of-unit_len.ensures c.length_of-rename_len.ensures c.split_bad.ensures refl)

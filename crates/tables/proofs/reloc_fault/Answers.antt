@@ -9,4 +9,4 @@ returns c =
     let a = c.args in
     c.refuse_if.ensures
     ∙ ap (λ (n : ℕ). record_check n a.k)
-    (reloc_fault_is a.heads.now a.head_places.now _ a.floors.now _ c.section_or_none-home.ensures c.number_at-floor.ensures c.reloc_bad.ensures refl)
+    (reloc_fault_is a.heads.now.bytes.now a.heads.now.places.now _ a.floors.now _ c.section_or_none-home.ensures c.number_at-floor.ensures c.reloc_bad.ensures refl)

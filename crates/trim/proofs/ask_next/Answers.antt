@@ -5,10 +5,10 @@ use native.Mathlib.Omega.{arith}
 use Rattle.std.proofs.lemmas.Result.{err_from_is_err_and}
 use Rattle.lists.specs.Outcome.{refused, ◌>>=◌}
 use Rattle.obj.specs.declared.Split.{Split}
-use Rattle.sections.specs.Image.{image_of}
+use Rattle.sections.specs.Image.{image_in}
 use Rattle.sections.specs.Sections.{head_of}
 use Rattle.sections.specs.Alignment.{alignment_meaning}
-use Rattle.splits.specs.Columns.{columns, row_at}
+use Rattle.splits.specs.Columns.{row_at, columns_of}
 use Rattle.trim.specs.Steps.{unused}
 use Rattle.trim.proofs.Falls.{next_none, next_other, next_asked}
 use Rattle.trim.proofs.ask_next.Goals as goal
@@ -16,17 +16,17 @@ use Rattle.trim.proofs.ask_next.Goals as goal
 pub returns-then-n-j : goal.returns-then-n-j
 returns-then-n-j c =
     let a = c.args in
-    let g = image_of a.b.now a.places.now a.name_bytes.now a.name_places.now a.name_lengths.now in
-    let head = head_of a.heads.now a.head_places.now in
-    let row = row_at (columns a.starts.now a.ends.now a.units.now a.rest.now) in
+    let g = image_in a.obj.now in
+    let head = head_of a.obj.now.heads.bytes.now a.obj.now.heads.places.now in
+    let row = row_at (columns_of a.splits.now) in
     next_none g head a.s row a.n a.j c.if-n-j.true
 
 pub returns-then-next-s : goal.returns-then-next-s
 returns-then-next-s c =
     let a = c.args in
-    let g = image_of a.b.now a.places.now a.name_bytes.now a.name_places.now a.name_lengths.now in
-    let head = head_of a.heads.now a.head_places.now in
-    let row = row_at (columns a.starts.now a.ends.now a.units.now a.rest.now) in
+    let g = image_in a.obj.now in
+    let head = head_of a.obj.now.heads.bytes.now a.obj.now.heads.places.now in
+    let row = row_at (columns_of a.splits.now) in
     next_other g head a.s row a.n a.j c.if-n-j.false _ c.row-next.ensures c.if-next-s.true
 
 pub split_alignment-requires : goal.split_alignment-requires
@@ -39,9 +39,9 @@ pub returns-in_err-split_alignment : goal.returns-in_err-split_alignment
 unfolding ◌>>=◌
 returns-in_err-split_alignment c =
     let a = c.args in
-    let g = image_of a.b.now a.places.now a.name_bytes.now a.name_places.now a.name_lengths.now in
-    let head = head_of a.heads.now a.head_places.now in
-    let row = row_at (columns a.starts.now a.ends.now a.units.now a.rest.now) in
+    let g = image_in a.obj.now in
+    let head = head_of a.obj.now.heads.bytes.now a.obj.now.heads.places.now in
+    let row = row_at (columns_of a.splits.now) in
     let e = c.if-next-s.false in
     let p = err_from_is_err_and c.from_residual.result c.from_residual.ensures.1 in
     rw p.1
@@ -53,8 +53,8 @@ pub returns : goal.returns
 unfolding ◌>>=◌
 returns c =
     let a = c.args in
-    let g = image_of a.b.now a.places.now a.name_bytes.now a.name_places.now a.name_lengths.now in
-    let head = head_of a.heads.now a.head_places.now in
-    let row = row_at (columns a.starts.now a.ends.now a.units.now a.rest.now) in
+    let g = image_in a.obj.now in
+    let head = head_of a.obj.now.heads.bytes.now a.obj.now.heads.places.now in
+    let row = row_at (columns_of a.splits.now) in
     ap unused (sym (ap (alignment_meaning c.row-next.result.section a.s.start) c.in_ok-split_alignment.was) ∙ c.split_alignment.ensures)
     ∙ next_asked g head a.s row a.n a.j c.if-n-j.false _ c.row-next.ensures c.if-next-s.false

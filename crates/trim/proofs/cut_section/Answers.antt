@@ -5,7 +5,7 @@ use native.Mathlib.Omega.{arith}
 use Rattle.lists.specs.Outcome.{accepted}
 use Rattle.obj.specs.Answers.{Answer}
 use Rattle.obj.specs.declared.Section.{Section}
-use Rattle.sections.specs.Image.{image_of}
+use Rattle.sections.specs.Image.{image_in}
 use Rattle.sections.specs.Sections.{sections_of}
 use Rattle.sections.specs.Ends.{end_meaning}
 use Rattle.sections.proofs.Kept.{kept-held}
@@ -31,8 +31,8 @@ overflow_cast-k-in-Err c = omega (arith, c.requires.1.few, c.requires.3)
 pub returns-then-head-low : goal.returns-then-head-low
 returns-then-head-low c =
     let a = c.args in
-    let g = image_of a.b.now a.places.now a.name_bytes.now a.name_places.now a.name_lengths.now in
-    let sections = sections_of a.heads.now a.head_places.now a.image.now a.image_places.now in
+    let g = image_in a.obj.now in
+    let sections = sections_of a.obj.now.heads.bytes.now a.obj.now.heads.places.now a.image.now.bytes.now a.image.now.places.now in
     let whole = ap (λ (h : Section). h.address + h.size) c.section_at-head.ensures in
     let is = sym c.end_at-end.ensures ∙ ap (end_meaning a.k c.section_at-head.result.address) c.in-Ok.is in
     sym (section_whole g sections a.k _ _ is (sym whole ∙ c.if-head-low.true))
@@ -40,8 +40,8 @@ returns-then-head-low c =
 pub returns-else-head-low : goal.returns-else-head-low
 returns-else-head-low c =
     let a = c.args in
-    let g = image_of a.b.now a.places.now a.name_bytes.now a.name_places.now a.name_lengths.now in
-    let sections = sections_of a.heads.now a.head_places.now a.image.now a.image_places.now in
+    let g = image_in a.obj.now in
+    let sections = sections_of a.obj.now.heads.bytes.now a.obj.now.heads.places.now a.image.now.bytes.now a.image.now.places.now in
     let whole = ap (λ (h : Section). h.address + h.size) c.section_at-head.ensures in
     let is = sym c.end_at-end.ensures ∙ ap (end_meaning a.k c.section_at-head.result.address) c.in-Ok.is in
     ap accepted c.cut_last.ensures ∙ sym (section_cut g sections a.k _ _ is (λ e. c.if-head-low.false (whole ∙ e)))
@@ -49,8 +49,8 @@ returns-else-head-low c =
 pub returns-in-Err : goal.returns-in-Err
 returns-in-Err c =
     let a = c.args in
-    let g = image_of a.b.now a.places.now a.name_bytes.now a.name_places.now a.name_lengths.now in
-    let sections = sections_of a.heads.now a.head_places.now a.image.now a.image_places.now in
+    let g = image_in a.obj.now in
+    let sections = sections_of a.obj.now.heads.bytes.now a.obj.now.heads.places.now a.image.now.bytes.now a.image.now.places.now in
     let head = c.section_at-head.result in
     ap (λ (r : Answer). seen r (rows (columns a.starts.now a.ends.now a.units.now a.rest.now) a.n)) c.refuse.ensures
     ∙ sym (section_short g sections a.k _ 10 a.k head.address (sym c.end_at-end.ensures ∙ ap (end_meaning a.k head.address) c.in-Err.is))

@@ -14,6 +14,6 @@ end_for_section-requires c =
     let s = c in
     let whole = kept_whole _ _ _ _ _ s.requires.1 s.args.k s.requires.2 in (
       s.requires.0,
-      subst (λ (h : Section). Whole h c.section_bytes-bytes.result.now s.args.name_places.now) (sym s.requires.3)
-          (subst (λ (l : List ℕ). Whole (head_of s.args.heads.now s.args.head_places.now s.args.k) l s.args.name_places.now) (sym (c.section_bytes-bytes.ensures ∙ ap (bytes_of s.args.image.now s.args.image_places.now s.args.k) s.requires.3)) whole),
+      subst (λ (h : Section). Whole h c.section_bytes-bytes.result.now s.args.obj.now.names.places.now) (sym s.requires.3)
+          (subst (λ (l : List ℕ). Whole (head_of s.args.obj.now.heads.bytes.now s.args.obj.now.heads.places.now s.args.k) l s.args.obj.now.names.places.now) (sym (c.section_bytes-bytes.ensures ∙ ap (bytes_of s.args.image.now.bytes.now s.args.image.now.places.now s.args.k) s.requires.3)) whole),
     )

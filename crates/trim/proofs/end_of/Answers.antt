@@ -22,7 +22,7 @@ returns-in-Some c =
     let a = c.args in
     let e = ap (λ (y : Symbol). y.address + y.size) c.symbol_at-y.ensures in
     record {
-      is = e ∙ ap (end_of (symbol_of a.b.now a.places.now) a.own) (sym c.in-Some.is);
+      is = e ∙ ap (end_of (symbol_of a.table.now.bytes.now a.table.now.places.now) a.own) (sym c.in-Some.is);
       small = omega (arith, e, c.requires.1.ends _ (c.requires.3 c.in-Some.i c.in-Some.is));
     }
 
@@ -30,4 +30,4 @@ pub returns-in-None : goal.returns-in-None
 unfolding end_of
 returns-in-None c =
     let a = c.args in
-    record { is = ap (end_of (symbol_of a.b.now a.places.now) a.own) (sym c.in-None.is); small = c.requires.2 }
+    record { is = ap (end_of (symbol_of a.table.now.bytes.now a.table.now.places.now) a.own) (sym c.in-None.is); small = c.requires.2 }

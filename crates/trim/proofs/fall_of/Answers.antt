@@ -4,9 +4,9 @@ use Prim.Native.Nat.{◌-◌}
 use Rattle.std.proofs.lemmas.Result.{err_from_is_err_and}
 use Rattle.lists.specs.Rows.{tabulate}
 use Rattle.lists.proofs.Binds.{after_goes, after-stops}
-use Rattle.sections.specs.Image.{image_of}
+use Rattle.sections.specs.Image.{image_in}
 use Rattle.sections.specs.Sections.{head_of}
-use Rattle.splits.specs.Columns.{columns, row_at}
+use Rattle.splits.specs.Columns.{row_at, columns_of}
 use Rattle.trim.specs.Steps.{asked_meaning}
 use Rattle.trim.proofs.Falls.{falls_to, falls_not, falls_backwards}
 use Rattle.trim.proofs.fall_of.Goals as goal
@@ -14,9 +14,9 @@ use Rattle.trim.proofs.fall_of.Goals as goal
 pub returns-in_err-low : goal.returns-in_err-low
 returns-in_err-low c =
     let a = c.args in
-    let g = image_of a.b.now a.places.now a.name_bytes.now a.name_places.now a.name_lengths.now in
-    let head = head_of a.heads.now a.head_places.now in
-    let row = row_at (columns a.starts.now a.ends.now a.units.now a.rest.now) in
+    let g = image_in a.obj.now in
+    let head = head_of a.obj.now.heads.bytes.now a.obj.now.heads.places.now in
+    let row = row_at (columns_of a.splits.now) in
     let y = a.s in
     let p = err_from_is_err_and c.from_residual.result c.from_residual.ensures.1 in
     rw p.1
@@ -26,9 +26,9 @@ returns-in_err-low c =
 pub returns-in_err-ask_next : goal.returns-in_err-ask_next
 returns-in_err-ask_next c =
     let a = c.args in
-    let g = image_of a.b.now a.places.now a.name_bytes.now a.name_places.now a.name_lengths.now in
-    let head = head_of a.heads.now a.head_places.now in
-    let row = row_at (columns a.starts.now a.ends.now a.units.now a.rest.now) in
+    let g = image_in a.obj.now in
+    let head = head_of a.obj.now.heads.bytes.now a.obj.now.heads.places.now in
+    let row = row_at (columns_of a.splits.now) in
     let y = a.s in
     let p = err_from_is_err_and c.from_residual-in_err-ask_next.result c.from_residual-in_err-ask_next.ensures.1 in
     rw p.1
@@ -38,9 +38,9 @@ returns-in_err-ask_next c =
 pub returns-then-low-s : goal.returns-then-low-s
 returns-then-low-s c =
     let a = c.args in
-    let g = image_of a.b.now a.places.now a.name_bytes.now a.name_places.now a.name_lengths.now in
-    let head = head_of a.heads.now a.head_places.now in
-    let row = row_at (columns a.starts.now a.ends.now a.units.now a.rest.now) in
+    let g = image_in a.obj.now in
+    let head = head_of a.obj.now.heads.bytes.now a.obj.now.heads.places.now in
+    let row = row_at (columns_of a.splits.now) in
     let y = a.s in
     sym (falls_to g head y (tabulate row a.j (a.n - a.j)) _ (sym c.aligned_end.ensures ∙ ap (asked_meaning y.section y.start) c.in_ok-low.was) c.if-low-s.true
     ∙ after_goes _ _ (sym c.ask_next.ensures ∙ ap (asked_meaning y.section y.start) c.in_ok-ask_next.was))
@@ -48,8 +48,8 @@ returns-then-low-s c =
 pub returns : goal.returns
 returns c =
     let a = c.args in
-    let g = image_of a.b.now a.places.now a.name_bytes.now a.name_places.now a.name_lengths.now in
-    let head = head_of a.heads.now a.head_places.now in
-    let row = row_at (columns a.starts.now a.ends.now a.units.now a.rest.now) in
+    let g = image_in a.obj.now in
+    let head = head_of a.obj.now.heads.bytes.now a.obj.now.heads.places.now in
+    let row = row_at (columns_of a.splits.now) in
     let y = a.s in
     sym (falls_not g head y (tabulate row a.j (a.n - a.j)) _ (sym c.aligned_end.ensures ∙ ap (asked_meaning y.section y.start) c.in_ok-low.was) c.if-low-s.false)

@@ -7,9 +7,9 @@ use Rattle.lists.specs.Outcome.{accepted}
 use Rattle.obj.specs.Answers.{Answer}
 use Rattle.obj.specs.declared.Split.{Split}
 use Rattle.align.specs.Align.{bad_align}
-use Rattle.sections.specs.Image.{image_of}
+use Rattle.sections.specs.Image.{image_in}
 use Rattle.sections.specs.Sections.{head_of}
-use Rattle.splits.specs.Columns.{columns, row_at}
+use Rattle.splits.specs.Columns.{row_at, columns_of}
 use Rattle.trim.specs.Steps.{asked_meaning, seen}
 use Rattle.trim.proofs.Falls.{falls_start, fall_turn, fall_stops, falls_ended}
 use Rattle.splits.proofs.Rows.{good_row}
@@ -19,9 +19,9 @@ use Rattle.trim.proofs.find_falls.Goals as goal
 pub loop-i-init : goal.loop-i-init
 loop-i-init c =
     let a = c.args in
-    let g = image_of a.b.now a.places.now a.name_bytes.now a.name_places.now a.name_lengths.now in
-    let head = head_of a.heads.now a.head_places.now in
-    let row = row_at (columns a.starts.now a.ends.now a.units.now a.rest.now) in
+    let g = image_in a.obj.now in
+    let head = head_of a.obj.now.heads.bytes.now a.obj.now.heads.places.now in
+    let row = row_at (columns_of a.splits.now) in
     falls_start g head row a.n
 
 pub fall_of-fall-requires : goal.fall_of-fall-requires
@@ -37,9 +37,9 @@ fall_of-fall-requires c =
 pub loop-i-preserved : goal.loop-i-preserved
 loop-i-preserved c =
     let a = c.args in
-    let g = image_of a.b.now a.places.now a.name_bytes.now a.name_places.now a.name_lengths.now in
-    let head = head_of a.heads.now a.head_places.now in
-    let row = row_at (columns a.starts.now a.ends.now a.units.now a.rest.now) in
+    let g = image_in a.obj.now in
+    let head = head_of a.obj.now.heads.bytes.now a.obj.now.heads.places.now in
+    let row = row_at (columns_of a.splits.now) in
     let l = c.loop-i in
     let y = c.row-s.result in
     let fall = sym c.fall_of-fall.ensures ∙ ap (asked_meaning y.section y.start) c.in-Ok.is in
@@ -48,9 +48,9 @@ loop-i-preserved c =
 pub returns-in-Err : goal.returns-in-Err
 returns-in-Err c =
     let a = c.args in
-    let g = image_of a.b.now a.places.now a.name_bytes.now a.name_places.now a.name_lengths.now in
-    let head = head_of a.heads.now a.head_places.now in
-    let row = row_at (columns a.starts.now a.ends.now a.units.now a.rest.now) in
+    let g = image_in a.obj.now in
+    let head = head_of a.obj.now.heads.bytes.now a.obj.now.heads.places.now in
+    let row = row_at (columns_of a.splits.now) in
     let l = c.loop-i in
     let y = c.row-s.result in
     let fall = sym c.fall_of-fall.ensures ∙ ap (asked_meaning y.section y.start) c.in-Err.is in
@@ -61,9 +61,9 @@ returns-in-Err c =
 pub returns : goal.returns
 returns c =
     let a = c.args in
-    let g = image_of a.b.now a.places.now a.name_bytes.now a.name_places.now a.name_lengths.now in
-    let head = head_of a.heads.now a.head_places.now in
-    let row = row_at (columns a.starts.now a.ends.now a.units.now a.rest.now) in
+    let g = image_in a.obj.now in
+    let head = head_of a.obj.now.heads.bytes.now a.obj.now.heads.places.now in
+    let row = row_at (columns_of a.splits.now) in
     let l = c.loop-i in
     let z : ◌≡◌ a.n l.i = omega (arith, l.auto.i-end, c.loop-i-test.false) in
     ap (λ (m : ℕ). accepted (take m l.falls)) z

@@ -4,11 +4,11 @@ use mathlib.Core.Bool.{false}
 use Prim.Native.Nat.{◌-◌, ◌≤◌}
 use lib.Dec.{eqb}
 use Rattle.lists.specs.Rows.{tabulate, some}
-use Rattle.splits.specs.Columns.{columns, row_at}
+use Rattle.splits.specs.Columns.{row_at, columns_of}
 use Rattle.trim.proofs.last_of.Given as goal
 
 abbrev pub invariant-loop-j : goal.invariant-loop-j
-invariant-loop-j l = (l.j ≤ l.n) × (some (λ y. eqb y.section l.section) (tabulate (row_at (columns l.starts l.ends l.units l.rest)) l.j (l.n - l.j)) ≡ false)
+invariant-loop-j l = (l.j ≤ l.n) × (some (λ y. eqb y.section l.section) (tabulate (row_at (columns_of l.splits)) l.j (l.n - l.j)) ≡ false)
 
 abbrev pub decreases-loop-j : goal.decreases-loop-j
 decreases-loop-j l = l.j

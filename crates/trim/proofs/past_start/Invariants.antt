@@ -2,11 +2,11 @@
 use mathlib.Core.Path.{◌≡◌}
 use Prim.Native.Nat.{◌+◌, ◌-◌}
 use Rattle.lists.specs.Rows.{tabulate}
-use Rattle.splits.specs.Columns.{columns, row_at}
+use Rattle.splits.specs.Columns.{row_at, columns_of}
 use Rattle.trim.specs.Trim.{alongside}
 use Rattle.trim.proofs.past_start.Given as goal
 
 abbrev pub invariant-loop-j : goal.invariant-loop-j
 invariant-loop-j l =
-    l.j + alongside l.s (tabulate (row_at (columns l.starts l.ends l.units l.rest)) l.j (l.n - l.j))
-    ≡ l.from + alongside l.s (tabulate (row_at (columns l.starts l.ends l.units l.rest)) l.from (l.n - l.from))
+    l.j + alongside l.s (tabulate (row_at (columns_of l.splits)) l.j (l.n - l.j))
+    ≡ l.from + alongside l.s (tabulate (row_at (columns_of l.splits)) l.from (l.n - l.from))

@@ -6,7 +6,7 @@ use native.Mathlib.Omega.{arith}
 use Rattle.lists.specs.Outcome.{◌>>=◌}
 use Rattle.obj.proofs.Errors.{same_err}
 use Rattle.obj.specs.declared.Split.{Split}
-use Rattle.sections.specs.Image.{image_of}
+use Rattle.sections.specs.Image.{image_in}
 use Rattle.sections.specs.Sections.{sections_of}
 use Rattle.sections.proofs.Kept.{kept_heads}
 use Rattle.splits.specs.Columns.{columns, rows}
@@ -23,8 +23,8 @@ pub returns-in_err-find_falls : goal.returns-in_err-find_falls
 unfolding trimmed
 returns-in_err-find_falls c =
     let a = c.args in
-    let g = image_of a.b.now a.places.now a.name_bytes.now a.name_places.now a.name_lengths.now in
-    let sections = sections_of a.heads.now a.head_places.now a.image.now a.image_places.now in
+    let g = image_in a.obj.now in
+    let sections = sections_of a.obj.now.heads.bytes.now a.obj.now.heads.places.now a.image.now.bytes.now a.image.now.places.now in
     let table = rows (columns a.starts.now a.ends.now a.units.now a.rest.now) a.n in
     let next = λ (falls : List ℕ). carry_from 0 falls table >>= λ fallen. cut_from g sections sections.count 0 fallen in
     rw (same_err c.from_residual.result c.find_falls.result c.from_residual.ensures.1 c.in_err-find_falls.was)
@@ -39,8 +39,8 @@ pub returns-in_err-carry_out : goal.returns-in_err-carry_out
 unfolding trimmed
 returns-in_err-carry_out c =
     let a = c.args in
-    let g = image_of a.b.now a.places.now a.name_bytes.now a.name_places.now a.name_lengths.now in
-    let sections = sections_of a.heads.now a.head_places.now a.image.now a.image_places.now in
+    let g = image_in a.obj.now in
+    let sections = sections_of a.obj.now.heads.bytes.now a.obj.now.heads.places.now a.image.now.bytes.now a.image.now.places.now in
     let table = rows (columns a.starts.now a.ends.now a.units.now a.rest.now) a.n in
     let next = λ (falls : List ℕ). carry_from 0 falls table >>= λ fallen. cut_from g sections sections.count 0 fallen in
     rw (same_err c.from_residual-in_err-carry_out.result c.carry_out.result c.from_residual-in_err-carry_out.ensures.1 c.in_err-carry_out.was)
@@ -57,8 +57,8 @@ pub returns : goal.returns
 unfolding trimmed
 returns c =
     let a = c.args in
-    let g = image_of a.b.now a.places.now a.name_bytes.now a.name_places.now a.name_lengths.now in
-    let sections = sections_of a.heads.now a.head_places.now a.image.now a.image_places.now in
+    let g = image_in a.obj.now in
+    let sections = sections_of a.obj.now.heads.bytes.now a.obj.now.heads.places.now a.image.now.bytes.now a.image.now.places.now in
     let table = rows (columns a.starts.now a.ends.now a.units.now a.rest.now) a.n in
     let next = λ (falls : List ℕ). carry_from 0 falls table >>= λ fallen. cut_from g sections sections.count 0 fallen in
     c.cut_sections.ensures

@@ -11,20 +11,20 @@ use Rattle.units.proofs.number_units.Goals as goal
 pub loop-k-init : goal.loop-k-init
 loop-k-init c =
     let a = c.args in
-    let e = length-map a.places.now (λ (at : ℕ). (unit_at a.b.now at).name) in
-    after_none (unit_names a.b.now a.places.now) _ (λ name h. let filled : get_or c.fill.new.self name 0 ≡ length a.places.now = search rules in filled ∙ sym e)
+    let e = length-map a.table.now.places.now (λ (at : ℕ). (unit_at a.table.now.bytes.now at).name) in
+    after_none (unit_names a.table.now.bytes.now a.table.now.places.now) _ (λ name h. let filled : get_or c.fill.new.self name 0 ≡ length a.table.now.places.now = search rules in filled ∙ sym e)
 
 pub loop-k-preserved : goal.loop-k-preserved
 loop-k-preserved c =
     let a = c.args in
-    let e = length-map a.places.now (λ (at : ℕ). (unit_at a.b.now at).name) in
+    let e = length-map a.table.now.places.now (λ (at : ℕ). (unit_at a.table.now.bytes.now at).name) in
     let named = c.requires.named c.loop-k.k c.loop-k-test.true in
     let read = c.from-name.ensures ∙ ap (λ (u : units.Unit). u.name) c.unit_at.ensures in
     after_more _ _ _ _ c.loop-k.invariant (omega (arith, c.loop-k-test.true, e))
-    (read ∙ sym (get_d_map (λ (at : ℕ). (unit_at a.b.now at).name) a.places.now c.loop-k.k 0 0 c.loop-k-test.true))
+    (read ∙ sym (get_d_map (λ (at : ℕ). (unit_at a.table.now.bytes.now at).name) a.table.now.places.now c.loop-k.k 0 0 c.loop-k-test.true))
     (omega (arith, read, named, c.loop-k.auto.column))
 
 pub returns : goal.returns
 returns c =
     let a = c.args in
-    after_all _ _ _ (omega (arith, c.loop-k-test.false, length-map a.places.now (λ (at : ℕ). (unit_at a.b.now at).name))) c.loop-k.invariant
+    after_all _ _ _ (omega (arith, c.loop-k-test.false, length-map a.table.now.places.now (λ (at : ℕ). (unit_at a.table.now.bytes.now at).name))) c.loop-k.invariant

@@ -4,4 +4,4 @@ use Rattle.units.proofs.Laws.{After}
 use Rattle.units.proofs.number_units.Given as goal
 
 abbrev pub invariant-loop-k : goal.invariant-loop-k
-invariant-loop-k l = After (unit_names l.b l.places) l.column l.k
+invariant-loop-k l = After (unit_names l.table.bytes.now l.table.places.now) l.column l.k

@@ -7,7 +7,7 @@ use Rattle.lists.proofs.Parts.{tabulate_all}
 use Rattle.lists.proofs.Outcomes.{then_stops, then_goes}
 use Rattle.obj.specs.Answers.{meaning}
 use Rattle.symbol_order.specs.Order.{symbol_of}
-use Rattle.splits.specs.Columns.{columns, row_at}
+use Rattle.splits.specs.Columns.{row_at, columns_of}
 use Rattle.validate.specs.Check.{validate_from, validate}
 use Rattle.validate.proofs.Steps.{check_turn, check_ended}
 use Rattle.validate.proofs.validate.Goals as goal
@@ -22,21 +22,21 @@ returns-in_err-validate_one c =
     rw (same_err c.from_residual.result c.validate_one.result c.from_residual.ensures.1 c.in_err-validate_one.was)
     (let a = c.args in
     let l = c.loop-i in
-    let row = row_at (columns a.starts.now a.ends.now a.units.now a.rest.now) in
-    let t = check_turn (symbol_of a.b.now a.places.now) (length a.places.now) row a.n l.before l.last l.i c.loop-i-test.true _ c.row-s.ensures in
+    let row = row_at (columns_of a.splits.now) in
+    let t = check_turn (symbol_of a.table.now.bytes.now a.table.now.places.now) (length a.table.now.places.now) row a.n l.before l.last l.i c.loop-i-test.true _ c.row-s.ensures in
     then_stops c.validate_one.ensures _ (ap meaning c.in_err-validate_one.was) ∙ sym t ∙ l.invariant.1)
 
 pub loop-i-preserved : goal.loop-i-preserved
 loop-i-preserved c =
     let a = c.args in
     let l = c.loop-i in
-    let row = row_at (columns a.starts.now a.ends.now a.units.now a.rest.now) in
-    let t = check_turn (symbol_of a.b.now a.places.now) (length a.places.now) row a.n l.before l.last l.i c.loop-i-test.true _ c.row-s.ensures in
+    let row = row_at (columns_of a.splits.now) in
+    let t = check_turn (symbol_of a.table.now.bytes.now a.table.now.places.now) (length a.table.now.places.now) row a.n l.before l.last l.i c.loop-i-test.true _ c.row-s.ensures in
     (omega (arith, c.loop-i-test.true), then_goes c.validate_one.ensures _ (ap meaning c.in_ok-validate_one.was) ∙ sym t ∙ l.invariant.1)
 
 pub returns : goal.returns
 returns c =
     let a = c.args in
     let l = c.loop-i in
-    let row = row_at (columns a.starts.now a.ends.now a.units.now a.rest.now) in
-    sym (check_ended (symbol_of a.b.now a.places.now) (length a.places.now) row a.n l.before l.last l.i c.loop-i-test.false) ∙ l.invariant.1
+    let row = row_at (columns_of a.splits.now) in
+    sym (check_ended (symbol_of a.table.now.bytes.now a.table.now.places.now) (length a.table.now.places.now) row a.n l.before l.last l.i c.loop-i-test.false) ∙ l.invariant.1

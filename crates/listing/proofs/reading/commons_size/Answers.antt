@@ -11,8 +11,8 @@ use Rattle.listing.proofs.reading.commons_size.Goals as goal
 
 pub loop-k-preserved : goal.loop-k-preserved
 unfolding symbols_in
-loop-k-preserved c = let a = c.args in let q = c.loop-k-test.true in sum_turn (λ (y : PieceSymbol). y.unit) (common_size (symbol_of a.symbols.now a.symbol_places.now)) (λ (i : ℕ). symbol_at a.piece_symbols.now (12 * i)) a.count a.unit c.loop-k.invariant q c.common_in-sum.ensures
+loop-k-preserved c = let a = c.args in let q = c.loop-k-test.true in sum_turn (λ (y : PieceSymbol). y.unit) (common_size (symbol_of a.symbols.now.bytes.now a.symbols.now.places.now)) (λ (i : ℕ). symbol_at a.piece_symbols.now (12 * i)) a.count a.unit c.loop-k.invariant q c.common_in-sum.ensures
 
 pub returns : goal.returns
 unfolding symbols_in
-returns c = let s = c in let a = s.args in let h = s.requires.1 in sum_end (λ (y : PieceSymbol). y.unit) (common_size (symbol_of a.symbols.now a.symbol_places.now)) (λ (i : ℕ). symbol_at a.piece_symbols.now (12 * i)) a.count a.unit c.loop-k.invariant c.loop-k-test.false (omega arith)
+returns c = let s = c in let a = s.args in let h = s.requires.1 in sum_end (λ (y : PieceSymbol). y.unit) (common_size (symbol_of a.symbols.now.bytes.now a.symbols.now.places.now)) (λ (i : ℕ). symbol_at a.piece_symbols.now (12 * i)) a.count a.unit c.loop-k.invariant c.loop-k-test.false (omega arith)

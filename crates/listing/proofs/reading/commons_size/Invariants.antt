@@ -8,4 +8,4 @@ use Rattle.listing.proofs.Sums.{Sum}
 use Rattle.listing.proofs.reading.commons_size.Given as goal
 
 abbrev pub invariant-loop-k : goal.invariant-loop-k
-invariant-loop-k l = Sum (λ (y : PieceSymbol). y.unit) (common_size (symbol_of l.symbols l.symbol_places)) (symbols_in l.piece_symbols l.count) l.unit l.k l.sum
+invariant-loop-k l = Sum (λ (y : PieceSymbol). y.unit) (common_size (symbol_of l.symbols.bytes.now l.symbols.places.now)) (symbols_in l.piece_symbols l.count) l.unit l.k l.sum

@@ -9,7 +9,7 @@ use Rattle.names.proofs.index.find.Goals as goal
 
 pub loop-cur-init : goal.loop-cur-init
 loop-cur-init c =
-    let names = names_of c.args.bytes.now c.args.places.now c.args.lengths.now c.args.n in
+    let names = names_of c.args.names.now.bytes.now c.args.names.now.places.now c.args.names.now.lengths.now c.args.n in
     let at = c.bucket_of.ensures in
     search_starts names c.args.x.now _ (c.number_at-cur.ensures ∙ c.requires.1.head _ at.small ∙ ap (λ (h : ℕ). last_in h names) at.is)
 
@@ -39,5 +39,5 @@ loop-cur-preserved c =
 
 pub returns : goal.returns
 returns c =
-    let names = names_of c.args.bytes.now c.args.places.now c.args.lengths.now c.args.n in
+    let names = names_of c.args.names.now.bytes.now c.args.names.now.places.now c.args.names.now.lengths.now c.args.n in
     search_none names c.args.x.now c.loop-cur.invariant c.loop-cur-test.false

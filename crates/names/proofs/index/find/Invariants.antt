@@ -5,7 +5,7 @@ use Rattle.names.proofs.Indexes.{Search}
 use Rattle.names.proofs.index.find.Given as goal
 
 abbrev pub invariant-loop-cur : goal.invariant-loop-cur
-invariant-loop-cur l = Search (names_of l.bytes l.places l.lengths l.n) l.x l.cur
+invariant-loop-cur l = Search (names_of l.names.bytes.now l.names.places.now l.names.lengths.now l.n) l.x l.cur
 
 abbrev pub decreases-loop-cur : goal.decreases-loop-cur
 decreases-loop-cur l = l.cur

@@ -6,7 +6,7 @@ use native.Mathlib.Omega.{arith}
 use lib.ListN.{length, set, length-set}
 use Rattle.lists.specs.Rows.{tabulate}
 use Rattle.obj.specs.declared.Split.{Split}
-use Rattle.splits.specs.Columns.{columns, row_at}
+use Rattle.splits.specs.Columns.{row_at, columns_of}
 use Rattle.splits.specs.Questions.{is_auto}
 use Rattle.order.specs.Columns.{HandMarked}
 use Rattle.order.proofs.Marks.{hand_none, hand_auto, hand_made}
@@ -16,14 +16,14 @@ use Rattle.order.proofs.records.mark_hand.Goals.{then-not-is_auto, else-not-is_a
 pub loop-i-init : goal.loop-i-init
 loop-i-init c =
     let a = c.args in
-    (omega arith, refl, hand_none (row_at (columns a.starts.now a.ends.now a.units.now a.rest.now)) a.column.now)
+    (omega arith, refl, hand_none (row_at (columns_of a.splits.now)) a.column.now)
 
 pub loop-i-preserved : goal.loop-i-preserved
 loop-i-preserved c =
     let s = c in
     let a = s.args in
     let l = c.loop-i in
-    let f = row_at (columns a.starts.now a.ends.now a.units.now a.rest.now) in
+    let f = row_at (columns_of a.splits.now) in
     let read = sym (c.is_auto.ensures ∙ ap is_auto c.row-s.ensures) in
     elim c.if-not-is_auto.branch [
       | then-not-is_auto w ↦

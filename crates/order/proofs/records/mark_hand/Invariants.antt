@@ -3,9 +3,9 @@ use mathlib.Core.Path.{◌≡◌}
 use Prim.Native.Nat.{◌≤◌}
 use lib.ListN.{length}
 use Rattle.lists.specs.Rows.{tabulate}
-use Rattle.splits.specs.Columns.{columns, row_at}
+use Rattle.splits.specs.Columns.{row_at, columns_of}
 use Rattle.order.specs.Columns.{HandMarked}
 use Rattle.order.proofs.records.mark_hand.Given as goal
 
 abbrev pub invariant-loop-i : goal.invariant-loop-i
-invariant-loop-i l = (l.i ≤ l.n) × (length l.column ≡ length l.initial.column) × HandMarked (tabulate (row_at (columns l.starts l.ends l.units l.rest)) 0 l.i) l.initial.column l.column
+invariant-loop-i l = (l.i ≤ l.n) × (length l.column ≡ length l.initial.column) × HandMarked (tabulate (row_at (columns_of l.splits)) 0 l.i) l.initial.column l.column

@@ -15,12 +15,12 @@ loop-k-preserved c =
     let s = c in
     let a = s.args in
     let l = c.loop-k in
-    let us = units_in a.unit_bytes.now a.unit_places.now in
-    let low : l.k - 1 < length a.unit_places.now = omega (arith, c.loop-k-test.true, l.invariant.0) in
-    let long = length-map a.unit_places.now (unit_at a.unit_bytes.now) in
+    let us = units_in a.unit_table.now.bytes.now a.unit_table.now.places.now in
+    let low : l.k - 1 < length a.unit_table.now.places.now = omega (arith, c.loop-k-test.true, l.invariant.0) in
+    let long = length-map a.unit_table.now.places.now (unit_at a.unit_table.now.bytes.now) in
     let same : l.k ≡ l.k - 1 + 1 = omega (arith, c.loop-k-test.true) in
     let is = ap (λ (u : units.Unit). u.name) c.unit_at-u.ensures in
-    let at = get_d_map (unit_at a.unit_bytes.now) a.unit_places.now (l.k - 1) 0 no_unit low in (
+    let at = get_d_map (unit_at a.unit_table.now.bytes.now) a.unit_table.now.places.now (l.k - 1) 0 no_unit low in (
       omega arith,
       simp length-set l.invariant.1,
       marked_more us (l.k - 1) a.column.now l.column (omega arith)

@@ -7,4 +7,4 @@ use Rattle.order.proofs.Marks.{MarkedFrom}
 use Rattle.order.proofs.records.mark_records.Given as goal
 
 abbrev pub invariant-loop-k : goal.invariant-loop-k
-invariant-loop-k l = (l.k ≤ length l.unit_places) × (length l.column ≡ length l.initial.column) × MarkedFrom (units_in l.unit_bytes l.unit_places) l.k l.initial.column l.column
+invariant-loop-k l = (l.k ≤ length l.unit_table.places.now) × (length l.column ≡ length l.initial.column) × MarkedFrom (units_in l.unit_table.bytes.now l.unit_table.places.now) l.k l.initial.column l.column

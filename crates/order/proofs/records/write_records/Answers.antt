@@ -9,7 +9,7 @@ use Rattle.lists.specs.Sort.{All}
 use Rattle.obj.specs.Records.{unit_at}
 use Rattle.obj.specs.declared.Unit as units
 use Rattle.tables.specs.Records.{units_in}
-use Rattle.splits.specs.Columns.{columns, rows}
+use Rattle.splits.specs.Columns.{rows, columns_of}
 use Rattle.order.specs.Bytes.{units_bytes}
 use Rattle.order.proofs.Marks.{filled, mark_inside, records_are}
 use Rattle.order.proofs.records.write_records.Goals as goal
@@ -18,8 +18,8 @@ pub write_units-requires : goal.write_units-requires
 write_units-requires c =
     let s = c in
     let a = s.args in
-    let splits = rows (columns a.starts.now a.ends.now a.units.now a.rest.now) a.n in
-    let us = units_in a.unit_bytes.now a.unit_places.now in
+    let splits = rows (columns_of a.splits.now) a.n in
+    let us = units_in a.unit_table.now.bytes.now a.unit_table.now.places.now in
     let b = c.blank in
     let h = c.mark_hand in
     let r = c.mark_records in
@@ -29,7 +29,7 @@ write_units-requires c =
         whole = s.requires.1.whole;
         inside = λ v q low.
             let is = f.0.marks v q in
-            omega (arith, is, mark_inside splits us v (omega (arith, is)), length-map a.unit_places.now (unit_at a.unit_bytes.now));
+            omega (arith, is, mark_inside splits us v (omega (arith, is)), length-map a.unit_table.now.places.now (unit_at a.unit_table.now.bytes.now));
       },
       record { inside = w.inside; named = subst (λ (k : ℕ). All (λ x. x < k) a.nodes.now) (sym f.1) w.named; room = w.room },
     )
@@ -38,8 +38,8 @@ pub returns : goal.returns
 returns c =
     let s = c in
     let a = s.args in
-    let splits = rows (columns a.starts.now a.ends.now a.units.now a.rest.now) a.n in
-    let us = units_in a.unit_bytes.now a.unit_places.now in
+    let splits = rows (columns_of a.splits.now) a.n in
+    let us = units_in a.unit_table.now.bytes.now a.unit_table.now.places.now in
     let b = c.blank in
     let h = c.mark_hand in
     let r = c.mark_records in
@@ -47,5 +47,5 @@ returns c =
     let w = s.requires.3 in
     c.write_units.ensures
     ∙ ap (λ (l : List units.Unit). sets a.out.now 0 (units_bytes l))
-    (records_are splits us r.new.column a.nodes.now a.list.now (omega (arith, s.requires.1.few, length-map a.unit_places.now (unit_at a.unit_bytes.now))) s.requires.2 f.0
+    (records_are splits us r.new.column a.nodes.now a.list.now (omega (arith, s.requires.1.few, length-map a.unit_table.now.places.now (unit_at a.unit_table.now.bytes.now))) s.requires.2 f.0
     w.inside (subst (λ (k : ℕ). All (λ x. x < k) a.nodes.now) (sym f.1) w.named))

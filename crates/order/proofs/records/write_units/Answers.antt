@@ -23,7 +23,7 @@ pub loop-i-preserved : goal.loop-i-preserved
 loop-i-preserved c =
     let a = c.args in
     let l = c.loop-i in
-    let f = node_record (units_in a.unit_bytes.now a.unit_places.now) a.column.now a.nodes.now in
+    let f = node_record (units_in a.unit_table.now.bytes.now a.unit_table.now.places.now) a.column.now a.nodes.now in
     let w =
     c.put_unit.ensures
     ∙ ap (λ (u : units.Unit). sets l.out (8 * l.i) (bytes_of_unit u)) c.node_record-u.ensures in (
@@ -38,5 +38,5 @@ pub returns : goal.returns
 returns c =
     let a = c.args in
     let l = c.loop-i in
-    let f = node_record (units_in a.unit_bytes.now a.unit_places.now) a.column.now a.nodes.now in
+    let f = node_record (units_in a.unit_table.now.bytes.now a.unit_table.now.places.now) a.column.now a.nodes.now in
     sym (written_all l.out f a.list.now l.i c.loop-i-test.false) ∙ l.invariant.2

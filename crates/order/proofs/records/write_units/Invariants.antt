@@ -13,5 +13,5 @@ abbrev pub invariant-loop-i : goal.invariant-loop-i
 invariant-loop-i l =
     (l.i ≤ length l.list)
     × (length l.out ≡ length l.initial.out)
-    × (sets l.out (8 * l.i) (units_bytes (map (node_record (units_in l.unit_bytes l.unit_places) l.column l.nodes) (drop l.i l.list)))
-    ≡ sets l.initial.out 0 (units_bytes (map (node_record (units_in l.unit_bytes l.unit_places) l.column l.nodes) l.list)))
+    × (sets l.out (8 * l.i) (units_bytes (map (node_record (units_in l.unit_table.bytes.now l.unit_table.places.now) l.column l.nodes) (drop l.i l.list)))
+    ≡ sets l.initial.out 0 (units_bytes (map (node_record (units_in l.unit_table.bytes.now l.unit_table.places.now) l.column l.nodes) l.list)))

@@ -10,7 +10,7 @@ use Rattle.walk.proofs.entries.add_relocs.Given as goal
 abbrev pub invariant-loop-i : goal.invariant-loop-i
 invariant-loop-i l =
     (l.i ≤ length l.part) × (length l.out ≡ length l.initial.out)
-    × (add_relocs (reloc_of l.relocs l.reloc_places) l.place l.start (relocs_in l.out (l.made + l.i)) (drop l.i l.part) ≡ add_relocs (reloc_of l.relocs l.reloc_places) l.place l.start (relocs_in l.initial.out l.made) l.part)
+    × (add_relocs (reloc_of l.relocs.bytes.now l.relocs.places.now) l.place l.start (relocs_in l.out (l.made + l.i)) (drop l.i l.part) ≡ add_relocs (reloc_of l.relocs.bytes.now l.relocs.places.now) l.place l.start (relocs_in l.initial.out l.made) l.part)
 
 abbrev pub decreases-loop-i : goal.decreases-loop-i
 decreases-loop-i l = length l.part - l.i

@@ -20,7 +20,7 @@ has_symbol-requires c =
 pub returns-then-is_passed_over-has_symbol : goal.returns-then-is_passed_over-has_symbol
 returns-then-is_passed_over-has_symbol c =
     record {
-      is = symbol_passed (image_of c.args.symbols.now c.args.symbol_places.now c.args.name_bytes.now c.args.name_places.now c.args.name_lengths.now) c.args.unit c.args.place c.args.s (let a = c.args in symbols_in a.out.now a.k) c.args.i c.symbol_at-y.result c.name_at-name.result.now (c.symbol_at-y.ensures) c.name_at-name.ensures (ap₂ (λ (p q : Bool). p || q) (sym c.is_passed_over.ensures) (sym c.has_symbol.ensures) ∙ c.if-is_passed_over-has_symbol.true);
+      is = symbol_passed (image_of c.args.symbols.now.bytes.now c.args.symbols.now.places.now c.args.names.now.bytes.now c.args.names.now.places.now c.args.names.now.lengths.now) c.args.unit c.args.place c.args.s (let a = c.args in symbols_in a.out.now a.k) c.args.i c.symbol_at-y.result c.name_at-name.result.now (c.symbol_at-y.ensures) c.name_at-name.ensures (ap₂ (λ (p q : Bool). p || q) (sym c.is_passed_over.ensures) (sym c.has_symbol.ensures) ∙ c.if-is_passed_over-has_symbol.true);
       few = c.requires.3.few;
       chained = c.requires.3.chained;
     }
@@ -28,7 +28,7 @@ returns-then-is_passed_over-has_symbol c =
 pub returns-then-k-room : goal.returns-then-k-room
 returns-then-k-room c =
     let l = (let a = c.args in symbols_in a.out.now a.k) in
-    omega (arith, c.if-k-room.true, length-symbols_in c.args.out.now c.args.k, length-append l (entry_of c.args.unit c.args.place c.args.s c.args.i c.symbol_at-y.result ∷ []), ap length (symbol_entered (image_of c.args.symbols.now c.args.symbol_places.now c.args.name_bytes.now c.args.name_places.now c.args.name_lengths.now) c.args.unit c.args.place c.args.s (let a = c.args in symbols_in a.out.now a.k) c.args.i c.symbol_at-y.result c.name_at-name.result.now (c.symbol_at-y.ensures) c.name_at-name.ensures (ap₂ (λ (p q : Bool). p || q) (sym c.is_passed_over.ensures) (sym c.has_symbol.ensures) ∙ c.if-is_passed_over-has_symbol.false)))
+    omega (arith, c.if-k-room.true, length-symbols_in c.args.out.now c.args.k, length-append l (entry_of c.args.unit c.args.place c.args.s c.args.i c.symbol_at-y.result ∷ []), ap length (symbol_entered (image_of c.args.symbols.now.bytes.now c.args.symbols.now.places.now c.args.names.now.bytes.now c.args.names.now.places.now c.args.names.now.lengths.now) c.args.unit c.args.place c.args.s (let a = c.args in symbols_in a.out.now a.k) c.args.i c.symbol_at-y.result c.name_at-name.result.now (c.symbol_at-y.ensures) c.name_at-name.ensures (ap₂ (λ (p q : Bool). p || q) (sym c.is_passed_over.ensures) (sym c.has_symbol.ensures) ∙ c.if-is_passed_over-has_symbol.false)))
 
 pub push_symbol-requires : goal.push_symbol-requires
 push_symbol-requires c =
@@ -44,7 +44,7 @@ push_symbol-requires c =
 pub returns : goal.returns
 returns c =
     record {
-      is = c.push_symbol.ensures.more ∙ ap (λ (y : PieceSymbol). (let a = c.args in symbols_in a.out.now a.k) ++ (y ∷ [])) c.entry_of.ensures ∙ (symbol_entered (image_of c.args.symbols.now c.args.symbol_places.now c.args.name_bytes.now c.args.name_places.now c.args.name_lengths.now) c.args.unit c.args.place c.args.s (let a = c.args in symbols_in a.out.now a.k) c.args.i c.symbol_at-y.result c.name_at-name.result.now (c.symbol_at-y.ensures) c.name_at-name.ensures (ap₂ (λ (p q : Bool). p || q) (sym c.is_passed_over.ensures) (sym c.has_symbol.ensures) ∙ c.if-is_passed_over-has_symbol.false));
+      is = c.push_symbol.ensures.more ∙ ap (λ (y : PieceSymbol). (let a = c.args in symbols_in a.out.now a.k) ++ (y ∷ [])) c.entry_of.ensures ∙ (symbol_entered (image_of c.args.symbols.now.bytes.now c.args.symbols.now.places.now c.args.names.now.bytes.now c.args.names.now.places.now c.args.names.now.lengths.now) c.args.unit c.args.place c.args.s (let a = c.args in symbols_in a.out.now a.k) c.args.i c.symbol_at-y.result c.name_at-name.result.now (c.symbol_at-y.ensures) c.name_at-name.ensures (ap₂ (λ (p q : Bool). p || q) (sym c.is_passed_over.ensures) (sym c.has_symbol.ensures) ∙ c.if-is_passed_over-has_symbol.false));
       few = let h = c.if-k-room.false in omega (arith, c.requires.3.few);
       chained = c.push_symbol.ensures.chained;
     }

@@ -21,14 +21,14 @@ add_symbol-requires c =
     let e = c.number.ensures in (
       held_at _ _ _ c.requires.0.readable l.i _ h e,
       c.requires.1,
-      omega (arith, all_at l.i 0 c.requires.0.above h, ap (λ (i : ℕ). (symbol_of c.args.symbols.now c.args.symbol_places.now i).address) e),
+      omega (arith, all_at l.i 0 c.requires.0.above h, ap (λ (i : ℕ). (symbol_of c.args.symbols.now.bytes.now c.args.symbols.now.places.now i).address) e),
       l.invariant.3,
     )
 
 pub returns-in_err-k : goal.returns-in_err-k
 returns-in_err-k c =
     let a = c.args in
-    let g = image_of a.symbols.now a.symbol_places.now a.name_bytes.now a.name_places.now a.name_lengths.now in
+    let g = image_of a.symbols.now.bytes.now a.symbols.now.places.now a.names.now.bytes.now a.names.now.places.now a.names.now.lengths.now in
     let l = c.loop-i in
     let more = add_symbol g a.unit a.place a.s (symbols_in l.out l.k) (get_or a.part.now l.i 0) in
     let full = c.in_err-k.ensures in
@@ -45,7 +45,7 @@ returns-in_err-k c =
 pub loop-i-preserved : goal.loop-i-preserved
 loop-i-preserved c =
     let a = c.args in
-    let g = image_of a.symbols.now a.symbol_places.now a.name_bytes.now a.name_places.now a.name_lengths.now in
+    let g = image_of a.symbols.now.bytes.now a.symbols.now.places.now a.names.now.bytes.now a.names.now.places.now a.names.now.lengths.now in
     let l = c.loop-i in
     let now = c.in_ok-k.ensures in (
       let h = c.loop-i-test.true in omega arith,
@@ -68,7 +68,7 @@ loop-i-preserved c =
 pub returns : goal.returns
 returns c =
     let a = c.args in
-    let g = image_of a.symbols.now a.symbol_places.now a.name_bytes.now a.name_places.now a.name_lengths.now in
+    let g = image_of a.symbols.now.bytes.now a.symbols.now.places.now a.names.now.bytes.now a.names.now.places.now a.names.now.lengths.now in
     let l = c.loop-i in
     record {
       is = sym (symbols_done g a.unit a.place a.s (symbols_in l.out l.k) a.part.now l.i c.loop-i-test.false) ∙ l.invariant.4;

@@ -12,7 +12,7 @@ use lib.Seq.{length-take-le, length_front}
 use Rattle.obj.specs.declared.Split.{Split}
 use Rattle.symbols.specs.Ranges.{has_symbols}
 use Rattle.symbols.proofs.Parts.{part_readable}
-use Rattle.sections.specs.Image.{image_of}
+use Rattle.sections.specs.Image.{image_in}
 use Rattle.sections.specs.Sections.{head_of}
 use Rattle.pieces.specs.Pieces.{symbols_in}
 use Rattle.relocs.specs.Relocs.{reloc_of}
@@ -27,10 +27,10 @@ use Rattle.walk.proofs.output.give.Goals as goal
 pub returns-then-is_backwards : goal.returns-then-is_backwards
 returns-then-is_backwards c =
     let a = c.args in
-    let g = image_of a.symbols.now a.symbol_places.now a.name_bytes.now a.name_places.now a.name_lengths.now in
-    let head = head_of a.heads.now a.head_places.now in
-    let reloc = reloc_of a.relocs.now a.reloc_places.now in
-    let relocs = length a.reloc_places.now in
+    let g = image_in a.obj.now in
+    let head = head_of a.obj.now.heads.bytes.now a.obj.now.heads.places.now in
+    let reloc = reloc_of a.relocs.now.bytes.now a.relocs.now.places.now in
+    let relocs = length a.relocs.now.places.now in
     rw c.refuse_at.ensures
     (record {
       is = λ count bytes splits units.
@@ -43,7 +43,7 @@ pub add_symbols-added-requires : goal.add_symbols-added-requires
 unfolding chains_in
 add_symbols-added-requires c =
     let a = c.args in
-    let g = image_of a.symbols.now a.symbol_places.now a.name_bytes.now a.name_places.now a.name_lengths.now in
+    let g = image_in a.obj.now in
     let part = c.for_section_through-inside.ensures in (
       record {
         readable = part_readable _ _ _ c.requires.1.symbols a.n _ part;
@@ -56,10 +56,10 @@ add_symbols-added-requires c =
 pub returns-in_default : goal.returns-in_default
 returns-in_default c =
     let a = c.args in
-    let g = image_of a.symbols.now a.symbol_places.now a.name_bytes.now a.name_places.now a.name_lengths.now in
-    let head = head_of a.heads.now a.head_places.now in
-    let reloc = reloc_of a.relocs.now a.reloc_places.now in
-    let relocs = length a.reloc_places.now in
+    let g = image_in a.obj.now in
+    let head = head_of a.obj.now.heads.bytes.now a.obj.now.heads.places.now in
+    let reloc = reloc_of a.relocs.now.bytes.now a.relocs.now.places.now in
+    let relocs = length a.relocs.now.places.now in
     let wanted = add_symbols g a.unit a.made.pieces a.s (symbols_in a.entries.now a.made.symbols) in
     let inside : c.for_section_through-inside.result.now ≡ split_symbols g a.n a.s = c.for_section_through-inside.ensures in
     let forwards = λ (count : ℕ) (bytes : ℕ → List ℕ) (splits : List Split) (units : List ℕ). sym (backwards_is (input_of g (record { count = count; head = head; bytes = bytes }) reloc relocs splits units a.room) a.n a.s.start a.unit a.alignment a.s (output_in a.pieces.now a.entries.now a.offsets.now a.made) c.requires.6 a.part.now c.requires.2.is) ∙ sym c.is_backwards.ensures ∙ c.if-is_backwards.false in
@@ -74,10 +74,10 @@ returns-in_default c =
 pub returns-then-s-eq1 : goal.returns-then-s-eq1
 returns-then-s-eq1 c =
     let a = c.args in
-    let g = image_of a.symbols.now a.symbol_places.now a.name_bytes.now a.name_places.now a.name_lengths.now in
-    let head = head_of a.heads.now a.head_places.now in
-    let reloc = reloc_of a.relocs.now a.reloc_places.now in
-    let relocs = length a.reloc_places.now in
+    let g = image_in a.obj.now in
+    let head = head_of a.obj.now.heads.bytes.now a.obj.now.heads.places.now in
+    let reloc = reloc_of a.relocs.now.bytes.now a.relocs.now.places.now in
+    let relocs = length a.relocs.now.places.now in
     let wanted = add_symbols g a.unit a.made.pieces a.s (symbols_in a.entries.now a.made.symbols) in
     let inside : c.for_section_through-inside.result.now ≡ split_symbols g a.n a.s = c.for_section_through-inside.ensures in
     let forwards = λ (count : ℕ) (bytes : ℕ → List ℕ) (splits : List Split) (units : List ℕ). sym (backwards_is (input_of g (record { count = count; head = head; bytes = bytes }) reloc relocs splits units a.room) a.n a.s.start a.unit a.alignment a.s (output_in a.pieces.now a.entries.now a.offsets.now a.made) c.requires.6 a.part.now c.requires.2.is) ∙ sym c.is_backwards.ensures ∙ c.if-is_backwards.false in
@@ -89,7 +89,7 @@ returns-then-s-eq1 c =
     let k = c.in-Some.k in
     let now = subst (λ (l : List ℕ). AddsNow (wanted l) a.room.symbols more.new.chains more.new.out k) inside c.in-Some.ensures in
     let e = c.requires.0.entered in
-    let entered : Entries (length a.symbol_places.now) a.room.symbols more.new.chains more.new.out k = record {
+    let entered : Entries (length a.obj.now.symbols.places.now) a.room.symbols more.new.chains more.new.out k = record {
       chained = now.chained;
       few = now.few;
       long = omega (arith, front, e.most);
@@ -114,7 +114,7 @@ returns-then-s-eq1 c =
           most_relocs = q.side.most_relocs;
         };
         entered =
-            subst (λ (l : List ℕ). Entries (length a.symbol_places.now) a.room.symbols l more.new.out k)
+            subst (λ (l : List ℕ). Entries (length a.obj.now.symbols.places.now) a.room.symbols l more.new.out k)
             (sym (chains_front more.new.chains a.scratch.now front)) entered;
         long = omega (arith, q.long, long);
       };
@@ -123,10 +123,10 @@ returns-then-s-eq1 c =
 pub give_piece-given-requires : goal.give_piece-given-requires
 give_piece-given-requires c =
     let a = c.args in
-    let g = image_of a.symbols.now a.symbol_places.now a.name_bytes.now a.name_places.now a.name_lengths.now in
-    let head = head_of a.heads.now a.head_places.now in
-    let reloc = reloc_of a.relocs.now a.reloc_places.now in
-    let relocs = length a.reloc_places.now in
+    let g = image_in a.obj.now in
+    let head = head_of a.obj.now.heads.bytes.now a.obj.now.heads.places.now in
+    let reloc = reloc_of a.relocs.now.bytes.now a.relocs.now.places.now in
+    let relocs = length a.relocs.now.places.now in
     let more = c.add_symbols-added in
     let front : length more.new.chains ≡ 8192 = more.auto.chains ∙ length-take-le 8192 a.scratch.now c.requires.0.long in
     let between : List ℕ = more.new.chains ++ drop 8192 a.scratch.now in
@@ -153,10 +153,10 @@ give_piece-given-requires c =
 pub returns-in_default-given : goal.returns-in_default-given
 returns-in_default-given c =
     let a = c.args in
-    let g = image_of a.symbols.now a.symbol_places.now a.name_bytes.now a.name_places.now a.name_lengths.now in
-    let head = head_of a.heads.now a.head_places.now in
-    let reloc = reloc_of a.relocs.now a.reloc_places.now in
-    let relocs = length a.reloc_places.now in
+    let g = image_in a.obj.now in
+    let head = head_of a.obj.now.heads.bytes.now a.obj.now.heads.places.now in
+    let reloc = reloc_of a.relocs.now.bytes.now a.relocs.now.places.now in
+    let relocs = length a.relocs.now.places.now in
     let wanted = add_symbols g a.unit a.made.pieces a.s (symbols_in a.entries.now a.made.symbols) in
     let inside : c.for_section_through-inside.result.now ≡ split_symbols g a.n a.s = c.for_section_through-inside.ensures in
     let forwards = λ (count : ℕ) (bytes : ℕ → List ℕ) (splits : List Split) (units : List ℕ). sym (backwards_is (input_of g (record { count = count; head = head; bytes = bytes }) reloc relocs splits units a.room) a.n a.s.start a.unit a.alignment a.s (output_in a.pieces.now a.entries.now a.offsets.now a.made) c.requires.6 a.part.now c.requires.2.is) ∙ sym c.is_backwards.ensures ∙ c.if-is_backwards.false in
@@ -176,10 +176,10 @@ returns-in_default-given c =
 pub returns : goal.returns
 returns c =
     let a = c.args in
-    let g = image_of a.symbols.now a.symbol_places.now a.name_bytes.now a.name_places.now a.name_lengths.now in
-    let head = head_of a.heads.now a.head_places.now in
-    let reloc = reloc_of a.relocs.now a.reloc_places.now in
-    let relocs = length a.reloc_places.now in
+    let g = image_in a.obj.now in
+    let head = head_of a.obj.now.heads.bytes.now a.obj.now.heads.places.now in
+    let reloc = reloc_of a.relocs.now.bytes.now a.relocs.now.places.now in
+    let relocs = length a.relocs.now.places.now in
     let wanted = add_symbols g a.unit a.made.pieces a.s (symbols_in a.entries.now a.made.symbols) in
     let inside : c.for_section_through-inside.result.now ≡ split_symbols g a.n a.s = c.for_section_through-inside.ensures in
     let forwards = λ (count : ℕ) (bytes : ℕ → List ℕ) (splits : List Split) (units : List ℕ). sym (backwards_is (input_of g (record { count = count; head = head; bytes = bytes }) reloc relocs splits units a.room) a.n a.s.start a.unit a.alignment a.s (output_in a.pieces.now a.entries.now a.offsets.now a.made) c.requires.6 a.part.now c.requires.2.is) ∙ sym c.is_backwards.ensures ∙ c.if-is_backwards.false in
@@ -191,7 +191,7 @@ returns c =
     let k = c.in-Some.k in
     let now = subst (λ (l : List ℕ). AddsNow (wanted l) a.room.symbols more.new.chains more.new.out k) inside c.in-Some.ensures in
     let e = c.requires.0.entered in
-    let entered : Entries (length a.symbol_places.now) a.room.symbols more.new.chains more.new.out k = record {
+    let entered : Entries (length a.obj.now.symbols.places.now) a.room.symbols more.new.chains more.new.out k = record {
       chained = now.chained;
       few = now.few;
       long = omega (arith, front, e.most);

@@ -22,13 +22,13 @@ range-inside-requires c = (let p = c.requires.1 in section_ordered _ _ _ c.args.
 
 pub returns-then-room-most : goal.returns-then-room-most
 returns-then-room-most c =
-    full_test c.args.room c.args.made (pieces_with (head_of c.args.heads.now c.args.head_places.now c.args.n) c.args.n c.args.unit c.args.alignment c.args.s c.args.pieces.now c.args.made) (relocs_with (reloc_of c.args.relocs.now c.args.reloc_places.now) (length c.args.reloc_places.now) c.args.n c.args.s c.args.offsets.now c.args.made) _ true (length-append (pieces_in c.args.pieces.now c.args.made.pieces) _ ∙ ap (λ (m : ℕ). m + 1) (length-pieces_in c.args.pieces.now c.args.made.pieces)) (length_relocs (reloc_of c.args.relocs.now c.args.reloc_places.now) c.args.made.pieces c.args.s.start (relocs_in c.args.offsets.now c.args.made.relocs) _ ∙ (λ d. length-relocs_in c.args.offsets.now c.args.made.relocs d + length (sym (c.range-inside.ensures ∙ ap (keep_if (λ (i : ℕ). leb c.args.s.start (address_of c.args.relocs.now c.args.reloc_places.now i) && ltb (address_of c.args.relocs.now c.args.reloc_places.now i) c.args.s.end)) c.requires.1.is) d))) c.if-room-most.true
+    full_test c.args.room c.args.made (pieces_with (head_of c.args.heads.now.bytes.now c.args.heads.now.places.now c.args.n) c.args.n c.args.unit c.args.alignment c.args.s c.args.pieces.now c.args.made) (relocs_with (reloc_of c.args.relocs.now.bytes.now c.args.relocs.now.places.now) (length c.args.relocs.now.places.now) c.args.n c.args.s c.args.offsets.now c.args.made) _ true (length-append (pieces_in c.args.pieces.now c.args.made.pieces) _ ∙ ap (λ (m : ℕ). m + 1) (length-pieces_in c.args.pieces.now c.args.made.pieces)) (length_relocs (reloc_of c.args.relocs.now.bytes.now c.args.relocs.now.places.now) c.args.made.pieces c.args.s.start (relocs_in c.args.offsets.now c.args.made.relocs) _ ∙ (λ d. length-relocs_in c.args.offsets.now c.args.made.relocs d + length (sym (c.range-inside.ensures ∙ ap (keep_if (λ (i : ℕ). leb c.args.s.start (address_of c.args.relocs.now.bytes.now c.args.relocs.now.places.now i) && ltb (address_of c.args.relocs.now.bytes.now c.args.relocs.now.places.now i) c.args.s.end)) c.requires.1.is) d))) c.if-room-most.true
 
 pub add_relocs-requires : goal.add_relocs-requires
 add_relocs-requires c = (
   record {
     readable = readable_part _ _ _ _ (let p = c.requires.1 in section_ordered _ _ _ c.args.n p.whole p.rising p.is).readable c.range-inside.ensures;
-    above = kept_above (address_of c.args.relocs.now c.args.reloc_places.now) c.args.s.start (λ (i : ℕ). ltb (address_of c.args.relocs.now c.args.reloc_places.now i) c.args.s.end) c.args.part.now c.range-inside.ensures;
+    above = kept_above (address_of c.args.relocs.now.bytes.now c.args.relocs.now.places.now) c.args.s.start (λ (i : ℕ). ltb (address_of c.args.relocs.now.bytes.now c.args.relocs.now.places.now i) c.args.s.end) c.args.part.now c.range-inside.ensures;
     few = omega (arith, c.requires.1.few);
   },
   omega (arith, (room_left c.args.room c.args.made _ c.if-room-most.false).0, c.requires.0.offsets_long),
