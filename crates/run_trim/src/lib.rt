@@ -18,7 +18,7 @@ use splits::SplitColumns;
 use trim::trim;
 use validate::validate;
 
-// The check of n rows, and where it passes the trim of their ends. `images` are the places of the sections' bytes, `falls` is room for as many ends as there are rows.
+// The check of n rows, and where it passes the trim of their ends. `falls` is room for as many ends as there are rows.
 pub fn check_and_trim(
     loaded: &Loaded,
     starts: &[u32],
