@@ -96,7 +96,7 @@ fn less_four(bytes: &[u8], list: bool, end: u32) -> u32
     }
 }
 
-// The splitting end of section n, which has this head and these bytes.
+// The splitting end of a section that has this head and these bytes.
 pub fn end_for_section(
     table: &Table,
     order: &[u16],
