@@ -3,18 +3,24 @@ use Prim.Native.Nat.{◌/◌}
 use mathlib.Core.List.{[]}
 use lib.ListN.{length}
 use Rattle.std.proofs.lemmas.Result.{err_from_is_err_and}
+use Rattle.load.specs.Load.{Loaded}
 use Rattle.loaded.specs.Tables.{tables_with}
+use Rattle.loaded.specs.declared.Loaded.{Loaded as Lent}
 use Rattle.splits.specs.Columns.{columns_of}
 use Rattle.stage_walk.specs.Room.{room_in}
 use Rattle.run.proofs.Linking.{splits-taken, units_taken}
 use Rattle.run.proofs.Answering.{entered_tabled, unlinked_right, order_whole, order_named, refused_right, made_right, refused_before, entered_before}
 use Rattle.run.proofs.order_and_walk.Goals as goal
 
+-- the tables that the run walks; the partial list has had its part
+abbrev tables_of : Lent → Loaded
+tables_of l = tables_with l.names.now l.lengths.now l.sections.now l.symbols.now l.relocs.now [] l.units.now
+
 pub returns-in_err-entered : goal.returns-in_err-entered
 returns-in_err-entered c =
     let p = err_from_is_err_and c.from_residual.result c.from_residual.ensures.1 in
     let a = c.args in
-    let t = tables_with a.loaded.now.names.now a.loaded.now.lengths.now a.loaded.now.sections.now a.loaded.now.symbols.now a.loaded.now.relocs.now [] a.loaded.now.units.now in
+    let t = tables_of a.loaded.now in
     let room = room_in (length a.pieces.now) (length a.entries.now) (length a.offsets.now) in
     let table = columns_of a.splits.now in
     rw (p.1, p.2) (refused_before a.loaded.now.file.now t room table a.out_units.now a.pieces.now a.entries.now a.offsets.now (length a.out_units.now / 8) a.e c.in_err-entered.was)
@@ -28,7 +34,7 @@ pub walk_with_columns-requires : goal.walk_with_columns-requires
 walk_with_columns-requires c =
     let a = c.args in
     let q = c.requires in
-    let t = tables_with a.loaded.now.names.now a.loaded.now.lengths.now a.loaded.now.sections.now a.loaded.now.symbols.now a.loaded.now.relocs.now [] a.loaded.now.units.now in
+    let t = tables_of a.loaded.now in
     let room = room_in (length a.pieces.now) (length a.entries.now) (length a.offsets.now) in
     let table = columns_of a.splits.now in
     let x = c.in_ok-entered.entered in
@@ -43,7 +49,7 @@ returns-in_err-k c =
     let p = err_from_is_err_and r.result r.ensures.1 in
     let a = c.args in
     let q = c.requires in
-    let t = tables_with a.loaded.now.names.now a.loaded.now.lengths.now a.loaded.now.sections.now a.loaded.now.symbols.now a.loaded.now.relocs.now [] a.loaded.now.units.now in
+    let t = tables_of a.loaded.now in
     let room = room_in (length a.pieces.now) (length a.entries.now) (length a.offsets.now) in
     let table = columns_of a.splits.now in
     let x = c.in_ok-entered.entered in
@@ -59,7 +65,7 @@ returns-in_err-made c =
     let p = err_from_is_err_and r.result r.ensures.1 in
     let a = c.args in
     let q = c.requires in
-    let t = tables_with a.loaded.now.names.now a.loaded.now.lengths.now a.loaded.now.sections.now a.loaded.now.symbols.now a.loaded.now.relocs.now [] a.loaded.now.units.now in
+    let t = tables_of a.loaded.now in
     let room = room_in (length a.pieces.now) (length a.entries.now) (length a.offsets.now) in
     let table = columns_of a.splits.now in
     let x = c.in_ok-entered.entered in
@@ -74,7 +80,7 @@ pub returns : goal.returns
 returns c =
     let a = c.args in
     let q = c.requires in
-    let t = tables_with a.loaded.now.names.now a.loaded.now.lengths.now a.loaded.now.sections.now a.loaded.now.symbols.now a.loaded.now.relocs.now [] a.loaded.now.units.now in
+    let t = tables_of a.loaded.now in
     let room = room_in (length a.pieces.now) (length a.entries.now) (length a.offsets.now) in
     let table = columns_of a.splits.now in
     let x = c.in_ok-entered.entered in

@@ -1,10 +1,12 @@
 -- The loaded tables meet what each stage asks, each stage leaves rows that the next can take, and the stages one after another are the definition.
-use Rattle.std.proofs.Common.{◌∙◌, refl, sym, ap, arith, [], length}
+use Rattle.std.proofs.Common.{◌∙◌, refl, sym, ap, arith, List, [], length}
 use Rattle.std.proofs.lemmas.Result.{err_from_is_err_and}
 use Rattle.std.specs.Prelude.{ℕ, Result}
 use Rattle.obj.specs.declared.Refusal.{Refusal}
 use Rattle.merge.specs.Answers.{merged, count}
 use Rattle.loaded.specs.Tables.{tables_with}
+use Rattle.load.specs.Load.{Loaded}
+use Rattle.loaded.specs.declared.Loaded.{Loaded as Lent}
 use Rattle.loaded.proofs.Laws.{sections_held, partials_mergeable, tables-ordered, symbols_sound}
 use Rattle.names.specs.Names.{names_of}
 use Rattle.splits.specs.Columns.{columns}
@@ -15,6 +17,14 @@ use Rattle.run_splits.proofs.Steps.{gaps_given, merge_refused, gaps_refused, tri
 use Rattle.run_splits.proofs.Needs.{sections_common, images_kept, section_short, gaps_roomy, rows-placed}
 use Rattle.run_splits.proofs.split_table.Goals as goal
 
+-- the tables that make the split table; relocations and units have no part in it
+abbrev tables_of : Lent → Loaded
+tables_of l = tables_with l.names.now l.lengths.now l.sections.now l.symbols.now [] l.partials.now []
+
+-- the file's names
+abbrev base_of : Lent → List (List ℕ)
+base_of l = names_of l.file.now l.names.now l.lengths.now (length l.names.now)
+
 pub merge_partials-requires : goal.merge_partials-requires
 merge_partials-requires c =
     let q = c.requires in
@@ -24,8 +34,8 @@ pub returns-in_err-n : goal.returns-in_err-n
 returns-in_err-n c =
     let a = c.args in
     let q = c.requires in
-    let t = tables_with a.loaded.now.names.now a.loaded.now.lengths.now a.loaded.now.sections.now a.loaded.now.symbols.now [] a.loaded.now.partials.now [] in
-    let room = ceilings (names_of a.loaded.now.file.now a.loaded.now.names.now a.loaded.now.lengths.now (length a.loaded.now.names.now)) a.most a.most_bytes in
+    let t = tables_of a.loaded.now in
+    let room = ceilings (base_of a.loaded.now) a.most a.most_bytes in
     let m = c.merge_partials in
     let table = columns m.new.starts m.new.ends m.new.units m.new.rest in
     let p = err_from_is_err_and c.from_residual.result c.from_residual.ensures.1 in
@@ -54,8 +64,8 @@ pub returns-in_err-filled : goal.returns-in_err-filled
 returns-in_err-filled c =
     let a = c.args in
     let q = c.requires in
-    let t = tables_with a.loaded.now.names.now a.loaded.now.lengths.now a.loaded.now.sections.now a.loaded.now.symbols.now [] a.loaded.now.partials.now [] in
-    let room = ceilings (names_of a.loaded.now.file.now a.loaded.now.names.now a.loaded.now.lengths.now (length a.loaded.now.names.now)) a.most a.most_bytes in
+    let t = tables_of a.loaded.now in
+    let room = ceilings (base_of a.loaded.now) a.most a.most_bytes in
     let m = c.merge_partials in
     let table = columns m.new.starts m.new.ends m.new.units m.new.rest in
     let merges = sym (ap (λ (r : Result ℕ Refusal). merged r table) c.in_ok-n.was) ∙ m.ensures.0 in
@@ -67,8 +77,8 @@ pub check_and_trim-requires : goal.check_and_trim-requires
 check_and_trim-requires c =
     let a = c.args in
     let q = c.requires in
-    let t = tables_with a.loaded.now.names.now a.loaded.now.lengths.now a.loaded.now.sections.now a.loaded.now.symbols.now [] a.loaded.now.partials.now [] in
-    let room = ceilings (names_of a.loaded.now.file.now a.loaded.now.names.now a.loaded.now.lengths.now (length a.loaded.now.names.now)) a.most a.most_bytes in
+    let t = tables_of a.loaded.now in
+    let room = ceilings (base_of a.loaded.now) a.most a.most_bytes in
     let m = c.merge_partials in
     let table = columns m.new.starts m.new.ends m.new.units m.new.rest in
     let merges = sym (ap (λ (r : Result ℕ Refusal). merged r table) c.in_ok-n.was) ∙ m.ensures.0 in
@@ -86,8 +96,8 @@ pub returns-in_err-check_and_trim : goal.returns-in_err-check_and_trim
 returns-in_err-check_and_trim c =
     let a = c.args in
     let q = c.requires in
-    let t = tables_with a.loaded.now.names.now a.loaded.now.lengths.now a.loaded.now.sections.now a.loaded.now.symbols.now [] a.loaded.now.partials.now [] in
-    let room = ceilings (names_of a.loaded.now.file.now a.loaded.now.names.now a.loaded.now.lengths.now (length a.loaded.now.names.now)) a.most a.most_bytes in
+    let t = tables_of a.loaded.now in
+    let room = ceilings (base_of a.loaded.now) a.most a.most_bytes in
     let m = c.merge_partials in
     let table = columns m.new.starts m.new.ends m.new.units m.new.rest in
     let merges = sym (ap (λ (r : Result ℕ Refusal). merged r table) c.in_ok-n.was) ∙ m.ensures.0 in
@@ -99,8 +109,8 @@ pub returns : goal.returns
 returns c =
     let a = c.args in
     let q = c.requires in
-    let t = tables_with a.loaded.now.names.now a.loaded.now.lengths.now a.loaded.now.sections.now a.loaded.now.symbols.now [] a.loaded.now.partials.now [] in
-    let room = ceilings (names_of a.loaded.now.file.now a.loaded.now.names.now a.loaded.now.lengths.now (length a.loaded.now.names.now)) a.most a.most_bytes in
+    let t = tables_of a.loaded.now in
+    let room = ceilings (base_of a.loaded.now) a.most a.most_bytes in
     let m = c.merge_partials in
     let table = columns m.new.starts m.new.ends m.new.units m.new.rest in
     let merges = sym (ap (λ (r : Result ℕ Refusal). merged r table) c.in_ok-n.was) ∙ m.ensures.0 in
