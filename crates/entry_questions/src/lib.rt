@@ -113,12 +113,13 @@ fn from_sections(
         heads,
     )?;
     let n = lent.sections.len() / 15;
+    let head_table = Table {
+        bytes: lent.sections,
+        places: &heads[..n],
+    };
     let ordered = take_symbol_order(
         names.lengths.len(),
-        &Table {
-            bytes: lent.sections,
-            places: &heads[..n],
-        },
+        &head_table,
         lent.symbols,
         most.symbols,
         places,
@@ -127,10 +128,7 @@ fn from_sections(
     )?;
     take_splits(
         names.lengths,
-        &Table {
-            bytes: lent.sections,
-            places: &heads[..n],
-        },
+        &head_table,
         lent.splits,
         most.splits,
         split_places,

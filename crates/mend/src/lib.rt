@@ -148,26 +148,14 @@ fn mend_row(
         (tabulate (row_at (columns starts.now ends.old units.now rest.now)) (i + 1) (n - (i + 1)))
         i ends.old ends.new lines.old lines.new at result }
 {
-    let s = row(
-        &SplitColumns {
-            starts,
-            ends: &*ends,
-            units,
-            rest,
-        },
-        i,
-    );
-    match decide(
-        &SplitColumns {
-            starts,
-            ends: &*ends,
-            units,
-            rest,
-        },
-        n,
-        section_ends,
-        i,
-    ) {
+    let columns = SplitColumns {
+        starts,
+        ends: &*ends,
+        units,
+        rest,
+    };
+    let s = row(&columns, i);
+    match decide(&columns, n, section_ends, i) {
         Some(end) => {
             ends[i] = end;
             put_line(lines, at, s.section, s.start, s.end, end)

@@ -61,13 +61,11 @@ fn walk_units(
         (room_in (length pieces.old) (length entries.old) (length offsets.old)) result pieces.new entries.new offsets.new }
 {
     fill_places(places, 8, k);
-    number_units(
-        &Table {
-            bytes: unit_table,
-            places: &places[..k],
-        },
-        unit_numbers,
-    );
+    let unit_records = Table {
+        bytes: unit_table,
+        places: &places[..k],
+    };
+    number_units(&unit_records, unit_numbers);
     walk_columns(
         &Obj {
             symbols: Table {
@@ -95,10 +93,7 @@ fn walk_units(
         },
         splits,
         n,
-        &Table {
-            bytes: unit_table,
-            places: &places[..k],
-        },
+        &unit_records,
         unit_numbers,
         pieces,
         entries,

@@ -36,6 +36,10 @@ pub fn merge_partials(
         (merge_all (given (sections_in loaded.now.file.now loaded.now.sections.now) cap) [] (partials_in loaded.now.file.now loaded.now.partials.now)))
         × (count result ≤ cap) }
 {
+    let heads = Table {
+        bytes: loaded.file,
+        places: loaded.sections,
+    };
     let n = add_splits(
         starts,
         ends,
@@ -43,10 +47,7 @@ pub fn merge_partials(
         rest,
         0,
         cap,
-        &Table {
-            bytes: loaded.file,
-            places: loaded.sections,
-        },
+        &heads,
         &Table {
             bytes: loaded.file,
             places: loaded.partials,
@@ -59,10 +60,7 @@ pub fn merge_partials(
             places: loaded.names,
             lengths: loaded.lengths,
         },
-        &Table {
-            bytes: loaded.file,
-            places: loaded.sections,
-        },
+        &heads,
         starts,
         ends,
         units,

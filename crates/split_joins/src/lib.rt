@@ -99,44 +99,15 @@ pub fn join_and_push(
         ((starts.new ≡ starts.old) × (ends.new ≡ ends.old) × (units.new ≡ units.old) × (rest.new ≡ rest.old))
         (AtOnce s (columns starts.old ends.old units.old rest.old) (columns starts.new ends.new units.new rest.new) n) }
 {
-    let first = next_within(
-        &SplitColumns {
-            starts: &*starts,
-            ends: &*ends,
-            units: &*units,
-            rest: &*rest,
-        },
-        n,
-        s.section,
-        s.start,
-        s.end,
-        0,
-    );
-    let stop = next_outside(
-        &SplitColumns {
-            starts: &*starts,
-            ends: &*ends,
-            units: &*units,
-            rest: &*rest,
-        },
-        n,
-        s.section,
-        s.start,
-        s.end,
-        first,
-    );
-    if !takes_place(
-        &SplitColumns {
-            starts: &*starts,
-            ends: &*ends,
-            units: &*units,
-            rest: &*rest,
-        },
-        n,
-        first,
-        stop,
-        s,
-    ) {
+    let columns = SplitColumns {
+        starts: &*starts,
+        ends: &*ends,
+        units: &*units,
+        rest: &*rest,
+    };
+    let first = next_within(&columns, n, s.section, s.start, s.end, 0);
+    let stop = next_outside(&columns, n, s.section, s.start, s.end, first);
+    if !takes_place(&columns, n, first, stop, s) {
         return None;
     }
     let packed = rest_of(s);

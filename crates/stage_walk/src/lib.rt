@@ -114,23 +114,18 @@ fn from_units(
 {
     take_units(obj.names.lengths, unit_table, 1024, places)?;
     let n = unit_table.len() / 8;
-    number_units(
-        &Table {
-            bytes: unit_table,
-            places: &places[..n],
-        },
-        unit_numbers,
-    );
+    let unit_records = Table {
+        bytes: unit_table,
+        places: &places[..n],
+    };
+    number_units(&unit_records, unit_numbers);
     walk_columns(
         obj,
         image,
         relocs,
         splits,
         rows,
-        &Table {
-            bytes: unit_table,
-            places: &places[..n],
-        },
+        &unit_records,
         unit_numbers,
         pieces,
         entries,

@@ -178,10 +178,11 @@ pub fn last_below(
     requires { Order b.now places.now order.now }
     ensures { result ≡ last_below (symbol_of b.now places.now) (length places.now) section objects address }
 {
-    let end = first_at(&Table { bytes: b, places }, order, key_of(section, address));
+    let symbols = Table { bytes: b, places };
+    let end = first_at(&symbols, order, key_of(section, address));
     for j in (0..end).rev() {
         let i = number(order, j);
-        let y = symbol_at(&Table { bytes: b, places }, i);
+        let y = symbol_at(&symbols, i);
         if y.section < section {
             return None;
         }

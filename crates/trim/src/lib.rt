@@ -152,26 +152,14 @@ fn carry_one(
     if end == 0 {
         return Ok(());
     }
-    let s = row(
-        &SplitColumns {
-            starts,
-            ends: &*ends,
-            units,
-            rest,
-        },
-        k,
-    );
-    let last = past_start(
-        &SplitColumns {
-            starts,
-            ends: &*ends,
-            units,
-            rest,
-        },
-        n,
-        s,
-        k + 1,
-    ) - 1;
+    let columns = SplitColumns {
+        starts,
+        ends: &*ends,
+        units,
+        rest,
+    };
+    let s = row(&columns, k);
+    let last = past_start(&columns, n, s, k + 1) - 1;
     let old = ends[last];
     if (old <= s.start) & (old != 0) {
         return refuse(54, s.section, s.start);

@@ -21,13 +21,13 @@ use Rattle.entry_questions.proofs.Laws.{question_as}
 use Rattle.entry_questions.proofs.Passed.{few, below, asked_stops, homes_taken}
 use Rattle.entry_questions.proofs.from_sections.Goals as goal
 
-pub slice_bounds-take_symbol_order-end : goal.slice_bounds-take_symbol_order-end
-slice_bounds-take_symbol_order-end c =
+pub slice_bounds-head_table-end : goal.slice_bounds-head_table-end
+slice_bounds-head_table-end c =
     let n = taken_few 15 _ c.args.lent.now.sections.now _ _ c.take_image.ensures (ap meaning c.in_ok-take_image.was) in
     omega (arith, (few c.main_ceilings-most.ensures).of_sections, c.take_image.auto.places, c.requires.1.heads_long)
 
-pub slice_bounds-take_symbol_order-end-2 : goal.slice_bounds-take_symbol_order-end-2
-slice_bounds-take_symbol_order-end-2 c =
+pub slice_bounds-head_table-end-2 : goal.slice_bounds-head_table-end-2
+slice_bounds-head_table-end-2 c =
     sym (taken-count 15 _ c.args.lent.now.sections.now _ _ c.take_image.ensures (ap meaning c.in_ok-take_image.was))
 
 pub take_symbol_order-requires : goal.take_symbol_order-requires
@@ -42,18 +42,6 @@ take_symbol_order-requires c =
         scratch_long = omega (arith, f.of_symbols, p.scratch_long);
       },
     )
-
-pub slice_bounds-take_splits-end : goal.slice_bounds-take_splits-end
-slice_bounds-take_splits-end c =
-    let few_sections : length c.args.lent.now.sections.now / 15 ≤ 64 = omega (arith, taken_few 15 _ c.args.lent.now.sections.now _ _ c.take_image.ensures (ap meaning c.in_ok-take_image.was), (few c.main_ceilings-most.ensures).of_sections) in
-    let heads_inside : length c.args.lent.now.sections.now / 15 ≤ length c.take_image.new.places = omega (arith, few_sections, c.take_image.auto.places, c.requires.1.heads_long) in
-    heads_inside
-
-pub slice_bounds-take_splits-end-2 : goal.slice_bounds-take_splits-end-2
-slice_bounds-take_splits-end-2 c =
-    let few_sections : length c.args.lent.now.sections.now / 15 ≤ 64 = omega (arith, taken_few 15 _ c.args.lent.now.sections.now _ _ c.take_image.ensures (ap meaning c.in_ok-take_image.was), (few c.main_ceilings-most.ensures).of_sections) in
-    let heads_inside : length c.args.lent.now.sections.now / 15 ≤ length c.take_image.new.places = omega (arith, few_sections, c.take_image.auto.places, c.requires.1.heads_long) in
-    sym (length-take-le _ _ heads_inside)
 
 pub take_splits-requires : goal.take_splits-requires
 take_splits-requires c =

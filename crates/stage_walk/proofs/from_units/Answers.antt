@@ -20,11 +20,11 @@ use Rattle.stage_walk.proofs.Passed.{units_listed}
 use Rattle.stage_walk.proofs.Lines.{gives_stops, units_go}
 use Rattle.stage_walk.proofs.from_units.Goals as goal
 
-pub slice_bounds-number_units-end : goal.slice_bounds-number_units-end
-slice_bounds-number_units-end c = omega (arith, taken_few 8 1024 c.args.unit_table.now _ _ c.take_units.ensures (ap meaning c.in_ok-take_units.was), c.take_units.auto.places, c.requires.6.places_long)
+pub slice_bounds-unit_records-end : goal.slice_bounds-unit_records-end
+slice_bounds-unit_records-end c = omega (arith, taken_few 8 1024 c.args.unit_table.now _ _ c.take_units.ensures (ap meaning c.in_ok-take_units.was), c.take_units.auto.places, c.requires.6.places_long)
 
-pub slice_bounds-number_units-end-2 : goal.slice_bounds-number_units-end-2
-slice_bounds-number_units-end-2 c =
+pub slice_bounds-unit_records-end-2 : goal.slice_bounds-unit_records-end-2
+slice_bounds-unit_records-end-2 c =
     let inside : length c.args.unit_table.now / 8 ≤ length c.take_units.new.places = omega (arith, taken_few 8 1024 c.args.unit_table.now _ _ c.take_units.ensures (ap meaning c.in_ok-take_units.was), c.take_units.auto.places, c.requires.6.places_long) in
     sym (length-take-le _ _ inside)
 
@@ -33,14 +33,6 @@ number_units-requires c =
     let a = c.args in
     units_listed a.obj.now.names.lengths.now a.unit_table.now (sym c.take_units.ensures.said ∙ ap meaning c.in_ok-take_units.was) _ _ (taken_places 8 1024 c.args.unit_table.now _ _ c.take_units.ensures (ap meaning c.in_ok-take_units.was))
     (omega (arith, c.requires.4, c.requires.6.numbers_long))
-
-pub slice_bounds-walk_columns-end : goal.slice_bounds-walk_columns-end
-slice_bounds-walk_columns-end c = omega (arith, taken_few 8 1024 c.args.unit_table.now _ _ c.take_units.ensures (ap meaning c.in_ok-take_units.was), c.take_units.auto.places, c.requires.6.places_long)
-
-pub slice_bounds-walk_columns-end-2 : goal.slice_bounds-walk_columns-end-2
-slice_bounds-walk_columns-end-2 c =
-    let inside : length c.args.unit_table.now / 8 ≤ length c.take_units.new.places = omega (arith, taken_few 8 1024 c.args.unit_table.now _ _ c.take_units.ensures (ap meaning c.in_ok-take_units.was), c.take_units.auto.places, c.requires.6.places_long) in
-    sym (length-take-le _ _ inside)
 
 pub returns : goal.returns
 returns c =
