@@ -5,7 +5,8 @@
 ghost use Rattle.std.specs.Prelude.{◌≡◌, map, ◌&&◌, eqb, ℕ, ◌/◌, ◌%◌, ◌<◌, ◌≤◌, length, take, is_some, unwrap_or};
 ghost use Rattle.lists.specs.Rows.{keep_if};
 ghost use Rattle.lists.specs.Outcome.{accepted};
-ghost use Rattle.splits.specs.Columns.{columns, row_of, row_at, rows, Long, columns_of};
+ghost use Rattle.splits.specs.Columns.{columns, row_of, row_at, rows, Long};
+ghost use Rattle.splits.specs.Table.{columns_of};
 ghost use Rattle.common.specs.Common.{common_in, common_start, from_of, start_meaning, start_of, marked, common_of, answered, First};
 ghost use Rattle.common.specs.Records.{Kept};
 ghost use Rattle.common.specs.Sections.{bss_at, bss_in, bss_of, first_of, given_of, Sections};

@@ -4,7 +4,8 @@
 ghost use Rattle.std.specs.Prelude.{◌≡◌, ◌&&◌, not, ◌++◌, map, ℕ, ◌+◌, ◌-◌, ◌%◌, ◌<◌, ◌≤◌, ◌≢◌, eqb, length, get_or, take, replicate, MatchOption};
 ghost use Rattle.lists.specs.Rows.{keep_if};
 ghost use Rattle.lists.specs.Sort.{All};
-ghost use Rattle.splits.specs.Columns.{rows, row_at, Long, columns_of};
+ghost use Rattle.splits.specs.Columns.{rows, row_at, Long};
+ghost use Rattle.splits.specs.Table.{columns_of};
 ghost use Rattle.symbol_order.specs.Keys.{unit_of};
 ghost use Rattle.splits.specs.Questions.{is_common};
 ghost use Rattle.link_graph.specs.Graph.{UnitEdge, is_first as firstOfSection, apart as keptApart, split_edges, links};

@@ -6,7 +6,8 @@ ghost use Rattle.std.specs.Prelude.{◌≡◌, ◌+◌, ◌-◌, ◌≤◌, ◌<
 ghost use Rattle.lists.specs.Rows.{tabulate};
 ghost use Rattle.obj.specs.Answers.{meaning};
 ghost use Rattle.obj.specs.Records.{section_at};
-ghost use Rattle.splits.specs.Columns.{columns, row_at, rows, Long, columns_of};
+ghost use Rattle.splits.specs.Columns.{columns, row_at, rows, Long};
+ghost use Rattle.splits.specs.Table.{columns_of};
 ghost use Rattle.lines.specs.Lines.{Written};
 ghost use Rattle.mend.specs.Mend.{section_ends_of, next_of, wrong_end, limit_of, replacement, mend_line, mend_check};
 ghost use Rattle.mend.specs.Steps.{Joins, Turned, Fills, Mends, LowHeads};

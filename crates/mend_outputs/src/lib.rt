@@ -2,7 +2,8 @@
 #![tactic(auto)]
 
 ghost use Rattle.std.specs.Prelude.{◌*◌, ◌≤◌, length};
-ghost use Rattle.splits.specs.Columns.{rows, Long, columns_of};
+ghost use Rattle.splits.specs.Columns.{rows, Long};
+ghost use Rattle.splits.specs.Table.{columns_of};
 ghost use Rattle.mend.specs.Steps.{line_bytes};
 ghost use Rattle.obj.specs.Records.{split_width};
 ghost use Rattle.mend_outputs.specs.Outputs.{Stores, Finishes};

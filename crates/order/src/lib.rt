@@ -5,7 +5,8 @@ mod records;
 
 ghost use Rattle.std.specs.Prelude.{◌≡◌, ◌/◌, ◌≤◌, length, Err};
 ghost use Rattle.tables.specs.Records.{units_in};
-ghost use Rattle.splits.specs.Columns.{rows, columns_of};
+ghost use Rattle.splits.specs.Columns.{rows};
+ghost use Rattle.splits.specs.Table.{columns_of};
 ghost use Rattle.toposort.specs.Sorting as sorting;
 ghost use Rattle.toposort.specs.Sorting.{sort_of, carried};
 ghost use Rattle.link_graph.specs.Columns.{given_of, Splits};

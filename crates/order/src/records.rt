@@ -2,7 +2,8 @@
 ghost use Rattle.std.specs.Prelude.{◌≡◌, map, ◌+◌, ◌≤◌, ◌<◌, length, get_or};
 ghost use Rattle.std.proofs.lemmas.List.Edits.{sets};
 ghost use Rattle.tables.specs.Records.{units_in};
-ghost use Rattle.splits.specs.Columns.{rows, columns_of};
+ghost use Rattle.splits.specs.Columns.{rows};
+ghost use Rattle.splits.specs.Table.{columns_of};
 ghost use Rattle.splits.specs.Questions.{is_auto};
 ghost use Rattle.link_graph.specs.Columns.{Units};
 ghost use Rattle.link_graph.specs.Graph.{nodes as unitNodes};

@@ -5,7 +5,7 @@ ghost use Rattle.std.specs.Prelude.{◌≡◌, [], ◌∷◌, ◌*◌, ◌≤◌
 ghost use Rattle.lists.specs.Tables.{laid};
 ghost use Rattle.outputs.specs.Outputs.{halves, counts_of};
 ghost use Rattle.stage_names.specs.StageNames.{ends_from, flat};
-ghost use Rattle.splits.specs.Columns.{columns_of};
+ghost use Rattle.splits.specs.Table.{columns_of};
 ghost use Rattle.gap_splits.specs.Answers as entering;
 ghost use Rattle.walk.specs.Giving.{output_in};
 ghost use Rattle.run.specs.Answers.{Names as NamesRead};

@@ -4,7 +4,8 @@
 
 ghost use Rattle.std.specs.Prelude.{◌≡◌, true, eqb, ℕ, ◌-◌, ◌≤◌, length, get_or, MatchOption};
 ghost use Rattle.lists.specs.Rows.{tabulate, some};
-ghost use Rattle.splits.specs.Columns.{Good, columns, Long, columns_of};
+ghost use Rattle.splits.specs.Columns.{Good, columns, Long};
+ghost use Rattle.splits.specs.Table.{columns_of};
 ghost use Rattle.split_joins.specs.Joins.{Apart, Between, TakesPlace, AtOnce};
 
 use obj::Split;

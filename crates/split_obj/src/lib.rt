@@ -3,7 +3,8 @@
 #![tactic(auto)]
 
 ghost use Rattle.std.specs.Prelude.{◌≡◌, cond, ltb, ◌+◌, ◌-◌, ◌<◌, ◌≤◌, length, get_or};
-ghost use Rattle.splits.specs.Columns.{rows as rows_of, Long, columns_of};
+ghost use Rattle.splits.specs.Columns.{rows as rows_of, Long};
+ghost use Rattle.splits.specs.Table.{columns_of};
 ghost use Rattle.splits.specs.Questions.{within};
 ghost use Rattle.obj.specs.Records.{Held};
 ghost use Rattle.sections.specs.Image.{image_in};

@@ -93,6 +93,16 @@ same_stored a b c d k start end unit rest c₀ s =
       rest = length-set d k rest ∙ s.rest;
     }
 
+-- rows that stood in columns stand in them after a store
+pub long_stored : (a b c d : List ℕ) (k start end unit rest n : ℕ) → Long (columns a b c d) n → Long (stored a b c d k start end unit rest) n
+long_stored a b c d k start end unit rest n h =
+    record {
+      starts = omega (arith, length-set a k start, h.starts);
+      ends = omega (arith, length-set b k end, h.ends);
+      units = omega (arith, length-set c k unit, h.units);
+      rest = omega (arith, length-set d k rest, h.rest);
+    }
+
 -- rows that stood in columns of the same lengths stand in these
 pub long_same : (c c₀ : Columns) (m n : ℕ) → Same c c₀ → m ≤ n → Long c₀ n → Long c m
 long_same c c₀ m n s h l =

@@ -5,7 +5,6 @@
 use Rattle.std.specs.Prelude.{ℕ, zero, suc, ◌+◌, ◌*◌, ◌/◌, ◌%◌, ◌^◌, ◌≤◌, ◌≡◌, cond, List, leb, get_or, length}
 use Rattle.lists.specs.Rows.{tabulate}
 use Rattle.obj.specs.declared.Split.{Split}
-use Rattle.splits.specs.declared.SplitColumns.{SplitColumns}
 
 -- ---- the packed number
 
@@ -47,10 +46,6 @@ pub record Columns : Type 0 where
 
 abbrev pub columns : List ℕ → List ℕ → List ℕ → List ℕ → Columns
 columns starts ends units rest = record { starts = starts; ends = ends; units = units; rest = rest }
-
--- the columns that are lent together
-abbrev pub columns_of : SplitColumns → Columns
-columns_of s = columns s.starts.now s.ends.now s.units.now s.rest.now
 
 -- a row of its four numbers
 unfoldable pub row_of : ℕ → ℕ → ℕ → ℕ → Split

@@ -1,4 +1,5 @@
 pub mod Columns
+pub mod Table
 pub mod Updates
 pub mod Questions
 pub mod Bytes

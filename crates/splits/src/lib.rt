@@ -6,7 +6,8 @@ ghost use Rattle.std.specs.Prelude.{◌≡◌, true, false, not, ◌&&◌, map, 
 ghost use Rattle.std.proofs.lemmas.List.Edits.{sets};
 ghost use Rattle.lists.specs.Rows.{tabulate, some};
 ghost use Rattle.obj.specs.Records.{split_at, partial_width, split_width};
-ghost use Rattle.splits.specs.Columns.{alignment_of, Good, columns, row_of, row_at, rows, Long, columns_of};
+ghost use Rattle.splits.specs.Columns.{alignment_of, Good, row_of, row_at};
+ghost use Rattle.splits.specs.Table.{columns_of, rows_of, columns_in, rows_in, Shows, SameColumns, OnlyEnds};
 ghost use Rattle.splits.specs.Updates.{with_end};
 ghost use Rattle.splits.specs.Questions.{within, of_unit, NextHit, Meets};
 ghost use Rattle.splits.specs.Bytes.{partial_bytes, split_bytes, table_bytes, Loadable};
@@ -14,13 +15,41 @@ ghost use Rattle.splits.specs.Bytes.{partial_bytes, split_bytes, table_bytes, Lo
 use fields::{put16, put32};
 use obj::{PARTIAL_BYTES, SPLIT_BYTES, Split, Table, split_at};
 
-// The columns of the split table.
-#[derive(Clone, Copy)]
-pub struct SplitColumns<'s, 'e, 'u, 'r> {
-    pub starts: &'s [u32],
-    pub ends: &'e [u32],
-    pub units: &'u [u16],
-    pub rest: &'r [u64],
+mod split_table;
+
+pub use split_table::{SplitColumns, SplitTable};
+
+impl SplitColumns<'_, '_, '_, '_> {
+    // The first n rows.
+    pub fn first(&self, n: usize) -> SplitColumns<'_, '_, '_, '_>
+        requires { n ≤ self.now.count }
+        ensures columns { SameColumns self.now result }
+        ensures count { result.count ≡ n }
+    {
+        SplitColumns {
+            starts: self.starts,
+            ends: self.ends,
+            units: self.units,
+            rest: self.rest,
+            count: n,
+        }
+    }
+}
+
+impl SplitTable<'_, '_, '_, '_> {
+    // The table's columns to read.
+    pub fn columns(&self) -> SplitColumns<'_, '_, '_, '_>
+        ensures columns { Shows self.now result }
+        ensures rows { rows_of result ≡ rows_in self.now }
+    {
+        SplitColumns {
+            starts: &*self.starts,
+            ends: &*self.ends,
+            units: &*self.units,
+            rest: &*self.rest,
+            count: self.count,
+        }
+    }
 }
 
 // What a range holds: a split, a hand split, a hand split of another unit.
@@ -88,7 +117,7 @@ pub fn rest_of(s: Split) -> u64
 
 // Row i.
 pub fn row(splits: &SplitColumns, i: usize) -> Split
-    requires { Long (columns_of splits.now) (i + 1) }
+    requires { i < splits.now.count }
     ensures { result ≡ row_at (columns_of splits.now) i }
 {
     row_of(
@@ -100,44 +129,30 @@ pub fn row(splits: &SplitColumns, i: usize) -> Split
 }
 
 // Row i with another end.
-pub fn set_end(
-    starts: &[u32],
-    ends: &mut [u32],
-    units: &[u16],
-    rest: &[u64],
-    n: usize,
-    i: usize,
-    end: u32,
-)
-    requires { Long (columns starts.now ends.old units.now rest.now) n × (i < n) }
-    ensures { rows (columns starts.now ends.new units.now rest.now) n
-        ≡ set (rows (columns starts.now ends.old units.now rest.now) n) i
-        (with_end end (row_at (columns starts.now ends.old units.now rest.now) i)) }
+pub fn set_end(table: &mut SplitTable, i: usize, end: u32)
+    requires { i < table.old.count }
+    ensures rows { rows_in table.new ≡ set (rows_in table.old) i (with_end end (row_at (columns_in table.old) i)) }
+    ensures others { OnlyEnds table.old table.new }
 {
-    ends[i] = end;
+    table.ends[i] = end;
 }
 
 // ---- packed records
 
-// The splits of a table, from its lent bytes into the columns.
-pub fn load(
-    table: &Table,
-    starts: &mut [u32],
-    ends: &mut [u32],
-    units: &mut [u16],
-    rest: &mut [u64],
-)
-    requires { Loadable table.now.bytes.now table.now.places.now × Long (columns starts.old ends.old units.old rest.old) (length table.now.places.now) }
-    ensures { rows (columns starts.new ends.new units.new rest.new) (length table.now.places.now)
-        ≡ map (split_at table.now.bytes.now) table.now.places.now }
+// The splits of a lent table, from its bytes into the columns.
+pub fn load(lent: &Table, table: &mut SplitTable)
+    requires { Loadable lent.now.bytes.now lent.now.places.now × (length lent.now.places.now ≤ table.old.room) }
+    ensures rows { rows_in table.new ≡ map (split_at lent.now.bytes.now) lent.now.places.now }
+    ensures room { table.new.room ≡ table.old.room }
 {
-    for i in 0..table.places.len() {
-        let s = split_at(table, i);
-        starts[i] = s.start;
-        ends[i] = s.end;
-        units[i] = s.unit;
-        rest[i] = rest_of(s);
+    for i in 0..lent.places.len() {
+        let s = split_at(lent, i);
+        table.starts[i] = s.start;
+        table.ends[i] = s.end;
+        table.units[i] = s.unit;
+        table.rest[i] = rest_of(s);
     }
+    table.count = lent.places.len();
 }
 
 // The fields of a partial split's record.
@@ -163,12 +178,12 @@ fn put_split(out: &mut [u8], at: usize, s: Split)
     put16(out, at + PARTIAL_BYTES, s.origin);
 }
 
-// The first n rows as records at the front of a lent table.
-pub fn store(splits: &SplitColumns, n: usize, out: &mut [u8])
-    requires { Long (columns_of splits.now) n × (split_width * n ≤ length out.old) }
-    ensures { out.new ≡ sets out.old 0 (table_bytes (rows (columns_of splits.now) n)) }
+// The rows as records at the front of a lent table.
+pub fn store(splits: &SplitColumns, out: &mut [u8])
+    requires { split_width * splits.now.count ≤ length out.old }
+    ensures { out.new ≡ sets out.old 0 (table_bytes (rows_of splits.now)) }
 {
-    for i in 0..n {
+    for i in 0..splits.count {
         put_split(out, SPLIT_BYTES * i, row(splits, i));
     }
 }
@@ -208,18 +223,18 @@ fn holds_unit(units: &[u16], at: usize, unit: u16) -> bool
     any
 }
 
-// The first row from `at` on that is the unit's in the section: row by row.
+// The first row from `at` up to `to` that is the unit's in the section: row by row.
 fn next_in_rows(
     splits: &SplitColumns,
-    n: usize,
     section: u16,
     unit: u16,
     at: usize,
+    to: usize,
 ) -> Option<usize>
-    requires { Long (columns_of splits.now) n × (at ≤ n) }
-    ensures { NextHit (of_unit section unit) (columns_of splits.now) n at result }
+    requires { (to ≤ splits.now.count) × (at ≤ to) }
+    ensures { NextHit (of_unit section unit) (columns_of splits.now) to at result }
 {
-    for i in at..n {
+    for i in at..to {
         if is_of_unit(section, unit, splits.units[i], splits.rest[i]) {
             return Some(i);
         }
@@ -229,35 +244,29 @@ fn next_in_rows(
 
 // The same of the 32 rows from `at` on: row by row only where one is the unit's in some section.
 fn next_in_block(splits: &SplitColumns, section: u16, unit: u16, at: usize) -> Option<usize>
-    requires { Long (columns_of splits.now) (at + 32) }
+    requires { at + 32 ≤ splits.now.count }
     ensures { NextHit (of_unit section unit) (columns_of splits.now) (at + 32) at result }
 {
     if holds_unit(splits.units, at, unit) {
-        return next_in_rows(splits, at + 32, section, unit, at);
+        return next_in_rows(splits, section, unit, at, at + 32);
     }
     None
 }
 
 // The first row from `at` on that is the unit's in the section: by blocks of 32 rows, then the rows that are left.
-pub fn next_of_unit(
-    splits: &SplitColumns,
-    n: usize,
-    section: u16,
-    unit: u16,
-    at: usize,
-) -> Option<usize>
-    requires { Long (columns_of splits.now) n × (at ≤ n) }
-    ensures { NextHit (of_unit section unit) (columns_of splits.now) n at result }
+pub fn next_of_unit(splits: &SplitColumns, section: u16, unit: u16, at: usize) -> Option<usize>
+    requires { at ≤ splits.now.count }
+    ensures { NextHit (of_unit section unit) (columns_of splits.now) splits.now.count at result }
 {
     // by blocks, and then what is left: no count of rows
     let mut i = at;
-    while 32 <= n - i {
+    while 32 <= splits.count - i {
         if let Some(k) = next_in_block(splits, section, unit, i) {
             return Some(k);
         }
         i += 32;
     }
-    next_in_rows(splits, n, section, unit, i)
+    next_in_rows(splits, section, unit, i, splits.count)
 }
 
 // Whether one of the 32 starts from `at` on lies in a range; as `holds_unit`.
@@ -273,89 +282,81 @@ fn holds_start(starts: &[u32], at: usize, from: u32, to: u32) -> bool
     any
 }
 
-// The first row from `at` on in the range, or n: row by row.
+// The first row from `at` up to `stop` in the range, or `stop`: row by row.
 fn within_in_rows(
     splits: &SplitColumns,
-    n: usize,
     section: u16,
     from: u32,
     to: u32,
     at: usize,
+    stop: usize,
 ) -> usize
-    requires { Long (columns_of splits.now) n × (at ≤ n) }
+    requires { (stop ≤ splits.now.count) × (at ≤ stop) }
     ensures { (at ≤ result)
-        × (result ≤ n)
+        × (result ≤ stop)
         × ((k : ℕ) → at ≤ k → k < result → within section from to (row_at (columns_of splits.now) k) ≡ false)
-        × (result < n → within section from to (row_at (columns_of splits.now) result) ≡ true) }
+        × (result < stop → within section from to (row_at (columns_of splits.now) result) ≡ true) }
 {
-    for i in at..n {
+    for i in at..stop {
         if is_within(section, from, to, splits.starts[i], splits.rest[i]) {
             return i;
         }
     }
-    n
+    stop
 }
 
 // The same of the 32 rows from `at` on: row by row only where one starts in the range in some section.
 fn within_in_block(splits: &SplitColumns, section: u16, from: u32, to: u32, at: usize) -> usize
-    requires { Long (columns_of splits.now) (at + 32) }
+    requires { at + 32 ≤ splits.now.count }
     ensures { (at ≤ result)
         × (result ≤ at + 32)
         × ((k : ℕ) → at ≤ k → k < result → within section from to (row_at (columns_of splits.now) k) ≡ false)
         × (result < at + 32 → within section from to (row_at (columns_of splits.now) result) ≡ true) }
 {
     if holds_start(splits.starts, at, from, to) {
-        return within_in_rows(splits, at + 32, section, from, to, at);
+        return within_in_rows(splits, section, from, to, at, at + 32);
     }
     at + 32
 }
 
-// The first row from `at` on in the range, or n: by blocks of 32 rows, then the rows that are left. Callers take n as the end of a range of rows
+// The first row from `at` on in the range, or the table's end: by blocks of 32 rows, then the rows that are left. Callers take that as the end of a range of rows
 // (split_edits `remove_rows`, `remove_range`, split_joins `join_and_push`), so it is no Option.
-pub fn next_within(
-    splits: &SplitColumns,
-    n: usize,
-    section: u16,
-    from: u32,
-    to: u32,
-    at: usize,
-) -> usize
-    requires { Long (columns_of splits.now) n × (at ≤ n) }
+pub fn next_within(splits: &SplitColumns, section: u16, from: u32, to: u32, at: usize) -> usize
+    requires { at ≤ splits.now.count }
     ensures { (at ≤ result)
-        × (result ≤ n)
+        × (result ≤ splits.now.count)
         × ((k : ℕ) → at ≤ k → k < result → within section from to (row_at (columns_of splits.now) k) ≡ false)
-        × (result < n → within section from to (row_at (columns_of splits.now) result) ≡ true) }
+        × (result < splits.now.count → within section from to (row_at (columns_of splits.now) result) ≡ true) }
 {
     // by blocks, and then what is left: no count of rows
     let mut i = at;
-    while 32 <= n - i {
+    while 32 <= splits.count - i {
         let k = within_in_block(splits, section, from, to, i);
         if k < i + 32 {
             return k;
         }
         i += 32;
     }
-    within_in_rows(splits, n, section, from, to, i)
+    within_in_rows(splits, section, from, to, i, splits.count)
 }
 
 // What the range holds, for a split of `unit`: "an autogenerated one that meets a hand split changes nothing", "25 meets a hand split of another unit",
 // "26 a round goes on but its range holds no split".
-pub fn meets(splits: &SplitColumns, n: usize, section: u16, from: u32, to: u32, unit: u16) -> Met
-    requires { Long (columns_of splits.now) n }
-    ensures { Meets (within section from to) unit (rows (columns_of splits.now) n) result }
+pub fn meets(splits: &SplitColumns, section: u16, from: u32, to: u32, unit: u16) -> Met
+    ensures { Meets (within section from to) unit (rows_of splits.now) result }
 {
     let mut any = false;
     let mut hand = false;
     let mut other = false;
-    let mut i = next_within(splits, n, section, from, to, 0);
+    let mut i = next_within(splits, section, from, to, 0);
     // from one row in the range to the next: no count
-    while i < n {
+    while i < splits.count {
         let by_hand = is_hand(splits.rest[i]);
         let of_other = splits.units[i] != unit;
         any = true;
         hand |= by_hand;
         other |= by_hand & of_other;
-        i = next_within(splits, n, section, from, to, i + 1);
+        i = next_within(splits, section, from, to, i + 1);
     }
     Met { any, hand, other }
 }

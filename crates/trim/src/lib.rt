@@ -13,7 +13,8 @@ ghost use Rattle.sections.specs.Sections.{head_of, sections_of, Kept};
 ghost use Rattle.sections.specs.Bytes.{bytes_of};
 ghost use Rattle.sections.specs.Alignment.{chosen};
 ghost use Rattle.sections.specs.Ends.{splitting_end, end_meaning};
-ghost use Rattle.splits.specs.Columns.{columns, row_at, rows, Long, columns_of};
+ghost use Rattle.splits.specs.Columns.{columns, row_at, rows, Long};
+ghost use Rattle.splits.specs.Table.{columns_of};
 ghost use Rattle.trim.specs.Trim.{end_of, ask_next, aligned_end, fall_of, falls_of, carry_one, carry_from, cut_last, cut_section, cut_from, trimmed};
 ghost use Rattle.trim.specs.Steps.{asked_meaning, seen, Asks, Placed, AllPlaced, Past, LastOf};
 

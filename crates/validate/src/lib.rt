@@ -5,7 +5,8 @@ ghost use Rattle.std.specs.Prelude.{◌≡◌, length};
 ghost use Rattle.obj.specs.Answers.{meaning};
 ghost use Rattle.symbol_order.specs.Order.{symbol_of, Order};
 ghost use Rattle.symbols.specs.Sound.{Sound};
-ghost use Rattle.splits.specs.Columns.{rows, Long, columns_of};
+ghost use Rattle.splits.specs.Columns.{rows, Long};
+ghost use Rattle.splits.specs.Table.{columns_of};
 ghost use Rattle.validate.specs.Check.{end_below, validate_one as validateSplit, validate as validateTable};
 
 use obj::{Refusal, Split, Table, refuse, symbol_at};

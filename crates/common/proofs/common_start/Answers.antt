@@ -1,7 +1,8 @@
 -- `common::common_start` meets its contract: the given start, or that of the first common row. Assumes nothing.
 use mathlib.Core.Path.{ap, ◌∙◌}
 use Rattle.lists.specs.Outcome.{accepted}
-use Rattle.splits.specs.Columns.{rows, columns_of}
+use Rattle.splits.specs.Columns.{rows}
+use Rattle.splits.specs.Table.{columns_of}
 use Rattle.common.specs.declared.Bss.{Bss}
 use Rattle.common.specs.Common.{common_start, start_meaning}
 use Rattle.common.specs.Sections.{bss_in, first_of, given_of}

@@ -1,7 +1,8 @@
 -- `common::first_common` meets its contract. Assumes nothing.
 use mathlib.Core.Path.{sym, ◌∙◌}
 use Rattle.lists.proofs.FilterRows.{filter_hit, filter_miss, filter_none}
-use Rattle.splits.specs.Columns.{row_of, row_at, columns_of}
+use Rattle.splits.specs.Columns.{row_of, row_at}
+use Rattle.splits.specs.Table.{columns_of}
 use Rattle.common.specs.Common.{common_in}
 use Rattle.common.proofs.Laws.{first_hit, first_none}
 use Rattle.common.proofs.first_common.Goals as goal

@@ -2,7 +2,8 @@
 use mathlib.Core.Path.{◌≡◌}
 use Prim.Native.Nat.{◌-◌}
 use Rattle.lists.specs.Rows.{tabulate, keep_if}
-use Rattle.splits.specs.Columns.{row_at, columns_of}
+use Rattle.splits.specs.Columns.{row_at}
+use Rattle.splits.specs.Table.{columns_of}
 use Rattle.common.specs.Common.{common_in}
 use Rattle.common.proofs.first_common.Given as goal
 

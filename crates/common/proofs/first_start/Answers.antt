@@ -1,5 +1,6 @@
 -- `common::first_start` meets its contract: the start of the first common row, if there is one. Assumes nothing.
-use Rattle.splits.specs.Columns.{row_of, columns_of}
+use Rattle.splits.specs.Columns.{row_of}
+use Rattle.splits.specs.Table.{columns_of}
 use Rattle.common.proofs.Laws.{start_there, start_past}
 use native.Mathlib.Omega.{arith}
 use borrow.Author.Rules.{rules}

@@ -4,7 +4,8 @@ use mathlib.Core.Path.{refl, ◌∙◌}
 use lib.ListN.{length-set, length-replicate}
 use Rattle.lists.proofs.Rows.{fill_turn, fill_done}
 use Rattle.obj.specs.declared.Split.{Split}
-use Rattle.splits.specs.Columns.{row_at, columns_of}
+use Rattle.splits.specs.Columns.{row_at}
+use Rattle.splits.specs.Table.{columns_of}
 use Rattle.common.specs.Records.{no_split}
 use Rattle.common.proofs.records.Goals as goal
 

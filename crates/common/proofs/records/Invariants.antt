@@ -1,7 +1,8 @@
 -- `common::records`: the first i records are the first i rows.
 use mathlib.Core.Path.{◌≡◌}
 use lib.ListN.{length, take}
-use Rattle.splits.specs.Columns.{rows, columns_of}
+use Rattle.splits.specs.Columns.{rows}
+use Rattle.splits.specs.Table.{columns_of}
 use Rattle.common.proofs.records.Given as goal
 
 abbrev pub invariant-loop-i : goal.invariant-loop-i

@@ -3,7 +3,7 @@ use Rattle.std.proofs.Common.{◌∙◌, sym, ap, arith}
 use Rattle.std.proofs.lemmas.Result.{err_from_is_err_and}
 use Rattle.sections.specs.Image.{image_in}
 use Rattle.sections.specs.Sections.{sections_of}
-use Rattle.splits.specs.Columns.{columns_of}
+use Rattle.splits.specs.Table.{columns_of}
 use Rattle.gaps.specs.Found.{searched}
 use Rattle.gaps.proofs.Sections.{search_start, search_space, search_refused, search_on, search_done}
 use Rattle.gaps.proofs.find_gaps.Goals as goal

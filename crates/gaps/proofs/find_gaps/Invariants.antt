@@ -1,7 +1,7 @@
 -- `gaps::find_gaps` meets its contract. Invariant (`Searching`): the gaps of the sections from k on enter after those found as all.
 use Rattle.sections.specs.Image.{image_in}
 use Rattle.sections.specs.Sections.{sections_of}
-use Rattle.splits.specs.Columns.{columns_of}
+use Rattle.splits.specs.Table.{columns_of}
 use Rattle.gaps.specs.Found.{Clean}
 use Rattle.gaps.proofs.Sections.{Searching}
 use Rattle.gaps.proofs.find_gaps.Given as goal

@@ -17,7 +17,8 @@ use Rattle.sections.specs.Alignment.{default_alignment}
 use Rattle.sections.specs.Ends.{splitting_end, end_meaning}
 use Rattle.sections.proofs.Good.{default_good}
 use Rattle.sections.proofs.Kept.{kept_whole, end_within}
-use Rattle.splits.specs.Columns.{rows, columns_of}
+use Rattle.splits.specs.Columns.{rows}
+use Rattle.splits.specs.Table.{columns_of}
 use Rattle.gap_columns.specs.Columns.{gaps_in}
 use Rattle.gaps.specs.Gaps.{gaps_from, below, default_of, into}
 use Rattle.gaps.specs.Found.{Space}

@@ -3,7 +3,7 @@
 use Prim.Native.Nat.{◌-◌}
 use lib.ListN.{length}
 use Rattle.symbol_order.specs.Order.{symbol_of}
-use Rattle.splits.specs.Columns.{columns_of}
+use Rattle.splits.specs.Table.{columns_of}
 use Rattle.gaps.specs.Found.{Clean}
 use Rattle.gaps.proofs.Passes.{Walking}
 use Rattle.gaps.proofs.section_gaps.Given as goal

@@ -1,7 +1,7 @@
 -- `link_graph::make_graph`: the column is blank before the units are counted, and has their nodes when the edges are made.
 use Rattle.std.proofs.Common.{◌≡◌, ◌∙◌, sym, ap, arith, length, replicate, subst, ℕ}
 use lib.Seq.{length-take-le}
-use Rattle.splits.specs.Columns.{columns_of}
+use Rattle.splits.specs.Table.{columns_of}
 use Rattle.link_graph.specs.Columns.{Marked}
 use Rattle.link_graph.proofs.Rows.{units_named}
 use Rattle.link_graph.proofs.Graph.{counted-nodes}

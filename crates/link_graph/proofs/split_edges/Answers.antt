@@ -1,7 +1,8 @@
 -- `link_graph::split_edges`: before the first turn, a turn at a pair with an edge or without, and after the last one.
 use Rattle.std.proofs.Common.{◌∙◌, sym, arith}
 use Rattle.lists.proofs.Rows.{length-tabulate}
-use Rattle.splits.specs.Columns.{row_of, row_at, columns_of}
+use Rattle.splits.specs.Columns.{row_of, row_at}
+use Rattle.splits.specs.Table.{columns_of}
 use Rattle.link_graph.proofs.Edges.{listing_start, listing_edge, listing_apart, listing_end, unit_of_row}
 use Rattle.link_graph.proofs.split_edges.Goals as goal
 use Rattle.link_graph.proofs.split_edges.Goals.{then-not-apart, else-not-apart}

@@ -1,5 +1,6 @@
 -- `link_graph::split_edges`. Invariant: the edges written, and after them those of the pairs from `i` on, are all; so at both ends.
-use Rattle.splits.specs.Columns.{rows, columns_of}
+use Rattle.splits.specs.Columns.{rows}
+use Rattle.splits.specs.Table.{columns_of}
 use Rattle.link_graph.specs.Columns.{pointers_in}
 use Rattle.link_graph.proofs.Edges.{Listing}
 use Rattle.link_graph.proofs.split_edges.Given as goal

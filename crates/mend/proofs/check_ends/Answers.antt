@@ -5,7 +5,8 @@ use Rattle.std.specs.Option.{unwrap_or}
 use Rattle.lists.specs.Rows.{tabulate}
 use Rattle.lists.proofs.Parts.{tabulate_all}
 use Rattle.obj.specs.Answers.{meaning}
-use Rattle.splits.specs.Columns.{row_of, row_at, columns_of}
+use Rattle.splits.specs.Columns.{row_of, row_at}
+use Rattle.splits.specs.Table.{columns_of}
 use Rattle.mend.specs.Mend.{mend_check}
 use Rattle.mend.proofs.Steps.{gets, check_stops, check_goes, check_ended}
 use Rattle.mend.proofs.check_ends.Goals as goal

@@ -2,7 +2,8 @@
 use mathlib.Core.Path.{◌≡◌}
 use Prim.Native.Nat.{◌-◌}
 use Rattle.lists.specs.Rows.{tabulate}
-use Rattle.splits.specs.Columns.{row_at, rows, columns_of}
+use Rattle.splits.specs.Columns.{row_at, rows}
+use Rattle.splits.specs.Table.{columns_of}
 use Rattle.mend.specs.Mend.{mend_check}
 use Rattle.mend.proofs.check_ends.Given as goal
 

@@ -1,5 +1,6 @@
 -- `mend::next_of` meets its contract: the row after, if there is one and it is of the section. Assumes nothing.
-use Rattle.splits.specs.Columns.{row_of, row_at, columns_of}
+use Rattle.splits.specs.Columns.{row_of, row_at}
+use Rattle.splits.specs.Table.{columns_of}
 use Rattle.mend.proofs.Steps.{next_none, next_other, next_same}
 use Rattle.mend.proofs.next_of.Goals as goal
 

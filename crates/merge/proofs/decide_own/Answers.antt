@@ -1,7 +1,8 @@
 -- `merge::decide_own` meets its contract: the first and the second split of the unit say which line of the definition it is.
 -- Assumes nothing.
 use mathlib.Core.Path.{sym, ap, ◌∙◌}
-use Rattle.splits.specs.Columns.{rows, columns_of}
+use Rattle.splits.specs.Columns.{rows}
+use Rattle.splits.specs.Table.{columns_of}
 use Rattle.splits.proofs.Rows.{good_row}
 use Rattle.merge.specs.Merge.{on_old}
 use Rattle.merge.proofs.Decisions.{own_full, own_pushed, own_several, own_one, answers}

@@ -3,7 +3,7 @@ use mathlib.Core.Path.{◌≡◌, sym, ap, ◌∙◌}
 use mathlib.Core.Bool.{false}
 use Prim.Native.Nat.{◌/◌}
 use lib.ListN.{length}
-use Rattle.splits.specs.Columns.{columns_of}
+use Rattle.splits.specs.Table.{columns_of}
 use Rattle.order_numbers.specs.Numbers.{order_twice}
 use Rattle.link_graph.specs.Graph.{graph_of}
 use Rattle.link_graph.specs.Columns.{given_of}

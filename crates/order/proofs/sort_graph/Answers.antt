@@ -6,7 +6,8 @@ use native.Mathlib.Omega.{arith}
 use lib.ListN.{length, drop}
 use Rattle.lists.specs.Sort.{All}
 use Rattle.tables.specs.Records.{units_in}
-use Rattle.splits.specs.Columns.{rows, columns_of}
+use Rattle.splits.specs.Columns.{rows}
+use Rattle.splits.specs.Table.{columns_of}
 use Rattle.toposort.specs.Search.{Graph}
 use Rattle.order.proofs.Stage.{sorts_in, left_inside, nodes-named, kept_long, kept-nodes, kept-fits, sorted_resolves}
 use Rattle.order.proofs.sort_graph.Goals as goal

@@ -6,7 +6,7 @@ use Rattle.std.proofs.lemmas.Result.{err_from_is_err_and}
 use Rattle.load.specs.Load.{Loaded}
 use Rattle.loaded.specs.Tables.{tables_with}
 use Rattle.loaded.specs.declared.Loaded.{Loaded as Lent}
-use Rattle.splits.specs.Columns.{columns_of}
+use Rattle.splits.specs.Table.{columns_of}
 use Rattle.stage_walk.specs.Room.{room_in}
 use Rattle.run.proofs.Linking.{splits-taken, units_taken}
 use Rattle.run.proofs.Answering.{entered_tabled, unlinked_right, order_whole, order_named, refused_right, made_right, refused_before, entered_before}

@@ -3,7 +3,8 @@ use native.Mathlib.Omega.{arith}
 use lib.ListN.{length, take}
 use lib.Seq.{length-take-le}
 use Rattle.loaded.proofs.Laws.{few_symbols}
-use Rattle.splits.specs.Columns.{rows, columns_of}
+use Rattle.splits.specs.Columns.{rows}
+use Rattle.splits.specs.Table.{columns_of}
 use Rattle.stage_walk.specs.Room.{room_in}
 use Rattle.run.proofs.Walking.{units_listed, ready, walked_as}
 use Rattle.run.proofs.walk_units.Goals as goal

@@ -4,7 +4,7 @@ use mathlib.Core.Path.{sym, ap, ◌∙◌}
 use Prim.Native.Nat.{◌*◌}
 use lib.ListN.{length}
 use Rattle.outputs.specs.Outputs.{counts_of}
-use Rattle.splits.specs.Columns.{columns_of}
+use Rattle.splits.specs.Table.{columns_of}
 use Rattle.gap_splits.specs.Answers.{beside}
 use Rattle.stage_walk.proofs.Room.{cleared}
 use Rattle.run_outputs.proofs.Laws.{kept-listed}

@@ -13,7 +13,8 @@ use Rattle.obj.specs.declared.Refusal.{Refusal}
 use Rattle.obj.specs.declared.Split.{Split}
 use Rattle.sections.specs.Sections.{head_of}
 use Rattle.sections.proofs.Kept.{kept-held, kept_lies, kept_whole}
-use Rattle.splits.specs.Columns.{row_at, columns_of}
+use Rattle.splits.specs.Columns.{row_at}
+use Rattle.splits.specs.Table.{columns_of}
 use Rattle.splits.proofs.Rows.{good_row}
 use Rattle.splits.proofs.Alignment.{alignment_good}
 use Rattle.walk.specs.declared.Step.{Step}

@@ -2,7 +2,7 @@
 -- halving gives what the whole halving gives; each way out is a law of proofs/Carried.antt. Assumes nothing.
 use Prim.Native.Nat.{◌-◌}
 use lib.ListN.{length}
-use Rattle.splits.specs.Columns.{columns_of}
+use Rattle.splits.specs.Table.{columns_of}
 use Rattle.walk.specs.Walk.{halved, walk_sections}
 use Rattle.walk.specs.Giving.{output_in}
 use Rattle.split_obj.proofs.Halving.{Halving}

@@ -6,7 +6,8 @@ use Rattle.lists.proofs.Parts.{tabulate_list}
 use Rattle.align.specs.Align.{bad_align}
 use Rattle.obj.specs.Records.{split_at}
 use Rattle.obj.specs.declared.Split.{Split}
-use Rattle.splits.specs.Columns.{columns, row_at}
+use Rattle.splits.specs.Columns.{row_at}
+use Rattle.splits.specs.Table.{columns_in}
 use Rattle.splits.proofs.Alignment.{good_alignment}
 use Rattle.splits.proofs.load.Goals as goal
 
@@ -16,8 +17,8 @@ rest_of-requires c =
     let aligned = c.requires.0.aligned c.loop-i.i c.loop-i-test.true in
     good_alignment s.result.alignment (ap (λ (r : Split). bad_align r.alignment) s.ensures ∙ aligned)
 
-pub returns : goal.returns
-returns c =
+pub returns-clause-rows : goal.returns-clause-rows
+returns-clause-rows c =
     let l = c.loop-i in
     let a = c.args in
-    tabulate_list (split_at a.table.now.bytes.now) (row_at (columns l.starts l.ends l.units l.rest)) a.table.now.places.now 0 (λ k h. l.invariant.2 k (omega arith))
+    tabulate_list (split_at a.lent.now.bytes.now) (row_at (columns_in l.table)) a.lent.now.places.now 0 (λ k h. l.invariant.2 k (omega arith))

@@ -8,7 +8,8 @@ use lib.ListN.{get_or}
 use Rattle.lists.specs.Rows.{tabulate, some}
 use Rattle.lists.proofs.SomeRows.{some_ended}
 use Rattle.obj.specs.declared.Split.{Split}
-use Rattle.splits.specs.Columns.{row_of, row_at, columns_of}
+use Rattle.splits.specs.Columns.{row_of, row_at}
+use Rattle.splits.specs.Table.{columns_of}
 use Rattle.splits.specs.Questions.{within, is_auto, is_by_hand, is_of_other}
 use Rattle.splits.proofs.Blocks.{some_jump}
 use Rattle.splits.proofs.Meeting.{left_first, or_yes}
@@ -23,9 +24,9 @@ loop-i-init c =
     let p = within a.section a.from a.to in (
       h.1,
       h.3,
-      left_first p c₀ a.n r.result h.1 (λ k m. h.2 k (omega arith) m),
-      left_first (is_by_hand p) c₀ a.n r.result h.1 (λ k m. ap (λ (b : Bool). b && not (is_auto (row_at c₀ k))) (h.2 k (omega arith) m)),
-      left_first (is_of_other p a.unit) c₀ a.n r.result h.1
+      left_first p c₀ a.splits.now.count r.result h.1 (λ k m. h.2 k (omega arith) m),
+      left_first (is_by_hand p) c₀ a.splits.now.count r.result h.1 (λ k m. ap (λ (b : Bool). b && not (is_auto (row_at c₀ k))) (h.2 k (omega arith) m)),
+      left_first (is_of_other p a.unit) c₀ a.splits.now.count r.result h.1
           (λ k m. ap (λ (b : Bool). b && (not (is_auto (row_at c₀ k)) && not (eqb (row_at c₀ k).unit a.unit))) (h.2 k (omega arith) m)),
     )
 
@@ -45,16 +46,16 @@ loop-i-preserved c =
     let inside = l.invariant.1 t in
     let by_hand = c.is_hand-by_hand.ensures in
     let of_other = not (eqb (get_or a.splits.now.units.now l.i 0) a.unit) in
-    let left : (Split → Bool) → Bool = λ q. some q (tabulate f r.result (a.n - r.result)) in (
+    let left : (Split → Bool) → Bool = λ q. some q (tabulate f r.result (a.splits.now.count - r.result)) in (
       h.1,
       h.3,
       ap (λ (x : Bool). x || left p) (sym (or_yes l.any))
-          ∙ some_jump p f a.n l.any true l.i r.result t h.0 h.1 inside h.2
+          ∙ some_jump p f a.splits.now.count l.any true l.i r.result t h.0 h.1 inside h.2
           ∙ l.invariant.2,
-      some_jump (is_by_hand p) f a.n l.hand _ l.i r.result t h.0 h.1 (ap (λ (b : Bool). b && not (is_auto (f l.i))) inside ∙ sym by_hand)
+      some_jump (is_by_hand p) f a.splits.now.count l.hand _ l.i r.result t h.0 h.1 (ap (λ (b : Bool). b && not (is_auto (f l.i))) inside ∙ sym by_hand)
           (λ k m q. ap (λ (b : Bool). b && not (is_auto (f k))) (h.2 k m q))
           ∙ l.invariant.3,
-      some_jump (is_of_other p a.unit) f a.n l.other _ l.i r.result t h.0 h.1
+      some_jump (is_of_other p a.unit) f a.splits.now.count l.other _ l.i r.result t h.0 h.1
           (ap (λ (b : Bool). b && (not (is_auto (f l.i)) && of_other)) inside ∙ ap (λ (b : Bool). b && of_other) (sym by_hand))
           (λ k m q. ap (λ (b : Bool). b && (not (is_auto (f k)) && not (eqb (f k).unit a.unit))) (h.2 k m q))
           ∙ l.invariant.4,
@@ -66,7 +67,7 @@ returns c =
     let a = c.args in
     let f = row_at (columns_of a.splits.now) in
     record {
-      any = sym (some_ended _ f a.n l.i l.any c.loop-i-test.false) ∙ l.invariant.2;
-      hand = sym (some_ended _ f a.n l.i l.hand c.loop-i-test.false) ∙ l.invariant.3;
-      other = sym (some_ended _ f a.n l.i l.other c.loop-i-test.false) ∙ l.invariant.4;
+      any = sym (some_ended _ f a.splits.now.count l.i l.any c.loop-i-test.false) ∙ l.invariant.2;
+      hand = sym (some_ended _ f a.splits.now.count l.i l.hand c.loop-i-test.false) ∙ l.invariant.3;
+      other = sym (some_ended _ f a.splits.now.count l.i l.other c.loop-i-test.false) ∙ l.invariant.4;
     }

@@ -1,7 +1,7 @@
 -- `splits::next_in_block` meets its contract: where none of the block's units is the unit, no row passes.
 -- Assumes nothing.
 use mathlib.Core.Path.{sym, ◌∙◌}
-use Rattle.splits.specs.Columns.{columns_of}
+use Rattle.splits.specs.Table.{columns_of}
 use Rattle.splits.proofs.Blocks.{block_none}
 use Rattle.splits.proofs.next_in_block.Goals as goal
 

@@ -4,7 +4,8 @@ use mathlib.Core.Path.{sym, ◌∙◌}
 use native.Mathlib.Omega.{arith}
 use borrow.Author.Tests.{lt-ltb, le-ltb}
 use Rattle.lists.proofs.FilterRows.{filter_hit, filter_miss, filter_none}
-use Rattle.splits.specs.Columns.{row_of, row_at, columns_of}
+use Rattle.splits.specs.Columns.{row_of, row_at}
+use Rattle.splits.specs.Table.{columns_of}
 use Rattle.splits.specs.Questions.{of_unit}
 use Rattle.splits.proofs.next_in_rows.Goals as goal
 
@@ -16,7 +17,7 @@ returns-then-is_of_unit c =
     let h = c.loop-i-test.true in
     let f = row_at (columns_of a.splits.now) in (
       record {
-        is = l.invariant.2 ∙ filter_hit (of_unit a.section a.unit) f a.n l.i h (sym c.is_of_unit.ensures ∙ c.if-is_of_unit.true) ∙ rw (lt-ltb l.i a.n h);
+        is = l.invariant.2 ∙ filter_hit (of_unit a.section a.unit) f a.to l.i h (sym c.is_of_unit.ensures ∙ c.if-is_of_unit.true) ∙ rw (lt-ltb l.i a.to h);
         past = omega arith;
         small = omega arith;
       },
@@ -29,7 +30,7 @@ loop-i-preserved c =
     let l = c.loop-i in
     let a = c.args in
     let f = row_at (columns_of a.splits.now) in
-    let miss = filter_miss (of_unit a.section a.unit) f a.n l.i c.loop-i-test.true (sym c.is_of_unit.ensures ∙ c.if-is_of_unit.false) in
+    let miss = filter_miss (of_unit a.section a.unit) f a.to l.i c.loop-i-test.true (sym c.is_of_unit.ensures ∙ c.if-is_of_unit.false) in
     (omega arith, omega arith, l.invariant.2 ∙ miss)
 
 pub returns : goal.returns
@@ -39,7 +40,7 @@ returns c =
     let h = c.loop-i-test.false in
     let f = row_at (columns_of a.splits.now) in
     record {
-      is = l.invariant.2 ∙ filter_none (of_unit a.section a.unit) f a.n l.i h ∙ rw (le-ltb a.n a.n (omega arith));
+      is = l.invariant.2 ∙ filter_none (of_unit a.section a.unit) f a.to l.i h ∙ rw (le-ltb a.to a.to (omega arith));
       past = omega arith;
       small = omega arith;
     }

@@ -4,7 +4,8 @@ use Rattle.splits.proofs.Rows.{end_stored}
 use borrow.Author.Rules.{rules}
 use Rattle.splits.proofs.set_end.Goals as goal
 
-pub returns : goal.returns
-returns c =
+pub returns-clause-rows : goal.returns-clause-rows
+returns-clause-rows c =
     let a = c.args in
-    end_stored a.starts.now a.ends.now a.units.now a.rest.now a.i a.n a.end (search rules)
+    let t = a.table.now in
+    end_stored t.starts.now t.ends.now t.units.now t.rest.now a.i t.count a.end (search rules)

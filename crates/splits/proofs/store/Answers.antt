@@ -7,7 +7,8 @@ use Prim.Native.Nat.{ℕ, ◌+◌, ◌-◌, ◌*◌}
 use lib.Seq.{sets}
 use Rattle.lists.specs.Rows.{tabulate}
 use Rattle.obj.specs.declared.Split.{Split}
-use Rattle.splits.specs.Columns.{row_at, columns_of}
+use Rattle.splits.specs.Columns.{row_at}
+use Rattle.splits.specs.Table.{columns_of}
 use Rattle.splits.specs.Bytes.{split_bytes, table_bytes}
 use Rattle.obj.specs.Records.{split_width}
 use Rattle.splits.proofs.Bytes.{written_turn, written_all}
@@ -21,8 +22,8 @@ loop-i-preserved c =
     let w = c.put_split.ensures ∙ ap (λ (s : Split). sets l.out (split_width * l.i) (split_bytes s)) c.row.ensures in (
       omega arith,
       c.put_split.auto.out ∙ l.invariant.1,
-      ap (λ (b : List ℕ). sets b (split_width * (l.i + 1)) (table_bytes (tabulate f (l.i + 1) (a.n - (l.i + 1))))) w
-          ∙ written_turn l.out f a.n l.i c.loop-i-test.true
+      ap (λ (b : List ℕ). sets b (split_width * (l.i + 1)) (table_bytes (tabulate f (l.i + 1) (a.splits.now.count - (l.i + 1))))) w
+          ∙ written_turn l.out f a.splits.now.count l.i c.loop-i-test.true
           ∙ l.invariant.2,
     )
 
@@ -30,4 +31,4 @@ pub returns : goal.returns
 returns c =
     let a = c.args in
     let f = row_at (columns_of a.splits.now) in
-    sym (written_all c.loop-i.out f a.n c.loop-i.i c.loop-i-test.false) ∙ c.loop-i.invariant.2
+    sym (written_all c.loop-i.out f a.splits.now.count c.loop-i.i c.loop-i-test.false) ∙ c.loop-i.invariant.2

@@ -2,7 +2,8 @@
 -- Assumes nothing.
 use mathlib.Core.Path.{sym, ◌∙◌}
 use native.Mathlib.Omega.{arith}
-use Rattle.splits.specs.Columns.{row_of, row_at, columns_of}
+use Rattle.splits.specs.Columns.{row_of, row_at}
+use Rattle.splits.specs.Table.{columns_of}
 use Rattle.splits.specs.Questions.{within}
 use Rattle.splits.proofs.Blocks.{none_more}
 use Rattle.splits.proofs.within_in_rows.Goals as goal

@@ -2,7 +2,7 @@
 use Rattle.std.proofs.Common.{arith, length}
 use Rattle.names.specs.Names.{names_of}
 use Rattle.names.proofs.Laws.{length-names}
-use Rattle.splits.specs.Columns.{columns_of}
+use Rattle.splits.specs.Table.{columns_of}
 use Rattle.gap_splits.specs.Answers.{beside}
 use Rattle.stage_gaps.proofs.Laws.{names_fit, names_few, bytes_few, filled_laid}
 use Rattle.stage_gaps.proofs.give_filled.Goals as goal

@@ -5,7 +5,8 @@ use Prim.Native.Nat.{ℕ}
 use lib.ListN.{length}
 use Rattle.lists.proofs.Rows.{length-tabulate}
 use Rattle.outputs.specs.Outputs.{counts_of, store_count}
-use Rattle.splits.specs.Columns.{row_at, columns_of}
+use Rattle.splits.specs.Columns.{row_at}
+use Rattle.splits.specs.Table.{columns_of}
 use Rattle.stage_splits.proofs.Laws.{one_count}
 use Rattle.stage_splits.proofs.give_splits.Goals as goal
 

@@ -6,7 +6,8 @@ use Rattle.lists.specs.Rows.{clear_from}
 use Rattle.lists.proofs.Rows.{length-tabulate}
 use Rattle.obj.specs.Records.{split_width}
 use Rattle.outputs.proofs.Laws.{laid-after}
-use Rattle.splits.specs.Columns.{row_at, rows, columns_of}
+use Rattle.splits.specs.Columns.{row_at, rows}
+use Rattle.splits.specs.Table.{columns_of}
 use Rattle.splits.specs.Bytes.{table_bytes}
 use Rattle.splits.proofs.Bytes.{length-table_bytes}
 use Rattle.stage_splits.proofs.put_splits.Goals as goal

@@ -13,7 +13,8 @@ use Rattle.stage_tables.proofs.Laws.{taken_few, taken_places}
 use Rattle.sections.specs.Image.{image_in}
 use Rattle.sections.specs.Sections.{sections_of}
 use Rattle.relocs.specs.Relocs.{reloc_of}
-use Rattle.splits.specs.Columns.{rows as rows_of, columns_of}
+use Rattle.splits.specs.Columns.{rows as rows_of}
+use Rattle.splits.specs.Table.{columns_of}
 use Rattle.stage_walk.specs.Room.{room_in}
 use Rattle.stage_walk.specs.Lines.{from_units}
 use Rattle.stage_walk.proofs.Passed.{units_listed}

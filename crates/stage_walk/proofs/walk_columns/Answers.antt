@@ -8,7 +8,8 @@ use Rattle.lists.proofs.Rows.{get_or_same}
 use Rattle.sections.specs.Image.{image_in}
 use Rattle.sections.specs.Sections.{sections_of}
 use Rattle.relocs.specs.Relocs.{reloc_of}
-use Rattle.splits.specs.Columns.{rows as rows_of, columns_of}
+use Rattle.splits.specs.Columns.{rows as rows_of}
+use Rattle.splits.specs.Table.{columns_of}
 use Rattle.units.specs.Units.{unit_names}
 use Rattle.walk.specs.declared.Counts.{Counts}
 use Rattle.stage_walk.specs.Lines.{none}

@@ -8,7 +8,8 @@ use Rattle.obj.specs.declared.Split.{Split}
 use Rattle.sections.specs.Image.{image_in}
 use Rattle.sections.specs.Sections.{head_of}
 use Rattle.sections.specs.Alignment.{alignment_meaning}
-use Rattle.splits.specs.Columns.{row_at, columns_of}
+use Rattle.splits.specs.Columns.{row_at}
+use Rattle.splits.specs.Table.{columns_of}
 use Rattle.trim.specs.Steps.{unused}
 use Rattle.trim.proofs.Falls.{next_none, next_other, next_asked}
 use Rattle.trim.proofs.ask_next.Goals as goal

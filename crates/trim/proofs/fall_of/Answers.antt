@@ -6,7 +6,8 @@ use Rattle.lists.specs.Rows.{tabulate}
 use Rattle.lists.proofs.Binds.{after_goes, after-stops}
 use Rattle.sections.specs.Image.{image_in}
 use Rattle.sections.specs.Sections.{head_of}
-use Rattle.splits.specs.Columns.{row_at, columns_of}
+use Rattle.splits.specs.Columns.{row_at}
+use Rattle.splits.specs.Table.{columns_of}
 use Rattle.trim.specs.Steps.{asked_meaning}
 use Rattle.trim.proofs.Falls.{falls_to, falls_not, falls_backwards}
 use Rattle.trim.proofs.fall_of.Goals as goal

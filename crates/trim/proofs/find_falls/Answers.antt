@@ -9,7 +9,8 @@ use Rattle.obj.specs.declared.Split.{Split}
 use Rattle.align.specs.Align.{bad_align}
 use Rattle.sections.specs.Image.{image_in}
 use Rattle.sections.specs.Sections.{head_of}
-use Rattle.splits.specs.Columns.{row_at, columns_of}
+use Rattle.splits.specs.Columns.{row_at}
+use Rattle.splits.specs.Table.{columns_of}
 use Rattle.trim.specs.Steps.{asked_meaning, seen}
 use Rattle.trim.proofs.Falls.{falls_start, fall_turn, fall_stops, falls_ended}
 use Rattle.splits.proofs.Rows.{good_row}

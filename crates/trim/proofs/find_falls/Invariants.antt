@@ -3,7 +3,8 @@ use mathlib.Core.Path.{◌≡◌}
 use lib.ListN.{take}
 use Rattle.sections.specs.Image.{image_in}
 use Rattle.sections.specs.Sections.{head_of}
-use Rattle.splits.specs.Columns.{row_at, rows, columns_of}
+use Rattle.splits.specs.Columns.{row_at, rows}
+use Rattle.splits.specs.Table.{columns_of}
 use Rattle.trim.specs.Trim.{falls_of}
 use Rattle.trim.proofs.Falls.{falls_from}
 use Rattle.trim.proofs.find_falls.Given as goal

@@ -1,6 +1,7 @@
 -- `trim::last_of` meets its contract. Invariant: no row from place j on is the section's.
 use native.Mathlib.Omega.{arith}
-use Rattle.splits.specs.Columns.{row_at, columns_of}
+use Rattle.splits.specs.Columns.{row_at}
+use Rattle.splits.specs.Table.{columns_of}
 use Rattle.trim.proofs.Cut.{none_down, none_end}
 use Rattle.trim.proofs.last_of.Goals as goal
 

@@ -4,7 +4,8 @@ use mathlib.Core.Bool.{false}
 use Prim.Native.Nat.{◌-◌, ◌≤◌}
 use lib.Dec.{eqb}
 use Rattle.lists.specs.Rows.{tabulate, some}
-use Rattle.splits.specs.Columns.{row_at, columns_of}
+use Rattle.splits.specs.Columns.{row_at}
+use Rattle.splits.specs.Table.{columns_of}
 use Rattle.trim.proofs.last_of.Given as goal
 
 abbrev pub invariant-loop-j : goal.invariant-loop-j

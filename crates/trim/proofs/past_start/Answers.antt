@@ -1,7 +1,8 @@
 -- `trim::past_start` meets its contract. Invariant: as many rows as were passed, and those that are left, start where s does.
 use mathlib.Core.Path.{◌≡◌, sym, ◌∙◌}
 use native.Mathlib.Omega.{arith}
-use Rattle.splits.specs.Columns.{row_at, columns_of}
+use Rattle.splits.specs.Columns.{row_at}
+use Rattle.splits.specs.Table.{columns_of}
 use Rattle.trim.proofs.Carry.{along_on, along_ends, along_none}
 use Rattle.trim.proofs.past_start.Goals as goal
 

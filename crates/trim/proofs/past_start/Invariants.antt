@@ -2,7 +2,8 @@
 use mathlib.Core.Path.{◌≡◌}
 use Prim.Native.Nat.{◌+◌, ◌-◌}
 use Rattle.lists.specs.Rows.{tabulate}
-use Rattle.splits.specs.Columns.{row_at, columns_of}
+use Rattle.splits.specs.Columns.{row_at}
+use Rattle.splits.specs.Table.{columns_of}
 use Rattle.trim.specs.Trim.{alongside}
 use Rattle.trim.proofs.past_start.Given as goal
 

@@ -7,7 +7,8 @@ use Rattle.lists.proofs.Parts.{tabulate_all}
 use Rattle.lists.proofs.Outcomes.{then_stops, then_goes}
 use Rattle.obj.specs.Answers.{meaning}
 use Rattle.symbol_order.specs.Order.{symbol_of}
-use Rattle.splits.specs.Columns.{row_at, columns_of}
+use Rattle.splits.specs.Columns.{row_at}
+use Rattle.splits.specs.Table.{columns_of}
 use Rattle.validate.specs.Check.{validate_from, validate}
 use Rattle.validate.proofs.Steps.{check_turn, check_ended}
 use Rattle.validate.proofs.validate.Goals as goal

@@ -5,7 +5,8 @@ use Prim.Native.Nat.{◌-◌, ◌≤◌}
 use lib.ListN.{length}
 use Rattle.lists.specs.Rows.{tabulate}
 use Rattle.symbol_order.specs.Order.{symbol_of}
-use Rattle.splits.specs.Columns.{row_at, rows, columns_of}
+use Rattle.splits.specs.Columns.{row_at, rows}
+use Rattle.splits.specs.Table.{columns_of}
 use Rattle.validate.specs.Check.{validate_from, validate}
 use Rattle.validate.proofs.validate.Given as goal
 

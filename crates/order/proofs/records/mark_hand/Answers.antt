@@ -6,7 +6,8 @@ use native.Mathlib.Omega.{arith}
 use lib.ListN.{length, set, length-set}
 use Rattle.lists.specs.Rows.{tabulate}
 use Rattle.obj.specs.declared.Split.{Split}
-use Rattle.splits.specs.Columns.{row_at, columns_of}
+use Rattle.splits.specs.Columns.{row_at}
+use Rattle.splits.specs.Table.{columns_of}
 use Rattle.splits.specs.Questions.{is_auto}
 use Rattle.order.specs.Columns.{HandMarked}
 use Rattle.order.proofs.Marks.{hand_none, hand_auto, hand_made}

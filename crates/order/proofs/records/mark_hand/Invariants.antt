@@ -3,7 +3,8 @@ use mathlib.Core.Path.{◌≡◌}
 use Prim.Native.Nat.{◌≤◌}
 use lib.ListN.{length}
 use Rattle.lists.specs.Rows.{tabulate}
-use Rattle.splits.specs.Columns.{row_at, columns_of}
+use Rattle.splits.specs.Columns.{row_at}
+use Rattle.splits.specs.Table.{columns_of}
 use Rattle.order.specs.Columns.{HandMarked}
 use Rattle.order.proofs.records.mark_hand.Given as goal
 

@@ -9,7 +9,8 @@ use Rattle.lists.specs.Sort.{All}
 use Rattle.obj.specs.Records.{unit_at}
 use Rattle.obj.specs.declared.Unit as units
 use Rattle.tables.specs.Records.{units_in}
-use Rattle.splits.specs.Columns.{rows, columns_of}
+use Rattle.splits.specs.Columns.{rows}
+use Rattle.splits.specs.Table.{columns_of}
 use Rattle.order.specs.Bytes.{units_bytes}
 use Rattle.order.proofs.Marks.{filled, mark_inside, records_are}
 use Rattle.order.proofs.records.write_records.Goals as goal

@@ -1,0 +1,83 @@
+-- The columns that are lent together, and the rows that they mean: `columns_of` and `rows_of` of columns to read, `columns_in` and `rows_in` of a table to write.
+use Rattle.std.specs.Prelude.{◌+◌, ◌≤◌, ◌≡◌, List, length}
+use Rattle.obj.specs.declared.Split.{Split}
+use Rattle.splits.specs.Columns.{Columns, columns, rows}
+use Rattle.splits.specs.declared.split_table.SplitColumns.{SplitColumns}
+use Rattle.splits.specs.declared.split_table.SplitTable.{SplitTable}
+
+abbrev pub columns_of : SplitColumns → Columns
+columns_of s = columns s.starts.now s.ends.now s.units.now s.rest.now
+
+-- the table
+abbrev pub rows_of : SplitColumns → List Split
+rows_of s = rows (columns_of s) s.count
+
+abbrev pub columns_in : SplitTable → Columns
+columns_in t = columns t.starts.now t.ends.now t.units.now t.rest.now
+
+-- the table
+abbrev pub rows_in : SplitTable → List Split
+rows_in t = rows (columns_in t) t.count
+
+-- s shows the table t
+pub record Shows (t : SplitTable) (s : SplitColumns) : Type 0 where
+  pub starts : s.starts.now ≡ t.starts.now
+  pub ends : s.ends.now ≡ t.ends.now
+  pub units : s.units.now ≡ t.units.now
+  pub rest : s.rest.now ≡ t.rest.now
+  pub count : s.count ≡ t.count
+
+-- the columns of s, with perhaps another count of rows
+pub record SameColumns (s r : SplitColumns) : Type 0 where
+  pub starts : r.starts.now ≡ s.starts.now
+  pub ends : r.ends.now ≡ s.ends.now
+  pub units : r.units.now ≡ s.units.now
+  pub rest : r.rest.now ≡ s.rest.now
+
+-- as many rows, and room for as many
+pub record SameSize (t u : SplitTable) : Type 0 where
+  pub count : u.count ≡ t.count
+  pub room : u.room ≡ t.room
+
+-- one row more
+pub record Larger (t u : SplitTable) : Type 0 where
+  pub count : u.count ≡ t.count + 1
+  pub room : u.room ≡ t.room
+
+-- not more rows
+pub record Smaller (t u : SplitTable) : Type 0 where
+  pub count : u.count ≤ t.count
+  pub room : u.room ≡ t.room
+
+-- from t to u nothing changed
+pub record Unchanged (t u : SplitTable) : Type 0 where
+  pub columns : columns_in u ≡ columns_in t
+  pub count : u.count ≡ t.count
+  pub room : u.room ≡ t.room
+
+-- from t to u only the ends of rows changed
+pub record OnlyEnds (t u : SplitTable) : Type 0 where
+  pub starts : u.starts.now ≡ t.starts.now
+  pub units : u.units.now ≡ t.units.now
+  pub rest : u.rest.now ≡ t.rest.now
+  pub held : length u.ends.now ≡ length t.ends.now
+  pub count : u.count ≡ t.count
+  pub room : u.room ≡ t.room
+
+-- from t to u only the units of rows changed
+pub record OnlyUnits (t u : SplitTable) : Type 0 where
+  pub starts : u.starts.now ≡ t.starts.now
+  pub ends : u.ends.now ≡ t.ends.now
+  pub rest : u.rest.now ≡ t.rest.now
+  pub held : length u.units.now ≡ length t.units.now
+  pub count : u.count ≡ t.count
+  pub room : u.room ≡ t.room
+
+-- from t to u only the rest of rows changed
+pub record OnlyRest (t u : SplitTable) : Type 0 where
+  pub starts : u.starts.now ≡ t.starts.now
+  pub ends : u.ends.now ≡ t.ends.now
+  pub units : u.units.now ≡ t.units.now
+  pub held : length u.rest.now ≡ length t.rest.now
+  pub count : u.count ≡ t.count
+  pub room : u.room ≡ t.room
