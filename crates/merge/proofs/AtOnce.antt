@@ -7,7 +7,6 @@ use Prim.Native.Nat.{ℕ, ◌≤◌, ◌<◌}
 use native.Mathlib.Omega.{arith}
 use lib.Dec.{eqb, ltb}
 use lib.ListN.{length, get_or}
-use Rattle.std.specs.Prelude.{Option, Some, None, MatchOption}
 use Rattle.lists.specs.Rows.{keep_if}
 use Rattle.lists.specs.Outcome.{accepted}
 use Rattle.obj.specs.declared.Split.{Split}
@@ -37,8 +36,3 @@ module _ (heads places : List ℕ) (s : Split) (there : s.section < length place
       → accepted (rows c r) ≡ merge_one (given (sections_in heads places) cap) (joined_by s (rows c₀ n)) s
   at_once c₀ c n r made cap h =
       ap accepted made.is ∙ sym (only_push cap (joined_by s (rows c₀ n)) made.no_own (omega (arith, made.fewer)))
-
--- .. where it was made
-pub made_once : (U : Type 0) (P Q : ℕ → Type 0) (r : Option ℕ) → ((made : ℕ) → P made → Q made) → MatchOption r U P → MatchOption r U Q
-made_once U P Q None f u = u
-made_once U P Q (Some made) f p = f made p

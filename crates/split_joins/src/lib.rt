@@ -2,15 +2,15 @@
 // equal to the two edits one after the other (specs/Joins.antt).
 #![tactic(auto)]
 
-ghost use Rattle.std.specs.Prelude.{◌≡◌, true, eqb, ℕ, ◌-◌, ◌≤◌, length, get_or, MatchOption};
+ghost use Rattle.std.specs.Prelude.{◌≡◌, true, false, eqb, ℕ, ◌-◌, ◌≤◌, length, get_or, MatchOption};
 ghost use Rattle.lists.specs.Rows.{tabulate, some};
-ghost use Rattle.splits.specs.Columns.{Good, columns, Long};
-ghost use Rattle.splits.specs.Table.{columns_of};
+ghost use Rattle.splits.specs.Columns.{Good};
+ghost use Rattle.splits.specs.Table.{columns_of, columns_in, Unchanged};
 ghost use Rattle.split_joins.specs.Joins.{Apart, Between, TakesPlace, AtOnce};
 
 use obj::Split;
 use split_edits::{first_from, lies_after, next_outside, shift_rows_down};
-use splits::{SplitColumns, next_of_unit, next_within, rest_of};
+use splits::{SplitColumns, SplitTable, next_of_unit, next_within, rest_of};
 
 // Whether one of the rows from `from` up to `to` is the unit's. No early exit, so that the compiler compares eight at a time.
 fn has_unit(units: &[u16], from: usize, to: usize, unit: u16) -> bool
@@ -25,15 +25,15 @@ fn has_unit(units: &[u16], from: usize, to: usize, unit: u16) -> bool
 }
 
 // Whether the rows from `first` up to `stop` have no unit but `unit` in common with those around them: then a renaming of theirs leaves those as they are.
-fn keeps_units(units: &[u16], n: usize, first: usize, stop: usize, unit: u16) -> bool
-    requires { (first ≤ stop) × (stop ≤ n) × (n ≤ length units.now) }
-    ensures { result ≡ true → Apart (λ (k : ℕ). get_or units.now k 0) n first stop unit }
+fn keeps_units(splits: &SplitColumns, first: usize, stop: usize, unit: u16) -> bool
+    requires { (first ≤ stop) × (stop ≤ splits.now.count) }
+    ensures { result ≡ true → Apart (λ (k : ℕ). get_or splits.now.units.now k 0) splits.now.count first stop unit }
 {
     for i in first..stop {
-        let u = units[i];
+        let u = splits.units[i];
         if u != unit {
-            let before = has_unit(units, 0, first, u);
-            let behind = has_unit(units, stop, n, u);
+            let before = has_unit(splits.units, 0, first, u);
+            let behind = has_unit(splits.units, stop, splits.count, u);
             if before | behind {
                 return false;
             }
@@ -43,15 +43,15 @@ fn keeps_units(units: &[u16], n: usize, first: usize, stop: usize, unit: u16) ->
 }
 
 // Whether s lies between the rows before `first` and those from `stop` on.
-fn lies_between(splits: &SplitColumns, n: usize, first: usize, stop: usize, s: Split) -> bool
-    requires { Long (columns_of splits.now) n × (first ≤ stop) × (stop ≤ n) }
-    ensures { result ≡ true → Between s (columns_of splits.now) n first stop }
+fn lies_between(splits: &SplitColumns, first: usize, stop: usize, s: Split) -> bool
+    requires { (first ≤ stop) × (stop ≤ splits.now.count) }
+    ensures { result ≡ true → Between s (columns_of splits.now) splits.now.count first stop }
 {
-    let from = first_from(splits, first, s);
+    let from = first_from(&splits.first(first), s);
     if from < first {
         return false;
     }
-    if stop == n {
+    if stop == splits.count {
         return true;
     }
     lies_after(
@@ -66,56 +66,45 @@ fn lies_between(splits: &SplitColumns, n: usize, first: usize, stop: usize, s: S
 
 // Whether s may take the place of the rows from `first` up to `stop`, which are in its range: no other row is in it or of its unit in the section, or takes
 // another name by the join, and s lies where they do.
-fn takes_place(splits: &SplitColumns, n: usize, first: usize, stop: usize, s: Split) -> bool
-    requires { Long (columns_of splits.now) n × (first ≤ stop) × (stop ≤ n) }
-    ensures { result ≡ true → TakesPlace s (columns_of splits.now) n first stop }
+fn takes_place(splits: &SplitColumns, first: usize, stop: usize, s: Split) -> bool
+    requires { (first ≤ stop) × (stop ≤ splits.now.count) }
+    ensures { result ≡ true → TakesPlace s (columns_of splits.now) splits.now.count first stop }
 {
     if (stop <= first) | (s.end <= s.start) {
         return false;
     }
-    let other = next_within(splits, n, s.section, s.start, s.end, stop);
-    let own = next_of_unit(splits, first, s.section, s.unit, 0);
-    let later = next_of_unit(splits, n, s.section, s.unit, stop);
-    if (other < n) | (own.is_some() | later.is_some()) {
+    let other = next_within(splits, s.section, s.start, s.end, stop);
+    let own = next_of_unit(&splits.first(first), s.section, s.unit, 0);
+    let later = next_of_unit(splits, s.section, s.unit, stop);
+    if (other < splits.count) | (own.is_some() | later.is_some()) {
         return false;
     }
-    if !keeps_units(splits.units, n, first, stop, s.unit) {
+    if !keeps_units(splits, first, stop, s.unit) {
         return false;
     }
-    lies_between(splits, n, first, stop, s)
+    lies_between(splits, first, stop, s)
 }
 
-// A join over the range of s and a push of s, where s can take the place of the rows in it: the rows behind move once. How many rows there are then, or None and
-// nothing changed.
-pub fn join_and_push(
-    starts: &mut [u32],
-    ends: &mut [u32],
-    units: &mut [u16],
-    rest: &mut [u64],
-    n: usize,
-    s: Split,
-) -> Option<usize>
-    requires { Long (columns starts.old ends.old units.old rest.old) n × Good s.alignment }
-    ensures { MatchOption result
-        ((starts.new ≡ starts.old) × (ends.new ≡ ends.old) × (units.new ≡ units.old) × (rest.new ≡ rest.old))
-        (AtOnce s (columns starts.old ends.old units.old rest.old) (columns starts.new ends.new units.new rest.new) n) }
+// A join over the range of s and a push of s, where s can take the place of the rows in it: the rows behind move once. Whether it could; else nothing changed.
+pub fn join_and_push(table: &mut SplitTable, s: Split) -> bool
+    requires { Good s.alignment }
+    ensures made { result ≡ true → AtOnce s (columns_in table.old) (columns_in table.new) table.old.count table.new.count }
+    ensures none { result ≡ false → Unchanged table.old table.new }
+    ensures room { table.new.room ≡ table.old.room }
 {
-    let columns = SplitColumns {
-        starts: &*starts,
-        ends: &*ends,
-        units: &*units,
-        rest: &*rest,
-    };
-    let first = next_within(&columns, n, s.section, s.start, s.end, 0);
-    let stop = next_outside(&columns, n, s.section, s.start, s.end, first);
-    if !takes_place(&columns, n, first, stop, s) {
-        return None;
+    let n = table.count;
+    let splits = table.columns();
+    let first = next_within(&splits, s.section, s.start, s.end, 0);
+    let stop = next_outside(&splits, s.section, s.start, s.end, first);
+    if !takes_place(&splits, first, stop, s) {
+        return false;
     }
     let packed = rest_of(s);
-    shift_rows_down(starts, ends, units, rest, first + 1, stop, n - stop);
-    starts[first] = s.start;
-    ends[first] = s.end;
-    units[first] = s.unit;
-    rest[first] = packed;
-    Some(n - stop + (first + 1))
+    shift_rows_down(table, first + 1, stop, n - stop);
+    table.starts[first] = s.start;
+    table.ends[first] = s.end;
+    table.units[first] = s.unit;
+    table.rest[first] = packed;
+    table.count = n - stop + (first + 1);
+    true
 }

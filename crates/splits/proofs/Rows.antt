@@ -10,6 +10,8 @@ use Rattle.lists.specs.Sort.{All, none, each}
 use Rattle.lists.proofs.Rows.{tabulate-set}
 use Rattle.obj.specs.declared.Split.{Split}
 use Rattle.splits.specs.Columns.{alignment_of, Good, packed, section_in, rename_in, flags_in, origin_in, Columns, columns, row_of, row_at, rows, Long}
+use Rattle.splits.specs.Table.{rows_in, Unchanged}
+use Rattle.splits.specs.declared.split_table.SplitTable.{SplitTable}
 use Rattle.splits.specs.Updates.{with_end}
 
 -- ---- the packed number
@@ -102,6 +104,10 @@ long_stored a b c d k start end unit rest n h =
       units = omega (arith, length-set c k unit, h.units);
       rest = omega (arith, length-set d k rest, h.rest);
     }
+
+-- a table that did not change has its rows
+pub unchanged_rows : (t u : SplitTable) → Unchanged t u → rows_in u ≡ rows_in t
+unchanged_rows t u h = λ i. rows (h.columns i) (h.count i)
 
 -- rows that stood in columns of the same lengths stand in these
 pub long_same : (c c₀ : Columns) (m n : ℕ) → Same c c₀ → m ≤ n → Long c₀ n → Long c m

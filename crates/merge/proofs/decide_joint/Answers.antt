@@ -30,4 +30,4 @@ pub returns : goal.returns
 returns c =
     let s = c in
     let m = c.meets-met in
-    (sym (joint_joins _ s.args.new s.args.joint c.if-joint.false m.result m.ensures c.if-new-met.false c.if-met.false c.if-not-met.false), s.requires.1)
+    (sym (joint_joins _ s.args.new s.args.joint c.if-joint.false m.result m.ensures c.if-new-met.false c.if-met.false c.if-not-met.false), s.requires)

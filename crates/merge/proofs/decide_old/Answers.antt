@@ -16,7 +16,7 @@ returns-then-old-new c = let a = c.args in (sym (old_inside _ a.new a.old c.if-n
 pub decide_joint-requires : goal.decide_joint-requires
 decide_joint-requires c =
     let s = c in
-    (s.requires.0, rw c.joint_of.ensures (good_joint s.args.new s.args.old s.requires.1 s.requires.2))
+    rw c.joint_of.ensures (good_joint s.args.new s.args.old s.requires.0 s.requires.1)
 
 pub returns : goal.returns
 returns c =

@@ -8,5 +8,6 @@ use Rattle.split_joins.proofs.lies_between.Goals as goal
 pub returns : goal.returns
 unfolding row_of
 returns c =
-    let f = c.first_from-from in
-    λ e. record { before = λ k h. f.ensures.2 k (omega arith); behind = λ h. sym c.lies_after.ensures ∙ e }
+    let shown = c.first.ensures.columns in
+    let f = rw (shown.starts, shown.ends, shown.rest) at c.first_from-from.ensures.2 in
+    λ e. record { before = λ k h. f k (omega arith); behind = λ h. sym c.lies_after.ensures ∙ e }
