@@ -17,7 +17,8 @@ use Rattle.names.specs.Append.{Columns as Beside, table_full, Appended}
 use Rattle.names.specs.Index.{Sought}
 use Rattle.names.proofs.Laws.{length-names}
 use Rattle.gap_splits.specs.Entering.{Ceilings, Named, bytes_of, full, named}
-use Rattle.gap_splits.specs.Answers.{added, Room, Stand, ceilings, Absent, Numbered}
+use Rattle.gap_splits.specs.Added.{added, Room, Stand}
+use Rattle.gap_splits.specs.Answers.{ceilings, Absent, Adds, Numbered}
 use Rattle.std.specs.Prelude.{None, Some}
 
 -- ---- the number of a name among two lists of names
@@ -114,16 +115,15 @@ module _ (base before : List (List ℕ)) (x : List ℕ) (most most_bytes : ℕ) 
 -- ---- steps of the code
 
 -- x is one of the tables' names: nothing is added
-pub numbered_there : (base : List (List ℕ)) (x : List ℕ) (c : Beside) (names used most most_bytes : ℕ) {k : ℕ} → Stand c names used most most_bytes → k ≡ number_of base x → k < length base
-    → Numbered base (added c names) x c most most_bytes (Some (record { unit = k; names = names; used = used }))
-numbered_there base x c names used most most_bytes {k} s e h = record {
-  is = λ section start. sym (named_there _ section start (base ++ added c names) x (omega (arith, there, length-append base (added c names))) ∙ ap (λ (m : ℕ). accepted (record { names = base ++ added c names; number = m })) (there ∙ sym e));
-  stand = s;
+pub numbered_there : (base : List (List ℕ)) (x : List ℕ) (before : List (List ℕ)) (room : Ceilings) {after : List (List ℕ)} {k : ℕ} → after ≡ before → k ≡ number_of base x → k < length base
+    → Numbered base before x room after (Some k)
+numbered_there base x before room same e h = rw same (record {
+  is = λ section start. sym (named_there room section start (base ++ before) x (omega (arith, there, length-append base before)) ∙ ap (λ (m : ℕ). accepted (record { names = base ++ before; number = m })) (there ∙ sym e));
   later = λ y q a. a;
-}
+})
   where
-    there : number_of (base ++ added c names) x ≡ number_of base x
-    there = number_there base (added c names) x (omega arith)
+    there : number_of (base ++ before) x ≡ number_of base x
+    there = number_there base before x (omega arith)
 
 -- the columns keep their lengths
 room_kept : (c c' : Beside) (most most_bytes : ℕ) → length c'.bytes ≡ length c.bytes → length c'.places ≡ length c.places → length c'.lengths ≡ length c.lengths → Room c most most_bytes → Room c' most most_bytes
@@ -135,9 +135,10 @@ room_kept c c' most most_bytes eb ep el r = record {
   long_bytes = omega (arith, eb, r.long_bytes);
 }
 
-pub absent_of : (d : Beside) (y : List ℕ) → Absent (added d 0) y
+-- no name is added
+pub none_added : (c : Beside) → added c 0 ≡ []
 unfolding names_of tabulate
-absent_of d y = absent_none y
+none_added c = refl
 
 -- nothing is added yet
 pub stand_none : (c : Beside) (most most_bytes : ℕ) → Room c most most_bytes → Stand c 0 0 most most_bytes
@@ -150,48 +151,25 @@ stand_none c most most_bytes r = record {
   short = zero-le;
 }
 
-module _ (base : List (List ℕ)) (x : List ℕ) (c c' : Beside) (names used most most_bytes : ℕ) (s : Stand c names used most most_bytes) (far : Absent base x) (away : Absent (added c names) x) where
+-- the columns of the names after x was appended, or was not
+module _ (x : List ℕ) (c c' : Beside) (names used most most_bytes : ℕ) (s : Stand c names used most most_bytes) where
   many : length (added c names) ≡ names
   many = length-names c.bytes c.places c.lengths names
 
-  -- x is none of all names
-  absent : Absent (base ++ added c names) x
-  absent = number_after base (added c names) x far ∙ ap (λ (k : ℕ). length base + k) away ∙ sym (length-append base (added c names))
-
-  -- it was added
-  pub numbered_new : {unit : ℕ} {r : Bool} → Appended c c' used names x most most_bytes r → r ≡ true → unit ≡ length base + names
-      → Numbered base (added c names) x c' most most_bytes (Some (record { unit = unit; names = names + 1; used = used + length x }))
-  numbered_new {unit} a t e = record {
-    is = λ section start. sym (named_new _ section start (base ++ added c names) x absent free ∙ same);
-    stand = record {
-      room = room_kept c c' most most_bytes a.long_bytes a.long_places a.long_lengths s.room;
-      packed = a.packed t;
-      sum = ap (λ (k : ℕ). k + length x) s.sum ∙ sym (ap bytes_of (a.names t) ∙ bytes_one (added c names) x);
-      few = omega (arith, (a.fits t).0);
-      short = (a.fits t).1;
-    };
-    later = λ y q h. rw (a.names t) (absent_more (added c names) x y q h);
+  pub stand_more : {r : Bool} → Appended c c' used names x most most_bytes r → r ≡ true → Stand c' (names + 1) (used + length x) most most_bytes
+  stand_more a t = record {
+    room = room_kept c c' most most_bytes a.long_bytes a.long_places a.long_lengths s.room;
+    packed = a.packed t;
+    sum = ap (λ (k : ℕ). k + length x) s.sum ∙ sym (ap bytes_of (a.names t) ∙ bytes_one (added c names) x);
+    few = omega (arith, (a.fits t).0);
+    short = (a.fits t).1;
   }
-    where
-      free : full (ceilings base most most_bytes) (base ++ added c names) x ≡ false
-      free = has-place base (added c names) x most most_bytes (omega (arith, many, (a.fits t).0)) (omega (arith, s.sum, (a.fits t).1))
-
-      all : (base ++ added c names) ++ (x ∷ []) ≡ base ++ added c' (names + 1)
-      all = append_assoc base (added c names) (x ∷ []) ∙ ap (λ (l : List (List ℕ)). base ++ l) (sym (a.names t))
-
-      last : length (base ++ added c names) ≡ unit
-      last = length-append base (added c names) ∙ ap (λ (k : ℕ). length base + k) many ∙ sym e
-
-      same : ◌≡◌ {A = Outcome Named} (accepted (record { names = (base ++ added c names) ++ (x ∷ []); number = length (base ++ added c names) })) (accepted (record { names = base ++ added c' (names + 1); number = unit }))
-      same = ap₂ (λ (l : List (List ℕ)) (k : ℕ). accepted (record { names = l; number = k })) all last
 
   -- there is a place: the columns have one too
-  place_free : (length (added c names) < most) × (bytes_of (added c names) + length x ≤ most_bytes) → table_full c.bytes c.places c.lengths names (used + length x) most most_bytes ≡ false
+  place_free : names < most → used + length x ≤ most_bytes → table_full c.bytes c.places c.lengths names (used + length x) most most_bytes ≡ false
   unfolding table_full any_of any_from
-  place_free q =
+  place_free u v =
       let r = s.room in
-      let u : names < most = omega (arith, many, q.0) in
-      let v : used + length x ≤ most_bytes = omega (arith, s.sum, q.1) in
       rw (
         lt-leb most names u,
         lt-leb (length c.places) names (omega (arith, r.long_places)),
@@ -200,19 +178,57 @@ module _ (base : List (List ℕ)) (x : List ℕ) (c c' : Beside) (names used mos
         le-ltb (length c.bytes) (used + length x) (omega (arith, r.long_bytes)),
       )
 
-  -- the table is full
-  pub numbered-full : {r : Bool} → Appended c c' used names x most most_bytes r → r ≡ false → Numbered base (added c names) x c' most most_bytes None
-  numbered-full a t = record {
-    is = λ section start. sym (named-full _ section start (base ++ added c names) x absent (none (full (ceilings base most most_bytes) (base ++ added c names) x) refl));
-    stand = stand_none c' most most_bytes (room_kept c c' most most_bytes a.long_bytes a.long_places a.long_lengths s.room);
-    later = λ y q h. absent_of c' y;
+  -- it was added, or the table is full
+  pub adds_done : {r : Bool} → Appended c c' used names x most most_bytes r → r ≡ true → Adds (added c names) (added c' (names + 1)) x most most_bytes r
+  adds_done a t = record {
+    room = λ h. (omega (arith, many, (a.fits t).0), omega (arith, s.sum, (a.fits t).1));
+    full = λ h. absurd (let y : ◌≡◌ {A = ℕ} 0 1 = let z : false ≡ true = sym h ∙ t in cc in omega arith);
+    added = λ h. a.names t;
+    same = λ h. absurd (let y : ◌≡◌ {A = ℕ} 0 1 = let z : false ≡ true = sym h ∙ t in cc in omega arith);
+  }
+
+  pub adds_full : {r : Bool} → Appended c c' used names x most most_bytes r → r ≡ false → Adds (added c names) (added c' names) x most most_bytes r
+  adds_full a t = record {
+    room = λ h. absurd (let y : ◌≡◌ {A = ℕ} 0 1 = let z : false ≡ true = sym t ∙ h in cc in omega arith);
+    full = λ h q.
+        let z : false ≡ true = sym t ∙ a.is ∙ ap not (place_free (omega (arith, many, q.0)) (omega (arith, s.sum, q.1))) in
+        absurd (let y : ◌≡◌ {A = ℕ} 0 1 = cc in omega arith);
+    added = λ h. absurd (let y : ◌≡◌ {A = ℕ} 0 1 = let z : false ≡ true = sym t ∙ h in cc in omega arith);
+    same = λ h. ap (λ (d : Beside). added d names) (a.unchanged t);
+  }
+
+module _ (base : List (List ℕ)) (x : List ℕ) (before after : List (List ℕ)) (most most_bytes : ℕ) (far : Absent base x) (away : Absent before x) where
+  -- x is none of all names
+  absent : Absent (base ++ before) x
+  absent = number_after base before x far ∙ ap (λ (k : ℕ). length base + k) away ∙ sym (length-append base before)
+
+  -- it was added
+  pub numbered_new : {unit : ℕ} {r : Bool} → Adds before after x most most_bytes r → r ≡ true → unit ≡ length base + length before
+      → Numbered base before x (ceilings base most most_bytes) after (Some unit)
+  numbered_new {unit} a t e = record {
+    is = λ section start. sym (named_new _ section start (base ++ before) x absent (has-place base before x most most_bytes (a.room t).0 (a.room t).1) ∙ same);
+    later = λ y q h. rw (a.added t) (absent_more before x y q h);
   }
     where
-      none : (u : Bool) → full (ceilings base most most_bytes) (base ++ added c names) x ≡ u → u ≡ true
+      all : (base ++ before) ++ (x ∷ []) ≡ base ++ after
+      all = append_assoc base before (x ∷ []) ∙ ap (λ (l : List (List ℕ)). base ++ l) (sym (a.added t))
+
+      last : length (base ++ before) ≡ unit
+      last = length-append base before ∙ sym e
+
+      same : ◌≡◌ {A = Outcome Named} (accepted (record { names = (base ++ before) ++ (x ∷ []); number = length (base ++ before) })) (accepted (record { names = base ++ after; number = unit }))
+      same = ap₂ (λ (l : List (List ℕ)) (k : ℕ). accepted (record { names = l; number = k })) all last
+
+  -- the table is full
+  pub numbered-full : {r : Bool} → Adds before after x most most_bytes r → r ≡ false → Numbered base before x (ceilings base most most_bytes) after None
+  numbered-full a t = record {
+    is = λ section start. sym (named-full _ section start (base ++ before) x absent (none (full (ceilings base most most_bytes) (base ++ before) x) refl));
+    later = λ y q h. rw (a.same t) h;
+  }
+    where
+      none : (u : Bool) → full (ceilings base most most_bytes) (base ++ before) x ≡ u → u ≡ true
       none true e = refl
-      none false e =
-          let z : false ≡ true = sym t ∙ a.is ∙ ap not (place_free (place_there base (added c names) x most most_bytes e)) in
-          absurd (let y : ◌≡◌ {A = ℕ} 0 1 = cc in omega arith)
+      none false e = absurd (a.full t (place_there base before x most most_bytes e))
 
 -- a search among the names of the tables that found none
 pub far_away : (names : List (List ℕ)) (x : List ℕ) → Sought names x None → Absent names x

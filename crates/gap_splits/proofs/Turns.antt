@@ -12,21 +12,19 @@ use Rattle.lists.specs.Rows.{tabulate}
 use Rattle.lists.proofs.All.{all_at}
 use Rattle.lists.proofs.Binds.{bind_goes, bind_stops}
 use Rattle.lists.proofs.Rows.{rest-cons, rest-none, get_d_tabulate, length-tabulate}
-use Rattle.names.specs.Names.{names_of, same_name}
-use Rattle.names.specs.Append.{Columns as Beside}
+use Rattle.names.specs.Names.{same_name}
 use Rattle.names.specs.GapName.{gap_name}
-use Rattle.splits.specs.Columns.{Columns, rows}
-use Rattle.splits.proofs.Rows.{Same, same}
+use Rattle.obj.specs.declared.Split.{Split}
 use Rattle.merge.specs.Merge.{Given}
 use Rattle.gap_columns.specs.Columns.{Gap, gap, key_of, gap_of, gap_at, gaps_in}
 use Rattle.gap_columns.proofs.Placed.{rising_at, key_at, key_of_lem}
 use Rattle.gap_splits.specs.Entering.{Filled, Ceilings, unit_name, entered, filled}
-use Rattle.gap_splits.specs.Answers.{added, Room, Stand, ceilings, Absent, meant, Gaps, Enters}
-use Rattle.gap_splits.specs.declared.Entered.{Entered}
-use Rattle.std.specs.Prelude.{Result, Ok, Err}
+use Rattle.gap_splits.specs.Answers.{Absent, meant, Gaps, Enters}
+use Rattle.std.specs.Prelude.{Ok, Err}
+use Rattle.obj.specs.Answers.{Answer}
 use Rattle.obj.specs.declared.Refusal.{Refusal}
 use Rattle.gap_splits.proofs.GapNames.{other_names}
-use Rattle.gap_splits.proofs.Naming.{stand_none, absent_of}
+use Rattle.gap_splits.proofs.Naming.{absent_none}
 
 -- ---- all gaps
 module _ (section_name : ℕ → List ℕ) (g : Given) (room : Ceilings) (t : Filled) where
@@ -48,7 +46,7 @@ low : (key end : ℕ) → (gap_of key end).start < 4294967296
 unfolding gap_of
 low key end = omega arith
 
-module _ (keys ends : List ℕ) (count sections : ℕ) (gaps : Gaps keys ends count sections) where
+module _ (keys ends : List ℕ) (count sections : ℕ) (gaps : Gaps (gaps_in keys ends count) sections) where
   -- gap i
   abbrev at : ℕ → Gap
   at i = gap_at keys ends i
@@ -85,102 +83,75 @@ unfolding gap_of
 gap_here keys ends i e f = ap₂ (λ (m a : ℕ). gap m a (get_or ends i 0)) e f
 
 -- ---- the invariant
-
-none-added : {base : List (List ℕ)} (c : Beside) → base ++ added c 0 ≡ base
-unfolding names_of tabulate
-none-added {base} c = append-nil base
-
-module _ (section_name : ℕ → List ℕ) (g : Given) (base : List (List ℕ)) (most most_bytes cap : ℕ) (keys ends : List ℕ) (count : ℕ) where
-  abbrev room : Ceilings
-  room = ceilings base most most_bytes
-
+module _ (section_name : ℕ → List ℕ) (g : Given) (room : Ceilings) (base : List (List ℕ)) (keys ends : List ℕ) (count : ℕ) where
   -- what is left to enter, from gap i on
   abbrev left : ℕ → List Gap
   left i = tabulate (gap_at keys ends) i (count - i)
 
-  abbrev standing : Beside → ℕ → Columns → ℕ → Filled
-  standing c k table n = record { names = base ++ added c k; rows = rows table n }
+  abbrev standing : List (List ℕ) → List Split → Filled
+  standing more rows = record { names = base ++ more; rows = rows }
 
-  pub record Going (c₀ : Beside) (table₀ : Columns) (n₀ : ℕ) (c : Beside) (table : Columns) (d : Entered) (i : ℕ) : Type 0 where
+  pub record Going (rows₀ : List Split) (more : List (List ℕ)) (rows : List Split) (i : ℕ) : Type 0 where
     pub small : i ≤ count
-    pub fits : d.splits ≤ cap
-    pub same_table : Same table table₀
-    pub same_bytes : length c.bytes ≡ length c₀.bytes
-    pub same_places : length c.places ≡ length c₀.places
-    pub same_lengths : length c.lengths ≡ length c₀.lengths
-    pub stand : Stand c d.names d.used most most_bytes
-    pub fresh : (j : ℕ) → i ≤ j → j < count → Absent (added c d.names) (unit_name section_name g room (gap_at keys ends j))
-    pub is : filled section_name g room (standing c d.names table d.splits) (left i) ≡ filled section_name g room (record { names = base; rows = rows table₀ n₀ }) (gaps_in keys ends count)
+    pub fresh : (j : ℕ) → i ≤ j → j < count → Absent more (unit_name section_name g room (gap_at keys ends j))
+    pub is : filled section_name g room (standing more rows) (left i) ≡ filled section_name g room (record { names = base; rows = rows₀ }) (gaps_in keys ends count)
 
-  pub starts : (c : Beside) (table : Columns) (n : ℕ) → n ≤ cap → Room c most most_bytes → Going c table n c table (record { names = 0; used = 0; splits = n }) 0
-  starts c table n h r = record {
+  pub starts : (more : List (List ℕ)) (rows : List Split) → more ≡ [] → Going rows more rows 0
+  starts more rows e = rw e (record {
     small = zero-le;
-    fits = h;
-    same_table = same table;
-    same_bytes = refl;
-    same_places = refl;
-    same_lengths = refl;
-    stand = stand_none c most most_bytes r;
-    fresh = λ j q l. absent_of c (unit_name section_name g room (gap_at keys ends j));
-    is = ap₂ (λ (l : List (List ℕ)) (m : ℕ). filled section_name g room (record { names = l; rows = rows table n }) (tabulate (gap_at keys ends) 0 m)) (none-added c) (let e : count - 0 ≡ count = omega arith in e);
-  }
+    fresh = λ j q l. absent_none (unit_name section_name g room (gap_at keys ends j));
+    is = ap₂ (λ (l : List (List ℕ)) (m : ℕ). filled section_name g room (record { names = l; rows = rows }) (tabulate (gap_at keys ends) 0 m)) (append-nil base) (let e : count - 0 ≡ count = omega arith in e);
+  })
 
-  module _ (c₀ : Beside) (table₀ : Columns) (n₀ : ℕ) (c : Beside) (table : Columns) (e₀ : Entered) (i : ℕ) (t : Going c₀ table₀ n₀ c table e₀ i) (h : i < count) where
+  module _ (rows₀ : List Split) (more : List (List ℕ)) (rows : List Split) (i : ℕ) (t : Going rows₀ more rows i) (h : i < count) where
     abbrev now : Filled
-    now = standing c e₀.names table e₀.splits
+    now = standing more rows
 
     next : left i ≡ gap_at keys ends i ∷ left (i + 1)
     next = rest-cons (gap_at keys ends) i count h
 
     -- gap i entered: the next turn
-    pub goes_on : (sections : ℕ) → Gaps keys ends count sections → sections ≤ 64 → (c' : Beside) (table' : Columns) {r : Result Entered Refusal} (d : Entered) {x : Gap} → x ≡ gap_at keys ends i
-        → Enters (entered section_name g room now x) base (added c e₀.names) (unit_name section_name g room x) c' table' most most_bytes cap r → r ≡ Ok d
-        → Same table' table₀ → length c'.bytes ≡ length c₀.bytes → length c'.places ≡ length c₀.places → length c'.lengths ≡ length c₀.lengths
-        → Going c₀ table₀ n₀ c' table' d (i + 1)
-    goes_on sections gaps few c' table' {r} d {x} here e f st sb sp sl =
+    pub goes_on : (sections : ℕ) → Gaps (gaps_in keys ends count) sections → sections ≤ 64 → (more' : List (List ℕ)) (rows' : List Split) {r : Answer} {x : Gap} → x ≡ gap_at keys ends i
+        → Enters (entered section_name g room now x) base more (unit_name section_name g room x) more' rows' r → r ≡ Ok tt
+        → Going rows₀ more' rows' (i + 1)
+    goes_on sections gaps few more' rows' {r} {x} here e f =
         let w = enters_when f (enters_here now here e) in record {
           small = omega arith;
-          fits = w.few;
-          same_table = st;
-          same_bytes = sb;
-          same_places = sp;
-          same_lengths = sl;
-          stand = w.stand;
           fresh = λ j q l. w.later (unit_name section_name g room (gap_at keys ends j)) (other_name keys ends count sections gaps section_name g room i j few (omega arith) l) (t.fresh j (omega arith) l);
-          is = sym (ap (filled section_name g room now) next ∙ filled_on section_name g room now (gap_at keys ends i) (left (i + 1)) (standing c' d.names table' d.splits) (sym w.is)) ∙ t.is;
+          is = sym (ap (filled section_name g room now) next ∙ filled_on section_name g room now (gap_at keys ends i) (left (i + 1)) (standing more' rows') (sym w.is)) ∙ t.is;
         }
       where
-        enters_here : (t : Filled) {x y : Gap} {c : Beside} {table : Columns} {before : List (List ℕ)} {r : Result Entered Refusal} → x ≡ y
-            → Enters (entered section_name g room t x) base before (unit_name section_name g room x) c table most most_bytes cap r → Enters (entered section_name g room t y) base before (unit_name section_name g room y) c table most most_bytes cap r
+        enters_here : (t : Filled) {x y : Gap} {before after : List (List ℕ)} {rows : List Split} {r : Answer} → x ≡ y
+            → Enters (entered section_name g room t x) base before (unit_name section_name g room x) after rows r → Enters (entered section_name g room t y) base before (unit_name section_name g room y) after rows r
         enters_here t e n = rw (sym e) n
 
-        enters_when : {want : Outcome Filled} {before : List (List ℕ)} {x : List ℕ} {c : Beside} {table : Columns} {r s : Result Entered Refusal} → r ≡ s
-            → Enters want base before x c table most most_bytes cap r → Enters want base before x c table most most_bytes cap s
+        enters_when : {want : Outcome Filled} {before after : List (List ℕ)} {x : List ℕ} {rows : List Split} {r s : Answer} → r ≡ s
+            → Enters want base before x after rows r → Enters want base before x after rows s
         enters_when e n = rw (sym e) n
 
     -- gap i was refused: so is all
-    pub refused_here : (c' : Beside) (table' : Columns) {r : Result Entered Refusal} (d : Refusal) {x : Gap} → x ≡ gap_at keys ends i
-        → meant base c' table' r ≡ entered section_name g room now x → r ≡ Err d
-        → refused d.number d.section d.address ≡ filled section_name g room (record { names = base; rows = rows table₀ n₀ }) (gaps_in keys ends count)
-    refused_here c' table' {r} d {x} here e f =
+    pub refused_here : (more' : List (List ℕ)) (rows' : List Split) {r : Answer} (d : Refusal) {x : Gap} → x ≡ gap_at keys ends i
+        → meant base more' rows' r ≡ entered section_name g room now x → r ≡ Err d
+        → refused d.number d.section d.address ≡ filled section_name g room (record { names = base; rows = rows₀ }) (gaps_in keys ends count)
+    refused_here more' rows' {r} d {x} here e f =
         sym (ap (filled section_name g room now) next
         ∙ filled_stops section_name g room now (gap_at keys ends i) (left (i + 1)) d.number d.section d.address
-        (ap (entered section_name g room now) (sym here) ∙ sym e ∙ ap (meant base c' table') f))
+        (ap (entered section_name g room now) (sym here) ∙ sym e ∙ ap (meant base more' rows') f))
         ∙ t.is
 
   -- all entered
-  pub all_entered : (c₀ : Beside) (table₀ : Columns) (n₀ : ℕ) (c : Beside) (table : Columns) (d : Entered) (i : ℕ) → Going c₀ table₀ n₀ c table d i → count ≤ i
-      → meant base c table (Ok d) ≡ filled section_name g room (record { names = base; rows = rows table₀ n₀ }) (gaps_in keys ends count)
-  all_entered c₀ table₀ n₀ c table d i t h =
-      sym (ap (filled section_name g room (standing c d.names table d.splits)) (rest-none (gap_at keys ends) i count h) ∙ filled_done section_name g room (standing c d.names table d.splits)) ∙ t.is
+  pub all_entered : (rows₀ : List Split) (more : List (List ℕ)) (rows : List Split) (i : ℕ) → Going rows₀ more rows i → count ≤ i
+      → meant base more rows (Ok tt) ≡ filled section_name g room (record { names = base; rows = rows₀ }) (gaps_in keys ends count)
+  all_entered rows₀ more rows i t h =
+      sym (ap (filled section_name g room (standing more rows)) (rest-none (gap_at keys ends) i count h) ∙ filled_done section_name g room (standing more rows)) ∙ t.is
 
 -- what the code asks before gap i enters
-pub section_here : (keys ends : List ℕ) (count sections : ℕ) → Gaps keys ends count sections → (i : ℕ) → i < count → get_or keys i 0 / 4294967296 < sections
+pub section_here : (keys ends : List ℕ) (count sections : ℕ) → Gaps (gaps_in keys ends count) sections → (i : ℕ) → i < count → get_or keys i 0 / 4294967296 < sections
 unfolding gap_of
 section_here keys ends count sections gaps i h = section_there keys ends count sections gaps i h
 
-pub absent_here : (section_name : ℕ → List ℕ) (g : Given) (base : List (List ℕ)) (most most_bytes cap : ℕ) (keys ends : List ℕ) (count : ℕ) (c : Beside) (k i : ℕ) {section start : ℕ}
-    → section ≡ get_or keys i 0 / 4294967296 → start ≡ get_or keys i 0 % 4294967296 → Absent (added c k) (unit_name section_name g (ceilings base most most_bytes) (gap_at keys ends i))
-    → Absent (added c k) (gap_name section start (section_name section))
+pub absent_here : (section_name : ℕ → List ℕ) (g : Given) (room : Ceilings) (keys ends : List ℕ) (more : List (List ℕ)) (i : ℕ) {section start : ℕ}
+    → section ≡ get_or keys i 0 / 4294967296 → start ≡ get_or keys i 0 % 4294967296 → Absent more (unit_name section_name g room (gap_at keys ends i))
+    → Absent more (gap_name section start (section_name section))
 unfolding gap_of
-absent_here section_name g base most most_bytes cap keys ends count c k i e f h = rw (e, f) h
+absent_here section_name g room keys ends more i e f h = rw (e, f) h

@@ -7,12 +7,11 @@ use lib.ListN.{length, get_or, take}
 use Rattle.obj.specs.declared.Section.{Section}
 use Rattle.obj.specs.Records.{section_at, Held}
 use Rattle.names.specs.Names.{name_at}
-use Rattle.names.specs.Append.{Columns as Beside}
 use Rattle.names.specs.GapName.{gap_name, Written}
 use Rattle.sections.specs.Sections.{head_of}
+use Rattle.gap_splits.specs.Entering.{Ceilings}
 use Rattle.gap_splits.specs.Answers.{section_names, Tables, Numbered}
 use Rattle.std.specs.Prelude.{Option}
-use Rattle.gap_splits.specs.declared.UnitName.{UnitName}
 
 module _ (heads head_places name_bytes name_places name_lengths buckets chain : List ℕ) (t : Tables heads head_places name_bytes name_places name_lengths buckets chain) (n : ℕ) (here : n < length head_places) where
   pub head_held : {k : ℕ} → k ≡ n → Held 15 heads head_places k
@@ -40,5 +39,5 @@ text_is section start w e = w.text ∙ ap (gap_name section start) e
 pub text_long : {section start : ℕ} {x before out : List ℕ} {r : ℕ} → Written section start x before out r → r ≡ length (take r out)
 text_long w = w.long ∙ sym (ap length w.text)
 
-pub numbered_as : {base before : List (List ℕ)} {x y : List ℕ} {c : Beside} {most most_bytes : ℕ} {r : Option UnitName} → x ≡ y → Numbered base before x c most most_bytes r → Numbered base before y c most most_bytes r
+pub numbered_as : {base before after : List (List ℕ)} {x y : List ℕ} {room : Ceilings} {r : Option ℕ} → x ≡ y → Numbered base before x room after r → Numbered base before y room after r
 numbered_as e n = rw (sym e) n

@@ -1,53 +1,48 @@
--- What the answers of the entering mean, and what it is lent. The names that are added stand beside those of the tables, which stay where they lie: in three lent
--- columns, `names` of them with `used` bytes in all.
-use Rattle.std.specs.Prelude.{ℕ, ◌+◌, ◌≤◌, ◌<◌, ◌≡◌, false, List, ◌++◌, length, Option, None, Some, Result, Ok, Err}
+-- What the answers of the entering mean, and what it is lent. The names that are added stand beside those of the tables (specs/Added.antt).
+use Rattle.std.specs.Prelude.{ℕ, ◌+◌, ◌≤◌, ◌<◌, ◌≡◌, Bool, true, false, List, [], ◌∷◌, ◌++◌, length, Option, None, Some, Ok, Err}
 use Rattle.lists.specs.Outcome.{Outcome, accepted, refused, ◌>>=◌}
 use Rattle.lists.specs.Sort.{All, Rising}
-use Rattle.obj.specs.declared.Refusal.{Refusal}
+use Rattle.obj.specs.Answers.{Answer}
 use Rattle.obj.specs.declared.Split.{Split}
+use Rattle.obj.specs.declared.Table.{Table}
 use Rattle.names.specs.Names.{name_at, names_of, Named as NamedColumns, same_name, number_of}
 use Rattle.names.specs.Index.{Indexed}
-use Rattle.names.specs.Append.{Packed, Columns as Beside}
+use Rattle.names.specs.declared.Names.{Names}
+use Rattle.names.specs.declared.NameIndex.{NameIndex}
 use Rattle.sections.specs.Sections.{head_of, Heads}
-use Rattle.splits.specs.Columns.{Columns, rows}
-use Rattle.gap_columns.specs.Columns.{key_of, gaps_in}
+use Rattle.gap_columns.specs.Columns.{Gap, key_of}
 use Rattle.gap_splits.specs.Entering.{Filled, Ceilings, Named, bytes_of, named}
-use Rattle.gap_splits.specs.declared.UnitName.{UnitName}
-use Rattle.gap_splits.specs.declared.Entered.{Entered}
+use Rattle.gap_splits.specs.Added.{beside, added}
+use Rattle.gap_splits.specs.declared.added_names.AddedNames.{AddedNames}
 
 -- the name of section n
 abbrev pub section_names : (heads head_places name_bytes name_places name_lengths : List ℕ) → ℕ → List ℕ
 section_names heads head_places name_bytes name_places name_lengths n = name_at name_bytes name_places name_lengths (head_of heads head_places n).name
 
+-- .. of lent tables, and all names of a table
+abbrev pub sections_named : Table → Names → ℕ → List ℕ
+sections_named heads names = section_names heads.bytes.now heads.places.now names.bytes.now names.places.now names.lengths.now
+
+abbrev pub names_in : Names → List (List ℕ)
+names_in names = names_of names.bytes.now names.places.now names.lengths.now (length names.places.now)
+
 -- ---- the names that are added
 
--- their columns
-abbrev pub beside : (bytes places lengths : List ℕ) → Beside
-beside bytes places lengths = record { bytes = bytes; places = places; lengths = lengths }
+-- the names
+abbrev pub added_in : AddedNames → List (List ℕ)
+added_in a = added (beside a.bytes.now a.places.now a.lengths.now) a.count
 
--- the first `names` of them
-abbrev pub added : Beside → (names : ℕ) → List (List ℕ)
-added c names = names_of c.bytes c.places c.lengths names
-
--- so many names of so many bytes may be added, and the columns have room for them
-pub record Room (c : Beside) (most most_bytes : ℕ) : Type 0 where
-  pub few : most ≤ 4096
-  pub short : most_bytes ≤ 65535
-  pub long_places : most ≤ length c.places
-  pub long_lengths : most ≤ length c.lengths
-  pub long_bytes : most_bytes ≤ length c.bytes
-
--- `names` are added, and have `used` bytes
-pub record Stand (c : Beside) (names used most most_bytes : ℕ) : Type 0 where
-  pub room : Room c most most_bytes
-  pub packed : Packed c.bytes c.places c.lengths names used
-  pub sum : used ≡ bytes_of (added c names)
-  pub few : names ≤ most
-  pub short : used ≤ most_bytes
+-- as many names and bytes may be added
+pub record SameCeilings (a b : AddedNames) : Type 0 where
+  pub most : b.most ≡ a.most
+  pub most_bytes : b.most_bytes ≡ a.most_bytes
 
 -- the ceilings: so many more names, and bytes, than the tables have
 abbrev pub ceilings : (base : List (List ℕ)) → (most most_bytes : ℕ) → Ceilings
 ceilings base most most_bytes = record { names = length base + most; bytes = bytes_of base + most_bytes }
+
+abbrev pub ceilings_in : Names → AddedNames → Ceilings
+ceilings_in names a = ceilings (names_in names) a.most a.most_bytes
 
 -- x is none of the names
 abbrev pub Absent : (names : List (List ℕ)) → (x : List ℕ) → Type 0
@@ -55,45 +50,29 @@ Absent names x = number_of names x ≡ length names
 
 -- ---- the unit of a gap
 
--- how many names are added then, with how many bytes; none where the table is full
-abbrev pub unit_names : Option UnitName → ℕ
-unit_names (Some u) = u.names
-unit_names None = 0
+-- x was added behind the others, if there is room for it and its bytes; else nothing changed
+pub record Adds (before after : List (List ℕ)) (x : List ℕ) (most most_bytes : ℕ) (r : Bool) : Type 0 where
+  pub room : r ≡ true → (length before < most) × (bytes_of before + length x ≤ most_bytes)
+  pub full : r ≡ false → (length before < most) × (bytes_of before + length x ≤ most_bytes) → ⊥
+  pub added : r ≡ true → after ≡ before ++ (x ∷ [])
+  pub same : r ≡ false → after ≡ before
 
-abbrev pub unit_used : Option UnitName → ℕ
-unit_used (Some u) = u.used
-unit_used None = 0
+-- what is named then, or "28 name table full": the names of the tables, those that are added then, and the unit's number
+abbrev pub unit_meaning : (base more : List (List ℕ)) → (section start : ℕ) → Option ℕ → Outcome Named
+unit_meaning base more section start (Some unit) = accepted (record { names = base ++ more; number = unit })
+unit_meaning base more section start None = refused 28 section start
 
--- what is named then, or "28 name table full"
-abbrev pub unit_meaning : (base : List (List ℕ)) → Beside → (section start : ℕ) → Option UnitName → Outcome Named
-unit_meaning base c section start (Some u) = accepted (record { names = base ++ added c u.names; number = u.unit })
-unit_meaning base c section start None = refused 28 section start
-
--- x has its number: `before` were added before it, and none but x was added
-pub record Numbered (base before : List (List ℕ)) (x : List ℕ) (c : Beside) (most most_bytes : ℕ) (r : Option UnitName) : Type 0 where
-  pub is : (section start : ℕ) → unit_meaning base c section start r ≡ named (ceilings base most most_bytes) section start (base ++ before) x
-  pub stand : Stand c (unit_names r) (unit_used r) most most_bytes
-  pub later : (y : List ℕ) → same_name y x ≡ false → Absent before y → Absent (added c (unit_names r)) y
+-- x has its number: `before` were added before it, `after` then, and none but x was added
+pub record Numbered (base before : List (List ℕ)) (x : List ℕ) (room : Ceilings) (after : List (List ℕ)) (r : Option ℕ) : Type 0 where
+  pub is : (section start : ℕ) → unit_meaning base after section start r ≡ named room section start (base ++ before) x
+  pub later : (y : List ℕ) → same_name y x ≡ false → Absent before y → Absent after y
 
 -- ---- a gap that entered
 
--- how many names are added then, with how many bytes, and how many splits there are; none after a refusal
-abbrev pub names : Result Entered Refusal → ℕ
-names (Ok e) = e.names
-names (Err r) = 0
-
-abbrev pub used : Result Entered Refusal → ℕ
-used (Ok e) = e.used
-used (Err r) = 0
-
-abbrev pub splits : Result Entered Refusal → ℕ
-splits (Ok e) = e.splits
-splits (Err r) = 0
-
 -- the tables that an answer leaves, or its refusal
-abbrev pub meant : (base : List (List ℕ)) → Beside → Columns → Result Entered Refusal → Outcome Filled
-meant base c table (Ok e) = accepted (record { names = base ++ added c e.names; rows = rows table e.splits })
-meant base c table (Err r) = refused r.number r.section r.address
+abbrev pub meant : (base more : List (List ℕ)) → List Split → Answer → Outcome Filled
+meant base more rows (Ok _) = accepted (record { names = base ++ more; rows = rows })
+meant base more rows (Err r) = refused r.number r.section r.address
 
 -- what is left of a gap's entering once it is named
 abbrev pub merged_as : (names : List (List ℕ)) → Outcome (List Split) → Outcome Filled
@@ -109,18 +88,17 @@ pub record Tables (heads head_places name_bytes name_places name_lengths buckets
   pub sections : Heads heads head_places name_places
   pub short : (n : ℕ) → n < length head_places → length (section_names heads head_places name_bytes name_places name_lengths n) ≤ 64
 
+abbrev pub TablesIn : Table → Names → NameIndex → Type 0
+TablesIn heads names index = Tables heads.bytes.now heads.places.now names.bytes.now names.places.now names.lengths.now index.heads.now index.chain.now
+
 -- gaps by section and address, of sections that are there
-pub record Gaps (keys gap_ends : List ℕ) (count sections : ℕ) : Type 0 where
-  pub rising : Rising key_of (gaps_in keys gap_ends count)
-  pub there : All (λ x. x.section < sections) (gaps_in keys gap_ends count)
-  pub long_keys : count ≤ length keys
-  pub long_ends : count ≤ length gap_ends
+pub record Gaps (gaps : List Gap) (sections : ℕ) : Type 0 where
+  pub rising : Rising key_of gaps
+  pub there : All (λ x. x.section < sections) gaps
 
 -- ---- steps of the code
 
 -- a gap entered: what it left, and none but its name x was added
-pub record Enters (want : Outcome Filled) (base before : List (List ℕ)) (x : List ℕ) (c : Beside) (table : Columns) (most most_bytes cap : ℕ) (r : Result Entered Refusal) : Type 0 where
-  pub is : meant base c table r ≡ want
-  pub stand : Stand c (names r) (used r) most most_bytes
-  pub few : splits r ≤ cap
-  pub later : (y : List ℕ) → same_name y x ≡ false → Absent before y → Absent (added c (names r)) y
+pub record Enters (want : Outcome Filled) (base before : List (List ℕ)) (x : List ℕ) (after : List (List ℕ)) (rows : List Split) (r : Answer) : Type 0 where
+  pub is : meant base after rows r ≡ want
+  pub later : (y : List ℕ) → same_name y x ≡ false → Absent before y → Absent after y

@@ -1,2 +1,3 @@
 pub mod Entering
+pub mod Added
 pub mod Answers

@@ -1,25 +1,28 @@
 -- Each gap enters as the definition lets it enter, and leaves the tables of the next one.
-use Rattle.std.proofs.Common.{◌∙◌, arith, length, zero-le}
+use Rattle.std.proofs.Common.{◌∙◌, refl, arith, length}
 use Rattle.std.proofs.lemmas.Result.{err_from_is_err_and}
-use Rattle.names.specs.Names.{names_of}
 use Rattle.tables.specs.Records.{sections_in}
-use Rattle.splits.specs.Columns.{columns}
-use Rattle.splits.proofs.Rows.{long_same}
 use Rattle.merge.specs.Merge.{given}
-use Rattle.gap_splits.specs.Answers.{section_names, beside}
-use Rattle.gap_splits.proofs.Naming.{stand_none}
+use Rattle.gap_splits.specs.Added.{beside}
+use Rattle.gap_splits.specs.Answers.{sections_named, ceilings_in}
+use Rattle.gap_splits.proofs.Naming.{stand_none, none_added}
 use Rattle.gap_splits.proofs.Turns.{starts, goes_on, refused_here, all_entered, gap_here, section_here, absent_here}
 use Rattle.gap_splits.proofs.enter_gaps.Goals as goal
 
+pub invariant_of-added : goal.invariant_of-added
+invariant_of-added c = let a = c.args.added.now in record { stand = stand_none (beside a.bytes.now a.places.now a.lengths.now) a.most a.most_bytes a.stand.room }
+
 pub loop-i-init : goal.loop-i-init
-loop-i-init c = let q = c.requires in starts _ _ _ _ _ _ _ _ _ _ _ _ q.1 q.4
+loop-i-init c =
+    let a = c.args.added.now in
+    (starts _ _ _ _ _ _ _ _ _ (none_added (beside a.bytes.now a.places.now a.lengths.now)), record { most = refl; most_bytes = refl }, refl)
 
 pub section_of-section-requires : goal.section_of-section-requires
 section_of-section-requires c =
     let q = c.requires in
     let t = c.loop-i-test.true in
-    let s = section_here _ _ _ _ q.5 _ t in
-    (omega (arith, q.5.long_keys, t), omega (arith, s, q.3.few))
+    let s = section_here _ _ _ _ q.2 _ t in
+    (omega (arith, c.args.gaps.now.long.long_keys, t), omega (arith, s, q.1.few))
 
 pub enter_gap-requires : goal.enter_gap-requires
 enter_gap-requires c =
@@ -27,29 +30,26 @@ enter_gap-requires c =
     let q = c.requires in
     let l = c.loop-i in
     let t = c.loop-i-test.true in
+    let g = a.gaps.now in
     let es = c.section_of-section.ensures in
     let ef = c.start_of-start.ensures in (
-      long_same _ (columns a.starts.now a.ends.now a.units.now a.rest.now) a.cap a.cap l.invariant.same_table (omega arith) q.0,
-      l.invariant.fits,
-      q.2,
-      q.3,
-      l.invariant.stand,
-      rw es (section_here _ _ _ _ q.5 _ t),
-      absent_here (section_names a.heads.now.bytes.now a.heads.now.places.now a.table_names.now.bytes.now a.table_names.now.places.now a.table_names.now.lengths.now) (given (sections_in a.heads.now.bytes.now a.heads.now.places.now) a.cap) (names_of a.table_names.now.bytes.now a.table_names.now.places.now a.table_names.now.lengths.now (length a.table_names.now.places.now)) a.most a.most_bytes a.cap a.keys.now a.gap_ends.now a.count (beside l.added_bytes l.added_places l.added_lengths) l.done.names l.i es ef (l.invariant.fresh l.i (omega arith) t),
+      q.0,
+      q.1,
+      rw es (section_here _ _ _ _ q.2 _ t),
+      absent_here (sections_named a.heads.now a.table_names.now) (given (sections_in a.heads.now.bytes.now a.heads.now.places.now) a.table.now.room) (ceilings_in a.table_names.now a.added.now) g.keys.now g.ends.now _ l.i es ef
+          (l.invariant.0.fresh l.i (omega arith) t),
     )
 
-pub returns-in_err-done : goal.returns-in_err-done
-returns-in_err-done c =
+pub returns-in_err-enter_gap-clause-tables : goal.returns-in_err-enter_gap-clause-tables
+returns-in_err-enter_gap-clause-tables c =
     let a = c.args in
     let l = c.loop-i in
     let o = c.enter_gap in
-    let here = gap_here a.keys.now a.gap_ends.now l.i c.section_of-section.ensures c.start_of-start.ensures in
+    let g = a.gaps.now in
+    let here = gap_here g.keys.now g.ends.now l.i c.section_of-section.ensures c.start_of-start.ensures in
     let p = err_from_is_err_and c.from_residual.result c.from_residual.ensures.1 in
-    rw (p.1, p.2) (
-      refused_here _ _ _ _ _ _ _ _ _ _ _ _ _ _ _ l.i l.invariant c.loop-i-test.true _ _ _ here o.ensures.is c.in_err-done.was,
-      stand_none _ a.most a.most_bytes o.ensures.stand.room,
-      zero-le,
-    )
+    let e = rw (l.invariant.1.most, l.invariant.1.most_bytes, l.invariant.2) at o.ensures.tables in
+    rw (p.1, p.2) (refused_here _ _ _ _ _ _ _ _ _ _ l.i l.invariant.0 c.loop-i-test.true _ _ _ here e.is c.in_err-enter_gap.was)
 
 pub loop-i-preserved : goal.loop-i-preserved
 loop-i-preserved c =
@@ -57,17 +57,16 @@ loop-i-preserved c =
     let q = c.requires in
     let l = c.loop-i in
     let o = c.enter_gap in
-    let here = gap_here a.keys.now a.gap_ends.now l.i c.section_of-section.ensures c.start_of-start.ensures in
-    goes_on _ _ _ _ _ _ _ _ _ _ _ _ _ _ _ l.i l.invariant c.loop-i-test.true (length a.heads.now.places.now) q.5 q.3.few _ _ _ here o.ensures c.in_ok-done.was
-    (record {
-      starts = o.auto.starts ∙ l.invariant.same_table.starts;
-      ends = o.auto.ends ∙ l.invariant.same_table.ends;
-      units = o.auto.units ∙ l.invariant.same_table.units;
-      rest = o.auto.rest ∙ l.invariant.same_table.rest;
-    })
-    (o.auto.added_bytes ∙ l.invariant.same_bytes) (o.auto.added_places ∙ l.invariant.same_places) (o.auto.added_lengths ∙ l.invariant.same_lengths)
+    let g = a.gaps.now in
+    let same = l.invariant.1 in
+    let here = gap_here g.keys.now g.ends.now l.i c.section_of-section.ensures c.start_of-start.ensures in
+    let e = rw (same.most, same.most_bytes, l.invariant.2) at o.ensures.tables in (
+      goes_on _ _ _ _ _ _ _ _ _ _ l.i l.invariant.0 c.loop-i-test.true (length a.heads.now.places.now) q.2 q.1.few _ _ here e c.in_ok-enter_gap.was,
+      record { most = o.ensures.ceilings.most ∙ same.most; most_bytes = o.ensures.ceilings.most_bytes ∙ same.most_bytes },
+      o.ensures.room ∙ l.invariant.2,
+    )
 
-pub returns : goal.returns
-returns c =
+pub returns-clause-tables : goal.returns-clause-tables
+returns-clause-tables c =
     let l = c.loop-i in
-    (all_entered _ _ _ _ _ _ _ _ _ _ _ _ _ _ _ l.i l.invariant c.loop-i-test.false, l.invariant.stand, l.invariant.fits)
+    all_entered _ _ _ _ _ _ _ _ _ _ l.i l.invariant.0 c.loop-i-test.false
