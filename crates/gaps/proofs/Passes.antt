@@ -5,7 +5,7 @@ use mathlib.Core.Bool.{true, false, cond}
 use Prim.Native.Nat.{ℕ, ◌+◌, ◌-◌, ◌≤◌, ◌<◌}
 use native.Mathlib.Omega.{arith}
 use lib.Dec.{eqb, ltb}
-use lib.ListN.{length, get_or}
+use lib.ListN.{get_or}
 use borrow.Author.Tests.{lt-ltb, le-ltb}
 use Rattle.lists.specs.Outcome.{accepted, refused}
 use Rattle.lists.specs.Rows.{tabulate, keep_if}
@@ -19,36 +19,35 @@ use Rattle.symbol_order.specs.Order.{key}
 use Rattle.symbols.specs.Sound.{Sound}
 use Rattle.splits.specs.Columns.{Columns, row_at, rows}
 use Rattle.splits.specs.Questions.{from_hit, Hit}
-use Rattle.gap_columns.specs.Columns.{gaps_in}
+use Rattle.gap_columns.specs.Table.{found_in}
+use Rattle.gap_columns.specs.declared.gap_table.GapTable.{GapTable}
 use Rattle.gaps.specs.Gaps.{end_after, gaps_to, gaps_before, gaps_from, below, into}
 use Rattle.gaps.specs.Found.{Space}
 use Rattle.gaps.proofs.Gathered.{into-none, into_gathered}
 use Rattle.gaps.proofs.Starts.{Known, known_rows, among_before, after_among, after_hit, from_done, from_on, from_refused, from_none}
 
 -- the gaps from `current` on, over the splits from place i on, enter after those found as all of the section after those that were there
-pub record Walking (symbol : ℕ → Symbol) (count n least end start : ℕ) (c : Columns) (m : ℕ) (keys₀ ends₀ : List ℕ) (found₀ : ℕ) (keys ends : List ℕ) (found current i : ℕ) : Type 0 where
+pub record Walking (symbol : ℕ → Symbol) (count n least end start : ℕ) (c : Columns) (m : ℕ) (found₀ found : GapTable) (current i : ℕ) : Type 0 where
   pub small : i ≤ m
-  pub same_keys : length keys ≡ length keys₀
-  pub same_ends : length ends ≡ length ends₀
-  pub space : Space symbol count n current end (rows c m) keys ends found
+  pub same_room : found.room ≡ found₀.room
+  pub space : Space symbol count n current end (rows c m) found
   pub known : All (Known n end space.room) (from_hit (below n end) c m i)
-  pub is : into (gaps_in keys ends found) (gaps_from symbol count n least end current (from_hit (below n end) c m i))
-      ≡ into (gaps_in keys₀ ends₀ found₀) (gaps_from symbol count n least end start (keep_if (below n end) (rows c m)))
+  pub is : into (found_in found) (gaps_from symbol count n least end current (from_hit (below n end) c m i))
+      ≡ into (found_in found₀) (gaps_from symbol count n least end start (keep_if (below n end) (rows c m)))
 
 -- room for the gaps up to an earlier start
-pub space_before : (symbol : ℕ → Symbol) (count n current next end : ℕ) (l : List Split) (keys ends : List ℕ) (found : ℕ) → next ≤ end
-    → Space symbol count n current end l keys ends found → Space symbol count n current next [] keys ends found
-space_before symbol count n current next end l keys ends found h s = record {
+pub space_before : (symbol : ℕ → Symbol) (count n current next end : ℕ) (l : List Split) (found : GapTable) → next ≤ end
+    → Space symbol count n current end l found → Space symbol count n current next [] found
+space_before symbol count n current next end l found h s = record {
   room = s.room;
   gathered = s.gathered;
   here = λ q. s.here (omega (arith, q, h));
   splits = none;
   symbols = s.symbols;
-  long_keys = s.long_keys;
-  long_ends = s.long_ends;
+  fits = s.fits;
 }
 
-module _ (symbol : ℕ → Symbol) (count n least end start : ℕ) (c : Columns) (m : ℕ) (keys₀ ends₀ : List ℕ) (found₀ : ℕ) where
+module _ (symbol : ℕ → Symbol) (count n least end start : ℕ) (c : Columns) (m : ℕ) (found₀ : GapTable) where
   -- the rows after place i that are below the splitting end
   abbrev later : ℕ → List Split
   later i = keep_if (below n end) (tabulate (row_at c) (i + 1) (m - (i + 1)))
@@ -56,33 +55,32 @@ module _ (symbol : ℕ → Symbol) (count n least end start : ℕ) (c : Columns)
   here_is : (i : ℕ) → i < m → from_hit (below n end) c m i ≡ row_at c i ∷ later i
   here_is i h = rw (lt-ltb i m h)
 
-  pub walk_start : (i : ℕ) → Hit (below n end) c m 0 i → Space symbol count n start end (rows c m) keys₀ ends₀ found₀
-      → Walking symbol count n least end start c m keys₀ ends₀ found₀ keys₀ ends₀ found₀ start i
+  pub walk_start : (i : ℕ) → Hit (below n end) c m 0 i → Space symbol count n start end (rows c m) found₀
+      → Walking symbol count n least end start c m found₀ found₀ start i
   walk_start i hit s =
       let e : keep_if (below n end) (rows c m) ≡ from_hit (below n end) c m i = sym (ap (keep_if (below n end)) (tabulate_all (row_at c) m)) ∙ hit.is in
       record {
         small = hit.small;
-        same_keys = refl;
-        same_ends = refl;
+        same_room = refl;
         space = s;
         known = subst (All (Known n end s.room)) e (known_rows n end s.room c m s.splits);
-        is = ap (λ (l : List Split). into (gaps_in keys₀ ends₀ found₀) (gaps_from symbol count n least end start l)) (sym e);
+        is = ap (λ (l : List Split). into (found_in found₀) (gaps_from symbol count n least end start l)) (sym e);
       }
 
-  module _ (sound : Sound symbol count) (good : good_align least ≡ true) (keys ends : List ℕ) (found current i : ℕ)
-      (w : Walking symbol count n least end start c m keys₀ ends₀ found₀ keys ends found current i) where
+  module _ (sound : Sound symbol count) (good : good_align least ≡ true) (found : GapTable) (current i : ℕ)
+      (w : Walking symbol count n least end start c m found₀ found current i) where
     -- the splitting end is reached
-    pub walk_done : end ≤ current → accepted (gaps_in keys ends found) ≡ into (gaps_in keys₀ ends₀ found₀) (gaps_from symbol count n least end start (keep_if (below n end) (rows c m)))
+    pub walk_done : end ≤ current → accepted (found_in found) ≡ into (found_in found₀) (gaps_from symbol count n least end start (keep_if (below n end) (rows c m)))
     walk_done h =
-        sym (ap (into (gaps_in keys ends found)) (from_done symbol count n least sound good end current (from_hit (below n end) c m i) h) ∙ into-none (gaps_in keys ends found))
+        sym (ap (into (found_in found)) (from_done symbol count n least sound good end current (from_hit (below n end) c m i) h) ∙ into-none (found_in found))
         ∙ w.is
 
     -- no split is left
-    pub walk_last : m ≤ i → into (gaps_in keys ends found) (gaps_to symbol count n current end least)
-        ≡ into (gaps_in keys₀ ends₀ found₀) (gaps_from symbol count n least end start (keep_if (below n end) (rows c m)))
+    pub walk_last : m ≤ i → into (found_in found) (gaps_to symbol count n current end least)
+        ≡ into (found_in found₀) (gaps_from symbol count n least end start (keep_if (below n end) (rows c m)))
     walk_last h =
         let e : from_hit (below n end) c m i ≡ [] = rw (le-ltb i m h) in
-        ap (into (gaps_in keys ends found)) (sym (from_none symbol count n least end current) ∙ ap (gaps_from symbol count n least end current) (sym e)) ∙ w.is
+        ap (into (found_in found)) (sym (from_none symbol count n least end current) ∙ ap (gaps_from symbol count n least end current) (sym e)) ∙ w.is
 
     module _ (h : i < m) (s : Split) (row : s ≡ row_at c i) where
       -- the split is known, and so are those after it
@@ -107,34 +105,33 @@ module _ (symbol : ℕ → Symbol) (count n least end start : ℕ) (c : Columns)
       pub walk_aligned : bad_align s.alignment ≡ false
       walk_aligned = first_known.aligned
 
-      pub walk_room : Space symbol count n current s.start [] keys ends found
-      walk_room = space_before symbol count n current s.start end (rows c m) keys ends found (omega (arith, walk_low)) w.space
+      pub walk_room : Space symbol count n current s.start [] found
+      walk_room = space_before symbol count n current s.start end (rows c m) found (omega (arith, walk_low)) w.space
 
       module _ (before : current < end) where
-        next_is : into (gaps_in keys ends found) (gaps_from symbol count n least end current (s ∷ later i))
-            ≡ into (gaps_in keys₀ ends₀ found₀) (gaps_from symbol count n least end start (keep_if (below n end) (rows c m)))
-        next_is = ap (λ (l : List Split). into (gaps_in keys ends found) (gaps_from symbol count n least end current l)) (sym (here_is i h ∙ ap (λ (x : Split). x ∷ later i) (sym row))) ∙ w.is
+        next_is : into (found_in found) (gaps_from symbol count n least end current (s ∷ later i))
+            ≡ into (found_in found₀) (gaps_from symbol count n least end start (keep_if (below n end) (rows c m)))
+        next_is = ap (λ (l : List Split). into (found_in found) (gaps_from symbol count n least end current l)) (sym (here_is i h ∙ ap (λ (x : Split). x ∷ later i) (sym row))) ∙ w.is
 
-        pub walk_refused : (x y z : ℕ) → refused x y z ≡ into (gaps_in keys ends found) (gaps_before symbol count n least current s)
-            → refused x y z ≡ into (gaps_in keys₀ ends₀ found₀) (gaps_from symbol count n least end start (keep_if (below n end) (rows c m)))
-        walk_refused x y z e = sym (from_refused symbol count n least sound good end current (gaps_in keys ends found) s (later i) before x y z (sym e)) ∙ next_is
+        pub walk_refused : (x y z : ℕ) → refused x y z ≡ into (found_in found) (gaps_before symbol count n least current s)
+            → refused x y z ≡ into (found_in found₀) (gaps_from symbol count n least end start (keep_if (below n end) (rows c m)))
+        walk_refused x y z e = sym (from_refused symbol count n least sound good end current (found_in found) s (later i) before x y z (sym e)) ∙ next_is
 
-        pub walk_on : (keys' ends' : List ℕ) (found' current' i' : ℕ) → length keys' ≡ length keys → length ends' ≡ length ends
-            → accepted (gaps_in keys' ends' found') ≡ into (gaps_in keys ends found) (gaps_before symbol count n least current s)
+        pub walk_on : (found' : GapTable) (current' i' : ℕ) → found'.room ≡ found.room
+            → accepted (found_in found') ≡ into (found_in found) (gaps_before symbol count n least current s)
             → Hit (below n end) c m (i + 1) i'
             → current' ≡ cond (eqb s.end 0) (cond (ltb i' m) (get_or c.starts i' 0) end) s.end
-            → Walking symbol count n least end start c m keys₀ ends₀ found₀ keys' ends' found' current' i'
-        walk_on keys' ends' found' current' i' lk le e hit at =
+            → Walking symbol count n least end start c m found₀ found' current' i'
+        walk_on found' current' i' same e hit at =
             let room = w.space.room in
             let now : current' ≡ end_after end s (later i) = at ∙ sym (after_hit (below n end) c m i' end s) ∙ ap (end_after end s) (sym hit.is) in
             record {
               small = hit.small;
-              same_keys = lk ∙ w.same_keys;
-              same_ends = le ∙ w.same_ends;
+              same_room = same ∙ w.same_room;
               space = record {
                 room = room;
                 gathered =
-                    into_gathered (gaps_in keys ends found) room (gaps_before symbol count n least current s) (gaps_in keys' ends' found') w.space.gathered
+                    into_gathered (found_in found) room (gaps_before symbol count n least current s) (found_in found') w.space.gathered
                     (among_before symbol count n least sound good room w.space.symbols current s walk_aligned (λ q. w.space.here before))
                     (sym e);
                 here =
@@ -142,13 +139,12 @@ module _ (symbol : ℕ → Symbol) (count n least end start : ℕ) (c : Columns)
                     (after_among symbol count n least sound good room w.space.symbols end s (later i) first_known others_known);
                 splits = w.space.splits;
                 symbols = w.space.symbols;
-                long_keys = omega (arith, lk, w.space.long_keys);
-                long_ends = omega (arith, le, w.space.long_ends);
+                fits = omega (arith, same, w.space.fits);
               };
               known = subst (All (Known n end room)) hit.is others_known;
               is =
-                  ap (λ (a : ℕ). into (gaps_in keys' ends' found') (gaps_from symbol count n least end a (from_hit (below n end) c m i'))) now
-                  ∙ ap (λ (l : List Split). into (gaps_in keys' ends' found') (gaps_from symbol count n least end (end_after end s (later i)) l)) (sym hit.is)
-                  ∙ sym (from_on symbol count n least sound good end current (gaps_in keys ends found) s (later i) before (gaps_in keys' ends' found') (sym e))
+                  ap (λ (a : ℕ). into (found_in found') (gaps_from symbol count n least end a (from_hit (below n end) c m i'))) now
+                  ∙ ap (λ (l : List Split). into (found_in found') (gaps_from symbol count n least end (end_after end s (later i)) l)) (sym hit.is)
+                  ∙ sym (from_on symbol count n least sound good end current (found_in found) s (later i) before (found_in found') (sym e))
                   ∙ next_is;
             }

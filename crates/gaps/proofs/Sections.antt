@@ -1,6 +1,6 @@
 -- A turn of the search over the sections: the gaps of one section enter, and those of the later sections are left. How many gaps there can be.
 -- Assumes nothing.
-use mathlib.Core.Path.{◌≡◌, refl, sym, ap, subst, ◌∙◌}
+use mathlib.Core.Path.{◌≡◌, sym, ap, subst, ◌∙◌}
 use mathlib.Core.List.{List, [], ◌++◌}
 use Prim.Native.Nat.{ℕ, zero, suc, ◌+◌, ◌-◌, ◌*◌, ◌≤◌, ◌<◌}
 use native.Mathlib.Nat.{sub-zero}
@@ -21,9 +21,11 @@ use Rattle.sections.specs.Sections.{Sections}
 use Rattle.sections.specs.Ends.{splitting_end}
 use Rattle.sections.proofs.Good.{default_good}
 use Rattle.splits.specs.Columns.{Columns, row_at, rows}
-use Rattle.gap_columns.specs.Columns.{Gap, key_of, gap_at, gaps_in}
+use Rattle.gap_columns.specs.Columns.{Gap, key_of}
+use Rattle.gap_columns.specs.Table.{found_in}
+use Rattle.gap_columns.specs.declared.gap_table.GapTable.{GapTable}
 use Rattle.gaps.specs.Gaps.{gaps_from, below, default_of, section_gaps, gaps_of, into, found_gaps}
-use Rattle.gaps.specs.Found.{starts, Roomy, Gathered, SectionSpace}
+use Rattle.gaps.specs.Found.{starts, Gathered, SectionSpace}
 use Rattle.gaps.proofs.Gathered.{into_more, into_refused, into-none, into_gathered, gathered_none, gathered_few}
 use Rattle.gaps.proofs.Starts.{length-starts, section_starts, split_starts, symbol_starts, known_rows, among_from}
 
@@ -70,75 +72,63 @@ module _ (g : Image) (sections : Sections) (c : Columns) (m : ℕ) where
       let gathered = into_gathered [] room (gaps_of g sections sections.count 0 (rows c m)) gaps (gathered_none room) (among_of sound sections.count 0 (omega arith)) e in
       omega (arith, gathered_few room gaps gathered, length-starts g sections (rows c m), length-tabulate (row_at c) 0 m)
 
-  -- .. so that the search's columns hold them
-  pub found-fits : Sound g.symbol g.count → (keys₀ ends₀ keys ends : List ℕ) (found : ℕ) → Roomy keys₀ ends₀ sections.count m g.count
-      → accepted (gaps_in keys ends found) ≡ found_gaps g sections (rows c m) → (found ≤ length keys₀) × (found ≤ length ends₀)
-  found-fits sound keys₀ ends₀ keys ends found r e =
-      let few = found_few sound (gaps_in keys ends found) (sym e) in
-      let long = length-tabulate (gap_at keys ends) 0 found in
-      (omega (arith, few, long, r.long_keys), omega (arith, few, long, r.long_ends))
-
   -- the gaps of the sections from k on enter after those found as all
-  pub record Searching (keys₀ ends₀ keys ends : List ℕ) (found k : ℕ) : Type 0 where
+  pub record Searching (found₀ found : GapTable) (k : ℕ) : Type 0 where
     pub small : k ≤ sections.count
-    pub same_keys : length keys ≡ length keys₀
-    pub same_ends : length ends ≡ length ends₀
-    pub gathered : Gathered room (gaps_in keys ends found)
-    pub is : into (gaps_in keys ends found) (gaps_of g sections (sections.count - k) k (rows c m)) ≡ found_gaps g sections (rows c m)
+    pub same_room : found.room ≡ found₀.room
+    pub gathered : Gathered room (found_in found)
+    pub is : into (found_in found) (gaps_of g sections (sections.count - k) k (rows c m)) ≡ found_gaps g sections (rows c m)
 
-  module _ (keys₀ ends₀ : List ℕ) where
-    pub search_start : Searching keys₀ ends₀ keys₀ ends₀ 0 0
+  module _ (found₀ : GapTable) where
+    pub search_start : (found : GapTable) → found.count ≡ 0 → found.room ≡ found₀.room → Searching found₀ found 0
     unfolding found_gaps tabulate
-    search_start = record {
+    search_start found empty same = record {
       small = omega arith;
-      same_keys = refl;
-      same_ends = refl;
-      gathered = gathered_none room;
-      is = ap (λ (k : ℕ). into [] (gaps_of g sections k 0 (rows c m))) (sub-zero sections.count);
+      same_room = same;
+      gathered = rw empty (gathered_none room);
+      is = rw empty (ap (λ (k : ℕ). into [] (gaps_of g sections k 0 (rows c m))) (sub-zero sections.count));
     }
 
-    module _ (keys ends : List ℕ) (found k : ℕ) (s : Searching keys₀ ends₀ keys ends found k) where
+    module _ (found : GapTable) (k : ℕ) (s : Searching found₀ found k) where
       -- all sections are done
-      pub search_done : sections.count ≤ k → accepted (gaps_in keys ends found) ≡ found_gaps g sections (rows c m)
+      pub search_done : sections.count ≤ k → accepted (found_in found) ≡ found_gaps g sections (rows c m)
       unfolding gaps_of
       search_done h =
           let e : sections.count - k ≡ 0 = omega arith in
-          sym (ap (λ (j : ℕ). into (gaps_in keys ends found) (gaps_of g sections j k (rows c m))) e ∙ into-none (gaps_in keys ends found)) ∙ s.is
+          sym (ap (λ (j : ℕ). into (found_in found) (gaps_of g sections j k (rows c m))) e ∙ into-none (found_in found)) ∙ s.is
 
       module _ (h : k < sections.count) where
-        pub search_space : Roomy keys₀ ends₀ sections.count m g.count → SectionSpace g.symbol g.count k (sections.head k).address (rows c m) keys ends found
-        search_space r end = record {
+        pub search_space : sections.count + 2 * m + g.count ≤ found₀.room → SectionSpace g.symbol g.count k (sections.head k).address (rows c m) found
+        search_space fits end = record {
           room = room;
           gathered = s.gathered;
           here = λ q. section_starts g sections (rows c m) k h;
           splits = split_starts g sections (rows c m);
           symbols = symbol_starts g sections (rows c m);
-          long_keys = omega (arith, r.long_keys, s.same_keys, length-starts g sections (rows c m), length-tabulate (row_at c) 0 m);
-          long_ends = omega (arith, r.long_ends, s.same_ends, length-starts g sections (rows c m), length-tabulate (row_at c) 0 m);
+          fits = omega (arith, fits, s.same_room, length-starts g sections (rows c m), length-tabulate (row_at c) 0 m);
         }
 
-        next_is : into (gaps_in keys ends found) (section_gaps g sections k (rows c m) >>= λ gaps. gaps_of g sections (sections.count - (k + 1)) (k + 1) (rows c m) >>= λ more. accepted (gaps ++ more))
+        next_is : into (found_in found) (section_gaps g sections k (rows c m) >>= λ gaps. gaps_of g sections (sections.count - (k + 1)) (k + 1) (rows c m) >>= λ more. accepted (gaps ++ more))
             ≡ found_gaps g sections (rows c m)
         unfolding gaps_of
         next_is =
             let e : sections.count - k ≡ suc (sections.count - (k + 1)) = omega arith in
-            sym (ap (λ (j : ℕ). into (gaps_in keys ends found) (gaps_of g sections j k (rows c m))) e ∙ rw (← add-one k)) ∙ s.is
+            sym (ap (λ (j : ℕ). into (found_in found) (gaps_of g sections j k (rows c m))) e ∙ rw (← add-one k)) ∙ s.is
 
-        pub search_refused : (x y z : ℕ) → refused x y z ≡ into (gaps_in keys ends found) (section_gaps g sections k (rows c m)) → refused x y z ≡ found_gaps g sections (rows c m)
+        pub search_refused : (x y z : ℕ) → refused x y z ≡ into (found_in found) (section_gaps g sections k (rows c m)) → refused x y z ≡ found_gaps g sections (rows c m)
         search_refused x y z e =
-            sym (into_refused (gaps_in keys ends found) (section_gaps g sections k (rows c m)) (gaps_of g sections (sections.count - (k + 1)) (k + 1) (rows c m)) x y z (sym e)) ∙ next_is
+            sym (into_refused (found_in found) (section_gaps g sections k (rows c m)) (gaps_of g sections (sections.count - (k + 1)) (k + 1) (rows c m)) x y z (sym e)) ∙ next_is
 
-        pub search_on : Sound g.symbol g.count → (keys' ends' : List ℕ) (found' : ℕ) → length keys' ≡ length keys → length ends' ≡ length ends
-            → accepted (gaps_in keys' ends' found') ≡ into (gaps_in keys ends found) (section_gaps g sections k (rows c m))
-            → Searching keys₀ ends₀ keys' ends' found' (k + 1)
-        search_on sound keys' ends' found' lk le e = record {
+        pub search_on : Sound g.symbol g.count → (found' : GapTable) → found'.room ≡ found.room
+            → accepted (found_in found') ≡ into (found_in found) (section_gaps g sections k (rows c m))
+            → Searching found₀ found' (k + 1)
+        search_on sound found' same e = record {
           small = omega arith;
-          same_keys = lk ∙ s.same_keys;
-          same_ends = le ∙ s.same_ends;
+          same_room = same ∙ s.same_room;
           gathered =
-              into_gathered (gaps_in keys ends found) room (section_gaps g sections k (rows c m)) (gaps_in keys' ends' found') s.gathered
+              into_gathered (found_in found) room (section_gaps g sections k (rows c m)) (found_in found') s.gathered
               (λ gaps q. among_section sound k h gaps q) (sym e);
           is =
-              sym (into_more (gaps_in keys ends found) (section_gaps g sections k (rows c m)) (gaps_of g sections (sections.count - (k + 1)) (k + 1) (rows c m)) (gaps_in keys' ends' found') (sym e))
+              sym (into_more (found_in found) (section_gaps g sections k (rows c m)) (gaps_of g sections (sections.count - (k + 1)) (k + 1) (rows c m)) (found_in found') (sym e))
               ∙ next_is;
         }

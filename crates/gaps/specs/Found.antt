@@ -1,7 +1,7 @@
--- What the search for gaps leaves in the two lent columns of crate gap_columns, or the refusal. What it is lent besides: a mark for each name, all 0
+-- What the search for gaps leaves in the lent table of crate gap_columns, or the refusal. What it is lent besides: a mark for each name, all 0
 -- before and after, which says whether the name already occurred in the gap.
 -- How many gaps there can be: each starts at a section's start, at a start or end of a split, or at a symbol, and no two at one address
--- (DECISIONS.md, 52a). So columns of that length never overflow, and the search has no refusal of its own for that.
+-- (DECISIONS.md, 52a). So a table with room for so many never overflows, and the search has no refusal of its own for that.
 use Rattle.std.specs.Prelude.{ℕ, ◌+◌, ◌*◌, ◌≤◌, ◌<◌, ◌≡◌, List, [], ◌++◌, map, true, false, cond, not, ◌||◌, length, get_or, take, drop, eqb, leb, Result, Ok, Err}
 use Rattle.lists.specs.Outcome.{Outcome, accepted, refused, refuse, ◌>>◌, ◌>>=◌}
 use Rattle.lists.specs.Rows.{some}
@@ -18,7 +18,9 @@ use Rattle.sections.specs.Alignment.{alignment_of}
 use Rattle.symbols.specs.declared.Backwards.{Backwards}
 use Rattle.gaps.specs.declared.NoEnd.{NoEnd}
 use Rattle.gaps.specs.declared.NoEnd.TheVariants.{Unaligned, Nowhere}
-use Rattle.gap_columns.specs.Columns.{Gap, key_of, gaps_in}
+use Rattle.gap_columns.specs.Columns.{Gap, key_of}
+use Rattle.gap_columns.specs.Table.{found_in}
+use Rattle.gap_columns.specs.declared.gap_table.GapTable.{GapTable}
 use Rattle.gaps.specs.Gaps.{misses, end_from}
 
 -- ---- what the answers mean
@@ -33,10 +35,10 @@ abbrev pub end_meaning : (n current : ℕ) → Result ℕ NoEnd → Outcome ℕ
 end_meaning n current (Ok end) = accepted end
 end_meaning n current (Err why) = refused (end_number why) n current
 
--- of a search that left these columns
-abbrev pub searched : (keys ends : List ℕ) → Result ℕ Refusal → Outcome (List Gap)
-searched keys ends (Ok count) = accepted (gaps_in keys ends count)
-searched keys ends (Err r) = refused r.number r.section r.address
+-- of a search that left these gaps
+abbrev pub searched : GapTable → Result (Unit {0}) Refusal → Outcome (List Gap)
+searched t (Ok _) = accepted (found_in t)
+searched t (Err r) = refused r.number r.section r.address
 
 -- ---- where gaps may start
 
@@ -80,19 +82,18 @@ pub record Lent (b places order marks : List ℕ) : Type 0 where
   pub markable : Markable (symbol_of b places) (length places) marks
   pub clean : Clean marks
 
--- room for the gaps of section n from `current` up to `next`: these rows, the symbols and `current` are starts for which the columns have room
-pub record Space (symbol : ℕ → Symbol) (count n current next : ℕ) (rows : List Split) (keys ends : List ℕ) (found : ℕ) : Type 0 where
+-- room for the gaps of section n from `current` up to `next`: these rows, the symbols and `current` are starts for which there is room
+pub record Space (symbol : ℕ → Symbol) (count n current next : ℕ) (rows : List Split) (found : GapTable) : Type 0 where
   pub room : List ℕ
-  pub gathered : Gathered room (gaps_in keys ends found)
+  pub gathered : Gathered room (found_in found)
   pub here : current < next → In (key n current) room
   pub splits : All (λ s. In (key s.section s.start) room × In (key s.section s.end) room) rows
   pub symbols : (i : ℕ) → i < count → In (key (symbol i).section (symbol i).address) room
-  pub long_keys : length room ≤ length keys
-  pub long_ends : length room ≤ length ends
+  pub fits : length room ≤ found.room
 
 -- .. for the gaps of section n, which starts at `start`, whatever its splitting end is
-abbrev pub SectionSpace : (symbol : ℕ → Symbol) → (count n start : ℕ) → (rows : List Split) → (keys ends : List ℕ) → (found : ℕ) → Type 0
-SectionSpace symbol count n start rows keys ends found = (end : ℕ) → Space symbol count n start end rows keys ends found
+abbrev pub SectionSpace : (symbol : ℕ → Symbol) → (count n start : ℕ) → (rows : List Split) → GapTable → Type 0
+SectionSpace symbol count n start rows found = (end : ℕ) → Space symbol count n start end rows found
 
 -- ---- steps of the code
 

@@ -1,8 +1,8 @@
 // The search for the gaps of a split table (`create_gap_splits` of util/split.rs, its first half): all gaps of all sections are found in the table as it
-// is, and kept in two lent columns in the order in which they enter.
+// is, and kept in a lent table in the order in which they enter.
 #![tactic(auto)]
 
-ghost use Rattle.std.specs.Prelude.{◌≡◌, [], true, false, cond, not, ◌&&◌, ◌+◌, ◌%◌, ◌≤◌, ◌<◌, length, get_or, eqb, ltb};
+ghost use Rattle.std.specs.Prelude.{◌≡◌, [], true, false, cond, not, ◌&&◌, ◌+◌, ◌*◌, ◌%◌, ◌≤◌, ◌<◌, length, get_or, eqb, ltb};
 ghost use Rattle.lists.specs.Rows.{keep_if};
 ghost use Rattle.align.specs.Align.{good_align, bad_align};
 ghost use Rattle.symbol_order.specs.Order.{symbol_of, Readable, Order};
@@ -10,15 +10,14 @@ ghost use Rattle.symbols.specs.Ranges.{stripped};
 ghost use Rattle.symbols.specs.Sound.{Sound};
 ghost use Rattle.sections.specs.Image.{image_in, TablesIn};
 ghost use Rattle.sections.specs.Sections.{head_of, sections_of, Kept};
-ghost use Rattle.splits.specs.Columns.{rows, Long};
-ghost use Rattle.splits.specs.Table.{columns_of};
+ghost use Rattle.splits.specs.Table.{columns_of, rows_of};
 ghost use Rattle.splits.specs.Questions.{Hit};
-ghost use Rattle.gap_columns.specs.Columns.{gaps_in};
+ghost use Rattle.gap_columns.specs.Table.{found_in};
 ghost use Rattle.gaps.specs.Gaps.{gap_end, gaps_to, gaps_before, gaps_from, below, section_gaps, into, found_gaps};
-ghost use Rattle.gaps.specs.Found.{end_meaning, end_number, alignment_of_next, next_meaning, searched, Roomy, Clean, Markable, Lent, Space, SectionSpace, Stopped, Unmarked, end_in};
+ghost use Rattle.gaps.specs.Found.{end_meaning, end_number, alignment_of_next, next_meaning, searched, Clean, Markable, Lent, Space, SectionSpace, Stopped, Unmarked, end_in};
 
 use align::align_up;
-use gap_columns::place_gap;
+use gap_columns::{GapTable, place_gap};
 use names::name_at;
 use obj::{Refusal, Section, Split, Symbol, Table, refuse, section_at, symbol_at};
 use sections::{Alignment, Obj, alignment_of, default_alignment, end_for_section, section_bytes};
@@ -141,37 +140,35 @@ fn gap_end(
 
 // ---- the gaps of a section
 
-// The gaps from `current` up to the next start: so many are then in the columns.
+// The gaps from `current` up to the next start.
 fn gaps_to(
     table: &Table,
     order: &[u16],
     marks: &mut [u8],
-    keys: &mut [u64],
-    gap_ends: &mut [u32],
-    count: usize,
+    found: &mut GapTable,
     section: u16,
     current: u32,
     next: u32,
     alignment: u32,
-) -> Result<usize, Refusal>
+) -> Result<(), Refusal>
     requires { Lent table.now.bytes.now table.now.places.now order.now marks.old
-        × Space (symbol_of table.now.bytes.now table.now.places.now) (length table.now.places.now) section current next [] keys.old gap_ends.old count
+        × Space (symbol_of table.now.bytes.now table.now.places.now) (length table.now.places.now) section current next [] found.old
         × (current ≤ next) × (next ≤ 4026531840) × (good_align alignment ≡ true) }
-    ensures { (searched keys.new gap_ends.new result
-        ≡ into (gaps_in keys.old gap_ends.old count) (gaps_to (symbol_of table.now.bytes.now table.now.places.now) (length table.now.places.now) section current next alignment))
-        × Clean marks.new }
+    ensures gaps { searched found.new result
+        ≡ into (found_in found.old) (gaps_to (symbol_of table.now.bytes.now table.now.places.now) (length table.now.places.now) section current next alignment) }
+    ensures marks { Clean marks.new }
+    ensures room { found.new.room ≡ found.old.room }
 {
     let mut at = current;
-    let mut found = count;
     // no count: a turn begins where the gap before it ended
     loop {
         if next <= align_up(at, alignment) {
-            return Ok(found);
+            return Ok(());
         }
         match gap_end(table, order, marks, section, at, next) {
             Ok(e) => {
                 let key = key_of(section, at);
-                found = place_gap(keys, gap_ends, found, key, e);
+                place_gap(found, key, e);
                 at = e;
             }
             Err(why) => {
@@ -205,21 +202,20 @@ fn gaps_before(
     table: &Table,
     order: &[u16],
     marks: &mut [u8],
-    keys: &mut [u64],
-    gap_ends: &mut [u32],
-    count: usize,
+    found: &mut GapTable,
     section: u16,
     least: u32,
     current: u32,
     s: Split,
-) -> Result<usize, Refusal>
+) -> Result<(), Refusal>
     requires { Lent table.now.bytes.now table.now.places.now order.now marks.old
-        × Space (symbol_of table.now.bytes.now table.now.places.now) (length table.now.places.now) section current s.start [] keys.old gap_ends.old count
+        × Space (symbol_of table.now.bytes.now table.now.places.now) (length table.now.places.now) section current s.start [] found.old
         × Sound (symbol_of table.now.bytes.now table.now.places.now) (length table.now.places.now)
         × (s.start ≤ 4026531840) × (bad_align s.alignment ≡ false) × (good_align least ≡ true) }
-    ensures { (searched keys.new gap_ends.new result
-        ≡ into (gaps_in keys.old gap_ends.old count) (gaps_before (symbol_of table.now.bytes.now table.now.places.now) (length table.now.places.now) section least current s))
-        × Clean marks.new }
+    ensures gaps { searched found.new result
+        ≡ into (found_in found.old) (gaps_before (symbol_of table.now.bytes.now table.now.places.now) (length table.now.places.now) section least current s) }
+    ensures marks { Clean marks.new }
+    ensures room { found.new.room ≡ found.old.room }
 {
     let Ok(alignment) = next_alignment(table, order, section, least, s) else {
         return refuse(11, section, s.start);
@@ -228,33 +224,32 @@ fn gaps_before(
         return refuse(40, section, current);
     }
     gaps_to(
-        table, order, marks, keys, gap_ends, count, section, current, s.start, alignment,
+        table, order, marks, found, section, current, s.start, alignment,
     )
 }
 
-// The first row from `at` on that is a split of the section below its splitting end, or n.
-fn next_below(splits: &SplitColumns, n: usize, section: u16, end: u32, at: usize) -> usize
-    requires { Long (columns_of splits.now) n × (at ≤ n) }
-    ensures { Hit (below section end) (columns_of splits.now) n at result }
+// The first row from `at` on that is a split of the section below its splitting end, or the count of rows.
+fn next_below(splits: &SplitColumns, section: u16, end: u32, at: usize) -> usize
+    requires { at ≤ splits.now.count }
+    ensures { Hit (below section end) (columns_of splits.now) splits.now.count at result }
 {
-    for i in at..n {
+    for i in at..splits.count {
         if (splits.rest[i] % 65536 == section as u64) & (splits.starts[i] < end) {
             return i;
         }
     }
-    n
+    splits.count
 }
 
-// The address after a split: "An open split runs to the next start or the splitting end". `i` is the place of the next split, or n.
-fn end_after(starts: &[u32], n: usize, i: usize, end: u32, own: u32) -> u32
-    requires { n ≤ length starts.now }
-    ensures { result ≡ cond (eqb own 0) (cond (ltb i n) (get_or starts.now i 0) end) own }
+// The address after a split: "An open split runs to the next start or the splitting end". `i` is the place of the next split, or the count of rows.
+fn end_after(splits: &SplitColumns, i: usize, end: u32, own: u32) -> u32
+    ensures { result ≡ cond (eqb own 0) (cond (ltb i splits.now.count) (get_or splits.now.starts.now i 0) end) own }
 {
     if own != 0 {
         return own;
     }
-    if i < n {
-        return starts[i];
+    if i < splits.count {
+        return splits.starts[i];
     }
     end
 }
@@ -264,45 +259,37 @@ fn section_gaps(
     table: &Table,
     order: &[u16],
     marks: &mut [u8],
-    keys: &mut [u64],
-    gap_ends: &mut [u32],
-    count: usize,
+    found: &mut GapTable,
     splits: &SplitColumns,
-    n: usize,
     section: u16,
     least: u32,
     start: u32,
     end: u32,
-) -> Result<usize, Refusal>
+) -> Result<(), Refusal>
     requires { Lent table.now.bytes.now table.now.places.now order.now marks.old
-        × Space (symbol_of table.now.bytes.now table.now.places.now) (length table.now.places.now) section start end (rows (columns_of splits.now) n) keys.old gap_ends.old count
+        × Space (symbol_of table.now.bytes.now table.now.places.now) (length table.now.places.now) section start end (rows_of splits.now) found.old
         × Sound (symbol_of table.now.bytes.now table.now.places.now) (length table.now.places.now)
-        × Long (columns_of splits.now) n
         × (end ≤ 4026531840) × (good_align least ≡ true) }
-    ensures { (searched keys.new gap_ends.new result
-        ≡ into (gaps_in keys.old gap_ends.old count)
+    ensures gaps { searched found.new result
+        ≡ into (found_in found.old)
         (gaps_from (symbol_of table.now.bytes.now table.now.places.now) (length table.now.places.now) section least end start
-        (keep_if (below section end) (rows (columns_of splits.now) n))))
-        × Clean marks.new }
+        (keep_if (below section end) (rows_of splits.now))) }
+    ensures marks { Clean marks.new }
+    ensures room { found.new.room ≡ found.old.room }
 {
     let mut current = start;
-    let mut found = count;
-    let mut i = next_below(splits, n, section, end, 0);
+    let mut i = next_below(splits, section, end, 0);
     // no count: the walk goes from a split of the section to the next
-    while (i < n) & (current < end) {
+    while (i < splits.count) & (current < end) {
         let s = row(splits, i);
-        found = gaps_before(
-            table, order, marks, keys, gap_ends, found, section, least, current, s,
-        )?;
-        i = next_below(splits, n, section, end, i + 1);
-        current = end_after(splits.starts, n, i, end, s.end);
+        gaps_before(table, order, marks, found, section, least, current, s)?;
+        i = next_below(splits, section, end, i + 1);
+        current = end_after(splits, i, end, s.end);
     }
     if end <= current {
-        return Ok(found);
+        return Ok(());
     }
-    gaps_to(
-        table, order, marks, keys, gap_ends, found, section, current, end, least,
-    )
+    gaps_to(table, order, marks, found, section, current, end, least)
 }
 
 // The gaps of section k: 10 where its splitting end is asked.
@@ -310,27 +297,24 @@ fn gaps_of(
     obj: &Obj,
     image: &Table,
     splits: &SplitColumns,
-    n: usize,
     marks: &mut [u8],
-    keys: &mut [u64],
-    gap_ends: &mut [u32],
-    count: usize,
+    found: &mut GapTable,
     k: usize,
-) -> Result<usize, Refusal>
+) -> Result<(), Refusal>
     requires { TablesIn obj.now
         × Kept obj.now.heads.bytes.now obj.now.heads.places.now image.now.bytes.now image.now.places.now obj.now.names.places.now
         × Lent obj.now.symbols.bytes.now obj.now.symbols.places.now obj.now.order.now marks.old
         × Sound (symbol_of obj.now.symbols.bytes.now obj.now.symbols.places.now) (length obj.now.symbols.places.now)
-        × Long (columns_of splits.now) n
         × (k < length obj.now.heads.places.now)
-        × SectionSpace (symbol_of obj.now.symbols.bytes.now obj.now.symbols.places.now) (length obj.now.symbols.places.now) k (head_of obj.now.heads.bytes.now obj.now.heads.places.now k).address (rows (columns_of splits.now) n) keys.old gap_ends.old count }
-    ensures { (searched keys.new gap_ends.new result
-        ≡ into (gaps_in keys.old gap_ends.old count)
+        × SectionSpace (symbol_of obj.now.symbols.bytes.now obj.now.symbols.places.now) (length obj.now.symbols.places.now) k (head_of obj.now.heads.bytes.now obj.now.heads.places.now k).address (rows_of splits.now) found.old }
+    ensures gaps { searched found.new result
+        ≡ into (found_in found.old)
         (section_gaps
         (image_in obj.now)
         (sections_of obj.now.heads.bytes.now obj.now.heads.places.now image.now.bytes.now image.now.places.now)
-        k (rows (columns_of splits.now) n)))
-        × Clean marks.new }
+        k (rows_of splits.now)) }
+    ensures marks { Clean marks.new }
+    ensures room { found.new.room ≡ found.old.room }
 {
     let section = k as u16;
     let head = section_at(&obj.heads, k);
@@ -344,11 +328,8 @@ fn gaps_of(
         &obj.symbols,
         obj.order,
         marks,
-        keys,
-        gap_ends,
-        count,
+        found,
         splits,
-        n,
         section,
         least,
         head.address,
@@ -356,32 +337,30 @@ fn gaps_of(
     )
 }
 
-// All gaps of all sections, in the order in which they enter: how many there are, or the first refusal: 10, 11, 40, 41, 42.
+// All gaps of all sections, in the order in which they enter, or the first refusal: 10, 11, 40, 41, 42.
 pub fn find_gaps(
     obj: &Obj,
     image: &Table,
     splits: &SplitColumns,
-    n: usize,
     marks: &mut [u8],
-    keys: &mut [u64],
-    gap_ends: &mut [u32],
-) -> Result<usize, Refusal>
+    found: &mut GapTable,
+) -> Result<(), Refusal>
     requires { TablesIn obj.now
         × Kept obj.now.heads.bytes.now obj.now.heads.places.now image.now.bytes.now image.now.places.now obj.now.names.places.now
         × Sound (symbol_of obj.now.symbols.bytes.now obj.now.symbols.places.now) (length obj.now.symbols.places.now)
-        × Long (columns_of splits.now) n
         × Clean marks.old × (length obj.now.names.places.now ≤ length marks.old)
-        × Roomy keys.old gap_ends.old (length obj.now.heads.places.now) n (length obj.now.symbols.places.now) }
-    ensures { (searched keys.new gap_ends.new result
+        × (length obj.now.heads.places.now + 2 * splits.now.count + length obj.now.symbols.places.now ≤ found.old.room) }
+    ensures gaps { searched found.new result
         ≡ found_gaps
         (image_in obj.now)
         (sections_of obj.now.heads.bytes.now obj.now.heads.places.now image.now.bytes.now image.now.places.now)
-        (rows (columns_of splits.now) n))
-        × Clean marks.new }
+        (rows_of splits.now) }
+    ensures marks { Clean marks.new }
+    ensures room { found.new.room ≡ found.old.room }
 {
-    let mut found: usize = 0;
+    found.count = 0;
     for k in 0..obj.heads.places.len() {
-        found = gaps_of(obj, image, splits, n, marks, keys, gap_ends, found, k)?;
+        gaps_of(obj, image, splits, marks, found, k)?;
     }
-    Ok(found)
+    Ok(())
 }

@@ -1,5 +1,5 @@
 -- The gaps of each section enter after those found.
-use Rattle.std.proofs.Common.{◌∙◌, sym, ap, arith}
+use Rattle.std.proofs.Common.{◌∙◌, refl, sym, ap, arith}
 use Rattle.std.proofs.lemmas.Result.{err_from_is_err_and}
 use Rattle.sections.specs.Image.{image_in}
 use Rattle.sections.specs.Sections.{sections_of}
@@ -13,7 +13,7 @@ loop-k-init c =
     let a = c.args in
     let g = image_in a.obj.now in
     let sections = sections_of a.obj.now.heads.bytes.now a.obj.now.heads.places.now a.image.now.bytes.now a.image.now.places.now in
-    record { holds = search_start g sections (columns_of a.splits.now) a.n a.keys.now a.gap_ends.now; clean = c.requires.4 }
+    record { holds = search_start g sections (columns_of a.splits.now) a.splits.now.count _ _ refl refl; clean = c.requires.3 }
 
 pub gaps_of-requires : goal.gaps_of-requires
 gaps_of-requires c =
@@ -21,32 +21,36 @@ gaps_of-requires c =
     let l = c.loop-k in (
       p.0,
       p.1,
-      record { symbols = p.0.symbols; markable = λ i h. omega (arith, p.0.names.named i h, p.5, l.auto.marks); clean = l.invariant.clean },
+      record { symbols = p.0.symbols; markable = λ i h. omega (arith, p.0.names.named i h, p.4, l.auto.marks); clean = l.invariant.clean },
       p.2,
-      p.3,
       c.loop-k-test.true,
-      search_space _ _ _ _ _ _ _ _ _ _ l.invariant.holds c.loop-k-test.true p.6,
+      search_space _ _ _ _ _ _ _ l.invariant.holds c.loop-k-test.true p.5,
     )
 
-pub returns-in_err-found : goal.returns-in_err-found
-returns-in_err-found c =
+pub returns-in_err-gaps_of-clause-gaps : goal.returns-in_err-gaps_of-clause-gaps
+returns-in_err-gaps_of-clause-gaps c =
     let l = c.loop-k in
     let g = c.gaps_of in
     let e = err_from_is_err_and c.from_residual.result c.from_residual.ensures.1 in
-    rw (e.1, e.2) (
-      search_refused _ _ _ _ _ _ _ _ _ _ l.invariant.holds c.loop-k-test.true _ _ _ (sym (ap (searched g.new.keys g.new.gap_ends) c.in_err-found.was) ∙ g.ensures.0),
-      g.ensures.1,
-    )
+    rw (e.1, e.2) (search_refused _ _ _ _ _ _ _ l.invariant.holds c.loop-k-test.true _ _ _ (sym (ap (searched g.new.found) c.in_err-gaps_of.was) ∙ g.ensures.gaps))
+
+pub returns-in_err-gaps_of-clause-room : goal.returns-in_err-gaps_of-clause-room
+returns-in_err-gaps_of-clause-room c = c.gaps_of.ensures.room ∙ c.loop-k.invariant.holds.same_room
 
 pub loop-k-preserved : goal.loop-k-preserved
 loop-k-preserved c =
     let l = c.loop-k in
     let g = c.gaps_of in
     record {
-      holds = search_on _ _ _ _ _ _ _ _ _ _ l.invariant.holds c.loop-k-test.true c.requires.2 g.new.keys g.new.gap_ends _ g.auto.keys g.auto.gap_ends
-          (sym (ap (searched g.new.keys g.new.gap_ends) c.in_ok-found.was) ∙ g.ensures.0);
-      clean = g.ensures.1;
+      holds = search_on _ _ _ _ _ _ _ l.invariant.holds c.loop-k-test.true c.requires.2 g.new.found g.ensures.room (sym (ap (searched g.new.found) c.in_ok-gaps_of.was) ∙ g.ensures.gaps);
+      clean = g.ensures.marks;
     }
 
-pub returns : goal.returns
-returns c = let l = c.loop-k in (search_done _ _ _ _ _ _ _ _ _ _ l.invariant.holds c.loop-k-test.false, l.invariant.clean)
+pub returns-clause-gaps : goal.returns-clause-gaps
+returns-clause-gaps c = search_done _ _ _ _ _ _ _ c.loop-k.invariant.holds c.loop-k-test.false
+
+pub returns-clause-marks : goal.returns-clause-marks
+returns-clause-marks c = c.loop-k.invariant.clean
+
+pub returns-clause-room : goal.returns-clause-room
+returns-clause-room c = c.loop-k.invariant.holds.same_room

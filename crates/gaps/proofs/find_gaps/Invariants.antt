@@ -8,4 +8,4 @@ use Rattle.gaps.proofs.find_gaps.Given as goal
 
 abbrev pub invariant-loop-k : goal.invariant-loop-k
 invariant-loop-k l =
-    record { holds : Searching (image_in l.obj) (sections_of l.obj.heads.bytes.now l.obj.heads.places.now l.image.bytes.now l.image.places.now) (columns_of l.splits) l.n l.initial.keys l.initial.gap_ends l.keys l.gap_ends l.found l.k; clean : Clean l.marks }
+    record { holds : Searching (image_in l.obj) (sections_of l.obj.heads.bytes.now l.obj.heads.places.now l.image.bytes.now l.image.places.now) (columns_of l.splits) l.splits.count l.initial.found l.found l.k; clean : Clean l.marks }

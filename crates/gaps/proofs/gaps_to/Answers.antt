@@ -10,62 +10,73 @@ use Rattle.gaps.proofs.Rounds.{gap_ended}
 use Rattle.gaps.proofs.Turns.{turn_start, turn_done, turn_refused, turn_room, turn_on, before_next}
 use Rattle.gaps.proofs.gaps_to.Goals as goal
 
-pub loop-count-init : goal.loop-count-init
-loop-count-init c = let p = c.requires in record { holds = turn_start _ _ _ _ _ _ _ _ _ p.2 p.1; clean = p.0.clean }
+pub loop-section-init : goal.loop-section-init
+loop-section-init c = let p = c.requires in record { holds = turn_start _ _ _ _ _ _ _ p.2 p.1; clean = p.0.clean }
 
 pub align_up-requires : goal.align_up-requires
-align_up-requires c = let p = c.requires in (omega (arith, c.loop-count.invariant.holds.small, p.3), p.4)
+align_up-requires c = let p = c.requires in (omega (arith, c.loop-section.invariant.holds.small, p.3), p.4)
 
-pub returns-then-next-align_up : goal.returns-then-next-align_up
-returns-then-next-align_up c =
-    let l = c.loop-count in
-    (turn_done _ _ _ _ _ _ _ _ _ c.requires.4 _ _ _ _ l.invariant.holds (omega (arith, c.if-next-align_up.true, c.align_up.ensures.is)), l.invariant.clean)
+pub returns-then-next-align_up-clause-gaps : goal.returns-then-next-align_up-clause-gaps
+returns-then-next-align_up-clause-gaps c =
+    turn_done _ _ _ _ _ _ _ c.requires.4 _ _ c.loop-section.invariant.holds (omega (arith, c.if-next-align_up.true, c.align_up.ensures.is))
+
+pub returns-then-next-align_up-clause-marks : goal.returns-then-next-align_up-clause-marks
+returns-then-next-align_up-clause-marks c = c.loop-section.invariant.clean
+
+pub returns-then-next-align_up-clause-room : goal.returns-then-next-align_up-clause-room
+returns-then-next-align_up-clause-room c = c.loop-section.invariant.holds.same_room
 
 pub gap_end-requires : goal.gap_end-requires
 gap_end-requires c =
     let a = c.args in
-    let l = c.loop-count in
+    let l = c.loop-section in
     let follows : align_up l.at a.alignment < a.next = omega (arith, c.if-next-align_up.false, c.align_up.ensures.is) in (
       c.requires.0.symbols,
       still_markable (symbol_of a.table.now.bytes.now a.table.now.places.now) (length a.table.now.places.now) a.marks.now l.marks c.requires.0.markable l.auto.marks,
       l.invariant.clean,
-      before_next _ _ _ _ _ _ _ _ _ c.requires.4 _ _ _ _ l.invariant.holds follows,
+      before_next _ _ _ _ _ _ _ c.requires.4 _ _ l.invariant.holds follows,
     )
 
-pub place_gap-found-requires : goal.place_gap-found-requires
-place_gap-found-requires c =
+pub place_gap-requires : goal.place_gap-requires
+place_gap-requires c =
     let a = c.args in
-    let l = c.loop-count in
+    let l = c.loop-section in
     let follows : align_up l.at a.alignment < a.next = omega (arith, c.if-next-align_up.false, c.align_up.ensures.is) in
     let is = sym c.gap_end.ensures.0 ∙ ap (end_meaning a.section l.at) c.in-Ok.is in
-    turn_room _ _ _ _ _ _ _ _ _ c.requires.4 _ _ _ _ l.invariant.holds follows _ _ is c.key_of-key.ensures.is
+    turn_room _ _ _ _ _ _ _ c.requires.4 _ _ l.invariant.holds follows _ _ is c.key_of-key.ensures.is
 
-pub loop-count-smaller : goal.loop-count-smaller
-loop-count-smaller c =
+pub loop-section-smaller : goal.loop-section-smaller
+loop-section-smaller c =
     let a = c.args in
-    let l = c.loop-count in
+    let l = c.loop-section in
     let follows : align_up l.at a.alignment < a.next = omega (arith, c.if-next-align_up.false, c.align_up.ensures.is) in
     let is = sym c.gap_end.ensures.0 ∙ ap (end_meaning a.section l.at) c.in-Ok.is in
-    omega (arith, (gap_ended _ _ _ _ _ _ is).above, before_next _ _ _ _ _ _ _ _ _ c.requires.4 _ _ _ _ l.invariant.holds follows)
+    omega (arith, (gap_ended _ _ _ _ _ _ is).above, before_next _ _ _ _ _ _ _ c.requires.4 _ _ l.invariant.holds follows)
 
-pub loop-count-preserved : goal.loop-count-preserved
-loop-count-preserved c =
+pub loop-section-preserved : goal.loop-section-preserved
+loop-section-preserved c =
     let a = c.args in
-    let l = c.loop-count in
-    let p = c.place_gap-found in
+    let l = c.loop-section in
+    let p = c.place_gap in
     let follows : align_up l.at a.alignment < a.next = omega (arith, c.if-next-align_up.false, c.align_up.ensures.is) in
     let is = sym c.gap_end.ensures.0 ∙ ap (end_meaning a.section l.at) c.in-Ok.is in
     record {
-      holds = turn_on _ _ _ _ _ _ _ _ _ c.requires.4 _ _ _ _ l.invariant.holds follows _ _ is c.key_of-key.ensures.is
-          p.new.keys p.new.gap_ends p.result (omega (arith, l.invariant.holds.small, c.requires.3)) p.auto.keys p.auto.gap_ends p.ensures;
+      holds = turn_on _ _ _ _ _ _ _ c.requires.4 _ _ l.invariant.holds follows _ _ is c.key_of-key.ensures.is
+          p.new.found (omega (arith, l.invariant.holds.small, c.requires.3)) p.ensures.room p.ensures.gaps;
       clean = c.gap_end.ensures.1;
     }
 
-pub returns-in-Err : goal.returns-in-Err
-returns-in-Err c =
+pub returns-in-Err-clause-gaps : goal.returns-in-Err-clause-gaps
+returns-in-Err-clause-gaps c =
     let a = c.args in
-    let l = c.loop-count in
+    let l = c.loop-section in
     let follows : align_up l.at a.alignment < a.next = omega (arith, c.if-next-align_up.false, c.align_up.ensures.is) in
     let is : gap_end (symbol_of a.table.now.bytes.now a.table.now.places.now) (length a.table.now.places.now) a.section l.at a.next ≡ refused c.end_number.result a.section l.at =
     rw c.end_number.ensures (sym c.gap_end.ensures.0 ∙ ap (end_meaning a.section l.at) c.in-Err.is) in
-    rw c.refuse.ensures (turn_refused _ _ _ _ _ _ _ _ _ c.requires.4 _ _ _ _ l.invariant.holds follows _ _ _ is, c.gap_end.ensures.1)
+    rw c.refuse.ensures (turn_refused _ _ _ _ _ _ _ c.requires.4 _ _ l.invariant.holds follows _ _ _ is)
+
+pub returns-in-Err-clause-marks : goal.returns-in-Err-clause-marks
+returns-in-Err-clause-marks c = c.gap_end.ensures.1
+
+pub returns-in-Err-clause-room : goal.returns-in-Err-clause-room
+returns-in-Err-clause-room c = c.loop-section.invariant.holds.same_room

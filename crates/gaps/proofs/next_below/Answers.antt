@@ -16,7 +16,7 @@ returns-then-splits-i c =
     let h = c.loop-i-test.true in
     let f = row_at (columns_of a.splits.now) in
     record {
-      is = l.invariant ∙ filter_hit (below a.section a.end) f a.n l.i h c.if-splits-i.true ∙ rw (lt-ltb l.i a.n h);
+      is = l.invariant ∙ filter_hit (below a.section a.end) f a.splits.now.count l.i h c.if-splits-i.true ∙ rw (lt-ltb l.i a.splits.now.count h);
       past = omega arith;
       small = omega arith;
     }
@@ -27,7 +27,7 @@ loop-i-preserved c =
     let l = c.loop-i in
     let a = c.args in
     let f = row_at (columns_of a.splits.now) in
-    l.invariant ∙ filter_miss (below a.section a.end) f a.n l.i c.loop-i-test.true c.if-splits-i.false
+    l.invariant ∙ filter_miss (below a.section a.end) f a.splits.now.count l.i c.loop-i-test.true c.if-splits-i.false
 
 pub returns : goal.returns
 returns c =
@@ -36,7 +36,7 @@ returns c =
     let h = c.loop-i-test.false in
     let f = row_at (columns_of a.splits.now) in
     record {
-      is = l.invariant ∙ filter_none (below a.section a.end) f a.n l.i h ∙ rw (le-ltb a.n a.n (omega arith));
+      is = l.invariant ∙ filter_none (below a.section a.end) f a.splits.now.count l.i h ∙ rw (le-ltb a.splits.now.count a.splits.now.count (omega arith));
       past = omega arith;
       small = omega arith;
     }

@@ -8,5 +8,5 @@ use Rattle.gaps.proofs.next_below.Given as goal
 
 abbrev pub invariant-loop-i : goal.invariant-loop-i
 invariant-loop-i l =
-    keep_if (below l.section l.end) (tabulate (row_at (columns_of l.splits)) l.at (l.n - l.at))
-    ≡ keep_if (below l.section l.end) (tabulate (row_at (columns_of l.splits)) l.i (l.n - l.i))
+    keep_if (below l.section l.end) (tabulate (row_at (columns_of l.splits)) l.at (l.splits.count - l.at))
+    ≡ keep_if (below l.section l.end) (tabulate (row_at (columns_of l.splits)) l.i (l.splits.count - l.i))

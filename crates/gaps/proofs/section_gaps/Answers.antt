@@ -21,72 +21,78 @@ all_passed i n current end e h = go (lt_or_ge i n)
     go (inl q) = absurd (omega (arith, h, ltb-false current end (and_false (ltb i n) (ltb current end) e (lt-ltb i n q))))
     go (inr q) = q
 
-pub next_below-i-requires : goal.next_below-i-requires
-next_below-i-requires c = (c.requires.3, omega arith)
-
 pub loop-i-init : goal.loop-i-init
-loop-i-init c = let p = c.requires in record { holds = walk_start _ _ _ c.args.least _ _ _ _ _ _ _ _ c.next_below-i.ensures p.1; clean = p.0.clean }
+loop-i-init c = let p = c.requires in record { holds = walk_start _ _ _ c.args.least _ _ _ _ _ _ c.next_below-i.ensures p.1; clean = p.0.clean }
 
 pub row-s-requires : goal.row-s-requires
 row-s-requires c =
-    let p = c.requires.3 in
-    let h = ltb-true c.loop-i.i c.args.n (both (ltb c.loop-i.i c.args.n) (ltb c.loop-i.current c.args.end) c.loop-i-test.true).0 in
-    record { starts = omega (arith, p.starts, h); ends = omega (arith, p.ends, h); units = omega (arith, p.units, h); rest = omega (arith, p.rest, h) }
+    let l = c.loop-i in
+    let m = c.args.splits.now.count in
+    ltb-true l.i m (both (ltb l.i m) (ltb l.current c.args.end) c.loop-i-test.true).0
 
 pub gaps_before-requires : goal.gaps_before-requires
 gaps_before-requires c =
     let a = c.args in
     let p = c.requires in
     let l = c.loop-i in
-    let h = ltb-true l.i a.n (both (ltb l.i a.n) (ltb l.current a.end) c.loop-i-test.true).0 in
-    let low = walk_low _ _ _ _ _ _ _ _ _ _ _ p.2 p.5 _ _ _ _ _ l.invariant.holds h _ c.row-s.ensures in (
+    let m = a.splits.now.count in
+    let h = ltb-true l.i m (both (ltb l.i m) (ltb l.current a.end) c.loop-i-test.true).0 in
+    let low = walk_low _ _ _ _ _ _ _ _ _ p.2 p.4 _ _ _ l.invariant.holds h _ c.row-s.ensures in (
       record {
         symbols = p.0.symbols;
         markable = still_markable (symbol_of a.table.now.bytes.now a.table.now.places.now) (length a.table.now.places.now) a.marks.now l.marks p.0.markable l.auto.marks;
         clean = l.invariant.clean;
       },
-      walk_room _ _ _ _ _ _ _ _ _ _ _ p.2 p.5 _ _ _ _ _ l.invariant.holds h _ c.row-s.ensures,
+      walk_room _ _ _ _ _ _ _ _ _ p.2 p.4 _ _ _ l.invariant.holds h _ c.row-s.ensures,
       p.2,
-      omega (arith, low, p.4),
-      walk_aligned _ _ _ _ _ _ _ _ _ _ _ p.2 p.5 _ _ _ _ _ l.invariant.holds h _ c.row-s.ensures,
-      p.5,
+      omega (arith, low, p.3),
+      walk_aligned _ _ _ _ _ _ _ _ _ p.2 p.4 _ _ _ l.invariant.holds h _ c.row-s.ensures,
+      p.4,
     )
 
-pub returns-in_err-found : goal.returns-in_err-found
-returns-in_err-found c =
+pub returns-in_err-gaps_before-clause-gaps : goal.returns-in_err-gaps_before-clause-gaps
+returns-in_err-gaps_before-clause-gaps c =
     let a = c.args in
     let p = c.requires in
     let l = c.loop-i in
+    let m = a.splits.now.count in
     let g = c.gaps_before in
-    let t = both (ltb l.i a.n) (ltb l.current a.end) c.loop-i-test.true in
+    let t = both (ltb l.i m) (ltb l.current a.end) c.loop-i-test.true in
     let e = err_from_is_err_and c.from_residual.result c.from_residual.ensures.1 in
     rw (e.1, e.2) (
-      walk_refused _ _ _ _ _ _ _ _ _ _ _ p.2 p.5 _ _ _ _ _ l.invariant.holds (ltb-true l.i a.n t.0) _ c.row-s.ensures (ltb-true l.current a.end t.1) _ _ _
-          (sym (ap (searched g.new.keys g.new.gap_ends) c.in_err-found.was) ∙ g.ensures.0),
-      g.ensures.1,
+    walk_refused _ _ _ _ _ _ _ _ _ p.2 p.4 _ _ _ l.invariant.holds (ltb-true l.i m t.0) _ c.row-s.ensures (ltb-true l.current a.end t.1) _ _ _
+    (sym (ap (searched g.new.found) c.in_err-gaps_before.was) ∙ g.ensures.gaps)
     )
+
+pub returns-in_err-gaps_before-clause-room : goal.returns-in_err-gaps_before-clause-room
+returns-in_err-gaps_before-clause-room c = c.gaps_before.ensures.room ∙ c.loop-i.invariant.holds.same_room
 
 pub loop-i-preserved : goal.loop-i-preserved
 loop-i-preserved c =
     let a = c.args in
     let p = c.requires in
     let l = c.loop-i in
+    let m = a.splits.now.count in
     let g = c.gaps_before in
-    let t = both (ltb l.i a.n) (ltb l.current a.end) c.loop-i-test.true in
+    let t = both (ltb l.i m) (ltb l.current a.end) c.loop-i-test.true in
     record {
-      holds = walk_on _ _ _ _ _ _ _ _ _ _ _ p.2 p.5 _ _ _ _ _ l.invariant.holds (ltb-true l.i a.n t.0) _ c.row-s.ensures (ltb-true l.current a.end t.1)
-          g.new.keys g.new.gap_ends _ c.end_after-current.result c.next_below-i-in-loop-i.result
-          g.auto.keys g.auto.gap_ends
-          (sym (ap (searched g.new.keys g.new.gap_ends) c.in_ok-found.was) ∙ g.ensures.0)
+      holds = walk_on _ _ _ _ _ _ _ _ _ p.2 p.4 _ _ _ l.invariant.holds (ltb-true l.i m t.0) _ c.row-s.ensures (ltb-true l.current a.end t.1)
+          g.new.found c.end_after-current.result c.next_below-i-in-loop-i.result g.ensures.room
+          (sym (ap (searched g.new.found) c.in_ok-gaps_before.was) ∙ g.ensures.gaps)
           c.next_below-i-in-loop-i.ensures c.end_after-current.ensures;
-      clean = g.ensures.1;
+      clean = g.ensures.marks;
     }
 
-pub returns-then-end-current : goal.returns-then-end-current
-returns-then-end-current c =
+pub returns-then-end-current-clause-gaps : goal.returns-then-end-current-clause-gaps
+returns-then-end-current-clause-gaps c =
     let p = c.requires in
-    let l = c.loop-i in
-    (walk_done _ _ _ _ _ _ _ _ _ _ _ p.2 p.5 _ _ _ _ _ l.invariant.holds c.if-end-current.true, l.invariant.clean)
+    walk_done _ _ _ _ _ _ _ _ _ p.2 p.4 _ _ _ c.loop-i.invariant.holds c.if-end-current.true
+
+pub returns-then-end-current-clause-marks : goal.returns-then-end-current-clause-marks
+returns-then-end-current-clause-marks c = c.loop-i.invariant.clean
+
+pub returns-then-end-current-clause-room : goal.returns-then-end-current-clause-room
+returns-then-end-current-clause-room c = c.loop-i.invariant.holds.same_room
 
 pub gaps_to-requires : goal.gaps_to-requires
 gaps_to-requires c =
@@ -99,17 +105,19 @@ gaps_to-requires c =
         markable = still_markable (symbol_of a.table.now.bytes.now a.table.now.places.now) (length a.table.now.places.now) a.marks.now l.marks p.0.markable l.auto.marks;
         clean = l.invariant.clean;
       },
-      space_before _ _ _ _ _ _ _ _ _ _ (omega arith) l.invariant.holds.space,
+      space_before _ _ _ _ _ _ _ _ (omega arith) l.invariant.holds.space,
       omega (arith, h),
+      p.3,
       p.4,
-      p.5,
     )
 
-pub returns : goal.returns
-returns c =
+pub returns-clause-gaps : goal.returns-clause-gaps
+returns-clause-gaps c =
     let a = c.args in
     let p = c.requires in
-    let l = c.loop-i in (
-      c.gaps_to.ensures.0 ∙ walk_last _ _ _ _ _ _ _ _ _ _ _ p.2 p.5 _ _ _ _ _ l.invariant.holds (all_passed l.i a.n l.current a.end c.loop-i-test.false c.if-end-current.false),
-      c.gaps_to.ensures.1,
-    )
+    let l = c.loop-i in
+    let m = a.splits.now.count in
+    c.gaps_to.ensures.gaps ∙ walk_last _ _ _ _ _ _ _ _ _ p.2 p.4 _ _ _ l.invariant.holds (all_passed l.i m l.current a.end c.loop-i-test.false c.if-end-current.false)
+
+pub returns-clause-room : goal.returns-clause-room
+returns-clause-room c = c.gaps_to.ensures.room ∙ c.loop-i.invariant.holds.same_room
