@@ -31,7 +31,7 @@ use Rattle.stage_tables.specs.StageTables.{partials_check, splits_check, Filled}
 use Rattle.stage_tables.proofs.Laws.{table_passed, taken_places, taken-held}
 use Rattle.outputs.specs.Outputs.{halves, counts_of, store_count, store_counts}
 use Rattle.outputs.proofs.Laws.{counts_stored}
-use Rattle.splits.specs.Columns.{Columns, rows}
+use Rattle.splits.specs.Columns.{rows}
 use Rattle.splits.specs.Bytes.{table_bytes, Loadable, Partials}
 use Rattle.stage_splits.specs.StageSplits.{room_of, Leaves, Taken, Laid, Gives}
 
@@ -103,20 +103,15 @@ module _ (ceiling : ℕ) (lengths b places : List ℕ) (few : ceiling ≤ 4096) 
       ∙ splits_partials lengths sections (splits_in b (stage_places split_width n)) n passed)
 
 -- it was refused: the columns hold nothing
-pub taken_refused : {answer want : Outcome (Unit {0})} (b : List ℕ) (c : Columns) {number section address : ℕ} → answer ≡ want → answer ≡ refused number section address
-    → Taken answer want b c
-taken_refused b c s e = record { said = s; taken = λ q. absurd (not_both (sym e ∙ s ∙ q)) }
+pub taken_refused : {answer want : Outcome (Unit {0})} (b : List ℕ) (rows : List Split) {number section address : ℕ} → answer ≡ want → answer ≡ refused number section address
+    → Taken answer want b rows
+taken_refused b rows s e = record { said = s; taken = λ q. absurd (not_both (sym e ∙ s ∙ q)) }
 
 -- it was accepted: the rows loaded from the places are its splits
-pub taken-rows : {answer want : Outcome (Unit {0})} (b places : List ℕ) (c : Columns) → answer ≡ want
-    → take (length b / split_width) places ≡ stage_places split_width (length b / split_width) → rows c (length (take (length b / split_width) places)) ≡ splits_in b (take (length b / split_width) places)
-    → Taken answer want b c
-taken-rows b places c s at e = record {
-  said = s;
-  taken = λ _.
-      let n = length b / split_width in
-      ap (rows c) (sym (ap length at ∙ length-stage_places split_width n)) ∙ e ∙ ap (splits_in b) at;
-}
+pub taken-rows : {answer want : Outcome (Unit {0})} (b places : List ℕ) (rows : List Split) → answer ≡ want
+    → take (length b / split_width) places ≡ stage_places split_width (length b / split_width) → rows ≡ splits_in b (take (length b / split_width) places)
+    → Taken answer want b rows
+taken-rows b places rows s at e = record { said = s; taken = λ _. e ∙ ap (splits_in b) at }
 
 -- ---- the counts
 pub one_count : (size n : ℕ) (before : List ℕ) → length before ≡ size → store_count 0 n (clear_from 0 0 before) ≡ counts_of size (n ∷ [])

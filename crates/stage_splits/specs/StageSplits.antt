@@ -9,7 +9,6 @@ use Rattle.obj.specs.Answers.{meaning, outcome_word}
 use Rattle.obj.specs.Answers.{Answer}
 use Rattle.obj.specs.declared.Split.{Split}
 use Rattle.outputs.specs.Outputs.{counts_of}
-use Rattle.splits.specs.Columns.{Columns, rows}
 use Rattle.splits.specs.Bytes.{table_bytes}
 use Rattle.stage_tables.specs.StageTables.{stage_splits}
 use Rattle.obj.specs.Records.{split_width}
@@ -32,9 +31,9 @@ pub record Leaves (o : Outcome (List Split)) (size counts_size answer : ℕ) (ou
 -- ---- inside an entry
 
 -- what was answered of the table b, and the rows that the columns hold if it was accepted
-pub record Taken (answer want : Outcome (Unit {0})) (b : List ℕ) (c : Columns) : Type 0 where
+pub record Taken (answer want : Outcome (Unit {0})) (b : List ℕ) (rows : List Split) : Type 0 where
   pub said : answer ≡ want
-  pub taken : want ≡ accepted tt → rows c (length b / split_width) ≡ stage_splits b
+  pub taken : want ≡ accepted tt → rows ≡ stage_splits b
 
 -- these rows are in the output, and their number is in the counts
 pub record Laid (l : List Split) (size counts_size : ℕ) (out counts : List ℕ) : Type 0 where

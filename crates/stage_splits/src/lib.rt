@@ -10,15 +10,14 @@ ghost use Rattle.obj.specs.declared.Split.{Split};
 ghost use Rattle.tables.specs.Tables.{AllHeld};
 ghost use Rattle.tables.specs.Records.{sections_in};
 ghost use Rattle.stage_tables.specs.StageTables.{splits_check, Room};
-ghost use Rattle.splits.specs.Columns.{columns, rows, Long};
-ghost use Rattle.splits.specs.Table.{columns_of};
+ghost use Rattle.splits.specs.Table.{rows_of as table_of, rows_in};
 ghost use Rattle.splits.specs.Bytes.{table_bytes};
 ghost use Rattle.obj.specs.Records.{split_width};
 ghost use Rattle.stage_splits.specs.StageSplits.{room_of, Taken, Laid, Gives, Leaves};
 
 use obj::{Refusal, SPLIT_BYTES, Table, word_of};
 use outputs::{clear_from, put_count};
-use splits::{SplitColumns, load, store};
+use splits::{SplitColumns, SplitTable, load, store};
 use stage_tables::take_splits;
 
 // How many splits a stage may hold and give back in an output of `size` bytes.
@@ -33,56 +32,48 @@ pub fn room_of(size: usize) -> usize
     1024
 }
 
-// Splits in the columns: "7 split: ..; in stage tables also ..". `places` is room for the places of the records.
+// Splits in the columns, at most as many as they have room for: "7 split: ..; in stage tables also ..". `places` is room for the places of the records.
 pub fn take_split_columns(
     lengths: &[u8],
     heads: &Table,
     b: &[u8],
-    ceiling: usize,
     places: &mut [u32],
-    starts: &mut [u32],
-    ends: &mut [u32],
-    units: &mut [u16],
-    rest: &mut [u64],
+    table: &mut SplitTable,
 ) -> Result<(), Refusal>
-    requires { AllHeld 15 heads.now.bytes.now heads.now.places.now × Room ceiling places.old × Long (columns starts.old ends.old units.old rest.old) ceiling }
-    ensures { Taken (meaning result) (splits_check ceiling lengths.now (sections_in heads.now.bytes.now heads.now.places.now) b.now) b.now
-        (columns starts.new ends.new units.new rest.new) }
+    requires { AllHeld 15 heads.now.bytes.now heads.now.places.now × Room table.old.room places.old }
+    ensures taken { Taken (meaning result) (splits_check table.old.room lengths.now (sections_in heads.now.bytes.now heads.now.places.now) b.now) b.now
+        (rows_in table.new) }
+    ensures room { table.new.room ≡ table.old.room }
 {
-    take_splits(lengths, heads, b, ceiling, places)?;
+    take_splits(lengths, heads, b, table.room, places)?;
     let n = b.len() / SPLIT_BYTES;
     load(
         &Table {
             bytes: b,
             places: &places[..n],
         },
-        starts,
-        ends,
-        units,
-        rest,
+        table,
     );
     Ok(())
 }
 
-// The first n rows in the output, and zeros after them.
-pub fn put_splits(splits: &SplitColumns, n: usize, out: &mut [u8])
-    requires { Long (columns_of splits.now) n × (split_width * n ≤ length out.old) }
-    ensures { out.new
-        ≡ laid (length out.old) (table_bytes (rows (columns_of splits.now) n)) }
+// The rows in the output, and zeros after them.
+pub fn put_splits(splits: &SplitColumns, out: &mut [u8])
+    requires { split_width * splits.now.count ≤ length out.old }
+    ensures { out.new ≡ laid (length out.old) (table_bytes (table_of splits.now)) }
 {
-    store(splits, n, out);
-    clear_from(out, SPLIT_BYTES * n);
+    store(splits, out);
+    clear_from(out, SPLIT_BYTES * splits.count);
 }
 
 // The same, and their number in the counts.
-pub fn give_splits(splits: &SplitColumns, n: usize, out: &mut [u8], counts: &mut [u8])
-    requires { Long (columns_of splits.now) n × (split_width * n ≤ length out.old) × (n ≤ 1024) }
-    ensures { Laid (rows (columns_of splits.now) n)
-        (length out.old) (length counts.old) out.new counts.new }
+pub fn give_splits(splits: &SplitColumns, out: &mut [u8], counts: &mut [u8])
+    requires { (split_width * splits.now.count ≤ length out.old) × (splits.now.count ≤ 1024) }
+    ensures { Laid (table_of splits.now) (length out.old) (length counts.old) out.new counts.new }
 {
-    put_splits(splits, n, out);
+    put_splits(splits, out);
     clear_from(counts, 0);
-    put_count(counts, 0, n as u16);
+    put_count(counts, 0, splits.count as u16);
 }
 
 // The end of an entry: its answer as a word, and all outputs zero after a refusal.

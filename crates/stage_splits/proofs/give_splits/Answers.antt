@@ -13,12 +13,12 @@ use Rattle.stage_splits.proofs.give_splits.Goals as goal
 pub returns : goal.returns
 returns c =
     let a = c.args in
-    let k = length-tabulate (row_at (columns_of a.splits.now)) 0 a.n in
+    let k = length-tabulate (row_at (columns_of a.splits.now)) 0 a.splits.now.count in
     record {
       splits = c.put_splits.ensures;
       counted =
           c.put_count.ensures
-          ∙ ap (store_count 0 a.n) c.clear_from.ensures
-          ∙ one_count _ a.n a.counts.now refl
+          ∙ ap (store_count 0 a.splits.now.count) c.clear_from.ensures
+          ∙ one_count _ a.splits.now.count a.counts.now refl
           ∙ ap (λ (n : ℕ). counts_of (length a.counts.now) (n ∷ [])) (sym k);
     }

@@ -16,9 +16,9 @@ pub returns : goal.returns
 returns c =
     let a = c.args in
     let t = columns_of a.splits.now in
-    let l = rows t a.n in
+    let l = rows t a.splits.now.count in
     let m = length-table_bytes l in
-    let k = length-tabulate (row_at t) 0 a.n in
+    let k = length-tabulate (row_at t) 0 a.splits.now.count in
     c.clear_from.ensures
-    ∙ ap (clear_from 0 (split_width * a.n)) c.store.ensures
-    ∙ laid-after a.out.now (table_bytes l) (split_width * a.n) (omega (arith, m, k)) (omega (arith, m, k, c.requires.1))
+    ∙ ap (clear_from 0 (split_width * a.splits.now.count)) c.store.ensures
+    ∙ laid-after a.out.now (table_bytes l) (split_width * a.splits.now.count) (omega (arith, m, k)) (omega (arith, m, k, c.requires))

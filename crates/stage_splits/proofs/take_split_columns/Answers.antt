@@ -5,7 +5,7 @@ use native.Mathlib.Omega.{arith}
 use Rattle.obj.specs.Answers.{meaning}
 use Rattle.lists.specs.Outcome.{accepted}
 use Rattle.stage_tables.proofs.Laws.{taken_few, taken_places, taken-count}
-use Rattle.splits.specs.Columns.{columns}
+use Rattle.splits.specs.Table.{rows_in}
 use Rattle.obj.specs.Records.{split_width}
 use Rattle.stage_splits.proofs.Laws.{splits_loadable, taken-rows}
 use Rattle.stage_splits.proofs.take_split_columns.Goals as goal
@@ -30,17 +30,14 @@ load-requires c =
     let e = ap meaning c.in_ok-take_splits.was in
     let n = taken_few split_width _ s.args.b.now _ _ t.take_splits.ensures e in
     let m = taken-count split_width _ s.args.b.now _ _ t.take_splits.ensures e in
-    let q = s.requires.2 in (
-      splits_loadable _ _ s.args.b.now _ s.requires.1.few e _ t.take_splits.ensures,
-      record { starts = omega (arith, n, m, q.starts); ends = omega (arith, n, m, q.ends); units = omega (arith, n, m, q.units); rest = omega (arith, n, m, q.rest) },
-    )
+    (splits_loadable _ _ s.args.b.now _ s.requires.1.few e _ t.take_splits.ensures, omega (arith, n, m))
 
-pub returns : goal.returns
-returns c =
+pub returns-clause-taken : goal.returns-clause-taken
+returns-clause-taken c =
     let t = c in
     let s = t in
     let l = c.load in
     let e : ◌≡◌ (meaning t.take_splits.result) (accepted tt) = ap meaning c.in_ok-take_splits.was in
-    let r = taken-rows s.args.b.now _ (columns l.new.starts l.new.ends l.new.units l.new.rest) t.take_splits.ensures.said
-    (taken_places split_width _ s.args.b.now _ _ t.take_splits.ensures e) l.ensures in
+    let r = taken-rows s.args.b.now _ (rows_in l.new.table) t.take_splits.ensures.said
+    (taken_places split_width _ s.args.b.now _ _ t.take_splits.ensures e) l.ensures.rows in
     rw e at r
