@@ -11,7 +11,7 @@ use Rattle.symbols.specs.Sound.{Sound}
 use Rattle.sections.specs.Image.{Tables}
 use Rattle.sections.specs.Sections.{Heads}
 use Rattle.sections.specs.Alignment.{Chosen}
-use Rattle.splits.specs.Columns.{Columns, row_at, Long}
+use Rattle.splits.specs.Columns.{Columns, row_at}
 use Rattle.symbols.specs.declared.Backwards.{Backwards}
 use Rattle.trim.specs.Trim.{alongside}
 
@@ -46,7 +46,6 @@ pub record Placed (sections : ℕ) (s : Split) : Type 0 where
 
 -- .. each of the first n rows
 pub record AllPlaced (sections : ℕ) (c : Columns) (n : ℕ) : Type 0 where
-  pub long : Long c n
   pub each : (k : ℕ) → k < n → Placed sections (row_at c k)
 
 -- r is the first place from `from` on whose row does not start where s does

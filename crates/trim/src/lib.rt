@@ -9,19 +9,19 @@ ghost use Rattle.symbol_order.specs.Order.{symbol_of, Whole};
 ghost use Rattle.symbols.specs.Ranges.{Within};
 ghost use Rattle.symbols.specs.Sound.{Sound};
 ghost use Rattle.sections.specs.Image.{image_in, TablesIn};
-ghost use Rattle.sections.specs.Sections.{head_of, sections_of, Kept};
 ghost use Rattle.sections.specs.Bytes.{bytes_of};
 ghost use Rattle.sections.specs.Alignment.{chosen};
 ghost use Rattle.sections.specs.Ends.{splitting_end, end_meaning};
-ghost use Rattle.splits.specs.Columns.{columns, row_at, rows, Long};
-ghost use Rattle.splits.specs.Table.{columns_of};
+ghost use Rattle.splits.specs.Columns.{row_at};
+ghost use Rattle.splits.specs.Table.{columns_of, rows_of, columns_in, rows_in, OnlyEnds};
 ghost use Rattle.trim.specs.Trim.{end_of, ask_next, aligned_end, fall_of, falls_of, carry_one, carry_from, cut_last, cut_section, cut_from, trimmed};
-ghost use Rattle.trim.specs.Steps.{asked_meaning, seen, Asks, Placed, AllPlaced, Past, LastOf};
+ghost use Rattle.trim.specs.Steps.{asked_meaning, seen, Placed, AllPlaced, Past, LastOf};
+ghost use Rattle.trim.specs.Lent.{head_in, sections_in, AsksIn, KeptIn, PlacedIn};
 
 use align::align_up;
 use obj::{Refusal, Section, Split, Table, refuse, section_at, symbol_at};
 use sections::{Alignment, Obj, Short, end_for_section, section_bytes, split_alignment};
-use splits::{SplitColumns, row, set_end};
+use splits::{SplitColumns, SplitTable, row, set_end};
 use symbols::{Backwards, last_in};
 
 // ---- trim_split_alignment: the falls
@@ -38,15 +38,13 @@ fn value_of(a: Alignment) -> u32
 }
 
 // "the alignment of the section's next split is still asked, from this split's start", and may be 11. The next split is that at place j.
-fn ask_next(obj: &Obj, splits: &SplitColumns, n: usize, s: Split, j: usize) -> Result<(), Backwards>
-    requires { Asks obj.now.symbols.bytes.now obj.now.symbols.places.now obj.now.order.now obj.now.names.bytes.now obj.now.names.places.now obj.now.names.lengths.now obj.now.heads.bytes.now obj.now.heads.places.now
-        × AllPlaced (length obj.now.heads.places.now) (columns_of splits.now) n }
+fn ask_next(obj: &Obj, splits: &SplitColumns, s: Split, j: usize) -> Result<(), Backwards>
+    requires { AsksIn obj.now × PlacedIn obj.now splits.now }
     ensures { asked_meaning s.section s.start result
-        ≡ ask_next (image_in obj.now)
-        (head_of obj.now.heads.bytes.now obj.now.heads.places.now) s
-        (tabulate (row_at (columns_of splits.now)) j (n - j)) }
+        ≡ ask_next (image_in obj.now) (head_in obj.now) s
+        (tabulate (row_at (columns_of splits.now)) j (splits.now.count - j)) }
 {
-    if n <= j {
+    if splits.count <= j {
         return Ok(());
     }
     let next = row(splits, j);
@@ -74,9 +72,8 @@ fn end_of(table: &Table, found: Option<usize>, own: u32) -> u32
 
 // "the end of the last such symbol in start..end, aligned up"
 fn aligned_end(obj: &Obj, s: Split) -> Result<u32, Backwards>
-    requires { Asks obj.now.symbols.bytes.now obj.now.symbols.places.now obj.now.order.now obj.now.names.bytes.now obj.now.names.places.now obj.now.names.lengths.now obj.now.heads.bytes.now obj.now.heads.places.now
-        × Placed (length obj.now.heads.places.now) s × (bad_align s.alignment ≡ false) }
-    ensures { asked_meaning s.section s.start result ≡ aligned_end (image_in obj.now) (head_of obj.now.heads.bytes.now obj.now.heads.places.now) s }
+    requires { AsksIn obj.now × Placed (length obj.now.heads.places.now) s × (bad_align s.alignment ≡ false) }
+    ensures { asked_meaning s.section s.start result ≡ aligned_end (image_in obj.now) (head_in obj.now) s }
 {
     let found = last_in(&obj.symbols, obj.order, s.section, s.start, s.end)?;
     let end = end_of(&obj.symbols, found, s.end);
@@ -85,33 +82,30 @@ fn aligned_end(obj: &Obj, s: Split) -> Result<u32, Backwards>
 }
 
 // Where the end of s falls to, 0 if it does not fall; the split after it is that at place j.
-fn fall_of(obj: &Obj, splits: &SplitColumns, n: usize, s: Split, j: usize) -> Result<u32, Backwards>
-    requires { Asks obj.now.symbols.bytes.now obj.now.symbols.places.now obj.now.order.now obj.now.names.bytes.now obj.now.names.places.now obj.now.names.lengths.now obj.now.heads.bytes.now obj.now.heads.places.now
-        × AllPlaced (length obj.now.heads.places.now) (columns_of splits.now) n
+fn fall_of(obj: &Obj, splits: &SplitColumns, s: Split, j: usize) -> Result<u32, Backwards>
+    requires { AsksIn obj.now × PlacedIn obj.now splits.now
         × Placed (length obj.now.heads.places.now) s × (bad_align s.alignment ≡ false) }
     ensures { asked_meaning s.section s.start result
-        ≡ fall_of (image_in obj.now) (head_of obj.now.heads.bytes.now obj.now.heads.places.now) s
-        (tabulate (row_at (columns_of splits.now)) j (n - j)) }
+        ≡ fall_of (image_in obj.now) (head_in obj.now) s
+        (tabulate (row_at (columns_of splits.now)) j (splits.now.count - j)) }
 {
     let low = aligned_end(obj, s)?;
     if low < s.end {
-        ask_next(obj, splits, n, s, j)?;
+        ask_next(obj, splits, s, j)?;
         return Ok(low);
     }
     Ok(0)
 }
 
 // The falls of all splits, in the table's order; 11 is at the split whose fall is asked.
-fn find_falls(obj: &Obj, splits: &SplitColumns, n: usize, falls: &mut [u32]) -> Result<(), Refusal>
-    requires { Asks obj.now.symbols.bytes.now obj.now.symbols.places.now obj.now.order.now obj.now.names.bytes.now obj.now.names.places.now obj.now.names.lengths.now obj.now.heads.bytes.now obj.now.heads.places.now
-        × AllPlaced (length obj.now.heads.places.now) (columns_of splits.now) n × (n ≤ length falls.old) }
-    ensures { seen result (take n falls.new)
-        ≡ falls_of (image_in obj.now) (head_of obj.now.heads.bytes.now obj.now.heads.places.now)
-        (rows (columns_of splits.now) n) }
+fn find_falls(obj: &Obj, splits: &SplitColumns, falls: &mut [u32]) -> Result<(), Refusal>
+    requires { AsksIn obj.now × PlacedIn obj.now splits.now × (splits.now.count ≤ length falls.old) }
+    ensures { seen result (take splits.now.count falls.new)
+        ≡ falls_of (image_in obj.now) (head_in obj.now) (rows_of splits.now) }
 {
-    for i in 0..n {
+    for i in 0..splits.count {
         let s = row(splits, i);
-        let fall = fall_of(obj, splits, n, s, i + 1);
+        let fall = fall_of(obj, splits, s, i + 1);
         match fall {
             Ok(end) => falls[i] = end,
             Err(Backwards) => return refuse(11, s.section, s.start),
@@ -123,67 +117,47 @@ fn find_falls(obj: &Obj, splits: &SplitColumns, n: usize, falls: &mut [u32]) -> 
 // ---- trim_split_alignment: the falls carried out
 
 // The first place from `from` on whose row does not start where s does.
-fn past_start(splits: &SplitColumns, n: usize, s: Split, from: usize) -> usize
-    requires { Long (columns_of splits.now) n × (from ≤ n) }
-    ensures { Past s (columns_of splits.now) n from result }
+fn past_start(splits: &SplitColumns, s: Split, from: usize) -> usize
+    requires { from ≤ splits.now.count }
+    ensures { Past s (columns_of splits.now) splits.now.count from result }
 {
-    for j in from..n {
+    for j in from..splits.count {
         let y = row(splits, j);
         if !((y.section == s.section) & (y.start == s.start)) {
             return j;
         }
     }
-    n
+    splits.count
 }
 
 // The fall of row k, 0 if it does not fall: "It falls in the last split at that start".
-fn carry_one(
-    starts: &[u32],
-    ends: &mut [u32],
-    units: &[u16],
-    rest: &[u64],
-    n: usize,
-    k: usize,
-    end: u32,
-) -> Result<(), Refusal>
-    requires { Long (columns starts.now ends.old units.now rest.now) n × (k < n) }
-    ensures { seen result (rows (columns starts.now ends.new units.now rest.now) n)
-        ≡ carry_one k end (rows (columns starts.now ends.old units.now rest.now) n) }
+fn carry_one(table: &mut SplitTable, k: usize, end: u32) -> Result<(), Refusal>
+    requires { k < table.old.count }
+    ensures rows { seen result (rows_in table.new) ≡ carry_one k end (rows_in table.old) }
+    ensures others { OnlyEnds table.old table.new }
 {
     if end == 0 {
         return Ok(());
     }
-    let columns = SplitColumns {
-        starts,
-        ends: &*ends,
-        units,
-        rest,
-    };
-    let s = row(&columns, k);
-    let last = past_start(&columns, n, s, k + 1) - 1;
-    let old = ends[last];
+    let splits = table.columns();
+    let s = row(&splits, k);
+    let last = past_start(&splits, s, k + 1) - 1;
+    let old = table.ends[last];
     if (old <= s.start) & (old != 0) {
         return refuse(54, s.section, s.start);
     }
-    set_end(starts, ends, units, rest, n, last, end);
+    set_end(table, last, end);
     Ok(())
 }
 
 // The falls of all rows, one after another.
-fn carry_out(
-    starts: &[u32],
-    ends: &mut [u32],
-    units: &[u16],
-    rest: &[u64],
-    n: usize,
-    falls: &[u32],
-) -> Result<(), Refusal>
-    requires { Long (columns starts.now ends.old units.now rest.now) n × (n ≤ length falls.now) }
-    ensures { seen result (rows (columns starts.now ends.new units.now rest.now) n)
-        ≡ carry_from 0 (take n falls.now) (rows (columns starts.now ends.old units.now rest.now) n) }
+fn carry_out(table: &mut SplitTable, falls: &[u32]) -> Result<(), Refusal>
+    requires { table.old.count ≤ length falls.now }
+    ensures rows { seen result (rows_in table.new) ≡ carry_from 0 (take table.old.count falls.now) (rows_in table.old) }
+    ensures others { OnlyEnds table.old table.new }
 {
-    for k in 0..n {
-        carry_one(starts, ends, units, rest, n, k, falls[k])?;
+    for k in 0..table.count {
+        carry_one(table, k, falls[k])?;
     }
     Ok(())
 }
@@ -191,13 +165,12 @@ fn carry_out(
 // ---- trim_linker_generated_symbols
 
 // The section's last row.
-fn last_of(splits: &SplitColumns, n: usize, section: u16) -> Option<usize>
-    requires { Long (columns_of splits.now) n }
+fn last_of(splits: &SplitColumns, section: u16) -> Option<usize>
     ensures { MatchOption result
-        (some (λ (y : Split). eqb y.section section) (rows (columns_of splits.now) n) ≡ false)
-        (LastOf section (columns_of splits.now) n) }
+        (some (λ (y : Split). eqb y.section section) (rows_of splits.now) ≡ false)
+        (LastOf section (columns_of splits.now) splits.now.count) }
 {
-    for j in (0..n).rev() {
+    for j in (0..splits.count).rev() {
         let y = row(splits, j);
         if y.section == section {
             return Some(j);
@@ -207,69 +180,37 @@ fn last_of(splits: &SplitColumns, n: usize, section: u16) -> Option<usize>
 }
 
 // "a last split that ends above it is cut to it"
-fn cut_last(
-    starts: &[u32],
-    ends: &mut [u32],
-    units: &[u16],
-    rest: &[u64],
-    n: usize,
-    section: u16,
-    end: u32,
-)
-    requires { Long (columns starts.now ends.old units.now rest.now) n }
-    ensures { rows (columns starts.now ends.new units.now rest.now) n
-        ≡ cut_last section end (rows (columns starts.now ends.old units.now rest.now) n) }
+fn cut_last(table: &mut SplitTable, section: u16, end: u32)
+    ensures rows { rows_in table.new ≡ cut_last section end (rows_in table.old) }
+    ensures others { OnlyEnds table.old table.new }
 {
-    let Some(k) = last_of(
-        &SplitColumns {
-            starts,
-            ends: &*ends,
-            units,
-            rest,
-        },
-        n,
-        section,
-    ) else {
+    let Some(k) = last_of(&table.columns(), section) else {
         return;
     };
-    if ends[k] <= end {
+    if table.ends[k] <= end {
         return;
     }
-    set_end(starts, ends, units, rest, n, k, end);
+    set_end(table, k, end);
 }
 
 // The splitting end of section k, which has this head.
 fn end_at(obj: &Obj, image: &Table, k: usize, head: Section) -> Result<u32, Short>
-    requires { TablesIn obj.now
-        × Kept obj.now.heads.bytes.now obj.now.heads.places.now image.now.bytes.now image.now.places.now obj.now.names.places.now
-        × (k < length obj.now.heads.places.now) × (head ≡ head_of obj.now.heads.bytes.now obj.now.heads.places.now k) }
+    requires { TablesIn obj.now × KeptIn obj.now image.now
+        × (k < length obj.now.heads.places.now) × (head ≡ head_in obj.now k) }
     ensures { end_meaning k head.address result
-        ≡ splitting_end (image_in obj.now) k
-        (head_of obj.now.heads.bytes.now obj.now.heads.places.now k)
-        (bytes_of image.now.bytes.now image.now.places.now k (head_of obj.now.heads.bytes.now obj.now.heads.places.now k)) }
+        ≡ splitting_end (image_in obj.now) k (head_in obj.now k)
+        (bytes_of image.now.bytes.now image.now.places.now k (head_in obj.now k)) }
 {
     let bytes = section_bytes(image.bytes, image.places, k, head);
     end_for_section(&obj.symbols, obj.order, &obj.names, k as u16, head, bytes)
 }
 
 // Section k: "where the splitting end isn't the section's end", its last split.
-fn cut_section(
-    obj: &Obj,
-    image: &Table,
-    starts: &[u32],
-    ends: &mut [u32],
-    units: &[u16],
-    rest: &[u64],
-    n: usize,
-    k: usize,
-) -> Result<(), Refusal>
-    requires { TablesIn obj.now
-        × Kept obj.now.heads.bytes.now obj.now.heads.places.now image.now.bytes.now image.now.places.now obj.now.names.places.now
-        × Long (columns starts.now ends.old units.now rest.now) n × (k < length obj.now.heads.places.now) }
-    ensures { seen result (rows (columns starts.now ends.new units.now rest.now) n)
-        ≡ cut_section (image_in obj.now)
-        (sections_of obj.now.heads.bytes.now obj.now.heads.places.now image.now.bytes.now image.now.places.now) k
-        (rows (columns starts.now ends.old units.now rest.now) n) }
+fn cut_section(obj: &Obj, image: &Table, table: &mut SplitTable, k: usize) -> Result<(), Refusal>
+    requires { TablesIn obj.now × KeptIn obj.now image.now × (k < length obj.now.heads.places.now) }
+    ensures rows { seen result (rows_in table.new)
+        ≡ cut_section (image_in obj.now) (sections_in obj.now image.now) k (rows_in table.old) }
+    ensures others { OnlyEnds table.old table.new }
 {
     let head = section_at(&obj.heads, k);
     let end = end_at(obj, image, k, head);
@@ -278,7 +219,7 @@ fn cut_section(
             if head.address + head.size == low {
                 return Ok(());
             }
-            cut_last(starts, ends, units, rest, n, k as u16, low);
+            cut_last(table, k as u16, low);
             Ok(())
         }
         Err(Short) => refuse(10, k as u16, head.address),
@@ -286,62 +227,36 @@ fn cut_section(
 }
 
 // All sections, in their order.
-fn cut_sections(
-    obj: &Obj,
-    image: &Table,
-    starts: &[u32],
-    ends: &mut [u32],
-    units: &[u16],
-    rest: &[u64],
-    n: usize,
-) -> Result<(), Refusal>
-    requires { TablesIn obj.now
-        × Kept obj.now.heads.bytes.now obj.now.heads.places.now image.now.bytes.now image.now.places.now obj.now.names.places.now
-        × Long (columns starts.now ends.old units.now rest.now) n }
-    ensures { seen result (rows (columns starts.now ends.new units.now rest.now) n)
-        ≡ cut_from (image_in obj.now)
-        (sections_of obj.now.heads.bytes.now obj.now.heads.places.now image.now.bytes.now image.now.places.now) (length obj.now.heads.places.now) 0
-        (rows (columns starts.now ends.old units.now rest.now) n) }
+fn cut_sections(obj: &Obj, image: &Table, table: &mut SplitTable) -> Result<(), Refusal>
+    requires { TablesIn obj.now × KeptIn obj.now image.now }
+    ensures rows { seen result (rows_in table.new)
+        ≡ cut_from (image_in obj.now) (sections_in obj.now image.now) (length obj.now.heads.places.now) 0 (rows_in table.old) }
+    ensures others { OnlyEnds table.old table.new }
 {
     for k in 0..obj.heads.places.len() {
-        cut_section(obj, image, starts, ends, units, rest, n, k)?;
+        cut_section(obj, image, table, k)?;
     }
     Ok(())
 }
 
 // ---- the stage
 
-// The first n rows trimmed. `falls` is room for a number of each row.
+// The table trimmed. `falls` is room for a number of each row.
 pub fn trim(
     obj: &Obj,
     image: &Table,
-    starts: &[u32],
-    ends: &mut [u32],
-    units: &[u16],
-    rest: &[u64],
-    n: usize,
+    table: &mut SplitTable,
     falls: &mut [u32],
 ) -> Result<(), Refusal>
     requires { TablesIn obj.now
         × Sound (symbol_of obj.now.symbols.bytes.now obj.now.symbols.places.now) (length obj.now.symbols.places.now)
-        × Kept obj.now.heads.bytes.now obj.now.heads.places.now image.now.bytes.now image.now.places.now obj.now.names.places.now
-        × AllPlaced (length obj.now.heads.places.now) (columns starts.now ends.old units.now rest.now) n × (n ≤ length falls.old) }
-    ensures { seen result (rows (columns starts.now ends.new units.now rest.now) n)
-        ≡ trimmed (image_in obj.now)
-        (sections_of obj.now.heads.bytes.now obj.now.heads.places.now image.now.bytes.now image.now.places.now)
-        (rows (columns starts.now ends.old units.now rest.now) n) }
+        × KeptIn obj.now image.now
+        × AllPlaced (length obj.now.heads.places.now) (columns_in table.old) table.old.count × (table.old.count ≤ length falls.old) }
+    ensures rows { seen result (rows_in table.new)
+        ≡ trimmed (image_in obj.now) (sections_in obj.now image.now) (rows_in table.old) }
+    ensures others { OnlyEnds table.old table.new }
 {
-    find_falls(
-        obj,
-        &SplitColumns {
-            starts,
-            ends: &*ends,
-            units,
-            rest,
-        },
-        n,
-        falls,
-    )?;
-    carry_out(starts, ends, units, rest, n, falls)?;
-    cut_sections(obj, image, starts, ends, units, rest, n)
+    find_falls(obj, &table.columns(), falls)?;
+    carry_out(table, falls)?;
+    cut_sections(obj, image, table)
 }

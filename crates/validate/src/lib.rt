@@ -5,8 +5,7 @@ ghost use Rattle.std.specs.Prelude.{◌≡◌, length};
 ghost use Rattle.obj.specs.Answers.{meaning};
 ghost use Rattle.symbol_order.specs.Order.{symbol_of, Order};
 ghost use Rattle.symbols.specs.Sound.{Sound};
-ghost use Rattle.splits.specs.Columns.{rows, Long};
-ghost use Rattle.splits.specs.Table.{columns_of};
+ghost use Rattle.splits.specs.Table.{rows_of};
 ghost use Rattle.validate.specs.Check.{end_below, validate_one as validateSplit, validate as validateTable};
 
 use obj::{Refusal, Split, Table, refuse, symbol_at};
@@ -53,19 +52,14 @@ fn validate_one(
     Ok(())
 }
 
-// The splits in the table's order: the first n rows.
-pub fn validate(
-    table: &Table,
-    order: &[u16],
-    splits: &SplitColumns,
-    n: usize,
-) -> Result<(), Refusal>
-    requires { Order table.now.bytes.now table.now.places.now order.now × Sound (symbol_of table.now.bytes.now table.now.places.now) (length table.now.places.now) × Long (columns_of splits.now) n }
-    ensures { meaning result ≡ validateTable (symbol_of table.now.bytes.now table.now.places.now) (length table.now.places.now) (rows (columns_of splits.now) n) }
+// The splits in the table's order.
+pub fn validate(table: &Table, order: &[u16], splits: &SplitColumns) -> Result<(), Refusal>
+    requires { Order table.now.bytes.now table.now.places.now order.now × Sound (symbol_of table.now.bytes.now table.now.places.now) (length table.now.places.now) }
+    ensures { meaning result ≡ validateTable (symbol_of table.now.bytes.now table.now.places.now) (length table.now.places.now) (rows_of splits.now) }
 {
     let mut before: u16 = 0;
     let mut last: u32 = 0;
-    for i in 0..n {
+    for i in 0..splits.count {
         let s = row(splits, i);
         validate_one(table, order, before, last, s)?;
         before = s.section;

@@ -7,19 +7,19 @@ use Rattle.align.specs.Align.{align_up}
 use Rattle.symbols.specs.Ranges.{found_meaning}
 use Rattle.symbols.proofs.Finds.{in_found}
 use Rattle.sections.specs.Image.{image_in}
-use Rattle.sections.specs.Sections.{head_of}
 use Rattle.sections.specs.Alignment.{chosen, alignment_meaning}
 use Rattle.sections.proofs.Good.{from_good}
 use Rattle.trim.specs.Trim.{end_of}
 use Rattle.trim.specs.Steps.{up_by}
 use Rattle.trim.proofs.Falls.{aligned_found, aligned_backwards}
+use Rattle.trim.specs.Lent.{head_in}
 use Rattle.trim.proofs.aligned_end.Goals as goal
 
 pub returns-in_err-found : goal.returns-in_err-found
 returns-in_err-found c =
     let a = c.args in
     let g = image_in a.obj.now in
-    let head = head_of a.obj.now.heads.bytes.now a.obj.now.heads.places.now in
+    let head = head_in a.obj.now in
     let y = a.s in
     let p = err_from_is_err_and c.from_residual.result c.from_residual.ensures.1 in
     rw p.1 (sym (aligned_backwards g head y 11 y.section y.start (sym c.last_in.ensures ∙ ap (found_meaning y.section y.start) c.in_err-found.was)))
@@ -41,7 +41,7 @@ unfolding ◌>>=◌
 returns-in_err-a c =
     let a = c.args in
     let g = image_in a.obj.now in
-    let head = head_of a.obj.now.heads.bytes.now a.obj.now.heads.places.now in
+    let head = head_in a.obj.now in
     let y = a.s in
     let end = end_of g.symbol y.end c.in_ok-found.found in
     let p = err_from_is_err_and c.from_residual-in_err-a.result c.from_residual-in_err-a.ensures.1 in
@@ -53,7 +53,7 @@ pub align_up-requires : goal.align_up-requires
 align_up-requires c =
     let a = c.args in
     let g = image_in a.obj.now in
-    let head = head_of a.obj.now.heads.bytes.now a.obj.now.heads.places.now in
+    let head = head_in a.obj.now in
     let y = a.s in (
       c.end_of-end.ensures.small,
       rw c.value_of.ensures
@@ -65,7 +65,7 @@ unfolding ◌>>=◌
 returns c =
     let a = c.args in
     let g = image_in a.obj.now in
-    let head = head_of a.obj.now.heads.bytes.now a.obj.now.heads.places.now in
+    let head = head_in a.obj.now in
     let y = a.s in
     let end = end_of g.symbol y.end c.in_ok-found.found in
     ap accepted c.align_up.ensures.is

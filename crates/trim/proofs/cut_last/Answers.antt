@@ -1,25 +1,29 @@
 -- `trim::cut_last` meets its contract: no row of the section, a last one that does not end above, or one that is cut.
 use mathlib.Core.Path.{◌∙◌}
-use Rattle.splits.specs.Columns.{columns, row_of, row_at}
+use Rattle.splits.specs.Columns.{row_of, row_at}
+use Rattle.splits.specs.Table.{columns_in}
 use Rattle.trim.proofs.Cut.{cut_none, cut_stays, cut_falls}
 use Rattle.trim.proofs.cut_last.Goals as goal
 
-pub returns-in_default : goal.returns-in_default
-returns-in_default c =
-    let row = row_at (columns c.args.starts.now c.args.ends.now c.args.units.now c.args.rest.now) in
-    cut_none c.args.section c.args.end row c.args.n c.in_default.ensures
+pub returns-in_default-clause-rows : goal.returns-in_default-clause-rows
+returns-in_default-clause-rows c =
+    let a = c.args in
+    let e = c.columns.ensures.columns in
+    cut_none a.section a.end (row_at (columns_in a.table.now)) a.table.now.count (rw (e.starts, e.ends, e.units, e.rest, e.count) at c.in_default.ensures)
 
-pub returns-then-ends-k : goal.returns-then-ends-k
+pub returns-then-table-k-clause-rows : goal.returns-then-table-k-clause-rows
 unfolding row_of
-returns-then-ends-k c =
-    let row = row_at (columns c.args.starts.now c.args.ends.now c.args.units.now c.args.rest.now) in
-    let r = c.in-Some.ensures in
-    cut_stays c.args.section c.args.end row c.args.n _ r.small r.none_after r.is c.if-ends-k.true
+returns-then-table-k-clause-rows c =
+    let a = c.args in
+    let e = c.columns.ensures.columns in
+    let r = rw (e.starts, e.ends, e.units, e.rest, e.count) at c.in-Some.ensures in
+    cut_stays a.section a.end (row_at (columns_in a.table.now)) a.table.now.count _ r.small r.none_after r.is c.if-table-k.true
 
-pub returns : goal.returns
+pub returns-clause-rows : goal.returns-clause-rows
 unfolding row_of
-returns c =
-    let row = row_at (columns c.args.starts.now c.args.ends.now c.args.units.now c.args.rest.now) in
-    let r = c.in-Some.ensures in
-    c.set_end.ensures
-    ∙ cut_falls c.args.section c.args.end row c.args.n _ r.small r.none_after r.is c.if-ends-k.false
+returns-clause-rows c =
+    let a = c.args in
+    let e = c.columns.ensures.columns in
+    let r = rw (e.starts, e.ends, e.units, e.rest, e.count) at c.in-Some.ensures in
+    c.set_end.ensures.rows
+    ∙ cut_falls a.section a.end (row_at (columns_in a.table.now)) a.table.now.count _ r.small r.none_after r.is c.if-table-k.false

@@ -6,51 +6,51 @@ use Rattle.lists.specs.Outcome.{accepted}
 use Rattle.obj.specs.Answers.{Answer}
 use Rattle.obj.specs.declared.Section.{Section}
 use Rattle.sections.specs.Image.{image_in}
-use Rattle.sections.specs.Sections.{sections_of}
 use Rattle.sections.specs.Ends.{end_meaning}
 use Rattle.sections.proofs.Kept.{kept-held}
-use Rattle.splits.specs.Columns.{columns, rows}
+use Rattle.splits.specs.Table.{rows_in}
 use Rattle.trim.specs.Steps.{seen}
 use Rattle.trim.proofs.Cut.{section_short, section_whole, section_cut}
+use Rattle.trim.specs.Lent.{sections_in}
 use Rattle.trim.proofs.cut_section.Goals as goal
 
 pub section_at-head-requires : goal.section_at-head-requires
-section_at-head-requires c = kept-held _ _ _ _ _ c.requires.1 c.args.k c.requires.3
+section_at-head-requires c = kept-held _ _ _ _ _ c.requires.1 c.args.k c.requires.2
 
 pub overflow_add-head : goal.overflow_add-head
 overflow_add-head c =
     let e = ap (λ (h : Section). h.address + h.size) c.section_at-head.ensures in
-    omega (arith, e, c.requires.1.below c.args.k c.requires.3)
+    omega (arith, e, c.requires.1.below c.args.k c.requires.2)
 
 pub overflow_cast-k : goal.overflow_cast-k
-overflow_cast-k c = omega (arith, c.requires.1.few, c.requires.3)
+overflow_cast-k c = omega (arith, c.requires.1.few, c.requires.2)
 
 pub overflow_cast-k-in-Err : goal.overflow_cast-k-in-Err
-overflow_cast-k-in-Err c = omega (arith, c.requires.1.few, c.requires.3)
+overflow_cast-k-in-Err c = omega (arith, c.requires.1.few, c.requires.2)
 
-pub returns-then-head-low : goal.returns-then-head-low
-returns-then-head-low c =
+pub returns-then-head-low-clause-rows : goal.returns-then-head-low-clause-rows
+returns-then-head-low-clause-rows c =
     let a = c.args in
     let g = image_in a.obj.now in
-    let sections = sections_of a.obj.now.heads.bytes.now a.obj.now.heads.places.now a.image.now.bytes.now a.image.now.places.now in
+    let sections = sections_in a.obj.now a.image.now in
     let whole = ap (λ (h : Section). h.address + h.size) c.section_at-head.ensures in
     let is = sym c.end_at-end.ensures ∙ ap (end_meaning a.k c.section_at-head.result.address) c.in-Ok.is in
     sym (section_whole g sections a.k _ _ is (sym whole ∙ c.if-head-low.true))
 
-pub returns-else-head-low : goal.returns-else-head-low
-returns-else-head-low c =
+pub returns-else-head-low-clause-rows : goal.returns-else-head-low-clause-rows
+returns-else-head-low-clause-rows c =
     let a = c.args in
     let g = image_in a.obj.now in
-    let sections = sections_of a.obj.now.heads.bytes.now a.obj.now.heads.places.now a.image.now.bytes.now a.image.now.places.now in
+    let sections = sections_in a.obj.now a.image.now in
     let whole = ap (λ (h : Section). h.address + h.size) c.section_at-head.ensures in
     let is = sym c.end_at-end.ensures ∙ ap (end_meaning a.k c.section_at-head.result.address) c.in-Ok.is in
-    ap accepted c.cut_last.ensures ∙ sym (section_cut g sections a.k _ _ is (λ e. c.if-head-low.false (whole ∙ e)))
+    ap accepted c.cut_last.ensures.rows ∙ sym (section_cut g sections a.k _ _ is (λ e. c.if-head-low.false (whole ∙ e)))
 
-pub returns-in-Err : goal.returns-in-Err
-returns-in-Err c =
+pub returns-in-Err-clause-rows : goal.returns-in-Err-clause-rows
+returns-in-Err-clause-rows c =
     let a = c.args in
     let g = image_in a.obj.now in
-    let sections = sections_of a.obj.now.heads.bytes.now a.obj.now.heads.places.now a.image.now.bytes.now a.image.now.places.now in
+    let sections = sections_in a.obj.now a.image.now in
     let head = c.section_at-head.result in
-    ap (λ (r : Answer). seen r (rows (columns a.starts.now a.ends.now a.units.now a.rest.now) a.n)) c.refuse.ensures
+    ap (λ (r : Answer). seen r (rows_in a.table.now)) c.refuse.ensures
     ∙ sym (section_short g sections a.k _ 10 a.k head.address (sym c.end_at-end.ensures ∙ ap (end_meaning a.k head.address) c.in-Err.is))

@@ -1,55 +1,55 @@
 -- `trim::cut_sections` meets its contract: the first refusal ends it.
-use mathlib.Core.Path.{sym, ap, ◌∙◌}
+use mathlib.Core.Path.{refl, sym, ap, ◌∙◌}
 use Prim.Native.Nat.{ℕ, ◌+◌, ◌-◌}
 use native.Mathlib.Nat.{sub-zero}
-use native.Mathlib.Omega.{arith}
 use lib.ListN.{length}
 use Rattle.obj.proofs.Errors.{same_err}
 use Rattle.sections.specs.Image.{image_in}
-use Rattle.sections.specs.Sections.{sections_of}
-use Rattle.splits.specs.Columns.{columns, rows}
+use Rattle.splits.specs.Table.{rows_in}
 use Rattle.trim.specs.Trim.{cut_from}
 use Rattle.trim.proofs.Answers.{seen-stops, seen_goes}
 use Rattle.trim.proofs.Cut.{cut_turn, cut_ended}
+use Rattle.trim.specs.Lent.{sections_in}
+use Rattle.trim.proofs.Only.{only_ends}
 use Rattle.trim.proofs.cut_sections.Goals as goal
 
 pub loop-k-init : goal.loop-k-init
 loop-k-init c =
     let a = c.args in
     let g = image_in a.obj.now in
-    let sections = sections_of a.obj.now.heads.bytes.now a.obj.now.heads.places.now a.image.now.bytes.now a.image.now.places.now in
-    ap (λ (m : ℕ). cut_from g sections m 0 (rows (columns a.starts.now a.ends.now a.units.now a.rest.now) a.n)) (sub-zero (length a.obj.now.heads.places.now))
+    let sections = sections_in a.obj.now a.image.now in
+    (ap (λ (m : ℕ). cut_from g sections m 0 (rows_in a.table.now)) (sub-zero (length a.obj.now.heads.places.now)), record { starts = refl; units = refl; rest = refl; held = refl; count = refl; room = refl })
 
-pub cut_section-requires : goal.cut_section-requires
-cut_section-requires c =
-    let p = c.requires in
-    (p.0, p.1, record { starts = p.2.starts; ends = omega (arith, p.2.ends, c.loop-k.auto.ends); units = p.2.units; rest = p.2.rest }, c.loop-k-test.true)
-
-pub returns-in_err-cut_section : goal.returns-in_err-cut_section
-returns-in_err-cut_section c =
+pub returns-in_err-cut_section-clause-rows : goal.returns-in_err-cut_section-clause-rows
+returns-in_err-cut_section-clause-rows c =
     let a = c.args in
     let g = image_in a.obj.now in
-    let sections = sections_of a.obj.now.heads.bytes.now a.obj.now.heads.places.now a.image.now.bytes.now a.image.now.places.now in
+    let sections = sections_in a.obj.now a.image.now in
     let l = c.loop-k in
     rw (same_err c.from_residual.result c.cut_section.result c.from_residual.ensures.1 c.in_err-cut_section.was)
-    (seen-stops _ _ _ _ c.cut_section.ensures _ c.in_err-cut_section.was
-    ∙ sym (cut_turn g sections (length a.obj.now.heads.places.now) l.k (rows (columns a.starts.now l.ends a.units.now a.rest.now) a.n) c.loop-k-test.true)
-    ∙ l.invariant)
+    (seen-stops _ _ _ _ c.cut_section.ensures.rows _ c.in_err-cut_section.was
+    ∙ sym (cut_turn g sections (length a.obj.now.heads.places.now) l.k (rows_in l.table) c.loop-k-test.true)
+    ∙ l.invariant.0)
+
+pub returns-in_err-cut_section-clause-others : goal.returns-in_err-cut_section-clause-others
+returns-in_err-cut_section-clause-others c = only_ends c.loop-k.invariant.1 c.cut_section.ensures.others
 
 pub loop-k-preserved : goal.loop-k-preserved
 loop-k-preserved c =
     let a = c.args in
     let g = image_in a.obj.now in
-    let sections = sections_of a.obj.now.heads.bytes.now a.obj.now.heads.places.now a.image.now.bytes.now a.image.now.places.now in
-    let l = c.loop-k in
-    sym (seen_goes _ _ _ (cut_from g sections (length a.obj.now.heads.places.now - (l.k + 1)) (l.k + 1)) c.cut_section.ensures c.in_ok-cut_section.was)
-    ∙ sym (cut_turn g sections (length a.obj.now.heads.places.now) l.k (rows (columns a.starts.now l.ends a.units.now a.rest.now) a.n) c.loop-k-test.true)
-    ∙ l.invariant
+    let sections = sections_in a.obj.now a.image.now in
+    let l = c.loop-k in (
+      sym (seen_goes _ _ _ (cut_from g sections (length a.obj.now.heads.places.now - (l.k + 1)) (l.k + 1)) c.cut_section.ensures.rows c.in_ok-cut_section.was)
+          ∙ sym (cut_turn g sections (length a.obj.now.heads.places.now) l.k (rows_in l.table) c.loop-k-test.true)
+          ∙ l.invariant.0,
+      only_ends l.invariant.1 c.cut_section.ensures.others,
+    )
 
-pub returns : goal.returns
-returns c =
+pub returns-clause-rows : goal.returns-clause-rows
+returns-clause-rows c =
     let a = c.args in
     let g = image_in a.obj.now in
-    let sections = sections_of a.obj.now.heads.bytes.now a.obj.now.heads.places.now a.image.now.bytes.now a.image.now.places.now in
+    let sections = sections_in a.obj.now a.image.now in
     let l = c.loop-k in
-    sym (cut_ended g sections (length a.obj.now.heads.places.now) l.k (rows (columns a.starts.now l.ends a.units.now a.rest.now) a.n) c.loop-k-test.false) ∙ l.invariant
+    sym (cut_ended g sections (length a.obj.now.heads.places.now) l.k (rows_in l.table) c.loop-k-test.false) ∙ l.invariant.0

@@ -5,8 +5,8 @@ use Prim.Native.Nat.{ℕ}
 use Rattle.obj.specs.declared.Section.{Section}
 use Rattle.sections.specs.Image.{Whole}
 use Rattle.sections.specs.Bytes.{bytes_of}
-use Rattle.sections.specs.Sections.{head_of}
 use Rattle.sections.proofs.Kept.{kept_whole}
+use Rattle.trim.specs.Lent.{head_in}
 use Rattle.trim.proofs.end_at.Goals as goal
 
 pub end_for_section-requires : goal.end_for_section-requires
@@ -15,5 +15,5 @@ end_for_section-requires c =
     let whole = kept_whole _ _ _ _ _ s.requires.1 s.args.k s.requires.2 in (
       s.requires.0,
       subst (λ (h : Section). Whole h c.section_bytes-bytes.result.now s.args.obj.now.names.places.now) (sym s.requires.3)
-          (subst (λ (l : List ℕ). Whole (head_of s.args.obj.now.heads.bytes.now s.args.obj.now.heads.places.now s.args.k) l s.args.obj.now.names.places.now) (sym (c.section_bytes-bytes.ensures ∙ ap (bytes_of s.args.image.now.bytes.now s.args.image.now.places.now s.args.k) s.requires.3)) whole),
+          (subst (λ (l : List ℕ). Whole (head_in s.args.obj.now s.args.k) l s.args.obj.now.names.places.now) (sym (c.section_bytes-bytes.ensures ∙ ap (bytes_of s.args.image.now.bytes.now s.args.image.now.places.now s.args.k) s.requires.3)) whole),
     )

@@ -8,22 +8,22 @@ use Rattle.obj.specs.Answers.{Answer}
 use Rattle.obj.specs.declared.Split.{Split}
 use Rattle.align.specs.Align.{bad_align}
 use Rattle.sections.specs.Image.{image_in}
-use Rattle.sections.specs.Sections.{head_of}
 use Rattle.splits.specs.Columns.{row_at}
 use Rattle.splits.specs.Table.{columns_of}
 use Rattle.trim.specs.Steps.{asked_meaning, seen}
 use Rattle.trim.proofs.Falls.{falls_start, fall_turn, fall_stops, falls_ended}
 use Rattle.splits.proofs.Rows.{good_row}
 use Rattle.splits.proofs.Alignment.{alignment_good}
+use Rattle.trim.specs.Lent.{head_in}
 use Rattle.trim.proofs.find_falls.Goals as goal
 
 pub loop-i-init : goal.loop-i-init
 loop-i-init c =
     let a = c.args in
     let g = image_in a.obj.now in
-    let head = head_of a.obj.now.heads.bytes.now a.obj.now.heads.places.now in
+    let head = head_in a.obj.now in
     let row = row_at (columns_of a.splits.now) in
-    falls_start g head row a.n
+    falls_start g head row a.splits.now.count
 
 pub fall_of-fall-requires : goal.fall_of-fall-requires
 fall_of-fall-requires c =
@@ -39,34 +39,34 @@ pub loop-i-preserved : goal.loop-i-preserved
 loop-i-preserved c =
     let a = c.args in
     let g = image_in a.obj.now in
-    let head = head_of a.obj.now.heads.bytes.now a.obj.now.heads.places.now in
+    let head = head_in a.obj.now in
     let row = row_at (columns_of a.splits.now) in
     let l = c.loop-i in
     let y = c.row-s.result in
     let fall = sym c.fall_of-fall.ensures ∙ ap (asked_meaning y.section y.start) c.in-Ok.is in
-    fall_turn g head row a.n l.i c.loop-i-test.true y c.row-s.ensures l.falls _ (omega (arith, c.requires.2, l.auto.falls, c.loop-i-test.true)) fall ∙ l.invariant
+    fall_turn g head row a.splits.now.count l.i c.loop-i-test.true y c.row-s.ensures l.falls _ (omega (arith, c.requires.2, l.auto.falls, c.loop-i-test.true)) fall ∙ l.invariant
 
 pub returns-in-Err : goal.returns-in-Err
 returns-in-Err c =
     let a = c.args in
     let g = image_in a.obj.now in
-    let head = head_of a.obj.now.heads.bytes.now a.obj.now.heads.places.now in
+    let head = head_in a.obj.now in
     let row = row_at (columns_of a.splits.now) in
     let l = c.loop-i in
     let y = c.row-s.result in
     let fall = sym c.fall_of-fall.ensures ∙ ap (asked_meaning y.section y.start) c.in-Err.is in
-    ap (λ (r : Answer). seen r (take a.n l.falls)) c.refuse.ensures
-    ∙ sym (fall_stops g head row a.n l.i c.loop-i-test.true y c.row-s.ensures (take l.i l.falls) 11 y.section y.start fall)
+    ap (λ (r : Answer). seen r (take a.splits.now.count l.falls)) c.refuse.ensures
+    ∙ sym (fall_stops g head row a.splits.now.count l.i c.loop-i-test.true y c.row-s.ensures (take l.i l.falls) 11 y.section y.start fall)
     ∙ l.invariant
 
 pub returns : goal.returns
 returns c =
     let a = c.args in
     let g = image_in a.obj.now in
-    let head = head_of a.obj.now.heads.bytes.now a.obj.now.heads.places.now in
+    let head = head_in a.obj.now in
     let row = row_at (columns_of a.splits.now) in
     let l = c.loop-i in
-    let z : ◌≡◌ a.n l.i = omega (arith, l.auto.i-end, c.loop-i-test.false) in
+    let z : ◌≡◌ a.splits.now.count l.i = omega (arith, l.auto.i-end, c.loop-i-test.false) in
     ap (λ (m : ℕ). accepted (take m l.falls)) z
-    ∙ sym (falls_ended g head row a.n l.i (take l.i l.falls) c.loop-i-test.false)
+    ∙ sym (falls_ended g head row a.splits.now.count l.i (take l.i l.falls) c.loop-i-test.false)
     ∙ l.invariant

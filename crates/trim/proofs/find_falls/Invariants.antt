@@ -2,14 +2,14 @@
 use mathlib.Core.Path.{◌≡◌}
 use lib.ListN.{take}
 use Rattle.sections.specs.Image.{image_in}
-use Rattle.sections.specs.Sections.{head_of}
-use Rattle.splits.specs.Columns.{row_at, rows}
-use Rattle.splits.specs.Table.{columns_of}
+use Rattle.splits.specs.Columns.{row_at}
+use Rattle.splits.specs.Table.{columns_of, rows_of}
 use Rattle.trim.specs.Trim.{falls_of}
 use Rattle.trim.proofs.Falls.{falls_from}
+use Rattle.trim.specs.Lent.{head_in}
 use Rattle.trim.proofs.find_falls.Given as goal
 
 abbrev pub invariant-loop-i : goal.invariant-loop-i
 invariant-loop-i l =
-    falls_from (image_in l.obj) (head_of l.obj.heads.bytes.now l.obj.heads.places.now) (row_at (columns_of l.splits)) l.n l.i (take l.i l.falls)
-    ≡ falls_of (image_in l.obj) (head_of l.obj.heads.bytes.now l.obj.heads.places.now) (rows (columns_of l.splits) l.n)
+    falls_from (image_in l.obj) (head_in l.obj) (row_at (columns_of l.splits)) l.splits.count l.i (take l.i l.falls)
+    ≡ falls_of (image_in l.obj) (head_in l.obj) (rows_of l.splits)

@@ -9,7 +9,7 @@ use Rattle.splits.specs.Table.{columns_of}
 use Rattle.trim.proofs.last_of.Given as goal
 
 abbrev pub invariant-loop-j : goal.invariant-loop-j
-invariant-loop-j l = (l.j ≤ l.n) × (some (λ y. eqb y.section l.section) (tabulate (row_at (columns_of l.splits)) l.j (l.n - l.j)) ≡ false)
+invariant-loop-j l = (l.j ≤ l.splits.count) × (some (λ y. eqb y.section l.section) (tabulate (row_at (columns_of l.splits)) l.j (l.splits.count - l.j)) ≡ false)
 
 abbrev pub decreases-loop-j : goal.decreases-loop-j
 decreases-loop-j l = l.j

@@ -10,22 +10,22 @@ pub returns-then-not-y-s : goal.returns-then-not-y-s
 returns-then-not-y-s c =
     let row = row_at (columns_of c.args.splits.now) in
     let l = c.loop-j in
-    let e = along_ends c.args.s row c.args.n l.j _ c.row-y.ensures c.loop-j-test.true c.if-not-y-s.true in
+    let e = along_ends c.args.s row c.args.splits.now.count l.j _ c.row-y.ensures c.loop-j-test.true c.if-not-y-s.true in
     record { is = sym e ∙ l.invariant; past = l.auto.j; small = omega arith }
 
 pub loop-j-preserved : goal.loop-j-preserved
 loop-j-preserved c =
     let row = row_at (columns_of c.args.splits.now) in
     let l = c.loop-j in
-    sym (along_on c.args.s row c.args.n l.j _ c.row-y.ensures c.loop-j-test.true c.if-not-y-s.false) ∙ l.invariant
+    sym (along_on c.args.s row c.args.splits.now.count l.j _ c.row-y.ensures c.loop-j-test.true c.if-not-y-s.false) ∙ l.invariant
 
 pub returns : goal.returns
 returns c =
     let row = row_at (columns_of c.args.splits.now) in
     let l = c.loop-j in
-    let ended : l.j ≡ c.args.n = omega (arith, c.requires.1, l.auto.j-end) in
+    let ended : l.j ≡ c.args.splits.now.count = omega (arith, c.requires, l.auto.j-end) in
     record {
-      is = sym ended ∙ sym (along_none c.args.s row c.args.n l.j c.loop-j-test.false) ∙ l.invariant;
-      past = c.requires.1;
+      is = sym ended ∙ sym (along_none c.args.s row c.args.splits.now.count l.j c.loop-j-test.false) ∙ l.invariant;
+      past = c.requires;
       small = omega arith;
     }

@@ -9,5 +9,5 @@ use Rattle.trim.proofs.past_start.Given as goal
 
 abbrev pub invariant-loop-j : goal.invariant-loop-j
 invariant-loop-j l =
-    l.j + alongside l.s (tabulate (row_at (columns_of l.splits)) l.j (l.n - l.j))
-    ≡ l.from + alongside l.s (tabulate (row_at (columns_of l.splits)) l.from (l.n - l.from))
+    l.j + alongside l.s (tabulate (row_at (columns_of l.splits)) l.j (l.splits.count - l.j))
+    ≡ l.from + alongside l.s (tabulate (row_at (columns_of l.splits)) l.from (l.splits.count - l.from))

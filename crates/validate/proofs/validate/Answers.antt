@@ -24,7 +24,7 @@ returns-in_err-validate_one c =
     (let a = c.args in
     let l = c.loop-i in
     let row = row_at (columns_of a.splits.now) in
-    let t = check_turn (symbol_of a.table.now.bytes.now a.table.now.places.now) (length a.table.now.places.now) row a.n l.before l.last l.i c.loop-i-test.true _ c.row-s.ensures in
+    let t = check_turn (symbol_of a.table.now.bytes.now a.table.now.places.now) (length a.table.now.places.now) row a.splits.now.count l.before l.last l.i c.loop-i-test.true _ c.row-s.ensures in
     then_stops c.validate_one.ensures _ (ap meaning c.in_err-validate_one.was) ∙ sym t ∙ l.invariant.1)
 
 pub loop-i-preserved : goal.loop-i-preserved
@@ -32,7 +32,7 @@ loop-i-preserved c =
     let a = c.args in
     let l = c.loop-i in
     let row = row_at (columns_of a.splits.now) in
-    let t = check_turn (symbol_of a.table.now.bytes.now a.table.now.places.now) (length a.table.now.places.now) row a.n l.before l.last l.i c.loop-i-test.true _ c.row-s.ensures in
+    let t = check_turn (symbol_of a.table.now.bytes.now a.table.now.places.now) (length a.table.now.places.now) row a.splits.now.count l.before l.last l.i c.loop-i-test.true _ c.row-s.ensures in
     (omega (arith, c.loop-i-test.true), then_goes c.validate_one.ensures _ (ap meaning c.in_ok-validate_one.was) ∙ sym t ∙ l.invariant.1)
 
 pub returns : goal.returns
@@ -40,4 +40,4 @@ returns c =
     let a = c.args in
     let l = c.loop-i in
     let row = row_at (columns_of a.splits.now) in
-    sym (check_ended (symbol_of a.table.now.bytes.now a.table.now.places.now) (length a.table.now.places.now) row a.n l.before l.last l.i c.loop-i-test.false) ∙ l.invariant.1
+    sym (check_ended (symbol_of a.table.now.bytes.now a.table.now.places.now) (length a.table.now.places.now) row a.splits.now.count l.before l.last l.i c.loop-i-test.false) ∙ l.invariant.1
