@@ -6,7 +6,7 @@ ghost use Rattle.symbol_order.specs.Order.{symbol_of};
 ghost use Rattle.symbols.specs.Sound.{Sound};
 ghost use Rattle.sections.specs.Image.{image_of, Tables};
 ghost use Rattle.sections.specs.Sections.{sections_of, Kept};
-ghost use Rattle.splits.specs.Columns.{columns, rows};
+ghost use Rattle.splits.specs.Table.{rows_in, columns_in, OnlyEnds};
 ghost use Rattle.trim.specs.Steps.{AllPlaced, seen};
 ghost use Rattle.run_trim.specs.Checking.{checked_table};
 
@@ -14,29 +14,26 @@ use loaded::Loaded;
 use names::Names;
 use obj::{Refusal, Table};
 use sections::Obj;
-use splits::SplitColumns;
+use splits::SplitTable;
 use trim::trim;
 use validate::validate;
 
-// The check of n rows, and where it passes the trim of their ends. `falls` is room for as many ends as there are rows.
+// The check of the rows, and where it passes the trim of their ends. `falls` is room for as many ends as there are rows.
 pub fn check_and_trim(
     loaded: &Loaded,
-    starts: &[u32],
-    ends: &mut [u32],
-    units: &[u16],
-    rest: &[u64],
-    n: usize,
+    table: &mut SplitTable,
     falls: &mut [u32],
 ) -> Result<(), Refusal>
     requires { Tables loaded.now.file.now loaded.now.symbols.now loaded.now.order.now loaded.now.file.now loaded.now.names.now loaded.now.lengths.now
         × Sound (symbol_of loaded.now.file.now loaded.now.symbols.now) (length loaded.now.symbols.now)
         × Kept loaded.now.file.now loaded.now.sections.now loaded.now.file.now loaded.now.images.now loaded.now.names.now
-        × AllPlaced (length loaded.now.sections.now) (columns starts.now ends.old units.now rest.now) n
-        × (n ≤ length falls.old) }
-    ensures { seen result (rows (columns starts.now ends.new units.now rest.now) n)
+        × AllPlaced (length loaded.now.sections.now) (columns_in table.old) table.old.count
+        × (table.old.count ≤ length falls.old) }
+    ensures rows { seen result (rows_in table.new)
         ≡ checked_table (image_of loaded.now.file.now loaded.now.symbols.now loaded.now.file.now loaded.now.names.now loaded.now.lengths.now)
         (sections_of loaded.now.file.now loaded.now.sections.now loaded.now.file.now loaded.now.images.now)
-        (rows (columns starts.now ends.old units.now rest.now) n) }
+        (rows_in table.old) }
+    ensures others { OnlyEnds table.old table.new }
 {
     validate(
         &Table {
@@ -44,13 +41,7 @@ pub fn check_and_trim(
             places: loaded.symbols,
         },
         loaded.order,
-        &SplitColumns {
-            starts,
-            ends: &*ends,
-            units,
-            rest,
-        },
-        n,
+        &table.columns(),
     )?;
     trim(
         &Obj {
@@ -73,11 +64,7 @@ pub fn check_and_trim(
             bytes: loaded.file,
             places: loaded.images,
         },
-        starts,
-        ends,
-        units,
-        rest,
-        n,
+        table,
         falls,
     )
 }

@@ -4,12 +4,10 @@ use Rattle.run_trim.proofs.Laws.{check_refused, check_passed}
 use Rattle.run_trim.proofs.check_and_trim.Goals as goal
 use Rattle.obj.proofs.Errors.{same_err}
 
--- src/lib.rt:47:9
-pub returns-in_err-validate : goal.returns-in_err-validate
-returns-in_err-validate c =
+pub returns-in_err-validate-clause-rows : goal.returns-in_err-validate-clause-rows
+returns-in_err-validate-clause-rows c =
     rw (same_err c.from_residual.result c.validate.result c.from_residual.ensures.1 c.in_err-validate.was)
-    (check_refused _ _ _ _ c.in_err-validate.was c.validate.ensures)
+    (check_refused _ _ _ _ c.in_err-validate.was (rw c.columns.ensures.rows at c.validate.ensures))
 
--- src/lib.rt:17:1
-pub returns : goal.returns
-returns c = check_passed _ _ _ c.in_ok-validate.was c.validate.ensures c.trim.ensures
+pub returns-clause-rows : goal.returns-clause-rows
+returns-clause-rows c = check_passed _ _ _ c.in_ok-validate.was (rw c.columns.ensures.rows at c.validate.ensures) c.trim.ensures.rows
