@@ -4,6 +4,8 @@ use Rattle.std.specs.Prelude.{ℕ, ◌<◌, ◌≤◌, List, [], ◌∷◌, Bool
 use Rattle.lists.specs.Rows.{keep_if}
 use Rattle.obj.specs.Records.{section_at, Held}
 use Rattle.obj.specs.declared.Split.{Split}
+use Rattle.obj.specs.declared.Table.{Table}
+use Rattle.names.specs.declared.Names.{Names}
 use Rattle.names.specs.Names.{name_at, Named}
 use Rattle.names.specs.Fixed.{is_bss}
 use Rattle.common.specs.declared.Bss.{Bss}
@@ -25,6 +27,21 @@ pub record Sections (name_bytes name_places name_lengths heads places : List ℕ
   pub held : (k : ℕ) → k < length places → Held 15 heads places k
   pub names : Named name_bytes name_places name_lengths (length name_places)
   pub named : (k : ℕ) → k < length places → (section_at heads (get_or places k 0)).name < length name_places
+
+-- ---- of the names and heads that are lent
+
+abbrev pub has_bss_name : Names → (heads : Table) → ℕ → Bool
+has_bss_name names heads = bss_at names.bytes.now names.places.now names.lengths.now heads.bytes.now heads.places.now
+
+-- the sections named `.bss`
+abbrev pub bss_numbers : Names → (heads : Table) → List ℕ
+bss_numbers names heads = bss_in names.bytes.now names.places.now names.lengths.now heads.bytes.now heads.places.now
+
+-- they belong together
+abbrev pub SectionsIn : Names → (heads : Table) → Type 0
+SectionsIn names heads = Sections names.bytes.now names.places.now names.lengths.now heads.bytes.now heads.places.now
+
+-- ---- what the code has of them
 
 -- which of them: none, one, or several
 abbrev pub bss_of : List ℕ → Bss

@@ -5,15 +5,15 @@
 ghost use Rattle.std.specs.Prelude.{◌≡◌, map, ◌&&◌, eqb, ℕ, ◌/◌, ◌%◌, ◌<◌, ◌≤◌, length, take, is_some, unwrap_or};
 ghost use Rattle.lists.specs.Rows.{keep_if};
 ghost use Rattle.lists.specs.Outcome.{accepted};
-ghost use Rattle.splits.specs.Columns.{columns, row_of, row_at, rows, Long};
-ghost use Rattle.splits.specs.Table.{columns_of};
+ghost use Rattle.splits.specs.Columns.{row_of, row_at};
+ghost use Rattle.splits.specs.Table.{columns_of, rows_of, columns_in, rows_in, OnlyRest};
 ghost use Rattle.common.specs.Common.{common_in, common_start, from_of, start_meaning, start_of, marked, common_of, answered, First};
 ghost use Rattle.common.specs.Records.{Kept};
-ghost use Rattle.common.specs.Sections.{bss_at, bss_in, bss_of, first_of, given_of, Sections};
+ghost use Rattle.common.specs.Sections.{has_bss_name, bss_numbers, bss_of, first_of, given_of, SectionsIn};
 
 use names::{Names, is_bss, name_at};
 use obj::{Refusal, Split, Table, refuse, section_at};
-use splits::{SplitColumns, rest_of, row};
+use splits::{SplitColumns, SplitTable, rest_of, row};
 
 // The sections named `.bss`.
 #[derive(Clone, Copy)]
@@ -27,8 +27,8 @@ pub enum Bss {
 
 // Whether section k is named `.bss`.
 fn is_bss_at(names: &Names, heads: &Table, k: usize) -> bool
-    requires { Sections names.now.bytes.now names.now.places.now names.now.lengths.now heads.now.bytes.now heads.now.places.now × (k < length heads.now.places.now) }
-    ensures { result ≡ bss_at names.now.bytes.now names.now.places.now names.now.lengths.now heads.now.bytes.now heads.now.places.now k }
+    requires { SectionsIn names.now heads.now × (k < length heads.now.places.now) }
+    ensures { result ≡ has_bss_name names.now heads.now k }
 {
     let head = section_at(heads, k);
     let name = head.name as usize;
@@ -37,8 +37,8 @@ fn is_bss_at(names: &Names, heads: &Table, k: usize) -> bool
 
 // The first section from `from` on that is named `.bss`.
 fn next_bss(names: &Names, heads: &Table, from: usize) -> Option<usize>
-    requires { Sections names.now.bytes.now names.now.places.now names.now.lengths.now heads.now.bytes.now heads.now.places.now × (from ≤ length heads.now.places.now) }
-    ensures { First (bss_at names.now.bytes.now names.now.places.now names.now.lengths.now heads.now.bytes.now heads.now.places.now) (λ k. k) (length heads.now.places.now) from result }
+    requires { SectionsIn names.now heads.now × (from ≤ length heads.now.places.now) }
+    ensures { First (has_bss_name names.now heads.now) (λ k. k) (length heads.now.places.now) from result }
 {
     for k in from..heads.places.len() {
         if is_bss_at(names, heads, k) {
@@ -50,8 +50,8 @@ fn next_bss(names: &Names, heads: &Table, from: usize) -> Option<usize>
 
 // `by_name(".bss")`: at most one section may have the name.
 fn by_name(names: &Names, heads: &Table) -> Bss
-    requires { Sections names.now.bytes.now names.now.places.now names.now.lengths.now heads.now.bytes.now heads.now.places.now }
-    ensures { result ≡ bss_of (bss_in names.now.bytes.now names.now.places.now names.now.lengths.now heads.now.bytes.now heads.now.places.now) }
+    requires { SectionsIn names.now heads.now }
+    ensures { result ≡ bss_of (bss_numbers names.now heads.now) }
 {
     let Some(first) = next_bss(names, heads, 0) else {
         return Bss::None;
@@ -73,11 +73,10 @@ fn is_common_in(section: u16, yrest: u64) -> bool
 }
 
 // The first common row of a section.
-fn first_common(splits: &SplitColumns, n: usize, section: u16) -> Option<usize>
-    requires { Long (columns_of splits.now) n }
-    ensures { First (common_in section) (row_at (columns_of splits.now)) n 0 result }
+fn first_common(splits: &SplitColumns, section: u16) -> Option<usize>
+    ensures { First (common_in section) (row_at (columns_of splits.now)) splits.now.count 0 result }
 {
-    for i in 0..n {
+    for i in 0..splits.count {
         if is_common_in(section, splits.rest[i]) {
             return Some(i);
         }
@@ -86,22 +85,20 @@ fn first_common(splits: &SplitColumns, n: usize, section: u16) -> Option<usize>
 }
 
 // "else from the first common one on": of the one `.bss`.
-fn first_start(splits: &SplitColumns, n: usize, section: u16) -> Option<(u16, u32)>
-    requires { Long (columns_of splits.now) n }
-    ensures { from_of result ≡ start_of section (keep_if (common_in section) (rows (columns_of splits.now) n)) }
+fn first_start(splits: &SplitColumns, section: u16) -> Option<(u16, u32)>
+    ensures { from_of result ≡ start_of section (keep_if (common_in section) (rows_of splits.now)) }
 {
-    let i = first_common(splits, n, section)?;
+    let i = first_common(splits, section)?;
     Some((section, splits.starts[i]))
 }
 
 // `common_bss_start`: without a start several `.bss` or none change nothing.
-fn common_bss_start(bss: Bss, splits: &SplitColumns, n: usize) -> Option<(u16, u32)>
-    requires { Long (columns_of splits.now) n }
-    ensures { from_of result ≡ first_of bss (rows (columns_of splits.now) n) }
+fn common_bss_start(bss: Bss, splits: &SplitColumns) -> Option<(u16, u32)>
+    ensures { from_of result ≡ first_of bss (rows_of splits.now) }
 {
     match bss {
         Bss::None => None,
-        Bss::One(section) => first_start(splits, n, section),
+        Bss::One(section) => first_start(splits, section),
         Bss::Many => None,
     }
 }
@@ -122,18 +119,16 @@ pub fn common_start(
     names: &Names,
     heads: &Table,
     splits: &SplitColumns,
-    n: usize,
     given: Option<u32>,
 ) -> Result<Option<(u16, u32)>, Refusal>
-    requires { Sections names.now.bytes.now names.now.places.now names.now.lengths.now heads.now.bytes.now heads.now.places.now × Long (columns_of splits.now) n }
+    requires { SectionsIn names.now heads.now }
     ensures { start_meaning result
-        ≡ common_start (is_some given) (unwrap_or given 0) (bss_in names.now.bytes.now names.now.places.now names.now.lengths.now heads.now.bytes.now heads.now.places.now)
-        (rows (columns_of splits.now) n) }
+        ≡ common_start (is_some given) (unwrap_or given 0) (bss_numbers names.now heads.now) (rows_of splits.now) }
 {
     let bss = by_name(names, heads);
     match given {
         Some(start) => given_start(bss, start),
-        None => Ok(common_bss_start(bss, splits, n)),
+        None => Ok(common_bss_start(bss, splits)),
     }
 }
 
@@ -150,21 +145,12 @@ fn marked_rest(start: u32, rest: u64, section: u16, address: u32) -> u64
 }
 
 // Every row of the section from the address on becomes common.
-pub fn mark_columns(
-    starts: &[u32],
-    ends: &[u32],
-    units: &[u16],
-    rest: &mut [u64],
-    n: usize,
-    section: u16,
-    address: u32,
-)
-    requires { Long (columns starts.now ends.now units.now rest.old) n }
-    ensures { rows (columns starts.now ends.now units.now rest.new) n
-        ≡ map (marked section address) (rows (columns starts.now ends.now units.now rest.old) n) }
+pub fn mark_columns(table: &mut SplitTable, section: u16, address: u32)
+    ensures rows { rows_in table.new ≡ map (marked section address) (rows_in table.old) }
+    ensures others { OnlyRest table.old table.new }
 {
-    for i in 0..n {
-        rest[i] = marked_rest(starts[i], rest[i], section, address);
+    for i in 0..table.count {
+        table.rest[i] = marked_rest(table.starts[i], table.rest[i], section, address);
     }
 }
 
@@ -200,10 +186,10 @@ pub fn marked_rows(rows: [Split; 1024], section: u16, address: u32) -> [Split; 1
     table
 }
 
-// The first n rows as split records.
-fn records(splits: &SplitColumns, n: usize) -> [Split; 1024]
-    requires { Long (columns_of splits.now) n × (n ≤ 1024) }
-    ensures { take n result ≡ rows (columns_of splits.now) n }
+// The rows as split records.
+fn records(splits: &SplitColumns) -> [Split; 1024]
+    requires { splits.now.count ≤ 1024 }
+    ensures { take splits.now.count result ≡ rows_of splits.now }
 {
     let none = Split {
         section: 0,
@@ -216,54 +202,32 @@ fn records(splits: &SplitColumns, n: usize) -> [Split; 1024]
         origin: 0,
     };
     let mut table = [none; 1024];
-    for i in 0..n {
+    for i in 0..splits.count {
         table[i] = row(splits, i);
     }
     table
 }
 
-// The first n records back into the column that may have changed.
-fn put_records(
-    table: [Split; 1024],
-    starts: &[u32],
-    ends: &[u32],
-    units: &[u16],
-    rest: &mut [u64],
-    n: usize,
-)
-    requires { Long (columns starts.now ends.now units.now rest.old) n × (n ≤ 1024) × Kept (columns starts.now ends.now units.now rest.old) table n }
-    ensures { rows (columns starts.now ends.now units.now rest.new) n ≡ take n table }
+// The records back into the column that may have changed.
+fn put_records(table: &mut SplitTable, records: [Split; 1024])
+    requires { (table.old.count ≤ 1024) × Kept (columns_in table.old) records table.old.count }
+    ensures rows { rows_in table.new ≡ take table.old.count records }
+    ensures others { OnlyRest table.old table.new }
 {
-    for i in 0..n {
-        rest[i] = rest_of(table[i]);
+    for i in 0..table.count {
+        table.rest[i] = rest_of(records[i]);
     }
 }
 
 // What `mark_columns` does, on split records.
-pub fn mark_records(
-    starts: &[u32],
-    ends: &[u32],
-    units: &[u16],
-    rest: &mut [u64],
-    n: usize,
-    section: u16,
-    address: u32,
-)
-    requires { Long (columns starts.now ends.now units.now rest.old) n × (n ≤ 1024) }
-    ensures { rows (columns starts.now ends.now units.now rest.new) n
-        ≡ map (marked section address) (rows (columns starts.now ends.now units.now rest.old) n) }
+pub fn mark_records(table: &mut SplitTable, section: u16, address: u32)
+    requires { table.old.count ≤ 1024 }
+    ensures rows { rows_in table.new ≡ map (marked section address) (rows_in table.old) }
+    ensures others { OnlyRest table.old table.new }
 {
-    let table = records(
-        &SplitColumns {
-            starts,
-            ends,
-            units,
-            rest: &*rest,
-        },
-        n,
-    );
-    let marked = marked_rows(table, section, address);
-    put_records(marked, starts, ends, units, rest, n);
+    let unmarked = records(&table.columns());
+    let marked = marked_rows(unmarked, section, address);
+    put_records(table, marked);
 }
 
 // ---- the stage
@@ -272,32 +236,17 @@ pub fn mark_records(
 pub fn update_common_splits(
     names: &Names,
     heads: &Table,
-    starts: &[u32],
-    ends: &[u32],
-    units: &[u16],
-    rest: &mut [u64],
-    n: usize,
+    table: &mut SplitTable,
     given: Option<u32>,
 ) -> Result<(), Refusal>
-    requires { Sections names.now.bytes.now names.now.places.now names.now.lengths.now heads.now.bytes.now heads.now.places.now × Long (columns starts.now ends.now units.now rest.old) n }
-    ensures { answered result (rows (columns starts.now ends.now units.now rest.new) n)
-        ≡ common_of (is_some given) (unwrap_or given 0) (bss_in names.now.bytes.now names.now.places.now names.now.lengths.now heads.now.bytes.now heads.now.places.now)
-        (rows (columns starts.now ends.now units.now rest.old) n) }
+    requires { SectionsIn names.now heads.now }
+    ensures rows { answered result (rows_in table.new)
+        ≡ common_of (is_some given) (unwrap_or given 0) (bss_numbers names.now heads.now) (rows_in table.old) }
+    ensures others { OnlyRest table.old table.new }
 {
-    let from = common_start(
-        names,
-        heads,
-        &SplitColumns {
-            starts,
-            ends,
-            units,
-            rest: &*rest,
-        },
-        n,
-        given,
-    )?;
+    let from = common_start(names, heads, &table.columns(), given)?;
     if let Some((section, address)) = from {
-        mark_columns(starts, ends, units, rest, n, section, address);
+        mark_columns(table, section, address);
     }
     Ok(())
 }
@@ -306,32 +255,17 @@ pub fn update_common_splits(
 pub fn update_common_records(
     names: &Names,
     heads: &Table,
-    starts: &[u32],
-    ends: &[u32],
-    units: &[u16],
-    rest: &mut [u64],
-    n: usize,
+    table: &mut SplitTable,
     given: Option<u32>,
 ) -> Result<(), Refusal>
-    requires { Sections names.now.bytes.now names.now.places.now names.now.lengths.now heads.now.bytes.now heads.now.places.now × Long (columns starts.now ends.now units.now rest.old) n × (n ≤ 1024) }
-    ensures { answered result (rows (columns starts.now ends.now units.now rest.new) n)
-        ≡ common_of (is_some given) (unwrap_or given 0) (bss_in names.now.bytes.now names.now.places.now names.now.lengths.now heads.now.bytes.now heads.now.places.now)
-        (rows (columns starts.now ends.now units.now rest.old) n) }
+    requires { SectionsIn names.now heads.now × (table.old.count ≤ 1024) }
+    ensures rows { answered result (rows_in table.new)
+        ≡ common_of (is_some given) (unwrap_or given 0) (bss_numbers names.now heads.now) (rows_in table.old) }
+    ensures others { OnlyRest table.old table.new }
 {
-    let from = common_start(
-        names,
-        heads,
-        &SplitColumns {
-            starts,
-            ends,
-            units,
-            rest: &*rest,
-        },
-        n,
-        given,
-    )?;
+    let from = common_start(names, heads, &table.columns(), given)?;
     if let Some((section, address)) = from {
-        mark_records(starts, ends, units, rest, n, section, address);
+        mark_records(table, section, address);
     }
     Ok(())
 }

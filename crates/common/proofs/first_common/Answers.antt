@@ -13,7 +13,7 @@ returns-then-is_common_in c =
     let l = c.loop-i in
     let a = c.args in
     let f = row_at (columns_of a.splits.now) in
-    first_hit (common_in a.section) f a.n 0 l.i c.loop-i-test.true (l.invariant ∙ filter_hit (common_in a.section) f a.n l.i c.loop-i-test.true (sym c.is_common_in.ensures ∙ c.if-is_common_in.true))
+    first_hit (common_in a.section) f a.splits.now.count 0 l.i c.loop-i-test.true (l.invariant ∙ filter_hit (common_in a.section) f a.splits.now.count l.i c.loop-i-test.true (sym c.is_common_in.ensures ∙ c.if-is_common_in.true))
 
 pub loop-i-preserved : goal.loop-i-preserved
 unfolding row_of
@@ -21,11 +21,11 @@ loop-i-preserved c =
     let l = c.loop-i in
     let a = c.args in
     let f = row_at (columns_of a.splits.now) in
-    l.invariant ∙ filter_miss (common_in a.section) f a.n l.i c.loop-i-test.true (sym c.is_common_in.ensures ∙ c.if-is_common_in.false)
+    l.invariant ∙ filter_miss (common_in a.section) f a.splits.now.count l.i c.loop-i-test.true (sym c.is_common_in.ensures ∙ c.if-is_common_in.false)
 
 pub returns : goal.returns
 returns c =
     let l = c.loop-i in
     let a = c.args in
     let f = row_at (columns_of a.splits.now) in
-    first_none (common_in a.section) f a.n 0 (l.invariant ∙ filter_none (common_in a.section) f a.n l.i c.loop-i-test.false)
+    first_none (common_in a.section) f a.splits.now.count 0 (l.invariant ∙ filter_none (common_in a.section) f a.splits.now.count l.i c.loop-i-test.false)

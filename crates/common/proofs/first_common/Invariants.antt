@@ -9,5 +9,5 @@ use Rattle.common.proofs.first_common.Given as goal
 
 abbrev pub invariant-loop-i : goal.invariant-loop-i
 invariant-loop-i l =
-    keep_if (common_in l.section) (tabulate (row_at (columns_of l.splits)) 0 (l.n - 0))
-    ≡ keep_if (common_in l.section) (tabulate (row_at (columns_of l.splits)) l.i (l.n - l.i))
+    keep_if (common_in l.section) (tabulate (row_at (columns_of l.splits)) 0 (l.splits.count - 0))
+    ≡ keep_if (common_in l.section) (tabulate (row_at (columns_of l.splits)) l.i (l.splits.count - l.i))

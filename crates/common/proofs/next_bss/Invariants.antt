@@ -3,10 +3,10 @@ use mathlib.Core.Path.{◌≡◌}
 use Prim.Native.Nat.{◌-◌}
 use lib.ListN.{length}
 use Rattle.lists.specs.Rows.{tabulate, keep_if}
-use Rattle.common.specs.Sections.{bss_at}
+use Rattle.common.specs.Sections.{has_bss_name}
 use Rattle.common.proofs.next_bss.Given as goal
 
 abbrev pub invariant-loop-k : goal.invariant-loop-k
 invariant-loop-k l =
-    keep_if (bss_at l.names.bytes.now l.names.places.now l.names.lengths.now l.heads.bytes.now l.heads.places.now) (tabulate (λ j. j) l.from (length l.heads.places.now - l.from))
-    ≡ keep_if (bss_at l.names.bytes.now l.names.places.now l.names.lengths.now l.heads.bytes.now l.heads.places.now) (tabulate (λ j. j) l.k (length l.heads.places.now - l.k))
+    keep_if (has_bss_name l.names l.heads) (tabulate (λ j. j) l.from (length l.heads.places.now - l.from))
+    ≡ keep_if (has_bss_name l.names l.heads) (tabulate (λ j. j) l.k (length l.heads.places.now - l.k))

@@ -1,27 +1,44 @@
--- `common::put_records` meets its contract. Assumes nothing.
+-- `common::put_records` meets its contract: a turn writes one record more into the rest of its row, and nothing else changes.
+-- Assumes nothing.
 use native.Mathlib.Omega.{arith}
 use borrow.Author.Rules.{rules}
-use mathlib.Core.Path.{◌≡◌}
-use lib.ListN.{length}
+use mathlib.Core.Path.{◌≡◌, refl, ◌∙◌}
+use lib.ListN.{length, length-set}
 use Rattle.lists.proofs.Rows.{unmapped}
 use Rattle.common.proofs.Written.{writing_start, writing_more, writing_done}
 use Rattle.common.proofs.put_records.Goals as goal
 
 pub loop-i-init : goal.loop-i-init
-loop-i-init c = writing_start _ _ _ _ _
+loop-i-init c = (writing_start _ _ _ _ _, record { starts = refl; ends = refl; units = refl; held = refl; count = refl; room = refl })
 
 pub rest_of-requires : goal.rest_of-requires
-rest_of-requires c = c.requires.2.aligned c.loop-i.i c.loop-i-test.true
+rest_of-requires c = c.requires.1.aligned c.loop-i.i c.loop-i-test.true
 
 pub loop-i-preserved : goal.loop-i-preserved
 loop-i-preserved c =
     let l = c.loop-i in
     let a = c.args in
-    writing_more a.starts.now a.ends.now a.units.now a.rest.now a.table l.rest a.n l.i c.rest_of.result (let q = l.invariant.long in omega arith) c.loop-i-test.true c.requires.2 c.rest_of.ensures l.invariant
+    let t = a.table.now in
+    let o = l.invariant.1 in
+    let v = c.rest_of.result in (
+      writing_more t.starts.now t.ends.now t.units.now t.rest.now a.records l.table.rest.now t.count l.i v (omega (arith, o.count, c.loop-i-test.true)) c.loop-i-test.true c.requires.1 c.rest_of.ensures l.invariant.0,
+      record {
+        starts = o.starts;
+        ends = o.ends;
+        units = o.units;
+        held = length-set l.table.rest.now l.i v ∙ o.held;
+        count = o.count;
+        room = o.room;
+      },
+    )
 
-pub returns : goal.returns
-returns c =
+pub returns-clause-rows : goal.returns-clause-rows
+returns-clause-rows c =
     let l = c.loop-i in
     let a = c.args in
-    let e : l.i ≡ a.n = omega arith in
-    writing_done a.starts.now a.ends.now a.units.now a.rest.now a.table l.rest a.n (let q : length a.table ≡ 1024 = search (rules, unmapped) in omega arith) (rw e at l.invariant)
+    let t = a.table.now in
+    let o = l.invariant.1 in
+    let e : l.i ≡ t.count = omega arith in
+    let long : length a.records ≡ 1024 = search (rules, unmapped) in
+    rw (o.starts, o.ends, o.units, o.count)
+    (writing_done t.starts.now t.ends.now t.units.now t.rest.now a.records l.table.rest.now t.count (omega (arith, long, c.requires.0)) (rw e at l.invariant.0))

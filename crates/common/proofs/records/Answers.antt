@@ -17,11 +17,11 @@ loop-i-preserved c =
     let l = c.loop-i in
     let a = c.args in (
       length-set l.table l.i c.row.result ∙ l.invariant.0,
-      fill_turn (row_at (columns_of a.splits.now)) a.n l.i l.table c.row.result c.loop-i-test.true (let q = l.invariant.0 in omega arith) c.row.ensures l.invariant.1,
+      fill_turn (row_at (columns_of a.splits.now)) a.splits.now.count l.i l.table c.row.result c.loop-i-test.true (let q = l.invariant.0 in omega arith) c.row.ensures l.invariant.1,
     )
 
 pub returns : goal.returns
 returns c =
     let l = c.loop-i in
     let a = c.args in
-    fill_done (row_at (columns_of a.splits.now)) a.n l.i l.table (omega arith) l.invariant.1
+    fill_done (row_at (columns_of a.splits.now)) a.splits.now.count l.i l.table (omega arith) l.invariant.1
