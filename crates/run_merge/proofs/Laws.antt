@@ -1,6 +1,6 @@
 -- Common without a start refuses nothing, so its answer leaves nothing to be handed on. Assumes nothing.
 use Prim.Native.Nat.{ℕ}
-use mathlib.Core.Path.{◌≡◌, refl, sym, ap, ◌∙◌}
+use mathlib.Core.Path.{◌≡◌, refl, sym, ◌∙◌}
 use mathlib.Core.Bool.{false}
 use mathlib.Core.List.{List}
 use Rattle.lists.specs.Outcome.{Outcome, accepted, refused, ◌>>=◌}
@@ -9,7 +9,7 @@ use Rattle.lists.proofs.Binds.{bind_goes, bind_stops}
 use Rattle.obj.specs.Answers.{Answer}
 use Rattle.std.specs.Prelude.{Ok, Err}
 use Rattle.obj.specs.declared.Split.{Split}
-use Rattle.common.specs.Common.{From, common_of, common_start, first_common, marked_from, answered}
+use Rattle.common.specs.Common.{common_of, common_start, first_common, marked_from, answered}
 use Rattle.run_merge.specs.Merging.{marked_in}
 
 -- what it leaves

@@ -1,5 +1,5 @@
 -- What each stage of the split table is asked with: the loaded file's laws for the tables, and the rows that the stage before left. Assumes nothing.
-use Prim.Native.Nat.{ℕ, ◌≤◌}
+use Prim.Native.Nat.{ℕ, ◌+◌, ◌*◌, ◌≤◌}
 use mathlib.Core.Path.{◌≡◌, sym, ap, subst, ◌∙◌}
 use mathlib.Core.List.{List}
 use native.Mathlib.Omega.{arith}
@@ -19,9 +19,8 @@ use Rattle.load.specs.Load.{Loaded, names_in}
 use Rattle.loaded.specs.Tables.{byte_places, Usable}
 use Rattle.loaded.proofs.Laws.{few_sections, few_symbols, all_named, section_named, sections_kept, sections_heads}
 use Rattle.sections.specs.Sections.{head_of, Kept}
-use Rattle.splits.specs.Columns.{Columns, row_at, rows, Long}
+use Rattle.splits.specs.Columns.{Columns, row_at, rows}
 use Rattle.common.specs.Sections.{Sections}
-use Rattle.gaps.specs.Found.{Roomy}
 use Rattle.gap_splits.specs.Entering.{Filled, Ceilings}
 use Rattle.create_gap_splits.specs.Create.{Short}
 use Rattle.trim.specs.Steps.{Placed, AllPlaced}
@@ -47,11 +46,9 @@ module _ {file : List ℕ} {t : Loaded} (u : Usable file t) where
       let long = length-take-le (get_or t.lengths k 0) (drop (get_or t.names k 0) file) (simp length-drop (omega (arith, inside))) in
       omega (arith, long, short)
 
-  -- columns of 64 + 2 * 1,024 + 4,096 places hold all gaps
-  pub gaps_roomy : (keys gap_ends : List ℕ) (n cap : ℕ) → n ≤ cap → cap ≤ 1024 → 6208 ≤ length keys → 6208 ≤ length gap_ends
-      → Roomy keys gap_ends (length t.sections) n (length t.symbols)
-  gaps_roomy keys gap_ends n cap h k a b =
-      record { long_keys = omega (arith, h, k, a, few_sections u, few_symbols u); long_ends = omega (arith, h, k, b, few_sections u, few_symbols u) }
+  -- 64 + 2 * 1,024 + 4,096 places hold all gaps
+  pub gaps_roomy : (n cap room : ℕ) → n ≤ cap → cap ≤ 1024 → 6208 ≤ room → length t.sections + 2 * n + length t.symbols ≤ room
+  gaps_roomy n cap room h k a = omega (arith, h, k, a, few_sections u, few_symbols u)
 
   -- ---- the rows before the trim
   module _ (room : ℕ) (names : Ceilings) where
@@ -65,9 +62,8 @@ module _ {file : List ℕ} {t : Loaded} (u : Usable file t) where
         (common_fine u room names _ b.0 a.0 (subst (λ (n : ℕ). All (Fine (length t.sections) n) b.0) (sym (length-names file t.names t.lengths (length t.names))) (merged_fine u room names b.0 b.1)) b.2)
         a.2
 
-    fine_placed : (c : Columns) (n names : ℕ) → Long c n → All (Fine (length t.sections) names) (rows c n) → AllPlaced (length t.sections) c n
-    fine_placed c n names long q = record {
-      long = long;
+    fine_placed : (c : Columns) (n names : ℕ) → All (Fine (length t.sections) names) (rows c n) → AllPlaced (length t.sections) c n
+    fine_placed c n names q = record {
       each = λ k h.
           let f = all_at k no_split q (omega (arith, h, length-tabulate (row_at c) 0 n)) in
           let e = get_d_tabulate (row_at c) 0 n k no_split h ∙ ap (row_at c) (zero-add k) in
@@ -75,8 +71,8 @@ module _ {file : List ℕ} {t : Loaded} (u : Usable file t) where
     }
 
     pub rows-placed : (images : List ℕ) → images ≡ byte_places t.sections → (full : Filled) → accepted full ≡ gaps_with file t room names images (marked_table file t room names)
-        → (table : Columns) (n : ℕ) → full.rows ≡ rows table n → Long table n → AllPlaced (length t.sections) table n
-    rows-placed images p full e table n same long =
-        fine_placed table n _ long
+        → (table : Columns) (n : ℕ) → full.rows ≡ rows table n → AllPlaced (length t.sections) table n
+    rows-placed images p full e table n same =
+        fine_placed table n _
         (subst (λ (l : List Split). All (Fine (length t.sections) (length full.names)) l) same
         (gapped_fine full (ap (λ (l : List ℕ). gaps_with file t room names l (marked_table file t room names)) (sym p) ∙ sym e)))

@@ -1,7 +1,7 @@
 -- The steps one after another are the definition: a refusal ends it, and each stage goes on from the table before it. Assumes nothing.
 use Prim.Native.Nat.{ℕ}
 use mathlib.Core.Path.{◌≡◌, refl, sym, ap, ◌∙◌}
-use mathlib.Core.List.{List, []}
+use mathlib.Core.List.{List, [], ◌++◌}
 use lib.ListN.{length}
 use Rattle.lists.specs.Outcome.{Outcome, accepted, refused, ◌>>=◌}
 use Rattle.lists.proofs.Binds.{bind_goes, bind_stops}
@@ -15,7 +15,11 @@ use Rattle.sections.specs.Sections.{Sections, sections_of}
 use Rattle.splits.specs.Columns.{rows}
 use Rattle.merge.specs.Merge.{Given, given, merge_all}
 use Rattle.common.specs.Sections.{bss_in}
+use Rattle.obj.specs.Answers.{Answer}
+use Rattle.std.specs.Prelude.{Ok, Err}
+use Rattle.trim.specs.Steps.{seen}
 use Rattle.gap_splits.specs.Entering.{Filled, Ceilings}
+use Rattle.gap_splits.specs.Answers.{meant}
 use Rattle.create_gap_splits.specs.Create.{gaps_filled}
 use Rattle.run_merge.specs.Merging.{marked_in}
 use Rattle.run_trim.specs.Checking.{checked_table}
@@ -93,3 +97,9 @@ module _ (file : List ℕ) (t : Loaded) (room : ℕ) (names : Ceilings) where
         → accepted (record { names = full.names; rows = left }) ≡ split_table file t room names
     all_accepted {rows} {left} {full} e q h =
         table_is images p e (q ∙ sym (bind_goes _ _ _ refl)) (sym (bind_goes _ _ _ refl ∙ bind_goes (check_of full.rows) _ left (sym h)))
+
+    -- what the check and the trim answer is the answer, with the names of the filling
+    pub ends_so : (base added : List (List ℕ)) {rows more : List Split} (left : List Split) (a : Answer) → accepted rows ≡ marked_table → accepted (record { names = base ++ added; rows = more }) ≡ gaps_of rows
+        → seen a left ≡ check_of more → meant base added left a ≡ split_table file t room names
+    ends_so base added left (Ok _) e q h = all_accepted e q h
+    ends_so base added left (Err r) e q h = trim_refused e q h
