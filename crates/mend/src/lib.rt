@@ -1,13 +1,13 @@
 // Mending of a split table (`mend_splits`): ends that are 0, below their start or above the next start are replaced, with a line for each.
-// A row's new end is decided in a function over `&` columns, then set; the lines go into a lent slice.
+// A row's new end is decided in a function over columns to read, then set; the lines go into a lent slice.
 #![tactic(auto)]
 
 ghost use Rattle.std.specs.Prelude.{◌≡◌, ◌+◌, ◌-◌, ◌≤◌, ◌<◌, map, length, take};
 ghost use Rattle.lists.specs.Rows.{tabulate};
 ghost use Rattle.obj.specs.Answers.{meaning};
 ghost use Rattle.obj.specs.Records.{section_at};
-ghost use Rattle.splits.specs.Columns.{columns, row_at, rows, Long};
-ghost use Rattle.splits.specs.Table.{columns_of};
+ghost use Rattle.splits.specs.Columns.{row_at};
+ghost use Rattle.splits.specs.Table.{columns_of, rows_of, columns_in, rows_in, OnlyEnds};
 ghost use Rattle.lines.specs.Lines.{Written};
 ghost use Rattle.mend.specs.Mend.{section_ends_of, next_of, wrong_end, limit_of, replacement, mend_line, mend_check};
 ghost use Rattle.mend.specs.Steps.{Joins, Turned, Fills, Mends, LowHeads};
@@ -15,7 +15,7 @@ ghost use Rattle.mend.specs.Steps.{Joins, Turned, Fills, Mends, LowHeads};
 use lines::{put_decimal, put_hex8};
 use names::put_bytes;
 use obj::{Refusal, Table, refuse, section_at};
-use splits::{SplitColumns, row};
+use splits::{SplitColumns, SplitTable, row};
 
 const SPACE: u8 = 32;
 
@@ -49,15 +49,15 @@ fn limit_of(section_ends: &[u32], section: u16, next: Option<u32>) -> u32
     }
 }
 
-// The start of the split after row i of n, if that is of the section too.
-fn next_of(splits: &SplitColumns, n: usize, i: usize) -> Option<u32>
-    requires { Long (columns_of splits.now) n × (i < n) }
+// The start of the split after row i, if that is of the section too.
+fn next_of(splits: &SplitColumns, i: usize) -> Option<u32>
+    requires { i < splits.now.count }
     ensures { result
         ≡ next_of (row_at (columns_of splits.now) i)
-        (tabulate (row_at (columns_of splits.now)) (i + 1) (n - (i + 1))) }
+        (tabulate (row_at (columns_of splits.now)) (i + 1) (splits.now.count - (i + 1))) }
 {
     let k = i + 1;
-    if n <= k {
+    if splits.count <= k {
         return None;
     }
     if splits.rest[k] % 65536 != splits.rest[i] % 65536 {
@@ -66,29 +66,27 @@ fn next_of(splits: &SplitColumns, n: usize, i: usize) -> Option<u32>
     Some(splits.starts[k])
 }
 
-// The end that row i of n gets, if its own is replaced.
-fn decide(splits: &SplitColumns, n: usize, section_ends: &[u32], i: usize) -> Option<u32>
-    requires { Long (columns_of splits.now) n × (i < n) }
+// The end that row i gets, if its own is replaced.
+fn decide(splits: &SplitColumns, section_ends: &[u32], i: usize) -> Option<u32>
+    requires { i < splits.now.count }
     ensures { result
         ≡ replacement section_ends.now (row_at (columns_of splits.now) i)
-        (tabulate (row_at (columns_of splits.now)) (i + 1) (n - (i + 1))) }
+        (tabulate (row_at (columns_of splits.now)) (i + 1) (splits.now.count - (i + 1))) }
 {
     let split = row(splits, i);
-    let next = next_of(splits, n, i);
+    let next = next_of(splits, i);
     if wrong_end(split.start, split.end, next) {
         return Some(limit_of(section_ends, split.section, next));
     }
     None
 }
 
-// "86, a new end would be 0 or below its start", of the first n rows in table order.
-pub fn check_ends(splits: &SplitColumns, n: usize, section_ends: &[u32]) -> Result<(), Refusal>
-    requires { Long (columns_of splits.now) n }
-    ensures { meaning result
-        ≡ mend_check section_ends.now (rows (columns_of splits.now) n) }
+// "86, a new end would be 0 or below its start", of the rows in table order.
+pub fn check_ends(splits: &SplitColumns, section_ends: &[u32]) -> Result<(), Refusal>
+    ensures { meaning result ≡ mend_check section_ends.now (rows_of splits.now) }
 {
-    for i in 0..n {
-        let end = decide(splits, n, section_ends, i).unwrap_or(splits.ends[i]);
+    for i in 0..splits.count {
+        let end = decide(splits, section_ends, i).unwrap_or(splits.ends[i]);
         if (end == 0) | (end < splits.starts[i]) {
             return refuse(86, 0, 0);
         }
@@ -134,83 +132,52 @@ fn put_line(
 
 // Row i gets its end, and its line is put behind the lines so far, if it fits: where they end then.
 fn mend_row(
-    starts: &[u32],
-    ends: &mut [u32],
-    units: &[u16],
-    rest: &[u64],
-    n: usize,
+    table: &mut SplitTable,
     section_ends: &[u32],
     i: usize,
     lines: &mut [u8],
     at: usize,
 ) -> Option<usize>
-    requires { Long (columns starts.now ends.old units.now rest.now) n × (i < n) × (at ≤ length lines.old) }
-    ensures { Turned section_ends.now (row_at (columns starts.now ends.old units.now rest.now) i)
-        (tabulate (row_at (columns starts.now ends.old units.now rest.now)) (i + 1) (n - (i + 1)))
-        i ends.old ends.new lines.old lines.new at result }
+    requires { (i < table.old.count) × (at ≤ length lines.old) }
+    ensures turned { Turned section_ends.now (row_at (columns_in table.old) i)
+        (tabulate (row_at (columns_in table.old)) (i + 1) (table.old.count - (i + 1)))
+        i table.old.ends.now table.new.ends.now lines.old lines.new at result }
+    ensures others { OnlyEnds table.old table.new }
 {
-    let columns = SplitColumns {
-        starts,
-        ends: &*ends,
-        units,
-        rest,
-    };
-    let s = row(&columns, i);
-    match decide(&columns, n, section_ends, i) {
+    let splits = table.columns();
+    let s = row(&splits, i);
+    match decide(&splits, section_ends, i) {
         Some(end) => {
-            ends[i] = end;
+            table.ends[i] = end;
             put_line(lines, at, s.section, s.start, s.end, end)
         }
         None => Some(at),
     }
 }
 
-// The first n rows get their ends, and the lines stand at the front of the lent bytes, if they fit: how many bytes of lines there are.
-pub fn mend_rows(
-    starts: &[u32],
-    ends: &mut [u32],
-    units: &[u16],
-    rest: &[u64],
-    n: usize,
-    section_ends: &[u32],
-    lines: &mut [u8],
-) -> Option<usize>
-    requires { Long (columns starts.now ends.old units.now rest.now) n }
-    ensures { Fills section_ends.now (rows (columns starts.now ends.old units.now rest.now) n)
-        (rows (columns starts.now ends.new units.now rest.now) n) lines.old lines.new result }
+// The rows get their ends, and the lines stand at the front of the lent bytes, if they fit: how many bytes of lines there are.
+pub fn mend_rows(table: &mut SplitTable, section_ends: &[u32], lines: &mut [u8]) -> Option<usize>
+    ensures filled { Fills section_ends.now (rows_in table.old) (rows_in table.new) lines.old lines.new result }
+    ensures others { OnlyEnds table.old table.new }
 {
     let mut at: usize = 0;
-    for i in 0..n {
-        at = mend_row(starts, ends, units, rest, n, section_ends, i, lines, at)?;
+    for i in 0..table.count {
+        at = mend_row(table, section_ends, i, lines, at)?;
     }
     Some(at)
 }
 
-// The stage: 86, then the ends and their lines, then 80, of the first n rows. It answers how many bytes of lines there are.
+// The stage: 86, then the ends and their lines, then 80. It answers how many bytes of lines there are.
 pub fn mend_table(
-    starts: &[u32],
-    ends: &mut [u32],
-    units: &[u16],
-    rest: &[u64],
-    n: usize,
+    table: &mut SplitTable,
     section_ends: &[u32],
     lines: &mut [u8],
 ) -> Result<usize, Refusal>
-    requires { Long (columns starts.now ends.old units.now rest.now) n }
-    ensures { Mends section_ends.now (rows (columns starts.now ends.old units.now rest.now) n)
-        (rows (columns starts.now ends.new units.now rest.now) n) lines.old lines.new result }
+    ensures mended { Mends section_ends.now (rows_in table.old) (rows_in table.new) lines.old lines.new result }
+    ensures others { OnlyEnds table.old table.new }
 {
-    check_ends(
-        &SplitColumns {
-            starts,
-            ends: &*ends,
-            units,
-            rest,
-        },
-        n,
-        section_ends,
-    )?;
-    match mend_rows(starts, ends, units, rest, n, section_ends, lines) {
+    check_ends(&table.columns(), section_ends)?;
+    match mend_rows(table, section_ends, lines) {
         Some(size) => Ok(size),
         None => refuse(80, 0, 0),
     }

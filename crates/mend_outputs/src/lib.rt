@@ -2,8 +2,7 @@
 #![tactic(auto)]
 
 ghost use Rattle.std.specs.Prelude.{◌*◌, ◌≤◌, length};
-ghost use Rattle.splits.specs.Columns.{rows, Long};
-ghost use Rattle.splits.specs.Table.{columns_of};
+ghost use Rattle.splits.specs.Table.{rows_of};
 ghost use Rattle.mend.specs.Steps.{line_bytes};
 ghost use Rattle.obj.specs.Records.{split_width};
 ghost use Rattle.mend_outputs.specs.Outputs.{Stores, Finishes};
@@ -12,21 +11,20 @@ use obj::{Refusal, word_of};
 use outputs::{clear_from, put_count};
 use splits::{SplitColumns, store};
 
-// The first n rows at the front of the output, and in the counts how many they are and how many bytes of lines there are; nothing after a refusal.
+// The rows at the front of the output, and in the counts how many they are and how many bytes of lines there are; nothing after a refusal.
 pub fn give_mended(
     r: Result<usize, Refusal>,
     splits: &SplitColumns,
-    n: usize,
     out: &mut [u8],
     counts: &mut [u8],
 ) -> Result<(), Refusal>
-    requires { Long (columns_of splits.now) n × (split_width * n ≤ length out.old) × (n ≤ 1024) × (line_bytes r ≤ 49152) }
-    ensures { Stores r (rows (columns_of splits.now) n) n result
+    requires { (split_width * splits.now.count ≤ length out.old) × (splits.now.count ≤ 1024) × (line_bytes r ≤ 49152) }
+    ensures { Stores r (rows_of splits.now) splits.now.count result
         out.old counts.old out.new counts.new }
 {
     let size = r?;
-    store(splits, n, out);
-    put_count(counts, 0, n as u16);
+    store(splits, out);
+    put_count(counts, 0, splits.count as u16);
     put_count(counts, 1, size as u16);
     Ok(())
 }

@@ -21,8 +21,8 @@ returns-then-end-splits c =
     let l = c.loop-i in
     let f = row_at (columns_of a.splits.now) in
     ap meaning c.refuse.ensures
-    ∙ check_stops a.section_ends.now f a.n l.i c.loop-i-test.true _
-    (c.unwrap_or-end.ensures ∙ ap (λ (d : Option ℕ). unwrap_or d (get_or a.splits.now.ends.now l.i 0)) c.decide.ensures ∙ gets a.section_ends.now (f l.i) (tabulate f (l.i + 1) (a.n - (l.i + 1))))
+    ∙ check_stops a.section_ends.now f a.splits.now.count l.i c.loop-i-test.true _
+    (c.unwrap_or-end.ensures ∙ ap (λ (d : Option ℕ). unwrap_or d (get_or a.splits.now.ends.now l.i 0)) c.decide.ensures ∙ gets a.section_ends.now (f l.i) (tabulate f (l.i + 1) (a.splits.now.count - (l.i + 1))))
     c.if-end-splits.true
     ∙ l.invariant
 
@@ -32,8 +32,8 @@ loop-i-preserved c =
     let a = c.args in
     let l = c.loop-i in
     let f = row_at (columns_of a.splits.now) in
-    check_goes a.section_ends.now f a.n l.i c.loop-i-test.true _
-    (c.unwrap_or-end.ensures ∙ ap (λ (d : Option ℕ). unwrap_or d (get_or a.splits.now.ends.now l.i 0)) c.decide.ensures ∙ gets a.section_ends.now (f l.i) (tabulate f (l.i + 1) (a.n - (l.i + 1))))
+    check_goes a.section_ends.now f a.splits.now.count l.i c.loop-i-test.true _
+    (c.unwrap_or-end.ensures ∙ ap (λ (d : Option ℕ). unwrap_or d (get_or a.splits.now.ends.now l.i 0)) c.decide.ensures ∙ gets a.section_ends.now (f l.i) (tabulate f (l.i + 1) (a.splits.now.count - (l.i + 1))))
     c.if-end-splits.false
     ∙ l.invariant
 
@@ -42,4 +42,4 @@ returns c =
     let a = c.args in
     let l = c.loop-i in
     let f = row_at (columns_of a.splits.now) in
-    check_ended a.section_ends.now f a.n l.i c.loop-i-test.false ∙ l.invariant
+    check_ended a.section_ends.now f a.splits.now.count l.i c.loop-i-test.false ∙ l.invariant

@@ -1,24 +1,58 @@
--- `mend::mend_rows` meets its contract. Assumes nothing.
+-- `mend::mend_rows` meets its contract: a turn mends one row more, in a table of which only ends change.
+-- Assumes nothing.
 use native.Mathlib.Omega.{arith}
-use Rattle.mend.proofs.Turns.{pass_on, pass_full, pass_done}
+use mathlib.Core.Path.{refl, ◌∙◌}
+use Rattle.mend.proofs.Turns.{going, pass_on, pass_full, pass_done}
 use Rattle.mend.proofs.mend_rows.Goals as goal
 
-pub returns-in_err-at : goal.returns-in_err-at
-returns-in_err-at c =
+pub loop-i-init : goal.loop-i-init
+loop-i-init c = (going _ _ _, record { starts = refl; units = refl; rest = refl; held = refl; count = refl; room = refl })
+
+pub returns-in_err-at-clause-filled : goal.returns-in_err-at-clause-filled
+returns-in_err-at-clause-filled c =
     let a = c.args in
     let l = c.loop-i in
-    let q = pass_full a.section_ends.now a.starts.now a.units.now a.rest.now _ a.lines.now a.n l.ends l.invariant c.loop-i-test.true c.mend_row.ensures c.in_err-at.was in
-    rw c.from_residual.ensures (rw c.in_err-at.was at q)
+    let t = l.table in
+    let o = c.mend_row.ensures.others in
+    let q = pass_full a.section_ends.now t.starts.now t.units.now t.rest.now _ a.lines.now t.count t.ends.now l.invariant.0 (omega (arith, l.invariant.1.count, c.loop-i-test.true)) c.mend_row.ensures.turned c.in_err-at.was in
+    rw (c.from_residual.ensures, o.starts, o.units, o.rest, o.count) (rw c.in_err-at.was at q)
+
+pub returns-in_err-at-clause-others : goal.returns-in_err-at-clause-others
+returns-in_err-at-clause-others c =
+    let p = c.loop-i.invariant.1 in
+    let o = c.mend_row.ensures.others in
+    record {
+      starts = o.starts ∙ p.starts;
+      units = o.units ∙ p.units;
+      rest = o.rest ∙ p.rest;
+      held = o.held ∙ p.held;
+      count = o.count ∙ p.count;
+      room = o.room ∙ p.room;
+    }
 
 pub loop-i-preserved : goal.loop-i-preserved
 loop-i-preserved c =
     let a = c.args in
     let l = c.loop-i in
-    pass_on a.section_ends.now a.starts.now a.units.now a.rest.now _ a.lines.now a.n l.ends l.invariant c.loop-i-test.true c.mend_row.ensures
-    (omega (arith, c.requires.ends, l.auto.ends)) _ c.in_ok-at.was
+    let t = l.table in
+    let p = l.invariant.1 in
+    let o = c.mend_row.ensures.others in (
+      rw (o.starts, o.units, o.rest, o.count)
+          (pass_on a.section_ends.now t.starts.now t.units.now t.rest.now _ a.lines.now t.count t.ends.now l.invariant.0 (omega (arith, p.count, c.loop-i-test.true)) c.mend_row.ensures.turned
+          (omega arith) _ c.in_ok-at.was),
+      record {
+        starts = o.starts ∙ p.starts;
+        units = o.units ∙ p.units;
+        rest = o.rest ∙ p.rest;
+        held = o.held ∙ p.held;
+        count = o.count ∙ p.count;
+        room = o.room ∙ p.room;
+      },
+    )
 
-pub returns : goal.returns
-returns c =
+pub returns-clause-filled : goal.returns-clause-filled
+returns-clause-filled c =
     let a = c.args in
     let l = c.loop-i in
-    pass_done a.section_ends.now a.starts.now a.units.now a.rest.now _ a.lines.now a.n l.ends l.invariant c.loop-i-test.false
+    let t = l.table in
+    pass_done a.section_ends.now t.starts.now t.units.now t.rest.now _ a.lines.now t.count t.ends.now l.invariant.0 (omega (arith, l.invariant.1.count, c.loop-i-test.false))

@@ -5,14 +5,18 @@ use Rattle.std.proofs.lemmas.Result.{err_from_is_err_and}
 use Rattle.mend.proofs.Stage.{mends_refused, mends_full, mends_done}
 use Rattle.mend.proofs.mend_table.Goals as goal
 
-pub returns-in_err-check_ends : goal.returns-in_err-check_ends
-returns-in_err-check_ends c =
+pub returns-in_err-check_ends-clause-mended : goal.returns-in_err-check_ends-clause-mended
+returns-in_err-check_ends-clause-mended c =
+    let checked = rw c.columns.ensures.rows at c.check_ends.ensures in
     let p = err_from_is_err_and c.from_residual.result c.from_residual.ensures.1 in
-    rw (p.1, p.2) (mends_refused _ _ (sym (ap meaning c.in_err-check_ends.was) ∙ c.check_ends.ensures))
+    rw (p.1, p.2) (mends_refused _ _ (sym (ap meaning c.in_err-check_ends.was) ∙ checked))
 
-pub returns-in-Some : goal.returns-in-Some
-returns-in-Some c = mends_done _ _ (sym (ap meaning c.in_ok-check_ends.was) ∙ c.check_ends.ensures) c.mend_rows.ensures _ c.in-Some.is
+pub returns-in-Some-clause-mended : goal.returns-in-Some-clause-mended
+returns-in-Some-clause-mended c =
+    let checked = rw c.columns.ensures.rows at c.check_ends.ensures in
+    mends_done _ _ (sym (ap meaning c.in_ok-check_ends.was) ∙ checked) c.mend_rows.ensures.filled _ c.in-Some.is
 
-pub returns-in-None : goal.returns-in-None
-returns-in-None c =
-    rw c.refuse.ensures (mends_full _ _ (sym (ap meaning c.in_ok-check_ends.was) ∙ c.check_ends.ensures) c.mend_rows.ensures c.in-None.is)
+pub returns-in-None-clause-mended : goal.returns-in-None-clause-mended
+returns-in-None-clause-mended c =
+    let checked = rw c.columns.ensures.rows at c.check_ends.ensures in
+    rw c.refuse.ensures (mends_full _ _ (sym (ap meaning c.in_ok-check_ends.was) ∙ checked) c.mend_rows.ensures.filled c.in-None.is)

@@ -4,22 +4,22 @@ use Rattle.splits.specs.Table.{columns_of}
 use Rattle.mend.proofs.Steps.{next_none, next_other, next_same}
 use Rattle.mend.proofs.next_of.Goals as goal
 
-pub returns-then-n-k : goal.returns-then-n-k
-returns-then-n-k c =
-    let a = c.args in
-    let f = row_at (columns_of a.splits.now) in
-    next_none f (f a.i) a.i a.n c.if-n-k.true
-
 pub returns-then-splits-k : goal.returns-then-splits-k
-unfolding row_of
 returns-then-splits-k c =
     let a = c.args in
     let f = row_at (columns_of a.splits.now) in
-    next_other f (f a.i) a.i a.n c.if-n-k.false c.if-splits-k.true
+    next_none f (f a.i) a.i a.splits.now.count c.if-splits-k.true
+
+pub returns-then-splits-k-2 : goal.returns-then-splits-k-2
+unfolding row_of
+returns-then-splits-k-2 c =
+    let a = c.args in
+    let f = row_at (columns_of a.splits.now) in
+    next_other f (f a.i) a.i a.splits.now.count c.if-splits-k.false c.if-splits-k-2.true
 
 pub returns : goal.returns
 unfolding row_of
 returns c =
     let a = c.args in
     let f = row_at (columns_of a.splits.now) in
-    next_same f (f a.i) a.i a.n c.if-n-k.false c.if-splits-k.false
+    next_same f (f a.i) a.i a.splits.now.count c.if-splits-k.false c.if-splits-k-2.false

@@ -14,7 +14,7 @@ returns-in_err-size c =
     rw (p.1, p.2) (stores_refused c.in_err-size.was)
 
 pub overflow_cast-size : goal.overflow_cast-size
-overflow_cast-size c = omega (arith, c.requires.3, ap line_bytes c.in_ok-size.was)
+overflow_cast-size c = omega (arith, c.requires.2, ap line_bytes c.in_ok-size.was)
 
 pub returns : goal.returns
 unfolding store_counts
