@@ -12,6 +12,7 @@ pub struct GapColumns<'k, 'e> {
 }
 
 // The gaps that were found: columns to write, with room for `room` gaps, of which `count` are there.
+#[derive(Drop)]
 pub struct GapTable<'k, 'e> {
     pub keys: &'k mut [u64],
     pub ends: &'e mut [u32],

@@ -3,7 +3,7 @@
 -- occurred in the gap, or whose alignment the *current address* misses. .. An open split runs to the next start or the splitting end."
 -- The place is "Gap (section, current)"; 10 and 11 come where the splitting end and the next split's alignment are asked (DECISIONS.md, 45 to 49).
 -- Laws: every gap found lies in its section (`found_lies`), they rise by section and start (`found_rising`), both of proofs/Inside.antt; how many there can
--- be, and that the lent columns hold them (`found_few`, `found-fits` of proofs/Sections.antt). Cases: proofs/Cases.antt.
+-- be (`found_few` of proofs/Sections.antt). Cases: proofs/Cases.antt.
 use Rattle.std.specs.Prelude.{ℕ, zero, suc, ◌-◌, ◌%◌, List, [], ◌∷◌, ◌++◌, Bool, cond, not, ◌&&◌, eqb, leb, ltb}
 use Rattle.lists.specs.Outcome.{Outcome, accepted, refuse, ◌>>◌, ◌>>=◌}
 use Rattle.lists.specs.Rows.{keep_if, some}

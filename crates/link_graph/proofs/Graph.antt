@@ -26,9 +26,13 @@ use Rattle.symbol_order.specs.Keys.{rank_of, unit_of}
 use Rattle.order_numbers.proofs.Records.{ordered_records, length-ordered}
 use Rattle.order_numbers.proofs.Parts.{ordered_readable}
 use Rattle.splits.specs.Columns.{Columns, rows, row_at}
+use Rattle.splits.specs.Table.{columns_of}
 use Rattle.splits.specs.Questions.{is_common}
 use Rattle.link_graph.specs.Graph.{Given, UnitEdge, node_of, has_node, units_of, counted, nodes, split_at, is_first, apart, edge_at, split_edges, chained, links, edges, graph_of}
-use Rattle.link_graph.specs.Columns.{given_of, Splits, mark, Marked, Listed, Front, Edgeable, Edged}
+use Rattle.link_graph.specs.Columns.{mark, Marked, Listed, Front}
+use Rattle.link_graph.specs.Tables.{given_of, Edgeable, Edged}
+use Rattle.link_graph.specs.declared.link_tables.LinkTables.{LinkTables}
+use Rattle.link_graph.specs.declared.link_tables.LinkGraph.{LinkGraph}
 use Rattle.link_graph.proofs.Nodes.{in_has, counted_in, length-counted, mark_is, no_mark}
 use Rattle.link_graph.proofs.Rows.{row_at_lem, units_of_rows}
 use Rattle.link_graph.proofs.Edges.{start_in, goal_in}
@@ -202,42 +206,49 @@ module _ (g : Given) (from₁ from₂ to₁ to₂ kept : List ℕ) (e r : ℕ)
       ∙ sym (map-append (λ (x : UnitEdge). node_of (nodes g.splits) x.to) (split_edges g.pointers g.splits) (links (chained g)))
 
 -- ---- what the functions leave
-module _ {c : Columns} {n : ℕ} {heads head_places name_bytes name_places name_lengths ub up column numbers from to : List ℕ}
-    (given : Splits c n heads head_places name_bytes name_places name_lengths) (lent : Edgeable c n ub up column numbers from to) where
+module _ {t : LinkTables} {numbers : List ℕ} {g : LinkGraph} (lent : Edgeable t numbers g) where
   abbrev G : Given
-  G = given_of c n heads head_places name_bytes name_places name_lengths ub up
+  G = given_of t
+
+  abbrev ub : List ℕ
+  ub = t.units.bytes.now
+
+  abbrev up : List ℕ
+  up = t.units.places.now
+
+  abbrev column : List ℕ
+  column = g.column.now
 
   pub numbers_inside : All (λ k. k < length up) numbers
-  numbers_inside = (ordered_readable ub up numbers lent.units.whole lent.numbers_are).inside
+  numbers_inside = (ordered_readable ub up numbers t.whole lent.lent.numbers_are).inside
 
-  few_nodes : length (nodes (rows c n)) ≤ 65535
-  few_nodes = omega (arith, length-nodes (rows c n), length-tabulate (row_at c) 0 n, given.few)
+  few_nodes : length (nodes G.splits) ≤ 65535
+  few_nodes = omega (arith, length-nodes G.splits, length-tabulate (row_at (columns_of t.splits)) 0 t.splits.count, t.held.few)
 
-  named : (k : ℕ) → k < length (rows c n) → (split_at (rows c n) k).unit < length column
+  named : (k : ℕ) → k < length G.splits → (split_at G.splits k).unit < length column
   named k h =
-      let q : k < n = omega (arith, length-tabulate (row_at c) 0 n) in
-      rw (ap (λ (s : Split). s.unit) (row_at_lem c n k q)) (lent.named k q)
+      let q : k < t.splits.count = omega (arith, length-tabulate (row_at (columns_of t.splits)) 0 t.splits.count) in
+      rw (ap (λ (s : Split). s.unit) (row_at_lem (columns_of t.splits) t.splits.count k q)) (lent.lent.named.splits k q)
 
   module _ {kept : List ℕ} {k : ℕ} (front : Front kept (keep_if (λ v. not (eqb v 65535)) (map (λ k. get_or column (unit_of ub up k).name 0) numbers)) (length numbers) k) where
     -- no more are kept than units have an order
     pub few_kept : length (take k kept) ≤ 1024
-    few_kept = omega (arith, length-take k kept, front.small, ap length lent.numbers_are, length-ordered ub up, lent.units.few)
+    few_kept = omega (arith, length-take k kept, front.small, ap length lent.lent.numbers_are, length-ordered ub up, t.few_units)
 
     -- the edges of neighbours, and then those of the nodes that are kept
-    pub edged : {from₁ from₂ to₁ to₂ : List ℕ} {e r : ℕ} → Listed (start_in column) (goal_in column) (split_edges G.pointers (rows c n)) from₁ to₁ n e
-        → take r from₂ ≡ take e from₁ ++ map (λ (x : UnitEdge). x.from) (links (take k kept))
-        → take r to₂ ≡ take e to₁ ++ map (λ (x : UnitEdge). x.to) (links (take k kept)) → r ≤ e + length (take k kept) → Edged G from₂ to₂ r
-    edged {from₁} {from₂} {to₁} {to₂} {e} {r} l f t small =
-        let chain : take k kept ≡ map (node_of (nodes (rows c n))) (chained G) =
-        front.is ∙ ap (λ (m : List ℕ). keep_if (λ v. not (eqb v 65535)) (map (λ k. get_or column (unit_of ub up k).name 0) m)) lent.numbers_are
+    pub edged : (h m : LinkGraph) → Listed (start_in column) (goal_in column) (split_edges G.pointers G.splits) h.from.now h.to.now t.splits.count h.edges
+        → take m.edges m.from.now ≡ take h.edges h.from.now ++ map (λ (x : UnitEdge). x.from) (links (take k kept))
+        → take m.edges m.to.now ≡ take h.edges h.to.now ++ map (λ (x : UnitEdge). x.to) (links (take k kept)) → Edged G m
+    edged h m l starts_are goals_are =
+        let chain : take k kept ≡ map (node_of (nodes G.splits)) (chained G) =
+        front.is ∙ ap (λ (m : List ℕ). keep_if (λ v. not (eqb v 65535)) (map (λ k. get_or column (unit_of ub up k).name 0) m)) lent.lent.numbers_are
         ∙ chain_kept G ub up column refl lent.marked few_nodes
-        (all_map (λ k h. lent.units.named k h) (ordered_readable ub up (ordered_numbers ub up) lent.units.whole refl).inside) in
-        let starts = l.starts ∙ starts-marked (rows c n) column lent.marked named G.pointers in
-        let goals = l.goals ∙ goals_marked (rows c n) column lent.marked named G.pointers in
+        (all_map (λ k h. lent.lent.named.records k h) (ordered_readable ub up (ordered_numbers ub up) t.whole refl).inside) in
+        let starts = l.starts ∙ starts-marked G.splits column lent.marked named G.pointers in
+        let goals = l.goals ∙ goals_marked G.splits column lent.marked named G.pointers in
         record {
-          starts = all_starts G from₁ from₂ to₁ to₂ (take k kept) e r starts goals chain f;
-          goals = all_goals G from₁ from₂ to₁ to₂ (take k kept) e r starts goals chain t;
-          small = omega (arith, l.small, given.few, few_kept);
+          starts = all_starts G h.from.now m.from.now h.to.now m.to.now (take k kept) h.edges m.edges starts goals chain starts_are;
+          goals = all_goals G h.from.now m.from.now h.to.now m.to.now (take k kept) h.edges m.edges starts goals chain goals_are;
         }
 
 -- the nodes counted of the units' column are those of the splits

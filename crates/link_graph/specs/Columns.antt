@@ -4,25 +4,15 @@ use Rattle.lists.specs.Sort.{All}
 use Rattle.obj.specs.Records.{section_at, Held}
 use Rattle.names.specs.Names.{name_at, Named}
 use Rattle.names.specs.Fixed.{is_pointer_list}
-use Rattle.tables.specs.Records.{units_in}
-use Rattle.splits.specs.Columns.{Columns, rows, row_at, Long}
-use Rattle.order_numbers.specs.Numbers.{Whole, ordered_numbers}
+use Rattle.splits.specs.Columns.{Columns, row_at}
+use Rattle.order_numbers.specs.Numbers.{Whole}
 use Rattle.symbol_order.specs.Keys.{unit_of}
-use Rattle.link_graph.specs.declared.Made.{Made}
-use Rattle.link_graph.specs.Graph.{Given, UnitEdge, node_of, has_node, counted, nodes, graph_of}
+use Rattle.link_graph.specs.Graph.{UnitEdge, node_of, has_node, counted, nodes}
 
 -- "the first split of `.ctors` and `.dtors`": section k has one of these names
 abbrev pub pointers_in : (heads head_places name_bytes name_places name_lengths : List ℕ) → ℕ → Bool
 pointers_in heads head_places name_bytes name_places name_lengths k =
     is_pointer_list (name_at name_bytes name_places name_lengths (section_at heads (get_or head_places k 0)).name)
-
--- what the lent tables give the stage
-abbrev pub given_of : Columns → ℕ → (heads head_places name_bytes name_places name_lengths unit_bytes unit_places : List ℕ) → Given
-given_of c n heads head_places name_bytes name_places name_lengths unit_bytes unit_places = record {
-  splits = rows c n;
-  units = units_in unit_bytes unit_places;
-  pointers = pointers_in heads head_places name_bytes name_places name_lengths;
-}
 
 -- ---- what is asked of the tables
 
@@ -32,12 +22,15 @@ pub record SectionNames (heads head_places name_bytes name_places name_lengths :
   pub names : Named name_bytes name_places name_lengths (length name_places)
   pub named : (k : ℕ) → k < length head_places → (section_at heads (get_or head_places k 0)).name < length name_places
 
--- the splits stand in the columns, within their ceiling, and lie in sections that are there
+-- the splits are within their ceiling, and lie in sections that are there
 pub record Splits (c : Columns) (n : ℕ) (heads head_places name_bytes name_places name_lengths : List ℕ) : Type 0 where
-  pub long : Long c n
   pub few : n ≤ 1024
   pub sections : SectionNames heads head_places name_bytes name_places name_lengths
   pub sectioned : (i : ℕ) → i < n → (row_at c i).section < length head_places
+
+-- the rows' units have places in a column of m
+abbrev pub UnitsBelow : Columns → (n m : ℕ) → Type 0
+UnitsBelow c n m = (i : ℕ) → i < n → (row_at c i).unit < m
 
 -- the units' records are there, within their ceiling, and their names have a place in the column
 pub record Units (unit_bytes unit_places column : List ℕ) : Type 0 where
@@ -82,34 +75,8 @@ pub record Front (column list : List ℕ) (most r : ℕ) : Type 0 where
 
 -- ---- the graph
 
--- what the edges are made of: the nodes' column, and the numbers of the units that have an order
-pub record Edgeable (c : Columns) (n : ℕ) (unit_bytes unit_places column numbers from to : List ℕ) : Type 0 where
-  pub units : Units unit_bytes unit_places column
-  pub named : (i : ℕ) → i < n → (row_at c i).unit < length column
-  pub marked : Marked column (nodes (rows c n))
-  pub numbers_are : numbers ≡ ordered_numbers unit_bytes unit_places
-  pub from_long : 2048 ≤ length from
-  pub to_long : 2048 ≤ length to
-
--- the edges stand at the front of the columns
-pub record Edged (g : Given) (from to : List ℕ) (r : ℕ) : Type 0 where
-  pub starts : take r from ≡ (graph_of g).from
-  pub goals : take r to ≡ (graph_of g).to
-  pub small : r ≤ 2048
-
--- what it is made in: a column by name, the nodes, the edges' two columns, and the numbers of the units that have an order
-pub record Lent (c : Columns) (n : ℕ) (unit_bytes unit_places numbers column nodes from to : List ℕ) : Type 0 where
-  pub units : Units unit_bytes unit_places column
-  pub named : (i : ℕ) → i < n → (row_at c i).unit < length column
-  pub numbers_are : numbers ≡ ordered_numbers unit_bytes unit_places
-  pub nodes_long : 1024 ≤ length nodes
-  pub from_long : 2048 ≤ length from
-  pub to_long : 2048 ≤ length to
-
--- the graph stands at the front of the columns
-pub record Graphed (g : Given) (nodes' from to : List ℕ) (r : Made) : Type 0 where
-  pub nodes_are : take r.nodes nodes' ≡ nodes g.splits
-  pub starts : take r.edges from ≡ (graph_of g).from
-  pub goals : take r.edges to ≡ (graph_of g).to
-  pub few_nodes : r.nodes ≤ 1024
-  pub few_edges : r.edges ≤ 2048
+-- the columns have room for 1,024 nodes and 2,048 edges
+pub record GraphRoom (nodes from to : List ℕ) : Type 0 where
+  pub long_nodes : 1024 ≤ length nodes
+  pub long_from : 2048 ≤ length from
+  pub long_to : 2048 ≤ length to

@@ -1,3 +1,4 @@
 pub mod Graph
 pub mod Joined
 pub mod Columns
+pub mod Tables

@@ -4,27 +4,25 @@
 ghost use Rattle.std.specs.Prelude.{◌≡◌, ◌&&◌, not, ◌++◌, map, ℕ, ◌+◌, ◌-◌, ◌%◌, ◌<◌, ◌≤◌, ◌≢◌, eqb, length, get_or, take, replicate, MatchOption};
 ghost use Rattle.lists.specs.Rows.{keep_if};
 ghost use Rattle.lists.specs.Sort.{All};
-ghost use Rattle.splits.specs.Columns.{rows, row_at, Long};
-ghost use Rattle.splits.specs.Table.{columns_of};
+ghost use Rattle.splits.specs.Columns.{row_at};
+ghost use Rattle.splits.specs.Table.{columns_of, rows_of};
 ghost use Rattle.symbol_order.specs.Keys.{unit_of};
 ghost use Rattle.splits.specs.Questions.{is_common};
 ghost use Rattle.link_graph.specs.Graph.{UnitEdge, is_first as firstOfSection, apart as keptApart, split_edges, links};
-ghost use Rattle.link_graph.specs.Columns.{pointers_in, given_of, SectionNames, Splits, Units, Countable, Counted, Listed, Front, Edgeable, Edged, Lent, Graphed};
+ghost use Rattle.link_graph.specs.Columns.{pointers_in, SectionNames, UnitsBelow, Units, Countable, Counted, Listed, Front};
+ghost use Rattle.link_graph.specs.Tables.{given_of, Edgeable, Edged, Lent, Graphed, OnlyEdges};
 
 use names::{Names, is_pointer_list, name_at};
 use obj::{Split, Table, section_at, unit_at};
 use splits::{SplitColumns, row};
 
+mod link_tables;
+
+pub use link_tables::{LinkGraph, LinkTables};
+
 // In a column by name number: a unit that has no node. A number, since a place is two bytes of a lent column, which an `Option` does not fit; a node is less
 // than 1,024.
 const NONE: u16 = 65535;
-
-// How many nodes and edges the graph has.
-#[derive(Clone, Copy)]
-pub struct Made {
-    pub nodes: usize,
-    pub edges: usize,
-}
 
 // ---- the nodes
 
@@ -55,9 +53,9 @@ fn count_units(us: &[u16], column: &mut [u16], nodes: &mut [u16]) -> usize
 // ---- the edges of neighbours
 
 // Whether row i is the first of its section.
-fn is_first(splits: &SplitColumns, n: usize, i: usize) -> bool
-    requires { Long (columns_of splits.now) n × (i < n) }
-    ensures { result ≡ firstOfSection (rows (columns_of splits.now) n) i }
+fn is_first(splits: &SplitColumns, i: usize) -> bool
+    requires { i < splits.now.count }
+    ensures { result ≡ firstOfSection (rows_of splits.now) i }
 {
     if i == 0 {
         return true;
@@ -77,15 +75,14 @@ fn has_pointers(heads: &Table, names: &Names, k: usize) -> bool
 }
 
 // "the first split of `.ctors` and `.dtors` is passed over"
-fn is_passed(splits: &SplitColumns, n: usize, heads: &Table, names: &Names, i: usize) -> bool
-    requires { Splits (columns_of splits.now) n heads.now.bytes.now heads.now.places.now names.now.bytes.now names.now.places.now names.now.lengths.now × (i < n) }
-    ensures { result ≡ (firstOfSection (rows (columns_of splits.now) n) i
-        && pointers_in heads.now.bytes.now heads.now.places.now names.now.bytes.now names.now.places.now names.now.lengths.now
-        (row_at (columns_of splits.now) i).section) }
+fn is_passed(tables: &LinkTables, i: usize) -> bool
+    requires { i < tables.now.splits.count }
+    ensures { result ≡ (firstOfSection (rows_of tables.now.splits) i
+        && (given_of tables.now).pointers (row_at (columns_of tables.now.splits) i).section) }
 {
-    if is_first(splits, n, i) {
-        let s = row(splits, i);
-        return has_pointers(heads, names, s.section as usize);
+    if is_first(&tables.splits, i) {
+        let s = row(&tables.splits, i);
+        return has_pointers(&tables.heads, &tables.names, s.section as usize);
     }
     false
 }
@@ -98,72 +95,60 @@ fn is_common(s: Split) -> bool
 }
 
 // Whether row i and the next one give no edge: "An edge joins neighbours of different units in a section unless the second alone is common".
-fn apart(splits: &SplitColumns, n: usize, heads: &Table, names: &Names, i: usize) -> bool
-    requires { Splits (columns_of splits.now) n heads.now.bytes.now heads.now.places.now names.now.bytes.now names.now.places.now names.now.lengths.now × (i + 1 < n) }
-    ensures { result ≡ keptApart (pointers_in heads.now.bytes.now heads.now.places.now names.now.bytes.now names.now.places.now names.now.lengths.now)
-        (rows (columns_of splits.now) n) i }
+fn apart(tables: &LinkTables, i: usize) -> bool
+    requires { i + 1 < tables.now.splits.count }
+    ensures { result ≡ keptApart (given_of tables.now).pointers (rows_of tables.now.splits) i }
 {
-    let s = row(splits, i);
-    let t = row(splits, i + 1);
-    let passed = is_passed(splits, n, heads, names, i);
+    let s = row(&tables.splits, i);
+    let t = row(&tables.splits, i + 1);
+    let passed = is_passed(tables, i);
     (s.section != t.section) | (s.unit == t.unit) | (is_common(t) & !is_common(s)) | passed
 }
 
-// The edges of neighbours, at the front of two columns; `column` has the nodes.
-fn split_edges(
-    splits: &SplitColumns,
-    n: usize,
-    heads: &Table,
-    names: &Names,
-    column: &[u16],
-    from: &mut [u16],
-    to: &mut [u16],
-) -> usize
-    requires { Splits (columns_of splits.now) n heads.now.bytes.now heads.now.places.now names.now.bytes.now names.now.places.now names.now.lengths.now
-        × ((i : ℕ) → i < n → (row_at (columns_of splits.now) i).unit < length column.now)
-        × (n ≤ length from.old)
-        × (n ≤ length to.old) }
-    ensures { Listed (λ (e : UnitEdge). get_or column.now e.from 0) (λ (e : UnitEdge). get_or column.now e.to 0)
-        (split_edges (pointers_in heads.now.bytes.now heads.now.places.now names.now.bytes.now names.now.places.now names.now.lengths.now)
-        (rows (columns_of splits.now) n))
-        from.new to.new n result }
+// The edges of neighbours; the column has the nodes.
+fn split_edges(tables: &LinkTables, graph: &mut LinkGraph)
+    requires { UnitsBelow (columns_of tables.now.splits) tables.now.splits.count (length graph.old.column.now) }
+    ensures edges { Listed (λ (e : UnitEdge). get_or graph.old.column.now e.from 0) (λ (e : UnitEdge). get_or graph.old.column.now e.to 0)
+        (split_edges (given_of tables.now).pointers (rows_of tables.now.splits))
+        graph.new.from.now graph.new.to.now tables.now.splits.count graph.new.edges }
+    ensures others { OnlyEdges graph.old graph.new }
 {
     let mut e: usize = 0;
-    for i in 0..n.saturating_sub(1) {
-        if !apart(splits, n, heads, names, i) {
-            from[e] = column[splits.units[i] as usize];
-            to[e] = column[splits.units[i + 1] as usize];
+    for i in 0..tables.splits.count.saturating_sub(1) {
+        if !apart(tables, i) {
+            graph.from[e] = graph.column[tables.splits.units[i] as usize];
+            graph.to[e] = graph.column[tables.splits.units[i + 1] as usize];
             e += 1;
         }
     }
-    e
+    graph.edges = e;
 }
 
 // ---- the chain of order numbers
 
 // The node of unit record k.
-fn node_at(unit_table: &Table, column: &[u16], k: usize) -> Option<u16>
-    requires { Units unit_table.now.bytes.now unit_table.now.places.now column.now × (k < length unit_table.now.places.now) }
-    ensures { MatchOption result (get_or column.now (unit_of unit_table.now.bytes.now unit_table.now.places.now k).name 0 ≡ 65535)
-        (λ v. (v ≡ get_or column.now (unit_of unit_table.now.bytes.now unit_table.now.places.now k).name 0) × (v ≢ 65535)) }
+fn node_at(unit_table: &Table, graph: &LinkGraph, k: usize) -> Option<u16>
+    requires { Units unit_table.now.bytes.now unit_table.now.places.now graph.now.column.now × (k < length unit_table.now.places.now) }
+    ensures { MatchOption result (get_or graph.now.column.now (unit_of unit_table.now.bytes.now unit_table.now.places.now k).name 0 ≡ 65535)
+        (λ v. (v ≡ get_or graph.now.column.now (unit_of unit_table.now.bytes.now unit_table.now.places.now k).name 0) × (v ≢ 65535)) }
 {
     let u = unit_at(unit_table, k);
-    match column[u.name as usize] {
+    match graph.column[u.name as usize] {
         NONE => None,
         v => Some(v),
     }
 }
 
 // "chain those that have splits": the records' numbers become nodes, and those without a node go.
-fn keep_nodes(unit_table: &Table, column: &[u16], s: &mut [u16]) -> usize
-    requires { Units unit_table.now.bytes.now unit_table.now.places.now column.now × All (λ k. k < length unit_table.now.places.now) s.old }
+fn keep_nodes(unit_table: &Table, graph: &LinkGraph, s: &mut [u16]) -> usize
+    requires { Units unit_table.now.bytes.now unit_table.now.places.now graph.now.column.now × All (λ k. k < length unit_table.now.places.now) s.old }
     ensures { Front s.new
-        (keep_if (λ v. not (eqb v 65535)) (map (λ k. get_or column.now (unit_of unit_table.now.bytes.now unit_table.now.places.now k).name 0) s.old))
+        (keep_if (λ v. not (eqb v 65535)) (map (λ k. get_or graph.now.column.now (unit_of unit_table.now.bytes.now unit_table.now.places.now k).name 0) s.old))
         (length s.old) result }
 {
     let mut k: usize = 0;
     for i in 0..s.len() {
-        if let Some(v) = node_at(unit_table, column, s[i] as usize) {
+        if let Some(v) = node_at(unit_table, graph, s[i] as usize) {
             s[k] = v;
             k += 1;
         }
@@ -171,70 +156,43 @@ fn keep_nodes(unit_table: &Table, column: &[u16], s: &mut [u16]) -> usize
     k
 }
 
-// An edge from each node to the next, behind the first e edges.
-fn link_nodes(s: &[u16], from: &mut [u16], to: &mut [u16], e: usize) -> usize
-    requires { (e + length s.now ≤ length from.old) × (e + length s.now ≤ length to.old) }
-    ensures { (take result from.new ≡ take e from.old ++ map (λ (x : UnitEdge). x.from) (links s.now))
-        × (take result to.new ≡ take e to.old ++ map (λ (x : UnitEdge). x.to) (links s.now))
-        × (result ≤ e + length s.now) }
+// An edge from each node to the next, behind the others.
+fn link_nodes(s: &[u16], graph: &mut LinkGraph)
+    requires { graph.old.edges + length s.now ≤ 2048 }
+    ensures starts { take graph.new.edges graph.new.from.now ≡ take graph.old.edges graph.old.from.now ++ map (λ (x : UnitEdge). x.from) (links s.now) }
+    ensures goals { take graph.new.edges graph.new.to.now ≡ take graph.old.edges graph.old.to.now ++ map (λ (x : UnitEdge). x.to) (links s.now) }
+    ensures others { OnlyEdges graph.old graph.new }
 {
+    let e = graph.edges;
     let more = s.len().saturating_sub(1);
     for i in 0..more {
-        from[e + i] = s[i];
-        to[e + i] = s[i + 1];
+        graph.from[e + i] = s[i];
+        graph.to[e + i] = s[i + 1];
     }
-    e + more
+    graph.edges = e + more;
 }
 
 // ---- the graph
 
-// The edges of neighbours, and behind them those of the chain. `column` has the nodes; `numbers` has the units that have an order, lowest first.
-fn make_edges(
-    splits: &SplitColumns,
-    n: usize,
-    heads: &Table,
-    names: &Names,
-    unit_table: &Table,
-    column: &[u16],
-    numbers: &mut [u16],
-    from: &mut [u16],
-    to: &mut [u16],
-) -> usize
-    requires { Splits (columns_of splits.now) n heads.now.bytes.now heads.now.places.now names.now.bytes.now names.now.places.now names.now.lengths.now
-        × Edgeable (columns_of splits.now) n unit_table.now.bytes.now unit_table.now.places.now column.now numbers.old from.old to.old }
-    ensures { Edged (given_of (columns_of splits.now) n heads.now.bytes.now heads.now.places.now
-        names.now.bytes.now names.now.places.now names.now.lengths.now unit_table.now.bytes.now unit_table.now.places.now)
-        from.new to.new result }
+// The edges of neighbours, and behind them those of the chain. The column has the nodes; `numbers` has the units that have an order, lowest first.
+fn make_edges(tables: &LinkTables, numbers: &mut [u16], graph: &mut LinkGraph)
+    requires { Edgeable tables.now numbers.old graph.old }
+    ensures edges { Edged (given_of tables.now) graph.new }
+    ensures others { OnlyEdges graph.old graph.new }
 {
-    let e = split_edges(splits, n, heads, names, column, from, to);
-    let k = keep_nodes(unit_table, column, numbers);
-    link_nodes(&numbers[..k], from, to, e)
+    split_edges(tables, graph);
+    let k = keep_nodes(&tables.units, graph, numbers);
+    link_nodes(&numbers[..k], graph);
 }
 
-// The nodes and the edges, at the front of the columns. `numbers` has the units that have an order, lowest first, and is used up; what the other columns
-// hold at first is of no matter.
-pub fn make_graph(
-    splits: &SplitColumns,
-    n: usize,
-    heads: &Table,
-    names: &Names,
-    unit_table: &Table,
-    numbers: &mut [u16],
-    column: &mut [u16],
-    nodes: &mut [u16],
-    from: &mut [u16],
-    to: &mut [u16],
-) -> Made
-    requires { Splits (columns_of splits.now) n heads.now.bytes.now heads.now.places.now names.now.bytes.now names.now.places.now names.now.lengths.now
-        × Lent (columns_of splits.now) n unit_table.now.bytes.now unit_table.now.places.now numbers.old column.old nodes.old from.old to.old }
-    ensures { Graphed (given_of (columns_of splits.now) n heads.now.bytes.now heads.now.places.now
-        names.now.bytes.now names.now.places.now names.now.lengths.now unit_table.now.bytes.now unit_table.now.places.now)
-        nodes.new from.new to.new result }
+// The nodes and the edges. `numbers` has the units that have an order, lowest first, and is used up; what the columns hold at first is of no matter.
+pub fn make_graph(tables: &LinkTables, numbers: &mut [u16], graph: &mut LinkGraph)
+    requires { Lent tables.now numbers.old graph.old }
+    ensures graph { Graphed (given_of tables.now) graph.new }
+    ensures column { length graph.new.column.now ≡ length graph.old.column.now }
 {
-    blank(column);
-    let m = count_units(&splits.units[..n], column, nodes);
-    let e = make_edges(
-        splits, n, heads, names, unit_table, column, numbers, from, to,
-    );
-    Made { nodes: m, edges: e }
+    let n = tables.splits.count;
+    blank(graph.column);
+    graph.count = count_units(&tables.splits.units[..n], graph.column, graph.nodes);
+    make_edges(tables, numbers, graph);
 }

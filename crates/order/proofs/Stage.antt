@@ -28,6 +28,7 @@ use Rattle.tables.specs.Records.{no_split}
 use Rattle.splits.specs.Columns.{Columns, rows, row_at}
 use Rattle.order_numbers.specs.Numbers.{ordered, order_twice}
 use Rattle.link_graph.specs.Graph.{Given, UnitEdge, units_of, node_of, has_node, nodes, split_at, chained, links, edges, graph_of}
+use Rattle.link_graph.specs.Columns.{UnitsBelow}
 use Rattle.link_graph.proofs.Nodes.{in_counted}
 use Rattle.link_graph.proofs.Rows.{row_at_lem}
 use Rattle.link_graph.proofs.Joined.{place_of}
@@ -37,7 +38,7 @@ use Rattle.order.specs.declared.Unlinked.TheVariants.{Refused}
 use Rattle.order.specs.Columns as stage
 use Rattle.order.specs.LinkOrder.{link_order, nodes_left, record_of, records_of}
 use Rattle.order.specs.Bytes.{units_bytes}
-use Rattle.order.specs.Columns.{said_of, Room, Resolves, Rows, Lent, SplitsTaken, UnitsTaken}
+use Rattle.order.specs.Columns.{said_of, Room, Resolves}
 
 -- ---- what an answer leaves is what its outcome says
 said : (r : Result ℕ Unsorted) (t : List ℕ) (o : Outcome End) → sorting.meaning r t ≡ o → meaning (answer_of r) ≡ said_of o
@@ -93,7 +94,7 @@ left_inside g room w = go (sort_of g room) (sorted_right g room w)
     go o (answer s h r iff) = ended_inside g s (searched g) r
 
 -- every node's unit has a place in a column that has one for the units of the splits
-pub nodes-named : (c : Columns) (n : ℕ) (column : List ℕ) → Rows c n column → All (λ x. x < length column) (nodes (rows c n))
+pub nodes-named : (c : Columns) (n : ℕ) (column : List ℕ) → UnitsBelow c n (length column) → All (λ x. x < length column) (nodes (rows c n))
 unfolding nodes
 nodes-named c n column w = all_in (λ x. x < length column) (nodes (rows c n)) (λ v i. of_split v (in_counted v (units_of (rows c n)) [] i))
   where
@@ -107,7 +108,7 @@ nodes-named c n column w = all_in (λ x. x < length column) (nodes (rows c n)) (
         ap (λ (s : Split). s.unit) (sym (row_at_lem c n k.0 inside))
         ∙ sym (get_d_map (λ (s : Split). s.unit) (rows c n) k.0 no_split 0 (omega (arith, length-tabulate (row_at c) 0 n)))
         ∙ k.2 in
-        omega (arith, w.named k.0 inside)
+        omega (arith, w k.0 inside)
 
 -- ---- the front of a table whose first part was lent and comes back as `part`
 module _ (g : Graph) (size room : ℕ) (r : Result ℕ Unsorted) (part rest : List ℕ) (k : ℕ) (few : g.count ≤ 1024) (w : Room size room) (s : Sorts (sort_of g room) room r part)
@@ -172,20 +173,6 @@ same_pointers splits us p q room agree =
       to = map (λ (e : UnitEdge). node_of (nodes splits) e.to) (l ++ links (map (λ (u : units.Unit). u.name) (keep_if (λ (u : units.Unit). has_node (nodes splits) u.name) (ordered us))));
     }) room)
     (same_edges p q splits agree)
-
--- what the stage is lent, in columns of these lengths
-pub lent : {c : Columns} {n : ℕ} {heads head_places name_bytes name_places lengths ub up numbers scratch column nodes' from to : List ℕ}
-    → SplitsTaken c n heads head_places name_bytes name_places lengths → UnitsTaken ub up → length numbers ≡ 1024 → length scratch ≡ 1024 → length column ≡ 4096
-    → length nodes' ≡ 1024 → length from ≡ 2048 → length to ≡ 2048 → Lent c n ub up numbers scratch column nodes' from to
-lent s u e₁ e₂ e₃ e₄ e₅ e₆ = record {
-  units = record { whole = u.whole; few = u.few; named = λ k h. omega (arith, u.named k h) };
-  named = λ i h. omega (arith, s.named i h);
-  numbers_long = omega arith;
-  scratch_long = omega arith;
-  nodes_long = omega arith;
-  from_long = omega arith;
-  to_long = omega arith;
-}
 
 -- each node that is left has a record
 pub length_records : (splits : List Split) (us : List units.Unit) (l : List ℕ) → length (records_of splits us l) ≡ length l

@@ -10,11 +10,12 @@ use Rattle.obj.specs.declared.Unit as units
 use Rattle.tables.specs.Records.{no_unit}
 use Rattle.order_numbers.specs.Numbers.{Whole}
 use Rattle.symbol_order.specs.Keys.{unit_of}
-use Rattle.splits.specs.Columns.{Columns, rows, row_at, Long}
+use Rattle.splits.specs.Columns.{Columns}
 use Rattle.toposort.specs.Search.{End, all, cyclic, lost}
-use Rattle.toposort.specs.Sorting.{Within}
-use Rattle.link_graph.specs.Graph.{nodes}
-use Rattle.link_graph.specs.Columns.{Splits, Units}
+use Rattle.link_graph.specs.Columns.{Splits, UnitsBelow}
+use Rattle.link_graph.specs.Tables.{given_of, NamesBelow, Graphed}
+use Rattle.link_graph.specs.declared.link_tables.LinkTables.{LinkTables}
+use Rattle.link_graph.specs.declared.link_tables.LinkGraph.{LinkGraph}
 use Rattle.order.specs.declared.Unlinked.{Unlinked}
 use Rattle.order.specs.declared.Unlinked.TheVariants.{Refused, Cycle}
 use Rattle.order.specs.Bytes.{units_bytes}
@@ -68,11 +69,6 @@ pub record Resolves (splits : List Split) (us : List units.Unit) (o : Outcome En
 unfoldable pub record_mark : List Split → List units.Unit → ℕ → ℕ
 record_mark splits us v = cond (ltb (first_record us v) (length us)) (first_record us v) (cond (some (hand_of v) splits) 65534 65535)
 
--- the splits stand in the columns, and their units have a place in the column by name
-pub record Rows (c : Columns) (n : ℕ) (column : List ℕ) : Type 0 where
-  pub long : Long c n
-  pub named : (i : ℕ) → i < n → (row_at c i).unit < length column
-
 -- the column has each unit's record
 pub record Recorded (splits : List Split) (us : List units.Unit) (column : List ℕ) : Type 0 where
   pub marks : (v : ℕ) → v < length column → get_or column v 0 ≡ record_mark splits us v
@@ -105,30 +101,24 @@ pub record Writable (nodes list column out : List ℕ) : Type 0 where
 
 -- ---- the stage
 
--- the sort is lent a graph within the ceilings, a table for the nodes and a column by name
-pub record Sortable (c : Columns) (n : ℕ) (unit_bytes unit_places nodes' from to table column : List ℕ) : Type 0 where
-  pub nodes_are : nodes' ≡ nodes (rows c n)
-  pub within : Within (record { count = length nodes'; from = from; to = to })
+-- the sort is lent the graph, a table for the nodes and a column by name
+pub record Sortable (t : LinkTables) (g : LinkGraph) (table : List ℕ) : Type 0 where
+  pub graphed : Graphed (given_of t) g
+  pub named : NamesBelow t (length g.column.now)
   pub table_long : 1024 ≤ length table
-  pub units : Units unit_bytes unit_places column
-  pub rows_are : Rows c n column
 
--- what the stage is lent: places for every unit by name, for the nodes and the edges, and for the units that have an order
-pub record Lent (c : Columns) (n : ℕ) (unit_bytes unit_places numbers scratch column nodes from to : List ℕ) : Type 0 where
-  pub units : Units unit_bytes unit_places column
-  pub named : (i : ℕ) → i < n → (row_at c i).unit < length column
+-- what the stage is lent: places for every unit by name, and for the units that have an order
+pub record Lent (t : LinkTables) (numbers scratch : List ℕ) (g : LinkGraph) : Type 0 where
+  pub named : NamesBelow t (length g.column.now)
   pub numbers_long : 1024 ≤ length numbers
   pub scratch_long : 1024 ≤ length scratch
-  pub nodes_long : 1024 ≤ length nodes
-  pub from_long : 2048 ≤ length from
-  pub to_long : 2048 ≤ length to
 
 -- ---- the stage with columns of its own: what the tables before leave
 
--- the splits stand in columns, and their units are names
+-- the splits' sections are there, and their units are names
 pub record SplitsTaken (c : Columns) (n : ℕ) (heads head_places name_bytes name_places lengths : List ℕ) : Type 0 where
   pub given : Splits c n heads head_places name_bytes name_places lengths
-  pub named : (i : ℕ) → i < n → (row_at c i).unit < 4096
+  pub named : UnitsBelow c n 4096
   pub few : length lengths ≤ 4096
 
 -- the units' records are there, and their names are names

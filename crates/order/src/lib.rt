@@ -5,22 +5,20 @@ mod records;
 
 ghost use Rattle.std.specs.Prelude.{◌≡◌, ◌/◌, ◌≤◌, length, Err};
 ghost use Rattle.tables.specs.Records.{units_in};
-ghost use Rattle.splits.specs.Columns.{rows};
-ghost use Rattle.splits.specs.Table.{columns_of};
+ghost use Rattle.splits.specs.Table.{rows_of};
 ghost use Rattle.toposort.specs.Sorting as sorting;
 ghost use Rattle.toposort.specs.Sorting.{sort_of, carried};
-ghost use Rattle.link_graph.specs.Columns.{given_of, Splits};
+ghost use Rattle.link_graph.specs.Graph.{graph_of};
+ghost use Rattle.link_graph.specs.Tables.{given_of, NamesBelow};
 ghost use Rattle.order.specs.LinkOrder.{link_order};
 ghost use Rattle.order.specs.declared.Unlinked.TheVariants.{Refused};
-ghost use Rattle.order.specs.Columns.{kept as kept_by, answer_of, NotCycle, Room, Resolves, Sortable, Lent, SplitsTaken, UnitsTaken};
+ghost use Rattle.order.specs.Columns.{kept as kept_by, answer_of, NotCycle, Room, Resolves, Sortable, Lent};
 
-use link_graph::make_graph;
-use names::Names;
-use obj::{Refusal, Table, refuse};
+use link_graph::{LinkGraph, LinkTables, make_graph};
+use obj::{Refusal, refuse};
 use order_numbers::{order_twice, order_units};
 pub use records::put_unit;
 use records::write_records;
-use splits::SplitColumns;
 use toposort::Unsorted;
 
 // Why there is no link order: a refusal, or "61 cycle, left in the unit table", of so many unit records.
@@ -96,95 +94,49 @@ fn room_of(size: usize) -> usize
 
 // The sort of the graph, in the lent `table`; the records of the nodes that it leaves are written to the front of `out`.
 fn sort_graph(
-    splits: &SplitColumns,
-    n: usize,
-    unit_table: &Table,
-    nodes: &[u16],
-    from: &[u16],
-    to: &[u16],
+    tables: &LinkTables,
+    graph: &mut LinkGraph,
     table: &mut [u16],
-    column: &mut [u16],
     out: &mut [u8],
 ) -> Result<usize, Unlinked>
-    requires { Sortable (columns_of splits.now) n unit_table.now.bytes.now unit_table.now.places.now nodes.now from.now to.now table.old column.old }
-    ensures { Resolves (rows (columns_of splits.now) n) (units_in unit_table.now.bytes.now unit_table.now.places.now)
-        (sort_of (record { count = length nodes.now; from = from.now; to = to.now }) (length out.old / 8)) result out.old out.new }
+    requires { Sortable tables.now graph.old table.old }
+    ensures { Resolves (rows_of tables.now.splits) (units_in tables.now.units.bytes.now tables.now.units.places.now)
+        (sort_of (graph_of (given_of tables.now)) (length out.old / 8)) result out.old out.new }
 {
+    let n = graph.count;
+    let e = graph.edges;
     let room = room_of(out.len());
-    let r = toposort::toposort(nodes.len(), from, to, &mut table[..room]);
+    let r = toposort::toposort(n, &graph.from[..e], &graph.to[..e], &mut table[..room]);
     let m = toposort::kept(r);
-    write_records(splits, n, unit_table, column, nodes, &table[..m], out);
+    write_records(tables, graph.column, &graph.nodes[..n], &table[..m], out);
     linked(r)
 }
 
-// The stage: 60, then the graph and its sort. Sections are heads at places, names and units lie at places, the splits stand in columns; `numbers`, `scratch`,
-// `column`, `nodes`, `from` and `to` are for the work, and what they hold at first is of no matter.
+// The stage: 60, then the graph and its sort. `numbers`, `scratch` and `graph` are for the work, and what they hold at first is of no matter.
 pub fn resolve_link_order(
-    splits: &SplitColumns,
-    n: usize,
-    heads: &Table,
-    names: &Names,
-    unit_table: &Table,
+    tables: &LinkTables,
     numbers: &mut [u16],
     scratch: &mut [u16],
-    column: &mut [u16],
-    nodes: &mut [u16],
-    from: &mut [u16],
-    to: &mut [u16],
+    graph: &mut LinkGraph,
     out: &mut [u8],
 ) -> Result<usize, Unlinked>
-    requires { Splits (columns_of splits.now) n heads.now.bytes.now heads.now.places.now names.now.bytes.now names.now.places.now names.now.lengths.now
-        × Lent (columns_of splits.now) n unit_table.now.bytes.now unit_table.now.places.now numbers.old scratch.old column.old nodes.old from.old to.old }
-    ensures { Resolves (rows (columns_of splits.now) n) (units_in unit_table.now.bytes.now unit_table.now.places.now)
-        (link_order (given_of (columns_of splits.now) n heads.now.bytes.now heads.now.places.now
-        names.now.bytes.now names.now.places.now names.now.lengths.now unit_table.now.bytes.now unit_table.now.places.now) (length out.old / 8))
-        result out.old out.new }
+    requires { Lent tables.now numbers.old scratch.old graph.old }
+    ensures { Resolves (rows_of tables.now.splits) (units_in tables.now.units.bytes.now tables.now.units.places.now)
+        (link_order (given_of tables.now) (length out.old / 8)) result out.old out.new }
 {
-    let k = order_units(unit_table, numbers, scratch);
-    if order_twice(unit_table, &numbers[..k]) {
+    let k = order_units(&tables.units, numbers, scratch);
+    if order_twice(&tables.units, &numbers[..k]) {
         return refused(60, 0);
     }
-    let made = make_graph(
-        splits,
-        n,
-        heads,
-        names,
-        unit_table,
-        &mut numbers[..k],
-        column,
-        nodes,
-        from,
-        to,
-    );
-    let m = made.nodes;
-    let e = made.edges;
-    sort_graph(
-        splits,
-        n,
-        unit_table,
-        &nodes[..m],
-        &from[..e],
-        &to[..e],
-        scratch,
-        column,
-        out,
-    )
+    make_graph(tables, &mut numbers[..k], graph);
+    sort_graph(tables, graph, scratch, out)
 }
 
 // The stage, with columns of its own: the units that have an order, a number of each name, the nodes and the edges.
-pub fn ordered(
-    splits: &SplitColumns,
-    n: usize,
-    heads: &Table,
-    names: &Names,
-    unit_table: &Table,
-    out: &mut [u8],
-) -> Result<usize, Unlinked>
-    requires { SplitsTaken (columns_of splits.now) n heads.now.bytes.now heads.now.places.now names.now.bytes.now names.now.places.now names.now.lengths.now
-        × UnitsTaken unit_table.now.bytes.now unit_table.now.places.now }
-    ensures { Resolves (rows (columns_of splits.now) n) (units_in unit_table.now.bytes.now unit_table.now.places.now)
-        (link_order (given_of (columns_of splits.now) n heads.now.bytes.now heads.now.places.now names.now.bytes.now names.now.places.now names.now.lengths.now unit_table.now.bytes.now unit_table.now.places.now) (length out.old / 8))
-        result out.old out.new }
+pub fn ordered(tables: &LinkTables, out: &mut [u8]) -> Result<usize, Unlinked>
+    requires { NamesBelow tables.now 4096 }
+    ensures { Resolves (rows_of tables.now.splits) (units_in tables.now.units.bytes.now tables.now.units.places.now)
+        (link_order (given_of tables.now) (length out.old / 8)) result out.old out.new }
 {
     let mut numbers = [0u16; 1024];
     let mut scratch = [0u16; 1024];
@@ -192,18 +144,13 @@ pub fn ordered(
     let mut nodes = [0u16; 1024];
     let mut from = [0u16; 2048];
     let mut to = [0u16; 2048];
-    resolve_link_order(
-        splits,
-        n,
-        heads,
-        names,
-        unit_table,
-        &mut numbers,
-        &mut scratch,
-        &mut column,
-        &mut nodes,
-        &mut from,
-        &mut to,
-        out,
-    )
+    let mut graph = LinkGraph {
+        column: &mut column,
+        nodes: &mut nodes,
+        from: &mut from,
+        to: &mut to,
+        count: 0,
+        edges: 0,
+    };
+    resolve_link_order(tables, &mut numbers, &mut scratch, &mut graph, out)
 }

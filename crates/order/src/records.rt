@@ -2,18 +2,18 @@
 ghost use Rattle.std.specs.Prelude.{◌≡◌, map, ◌+◌, ◌≤◌, ◌<◌, length, get_or};
 ghost use Rattle.std.proofs.lemmas.List.Edits.{sets};
 ghost use Rattle.tables.specs.Records.{units_in};
-ghost use Rattle.splits.specs.Columns.{rows};
-ghost use Rattle.splits.specs.Table.{columns_of};
+ghost use Rattle.splits.specs.Table.{columns_of, rows_of};
 ghost use Rattle.splits.specs.Questions.{is_auto};
-ghost use Rattle.link_graph.specs.Columns.{Units};
+ghost use Rattle.link_graph.specs.Columns.{UnitsBelow, Units};
 ghost use Rattle.link_graph.specs.Graph.{nodes as unitNodes};
+ghost use Rattle.link_graph.specs.Tables.{NamesBelow};
 ghost use Rattle.order_numbers.specs.Numbers.{Whole};
 ghost use Rattle.order.specs.LinkOrder.{made_unit, records_of};
 ghost use Rattle.order.specs.Bytes.{bytes_of_unit, units_bytes};
-ghost use Rattle.order.specs.Columns.{record_by, node_record, Rows, HandMarked, RecordMarked, Marks, Writable};
+ghost use Rattle.order.specs.Columns.{record_by, node_record, HandMarked, RecordMarked, Marks, Writable};
 
 use fields::{put_i32, put16};
-use link_graph::blank;
+use link_graph::{LinkTables, blank};
 use obj::{Split, Table, Unit, unit_at};
 use splits::{SplitColumns, row};
 
@@ -32,11 +32,11 @@ fn is_auto(s: Split) -> bool
 }
 
 // Marks the units that have a split made by hand.
-fn mark_hand(splits: &SplitColumns, n: usize, column: &mut [u16])
-    requires { Rows (columns_of splits.now) n column.old }
-    ensures { HandMarked (rows (columns_of splits.now) n) column.old column.new }
+fn mark_hand(splits: &SplitColumns, column: &mut [u16])
+    requires { UnitsBelow (columns_of splits.now) splits.now.count (length column.old) }
+    ensures { HandMarked (rows_of splits.now) column.old column.new }
 {
-    for i in 0..n {
+    for i in 0..splits.count {
         let s = row(splits, i);
         if !is_auto(s) {
             column[s.unit as usize] = HAND;
@@ -115,24 +115,21 @@ fn write_units(unit_table: &Table, column: &[u16], nodes: &[u16], list: &[u16], 
 
 // The same, with the column filled first; what it holds at first is of no matter.
 pub fn write_records(
-    splits: &SplitColumns,
-    n: usize,
-    unit_table: &Table,
+    tables: &LinkTables,
     column: &mut [u16],
     nodes: &[u16],
     list: &[u16],
     out: &mut [u8],
 )
-    requires { Rows (columns_of splits.now) n column.old
-        × Units unit_table.now.bytes.now unit_table.now.places.now column.old
-        × (nodes.now ≡ unitNodes (rows (columns_of splits.now) n))
+    requires { NamesBelow tables.now (length column.old)
+        × (nodes.now ≡ unitNodes (rows_of tables.now.splits))
         × Writable nodes.now list.now column.old out.old }
     ensures { out.new ≡ sets out.old 0
-        (units_bytes (records_of (rows (columns_of splits.now) n)
-        (units_in unit_table.now.bytes.now unit_table.now.places.now) list.now)) }
+        (units_bytes (records_of (rows_of tables.now.splits)
+        (units_in tables.now.units.bytes.now tables.now.units.places.now) list.now)) }
 {
     blank(column);
-    mark_hand(splits, n, column);
-    mark_records(unit_table, column);
-    write_units(unit_table, column, nodes, list, out);
+    mark_hand(&tables.splits, column);
+    mark_records(&tables.units, column);
+    write_units(&tables.units, column, nodes, list, out);
 }

@@ -5,4 +5,4 @@ use Rattle.link_graph.proofs.Chain.{Keeping}
 use Rattle.link_graph.proofs.keep_nodes.Given as goal
 
 abbrev pub invariant-loop-i : goal.invariant-loop-i
-invariant-loop-i l = Keeping (λ k. get_or l.column (unit_of l.unit_table.bytes.now l.unit_table.places.now k).name 0) (length l.unit_table.places.now) l.fn.s l.s l.i l.k
+invariant-loop-i l = Keeping (λ k. get_or l.graph.column.now (unit_of l.unit_table.bytes.now l.unit_table.places.now k).name 0) (length l.unit_table.places.now) l.fn.s l.s l.i l.k

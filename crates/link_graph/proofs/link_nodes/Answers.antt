@@ -7,16 +7,22 @@ use Rattle.link_graph.proofs.link_nodes.Goals as goal
 pub loop-i-preserved : goal.loop-i-preserved
 loop-i-preserved c =
     let l = c.loop-i in
+    let s = c.args.s.now in
+    let e = c.args.graph.now.edges in
     record {
-      starts = link_written (λ (x : UnitEdge). x.from) c.args.s.now c.args.e l.i (omega arith) l.from _ (omega arith) refl ∙ l.invariant.starts;
-      goals = link_written (λ (x : UnitEdge). x.to) c.args.s.now c.args.e l.i (omega arith) l.to _ (omega arith) refl ∙ l.invariant.goals;
+      starts = link_written (λ (x : UnitEdge). x.from) s e l.i (omega arith) l.graph.from.now _ (omega arith) refl ∙ l.invariant.starts;
+      goals = link_written (λ (x : UnitEdge). x.to) s e l.i (omega arith) l.graph.to.now _ (omega arith) refl ∙ l.invariant.goals;
+      others = record { column = l.invariant.others.column; nodes = l.invariant.others.nodes; count = l.invariant.others.count };
     }
 
-pub returns : goal.returns
-returns c =
+pub returns-clause-starts : goal.returns-clause-starts
+returns-clause-starts c =
     let l = c.loop-i in
-    let done : c.saturating_sub-more.result ≡ l.i = omega arith in (
-      rw done (sym (links_end (λ (x : UnitEdge). x.from) c.args.s.now c.args.e l.i (omega arith) _) ∙ l.invariant.starts),
-      rw done (sym (links_end (λ (x : UnitEdge). x.to) c.args.s.now c.args.e l.i (omega arith) _) ∙ l.invariant.goals),
-      omega arith,
-    )
+    let done : c.saturating_sub-more.result ≡ l.i = omega arith in
+    rw done (sym (links_end (λ (x : UnitEdge). x.from) c.args.s.now c.args.graph.now.edges l.i (omega arith) _) ∙ l.invariant.starts)
+
+pub returns-clause-goals : goal.returns-clause-goals
+returns-clause-goals c =
+    let l = c.loop-i in
+    let done : c.saturating_sub-more.result ≡ l.i = omega arith in
+    rw done (sym (links_end (λ (x : UnitEdge). x.to) c.args.s.now c.args.graph.now.edges l.i (omega arith) _) ∙ l.invariant.goals)

@@ -1,5 +1,5 @@
 -- `link_graph::make_graph`: the column is blank before the units are counted, and has their nodes when the edges are made.
-use Rattle.std.proofs.Common.{◌≡◌, ◌∙◌, sym, ap, arith, length, replicate, subst, ℕ}
+use Rattle.std.proofs.Common.{◌≡◌, ◌∙◌, sym, ap, arith, length, replicate, subst, take, ℕ}
 use lib.Seq.{length-take-le}
 use Rattle.splits.specs.Table.{columns_of}
 use Rattle.link_graph.specs.Columns.{Marked}
@@ -7,43 +7,36 @@ use Rattle.link_graph.proofs.Rows.{units_named}
 use Rattle.link_graph.proofs.Graph.{counted-nodes}
 use Rattle.link_graph.proofs.make_graph.Goals as goal
 
-pub count_units-m-requires : goal.count_units-m-requires
-count_units-m-requires c =
-    let a = c.args in
+pub count_units-graph-requires : goal.count_units-graph-requires
+count_units-graph-requires c =
+    let t = c.args.tables.now in
     let b = c.blank in
-    let long = length-take-le a.n a.splits.now.units.now c.requires.0.long.units in
+    let long = length-take-le t.splits.count t.splits.units.now t.splits.long.units in
     record {
-      few = omega arith;
-      room = omega arith;
-      named = units_named (columns_of a.splits.now) a.n c.requires.0.long.units (length b.new.column) (λ i h. omega (arith, c.requires.1.named i h));
+      few = omega (arith, long, t.held.few);
+      room = omega (arith, long, t.held.few, c.args.graph.now.long.long_nodes);
+      named = units_named (columns_of t.splits) t.splits.count t.splits.long.units (length b.new.column) (λ i h. omega (arith, b.auto.column, c.requires.named.splits i h));
       blank = b.ensures ∙ ap (λ (k : ℕ). replicate k 65535) (sym b.auto.column);
     }
 
-pub make_edges-e-requires : goal.make_edges-e-requires
-make_edges-e-requires c =
-    let a = c.args in
-    let u = c.count_units-m in
-    let same : length u.new.column ≡ length a.column.now = u.auto.column ∙ c.blank.auto.column in (
-      c.requires.0,
-      record {
-        units = record { whole = c.requires.1.units.whole; few = c.requires.1.units.few; named = λ k h. omega (arith, c.requires.1.units.named k h) };
-        named = λ i h. omega (arith, c.requires.1.named i h);
-        marked = subst (Marked u.new.column) (counted-nodes (columns_of a.splits.now) a.n c.requires.0.long.units) u.ensures.marked;
-        numbers_are = c.requires.1.numbers_are;
-        from_long = c.requires.1.from_long;
-        to_long = c.requires.1.to_long;
-      },
-    )
-
-pub returns : goal.returns
-returns c =
-    let a = c.args in
-    let u = c.count_units-m in
-    let e = c.make_edges-e in
+pub make_edges-requires : goal.make_edges-requires
+make_edges-requires c =
+    let t = c.args.tables.now in
+    let u = c.count_units-graph in
+    let same : length u.new.column ≡ length c.args.graph.now.column.now = u.auto.column ∙ c.blank.auto.column in
     record {
-      nodes_are = u.ensures.is ∙ counted-nodes (columns_of a.splits.now) a.n c.requires.0.long.units;
-      starts = e.ensures.starts;
-      goals = e.ensures.goals;
-      few_nodes = let long = length-take-le a.n a.splits.now.units.now c.requires.0.long.units in omega arith;
-      few_edges = e.ensures.small;
+      lent = record {
+        named = record { splits = λ i h. omega (arith, same, c.requires.named.splits i h); records = λ k h. omega (arith, same, c.requires.named.records k h) };
+        numbers_are = c.requires.numbers_are;
+      };
+      marked = subst (Marked u.new.column) (counted-nodes (columns_of t.splits) t.splits.count t.splits.long.units) u.ensures.marked;
+    }
+
+pub returns-clause-graph : goal.returns-clause-graph
+returns-clause-graph c =
+    let t = c.args.tables.now in
+    let e = c.make_edges.ensures in
+    record {
+      nodes_are = (λ i. take (e.others.count i) (e.others.nodes i)) ∙ c.count_units-graph.ensures.is ∙ counted-nodes (columns_of t.splits) t.splits.count t.splits.long.units;
+      edged = e.edges;
     }

@@ -29,7 +29,7 @@ loop-i-preserved c =
     elim c.if-not-is_auto.branch [
       | then-not-is_auto w ↦
           let e : is_auto (f l.i) ≡ false = read ∙ w.if-not-is_auto.true in
-          let there : (f l.i).unit < length l.column = omega (arith, s.requires.named l.i c.loop-i-test.true, l.invariant.1) in
+          let there : (f l.i).unit < length l.column = omega (arith, s.requires l.i c.loop-i-test.true, l.invariant.1) in
           rw (w.column-is) (
             omega arith,
             simp length-set l.invariant.1,

@@ -9,4 +9,4 @@ use Rattle.order.specs.Columns.{HandMarked}
 use Rattle.order.proofs.records.mark_hand.Given as goal
 
 abbrev pub invariant-loop-i : goal.invariant-loop-i
-invariant-loop-i l = (l.i ≤ l.n) × (length l.column ≡ length l.initial.column) × HandMarked (tabulate (row_at (columns_of l.splits)) 0 l.i) l.initial.column l.column
+invariant-loop-i l = (l.i ≤ l.splits.count) × (length l.column ≡ length l.initial.column) × HandMarked (tabulate (row_at (columns_of l.splits)) 0 l.i) l.initial.column l.column
