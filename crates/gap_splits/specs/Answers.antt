@@ -32,6 +32,12 @@ names_in names = names_of names.bytes.now names.places.now names.lengths.now (le
 abbrev pub added_in : AddedNames → List (List ℕ)
 added_in a = added (beside a.bytes.now a.places.now a.lengths.now) a.count
 
+-- s shows the added names, and the places behind them
+pub record Shows (a : AddedNames) (s : Names) : Type 0 where
+  pub bytes : s.bytes.now ≡ a.bytes.now
+  pub places : s.places.now ≡ a.places.now
+  pub lengths : s.lengths.now ≡ a.lengths.now
+
 -- as many names and bytes may be added
 pub record SameCeilings (a b : AddedNames) : Type 0 where
   pub most : b.most ≡ a.most

@@ -3,6 +3,7 @@ ghost use Rattle.std.specs.Prelude.{◌≡◌, ◌≤◌};
 ghost use Rattle.gap_splits.specs.Added.{beside, Stand};
 
 // The names that are added beside those of the tables: `count` of them, with `used` bytes in all, of at most `most` and `most_bytes`.
+#[derive(Drop)]
 pub struct AddedNames<'b, 'p, 'l> {
     pub bytes: &'b mut [u8],
     pub places: &'p mut [u32],

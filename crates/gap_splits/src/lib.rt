@@ -13,7 +13,7 @@ ghost use Rattle.merge.specs.Merge.{given};
 ghost use Rattle.gap_columns.specs.Columns.{gap};
 ghost use Rattle.gap_columns.specs.Table.{found_of};
 ghost use Rattle.gap_splits.specs.Entering.{gap_split, entered, filled, unit_name};
-ghost use Rattle.gap_splits.specs.Answers.{sections_named, names_in, added_in, SameCeilings, ceilings_in, Absent, Adds, Numbered, meant, TablesIn, Gaps, Enters};
+ghost use Rattle.gap_splits.specs.Answers.{sections_named, names_in, added_in, Shows, SameCeilings, ceilings_in, Absent, Adds, Numbered, meant, TablesIn, Gaps, Enters};
 
 use gap_columns::GapColumns;
 use merge::add_split;
@@ -24,6 +24,19 @@ use splits::SplitTable;
 mod added_names;
 
 pub use added_names::AddedNames;
+
+impl AddedNames<'_, '_, '_> {
+    // Their columns to read, of which the first `count` are names.
+    pub fn names(&self) -> Names<'_, '_, '_>
+        ensures { Shows self.now result }
+    {
+        Names {
+            bytes: &*self.bytes,
+            places: &*self.places,
+            lengths: &*self.lengths,
+        }
+    }
+}
 
 // ---- the name
 

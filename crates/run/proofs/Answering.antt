@@ -11,7 +11,7 @@ use Rattle.lists.proofs.Outcomes.{not_both}
 use Rattle.lists.proofs.Binds.{bind_goes, bind_stops}
 use lib.Seq.{drop-append_seam}
 use Rattle.lists.proofs.Rows.{length-tabulate}
-use Rattle.obj.specs.Answers.{meaning}
+use Rattle.obj.specs.Answers.{meaning, Answer}
 use Rattle.obj.specs.Records.{unit_at}
 use Rattle.obj.specs.declared.Split.{Split}
 use Rattle.obj.specs.declared.Unit as units
@@ -24,7 +24,7 @@ use Rattle.splits.specs.Columns.{Columns, rows, row_at}
 use Rattle.toposort.specs.Search.{End, all}
 use Rattle.order.specs.LinkOrder.{link_order, nodes_left}
 use Rattle.order.specs.Columns.{said_of, kept, answer_of, NotCycle, Resolves}
-use Rattle.gap_splits.specs.declared.Entered.{Entered}
+use Rattle.gap_splits.specs.Added.{added}
 use Rattle.gap_splits.specs.Answers as entering
 use Rattle.walk.specs.declared.Counts.{Counts}
 use Rattle.walk.specs.Giving.{output_in}
@@ -45,7 +45,7 @@ module _ (file : List ℕ) (t : Loaded) (room : Counts) (table : Columns) (names
 
   -- an answer that is right after such an end of the link order
   pub record Answers (o : Outcome End) (r : Result Ran Unlinked) : Type 0 where
-    pub is : (c : Beside) → ran_in c table out pieces entries offsets r ≡ (o >>= on_order file t room (entering.added c names) S)
+    pub is : (c : Beside) → ran_in c table out pieces entries offsets r ≡ (o >>= on_order file t room (added c names) S)
     pub keeps : Keeps names used splits room out r
 
   -- the link order was refused, or ended in a cycle
@@ -72,7 +72,7 @@ module _ (file : List ℕ) (t : Loaded) (room : Counts) (table : Columns) (names
     unfolding ◌>>=◌ on_order
     walk_made l made read g = record {
       is = λ c.
-          ap (λ (u : List units.Unit). accepted (done (record { added = entering.added c names; splits = S; units = u; output = output_in pieces entries offsets made }))) read
+          ap (λ (u : List units.Unit). accepted (done (record { added = added c names; splits = S; units = u; output = output_in pieces entries offsets made }))) read
           ∙ sym (bind_goes (walked file t room S (units_of file t S l)) _ _ (sym g.is));
       keeps = (refl, refl, refl, whole, record { pieces = g.within.0; symbols = g.within.1; relocs = g.within.2 });
     }
@@ -95,7 +95,7 @@ module _ (file : List ℕ) (t : Loaded) (room : Counts) (table : Columns) (names
   -- ---- after the link order
 
   ordered : (units : ℕ) {r : Result Ran Unlinked} → Answers (link_order (linked file t S) units) r
-      → (c : Beside) → ran_in c table out pieces entries offsets r ≡ ordered_and_walked file t units room (entering.added c names) S
+      → (c : Beside) → ran_in c table out pieces entries offsets r ≡ ordered_and_walked file t units room (added c names) S
   unfolding ordered_and_walked
   ordered units a = a.is
 
@@ -138,29 +138,24 @@ module _ (file : List ℕ) (t : Loaded) (room : Counts) (table : Columns) (names
       made_right made g = made_answers n order_whole (link_order (linked file t S) (size / 8)) ends order_said order_read made g
 
 -- ---- after the stages before
-
--- the rows that were entered
-pub entered_tabled : {e : Result Entered Refusal} {x : Entered} {sections : ℕ} {table : Columns} → e ≡ Ok x → Tabled sections table (entering.splits e) → Tabled sections table x.splits
-entered_tabled {sections = sections} {table = table} q w = subst (λ (y : Result Entered Refusal). Tabled sections table (entering.splits y)) q w
-
-module _ (file : List ℕ) (t : Loaded) (room : Counts) (table : Columns) (out pieces entries offsets : List ℕ) (units : ℕ) (e : Result Entered Refusal) where
+module _ (file : List ℕ) (t : Loaded) (room : Counts) (table : Columns) (names used splits : ℕ) (out pieces entries offsets : List ℕ) (units : ℕ) (e : Answer) where
   -- what an answer is to be
   abbrev pub RightAfter : Result Ran Unlinked → Type 0
   RightAfter r =
       ((base : List (List ℕ)) → (c : Beside)
-      → ran_in c table out pieces entries offsets r ≡ walked_after file t units room (length base) (entering.meant base c table e))
-      × Keeps (entering.names e) (entering.used e) (entering.splits e) room out r
+      → ran_in c table out pieces entries offsets r ≡ walked_after file t units room (length base) (entering.meant base (added c names) (rows table splits) e))
+      × Keeps names used splits room out r
 
   pub refused_before : {r : Refusal} → e ≡ Err r → RightAfter (Err (Refused r))
   refused_before {r} q =
-      ((λ base c. sym (bind_stops _ _ r.number r.section r.address (ap (entering.meant base c table) q))), tt)
+      ((λ base c. sym (bind_stops _ _ r.number r.section r.address (ap (entering.meant base (added c names) (rows table splits)) q))), tt)
 
-  pub entered_before : {x : Entered} {r : Result Ran Unlinked} → e ≡ Ok x
-      → Answers file t room table x.names x.used x.splits out pieces entries offsets (link_order (linked file t (rows table x.splits)) units) r → RightAfter r
-  entered_before {x} {r} q a = (
+  pub entered_before : {r : Result Ran Unlinked} → e ≡ Ok tt
+      → Answers file t room table names used splits out pieces entries offsets (link_order (linked file t (rows table splits)) units) r → RightAfter r
+  entered_before {r} q a = (
     λ base c.
-        ordered file t room table x.names x.used x.splits out pieces entries offsets units a c
-        ∙ ap (λ (l : List (List ℕ)). ordered_and_walked file t units room l (rows table x.splits)) (sym (drop-append_seam base (entering.added c x.names)))
-        ∙ sym (bind_goes (entering.meant base c table e) _ _ (ap (entering.meant base c table) q)),
-    subst (λ (y : Result Entered Refusal). Keeps (entering.names y) (entering.used y) (entering.splits y) room out r) (sym q) a.keeps,
+        ordered file t room table names used splits out pieces entries offsets units a c
+        ∙ ap (λ (l : List (List ℕ)). ordered_and_walked file t units room l (rows table splits)) (sym (drop-append_seam base (added c names)))
+        ∙ sym (bind_goes (entering.meant base (added c names) (rows table splits) e) _ _ (ap (entering.meant base (added c names) (rows table splits)) q)),
+    a.keeps,
   )

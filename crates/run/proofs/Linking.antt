@@ -15,8 +15,8 @@ use Rattle.load.proofs.Laws.{name_known}
 use Rattle.loaded.specs.Tables.{Usable}
 use Rattle.loaded.proofs.Laws.{few_names, few_units, measured, all_named, section_named, sections_heads}
 use Rattle.splits.specs.Columns.{Columns, row_at, rows}
-use Rattle.link_graph.specs.Columns.{SectionNames}
-use Rattle.order.specs.Columns.{SplitsTaken, UnitsTaken}
+use Rattle.order_numbers.specs.Numbers.{Whole, unit_of}
+use Rattle.link_graph.specs.Columns.{SectionNames, Splits, UnitsBelow}
 use Rattle.run_splits.specs.Table.{Homed}
 use Rattle.run.specs.Answers.{Tabled}
 
@@ -30,16 +30,16 @@ module _ {file : List ℕ} {t : Loaded} (u : Usable file t) where
   section_names : SectionNames file t.sections file t.names t.lengths
   section_names = record { held = (sections_heads u).held; names = all_named u; named = section_named u }
 
-  pub splits-taken : (c : Columns) (n : ℕ) → Tabled (length t.sections) c n → SplitsTaken c n file t.sections file t.names t.lengths
-  splits-taken c n w = record {
-    given = record { long = w.long; few = w.few; sections = section_names; sectioned = λ i h. (row_homed c n w.homed i h).section };
-    named = λ i h. (row_homed c n w.homed i h).unit;
-    few = omega (arith, measured u, few_names u);
-  }
+  -- what the struct of them asks
+  pub splits_held : (c : Columns) (n : ℕ) → Tabled (length t.sections) c n → Splits c n file t.sections file t.names t.lengths
+  splits_held c n w = record { few = w.few; sections = section_names; sectioned = λ i h. (row_homed c n w.homed i h).section }
 
-  pub units_taken : UnitsTaken file t.units
-  units_taken = record {
-    whole = record { each = u.good.units.held };
-    few = few_units u;
-    named = λ k h. omega (arith, few_names u, name_known u.good _ (u.good.units.each k h).named);
-  }
+  pub units_whole : Whole file t.units
+  units_whole = record { each = u.good.units.held }
+
+  -- the names have a place in a column of 4,096
+  pub rows_below : (c : Columns) (n : ℕ) → Tabled (length t.sections) c n → UnitsBelow c n 4096
+  rows_below c n w i h = (row_homed c n w.homed i h).unit
+
+  pub records_below : (k : ℕ) → k < length t.units → (unit_of file t.units k).name < 4096
+  records_below k h = omega (arith, few_names u, name_known u.good _ (u.good.units.each k h).named)

@@ -12,7 +12,7 @@ use Rattle.symbol_order.specs.Order.{symbol_of, order_of}
 use Rattle.splits.specs.Columns.{Columns, rows, Long}
 use Rattle.order.specs.Bytes.{units_bytes}
 use Rattle.gap_splits.specs.Entering.{Filled, bytes_of}
-use Rattle.gap_splits.specs.Answers.{added}
+use Rattle.gap_splits.specs.Added.{added}
 use Rattle.walk.specs.declared.Counts.{Counts}
 use Rattle.walk.specs.Giving.{output_in}
 use Rattle.run_splits.specs.Table.{Homed}

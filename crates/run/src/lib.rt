@@ -2,20 +2,20 @@
 // split table that was made of it, so that no table is checked again.
 #![tactic(auto)]
 
-ghost use Rattle.std.specs.Prelude.{◌≡◌, List, [], map, ℕ, ◌/◌, ◌≤◌, ◌<◌, length};
+ghost use Rattle.std.specs.Prelude.{◌≡◌, List, [], map, ℕ, ◌/◌, ◌≤◌, ◌<◌, length, Ok};
 ghost use Rattle.lists.specs.Sort.{All};
 ghost use Rattle.obj.specs.declared.Unit as unit_records;
 ghost use Rattle.names.specs.Append.{Columns as Beside};
 ghost use Rattle.loaded.specs.Tables.{tables_with, image_from, sections_from};
-ghost use Rattle.splits.specs.Columns.{rows as rows_of};
-ghost use Rattle.splits.specs.Table.{columns_of};
+ghost use Rattle.splits.specs.Table.{columns_of, rows_of};
+ghost use Rattle.gap_splits.specs.Added.{added};
 ghost use Rattle.gap_splits.specs.Answers as entering;
 ghost use Rattle.stage_walk.specs.Room.{room_in};
 ghost use Rattle.stage_walk.specs.Lines.{Gives, UnitScratch};
 ghost use Rattle.run.specs.Run.{walked, ordered_and_walked};
 ghost use Rattle.run.specs.Answers.{units_at, ran_in, Prepared, Tabled, Units, Keeps, walked_after};
 
-use gap_splits::Entered;
+use link_graph::LinkTables;
 use loaded::Loaded;
 use names::Names;
 use obj::{Refusal, Table};
@@ -37,11 +37,10 @@ pub struct Ran {
     pub made: Counts,
 }
 
-// The walk of n rows. The records of k units, in link order, stand at the front of the unit table.
+// The walk of the rows. The records of k units, in link order, stand at the front of the unit table.
 fn walk_units(
     loaded: &Loaded,
     splits: &SplitColumns,
-    n: usize,
     unit_table: &[u8],
     k: usize,
     places: &mut [u32],
@@ -51,14 +50,14 @@ fn walk_units(
     offsets: &mut [u8],
 ) -> Result<Counts, Refusal>
     requires { Prepared loaded.now.file.now loaded.now.names.now loaded.now.lengths.now loaded.now.sections.now loaded.now.images.now loaded.now.symbols.now loaded.now.order.now loaded.now.relocs.now loaded.now.units.now
-        × Tabled (length loaded.now.sections.now) (columns_of splits.now) n
+        × Tabled (length loaded.now.sections.now) (columns_of splits.now) splits.now.count
         × Units unit_table.now k
         × All (λ (u : unit_records.Unit). u.name < 4096) (units_at unit_table.now k)
         × UnitScratch places.old unit_numbers.old }
     ensures { Gives
         (walked loaded.now.file.now (tables_with loaded.now.names.now loaded.now.lengths.now loaded.now.sections.now loaded.now.symbols.now loaded.now.relocs.now [] loaded.now.units.now)
         (room_in (length pieces.old) (length entries.old) (length offsets.old))
-        (rows_of (columns_of splits.now) n) (units_at unit_table.now k))
+        (rows_of splits.now) (units_at unit_table.now k))
         (room_in (length pieces.old) (length entries.old) (length offsets.old)) result pieces.new entries.new offsets.new }
 {
     fill_places(places, 8, k);
@@ -93,7 +92,7 @@ fn walk_units(
             places: loaded.relocs,
         },
         splits,
-        n,
+        splits.count,
         &unit_records,
         unit_numbers,
         pieces,
@@ -106,7 +105,6 @@ fn walk_units(
 fn walk_with_columns(
     loaded: &Loaded,
     splits: &SplitColumns,
-    n: usize,
     unit_table: &[u8],
     k: usize,
     pieces: &mut [u8],
@@ -114,13 +112,13 @@ fn walk_with_columns(
     offsets: &mut [u8],
 ) -> Result<Counts, Refusal>
     requires { Prepared loaded.now.file.now loaded.now.names.now loaded.now.lengths.now loaded.now.sections.now loaded.now.images.now loaded.now.symbols.now loaded.now.order.now loaded.now.relocs.now loaded.now.units.now
-        × Tabled (length loaded.now.sections.now) (columns_of splits.now) n
+        × Tabled (length loaded.now.sections.now) (columns_of splits.now) splits.now.count
         × Units unit_table.now k
         × All (λ (u : unit_records.Unit). u.name < 4096) (units_at unit_table.now k) }
     ensures { Gives
         (walked loaded.now.file.now (tables_with loaded.now.names.now loaded.now.lengths.now loaded.now.sections.now loaded.now.symbols.now loaded.now.relocs.now [] loaded.now.units.now)
         (room_in (length pieces.old) (length entries.old) (length offsets.old))
-        (rows_of (columns_of splits.now) n) (units_at unit_table.now k))
+        (rows_of splits.now) (units_at unit_table.now k))
         (room_in (length pieces.old) (length entries.old) (length offsets.old)) result pieces.new entries.new offsets.new }
 {
     let mut places = [0u32; 1024];
@@ -128,7 +126,6 @@ fn walk_with_columns(
     walk_units(
         loaded,
         splits,
-        n,
         unit_table,
         k,
         &mut places,
@@ -139,10 +136,12 @@ fn walk_with_columns(
     )
 }
 
-// The link order and the walk of what the stages before gave: what they refused is refused.
+// The link order and the walk of what the stages before gave, with so many names added of so many bytes: what they refused is refused.
 pub fn order_and_walk(
-    e: Result<Entered, Refusal>,
+    filled: Result<(), Refusal>,
     loaded: &Loaded,
+    names: usize,
+    used: usize,
     splits: &SplitColumns,
     out_units: &mut [u8],
     pieces: &mut [u8],
@@ -150,49 +149,41 @@ pub fn order_and_walk(
     offsets: &mut [u8],
 ) -> Result<Ran, Unlinked>
     requires { Prepared loaded.now.file.now loaded.now.names.now loaded.now.lengths.now loaded.now.sections.now loaded.now.images.now loaded.now.symbols.now loaded.now.order.now loaded.now.relocs.now loaded.now.units.now
-        × Tabled (length loaded.now.sections.now) (columns_of splits.now) (entering.splits e) }
+        × (filled ≡ Ok tt → Tabled (length loaded.now.sections.now) (columns_of splits.now) splits.now.count) }
     ensures { ((base : List (List ℕ)) → (c : Beside)
         → ran_in c (columns_of splits.now) out_units.new pieces.new entries.new offsets.new result
         ≡ walked_after loaded.now.file.now
         (tables_with loaded.now.names.now loaded.now.lengths.now loaded.now.sections.now loaded.now.symbols.now loaded.now.relocs.now [] loaded.now.units.now)
         (length out_units.old / 8) (room_in (length pieces.old) (length entries.old) (length offsets.old)) (length base)
-        (entering.meant base c (columns_of splits.now) e))
-        × Keeps (entering.names e) (entering.used e) (entering.splits e) (room_in (length pieces.old) (length entries.old) (length offsets.old)) out_units.new result }
+        (entering.meant base (added c names) (rows_of splits.now) filled))
+        × Keeps names used splits.now.count (room_in (length pieces.old) (length entries.old) (length offsets.old)) out_units.new result }
 {
-    let entered = e?;
+    filled?;
     let linked = ordered(
-        splits,
-        entered.splits,
-        &Table {
-            bytes: loaded.file,
-            places: loaded.sections,
-        },
-        &Names {
-            bytes: loaded.file,
-            places: loaded.names,
-            lengths: loaded.lengths,
-        },
-        &Table {
-            bytes: loaded.file,
-            places: loaded.units,
+        &LinkTables {
+            splits: *splits,
+            heads: Table {
+                bytes: loaded.file,
+                places: loaded.sections,
+            },
+            names: Names {
+                bytes: loaded.file,
+                places: loaded.names,
+                lengths: loaded.lengths,
+            },
+            units: Table {
+                bytes: loaded.file,
+                places: loaded.units,
+            },
         },
         out_units,
     );
     let k = linked?;
-    let made = walk_with_columns(
-        loaded,
-        splits,
-        entered.splits,
-        out_units,
-        k,
-        pieces,
-        entries,
-        offsets,
-    )?;
+    let made = walk_with_columns(loaded, splits, out_units, k, pieces, entries, offsets)?;
     Ok(Ran {
-        names: entered.names,
-        used: entered.used,
-        splits: entered.splits,
+        names,
+        used,
+        splits: splits.count,
         units: k,
         made,
     })

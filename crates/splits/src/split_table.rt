@@ -14,6 +14,7 @@ pub struct SplitColumns<'s, 'e, 'u, 'r> {
 }
 
 // The split table: columns to write, with room for `room` rows, of which the first `count` are the table's.
+#[derive(Drop)]
 pub struct SplitTable<'s, 'e, 'u, 'r> {
     pub starts: &'s mut [u32],
     pub ends: &'e mut [u32],

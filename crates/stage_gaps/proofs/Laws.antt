@@ -1,7 +1,7 @@
 -- The counts that are stored, from a line of the definition to the next, what the filling left, and the room of the lent columns. Assumes nothing.
 use mathlib.Core.Path.{◌≡◌, refl, sym, ap, ◌∙◌}
 use mathlib.Core.List.{List, [], ◌∷◌, ◌++◌}
-use Prim.Native.Nat.{ℕ, ◌+◌, ◌/◌, ◌≤◌, ◌<◌}
+use Prim.Native.Nat.{ℕ, ◌+◌, ◌≤◌, ◌<◌}
 use native.Mathlib.Omega.{arith}
 use lib.ListN.{length, length-append}
 use Rattle.lists.specs.Rows.{clear_from}
@@ -15,7 +15,6 @@ use Rattle.obj.specs.Answers.{meaning}
 use Rattle.obj.specs.Answers.{Answer}
 use Rattle.obj.specs.declared.Section.{Section}
 use Rattle.obj.specs.declared.Split.{Split}
-use Rattle.names.specs.Append.{Columns as Beside}
 use Rattle.names.proofs.Laws.{length-names}
 use Rattle.outputs.specs.Outputs.{counts_of, store_count, store_counts}
 use Rattle.outputs.proofs.Laws.{counts_stored}
@@ -24,16 +23,18 @@ use Rattle.stage_names.specs.StageNames.{flat, Fits, Given}
 use Rattle.sections.specs.Image.{Image}
 use Rattle.sections.specs.Sections.{Sections}
 use Rattle.splits.specs.Bytes.{table_bytes}
-use Rattle.splits.specs.Columns.{Columns as Table, columns, rows, row_at, Long}
+use Rattle.splits.specs.Columns.{columns, row_at, Long}
+use Rattle.splits.specs.Table.{columns_of, rows_of}
+use Rattle.splits.specs.declared.split_table.SplitColumns.{SplitColumns}
 use Rattle.stage_splits.specs.StageSplits.{room_of, said, Taken}
 use Rattle.merge.specs.Merge.{given}
-use Rattle.gaps.specs.Found.{Roomy}
 use Rattle.gap_splits.specs.Entering.{Filled, Ceilings, bytes_of}
-use Rattle.gap_splits.specs.Answers.{beside, added, Room, Stand}
+use Rattle.gap_splits.specs.Added.{beside, Room}
+use Rattle.gap_splits.specs.Answers.{added_in}
+use Rattle.gap_splits.specs.declared.added_names.AddedNames.{AddedNames}
 use Rattle.gap_splits.proofs.Naming.{bytes_append}
 use Rattle.create_gap_splits.specs.Create.{gaps_filled}
-use Rattle.stage_gaps.specs.StageGaps.{Laid, Gives, from_splits, Space, Columns, Lent}
-use Rattle.obj.specs.Records.{split_width}
+use Rattle.stage_gaps.specs.StageGaps.{Laid, Gives, from_splits, Space}
 
 -- ---- the counts
 pub stored : (counts : List ℕ) (names bytes splits : ℕ) {c₀ c₁ c₂ c₃ : List ℕ} → c₀ ≡ clear_from 0 0 counts → c₁ ≡ store_count 0 names c₀ → c₂ ≡ store_count 1 bytes c₁ → c₃ ≡ store_count 2 splits c₂
@@ -71,12 +72,12 @@ module _ {a : Answer} {es bs size cs : ℕ} {ends bytes out counts : List ℕ} w
   splits_stop lengths heads g sections ceilings base splits e s f = gives_stops _ (s ∙ ap (λ (k : ℕ). splits_check k lengths heads splits) e) f
 
   -- they stand in the columns: the filling decides
-  pub splits_go : (lengths : List ℕ) (heads : List Section) (g : Image) (sections : Sections) (ceilings : Ceilings) (base : List (List ℕ)) (splits : List ℕ) (table : Table) {room : ℕ} {m : Outcome (Unit {0})}
-      → room ≡ room_of size → Taken m (splits_check room lengths heads splits) splits table → m ≡ accepted tt
-      → Gives (gaps_filled g sections (given heads room) ceilings (record { names = base; rows = rows table (length splits / split_width) })) a es bs size cs ends bytes out counts
+  pub splits_go : (lengths : List ℕ) (heads : List Section) (g : Image) (sections : Sections) (ceilings : Ceilings) (base : List (List ℕ)) (splits : List ℕ) (rows : List Split) {room : ℕ} {m : Outcome (Unit {0})}
+      → room ≡ room_of size → Taken m (splits_check room lengths heads splits) splits rows → m ≡ accepted tt
+      → Gives (gaps_filled g sections (given heads room) ceilings (record { names = base; rows = rows })) a es bs size cs ends bytes out counts
       → Gives (from_splits lengths heads g sections ceilings base splits size) a es bs size cs ends bytes out counts
   unfolding from_splits
-  splits_go lengths heads g sections ceilings base splits table e t f w =
+  splits_go lengths heads g sections ceilings base splits rows e t f w =
       let same = ap (λ (k : ℕ). splits_check k lengths heads splits) e in
       gives_goes (sym (t.said ∙ same) ∙ f) (gives_as (filled_as g sections heads ceilings base e (t.taken (sym t.said ∙ f))) w)
     where
@@ -94,12 +95,13 @@ flat_two : (s t : List (List ℕ)) → length (flat (s ++ t)) ≡ length (flat s
 flat_two s t = let a = flat_bytes (s ++ t) in let b = flat_bytes s in let c = flat_bytes t in let d = bytes_append s t in omega (arith, a, b, c, d)
 
 -- ---- what the filling left
-module _ (base : List (List ℕ)) (c : Beside) {k u most most_bytes : ℕ} where
+module _ (base : List (List ℕ)) (a : AddedNames) where
   -- the names fit into the outputs
-  pub names_fit : {es bs : ℕ} → Space base most most_bytes es bs → Stand c k u most most_bytes → Fits base (added c k) es bs
-  names_fit p t =
-      let l = length-names c.bytes c.places c.lengths k in
-      let b = flat_bytes (added c k) in
+  pub names_fit : {es bs : ℕ} → Space base a.most a.most_bytes es bs → Fits base (added_in a) es bs
+  names_fit p =
+      let t = a.stand in
+      let l = length-names a.bytes.now a.places.now a.lengths.now a.count in
+      let b = flat_bytes (added_in a) in
       record {
         long_ends = omega (arith, l, t.few, p.long_ends);
         long_bytes = omega (arith, b, t.sum, t.short, p.long_bytes);
@@ -107,43 +109,36 @@ module _ (base : List (List ℕ)) (c : Beside) {k u most most_bytes : ℕ} where
       }
 
   -- .. and their number into a count
-  pub names_few : {es bs count : ℕ} → Space base most most_bytes es bs → Stand c k u most most_bytes → length base ≡ count → count + k ≤ 4096
-  names_few p s z = omega (arith, s.few, p.few, z)
+  pub names_few : {es bs count : ℕ} → Space base a.most a.most_bytes es bs → length base ≡ count → count + a.count ≤ 4096
+  names_few p z = let s = a.stand in omega (arith, s.few, p.few, z)
 
   -- .. and that of their bytes
-  pub bytes_few : {es bs bytes : ℕ} {out_ends out_bytes : List ℕ} → Space base most most_bytes es bs → Stand c k u most most_bytes → Given (base ++ added c k) es bs out_ends out_bytes bytes → bytes < 65536
-  bytes_few p s g = omega (arith, g.count, flat_two base (added c k), (names_fit p s).short)
+  pub bytes_few : {es bs bytes : ℕ} {out_ends out_bytes : List ℕ} → Space base a.most a.most_bytes es bs → Given (base ++ added_in a) es bs out_ends out_bytes bytes → bytes < 65536
+  bytes_few p g = omega (arith, g.count, flat_two base (added_in a), (names_fit p).short)
 
--- both tables are in the outputs
-pub filled_laid : (base : List (List ℕ)) (c : Beside) (table : Table) (k n : ℕ) {es bs size cs : ℕ} {ends bytes out counts : List ℕ} {count used : ℕ} → Given (base ++ added c k) es bs ends bytes used → out ≡ laid size (table_bytes (rows table n))
-    → length base ≡ count → counts ≡ counts_of cs ((count + k) ∷ used ∷ n ∷ []) → Laid (record { names = base ++ added c k; rows = rows table n }) es bs size cs ends bytes out counts
-filled_laid base c table k n {cs = cs} {count = count} g e z f =
-    let m : count + k ≡ length (base ++ added c k) = omega (arith, z, length-append base (added c k), length-names c.bytes c.places c.lengths k) in
-    let l = sym (length-tabulate (row_at table) 0 n) in
-    record { ends = g.ends_laid; bytes = g.bytes_laid; splits = e; counted = f ∙ counted_as cs m g.count l }
-  where
-    counted_as : (cs : ℕ) {a b c x y z : ℕ} → a ≡ x → b ≡ y → c ≡ z → counts_of cs (a ∷ b ∷ c ∷ []) ≡ counts_of cs (x ∷ y ∷ z ∷ [])
-    counted_as cs p q r = λ i. counts_of cs (p i ∷ q i ∷ r i ∷ [])
+  -- both tables are in the outputs
+  pub filled_laid : (s : SplitColumns) {es bs size cs : ℕ} {ends bytes out counts : List ℕ} {count used : ℕ} → Given (base ++ added_in a) es bs ends bytes used → out ≡ laid size (table_bytes (rows_of s))
+      → length base ≡ count → counts ≡ counts_of cs ((count + a.count) ∷ used ∷ s.count ∷ []) → Laid (record { names = base ++ added_in a; rows = rows_of s }) es bs size cs ends bytes out counts
+  filled_laid s {cs = cs} {count = count} g e z f =
+      let m : count + a.count ≡ length (base ++ added_in a) = omega (arith, z, length-append base (added_in a), length-names a.bytes.now a.places.now a.lengths.now a.count) in
+      let l = sym (length-tabulate (row_at (columns_of s)) 0 s.count) in
+      record { ends = g.ends_laid; bytes = g.bytes_laid; splits = e; counted = f ∙ counted_as cs m g.count l }
+    where
+      counted_as : (cs : ℕ) {a b c x y z : ℕ} → a ≡ x → b ≡ y → c ≡ z → counts_of cs (a ∷ b ∷ c ∷ []) ≡ counts_of cs (x ∷ y ∷ z ∷ [])
+      counted_as cs p q r = λ i. counts_of cs (p i ∷ q i ∷ r i ∷ [])
 
--- ---- the lent columns
-pub rows_long : {starts ends units rest : List ℕ} {room : ℕ} → room ≤ 1024 → Columns starts ends units rest → Long (columns starts ends units rest) room
-rows_long h s = record { starts = omega (arith, s.starts_long); ends = omega (arith, s.ends_long); units = omega (arith, s.units_long); rest = omega (arith, s.rest_long) }
+-- ---- the columns hold all names that may be added ..
+pub added_room : {base : List (List ℕ)} {most most_bytes es bs : ℕ} {bytes places lengths : List ℕ} → length bytes ≡ 65535 → length places ≡ 4096 → length lengths ≡ 4096
+    → Space base most most_bytes es bs → Room (beside bytes places lengths) most most_bytes
+added_room b l m p = record {
+  few = omega (arith, p.few);
+  short = omega (arith, p.short);
+  long_places = omega (arith, p.few, l);
+  long_lengths = omega (arith, p.few, m);
+  long_bytes = omega (arith, p.short, b);
+}
 
-module _ {added_bytes added_places added_lengths marks keys gap_ends : List ℕ} (l : Lent added_bytes added_places added_lengths marks keys gap_ends) where
-  -- they hold all names that may be added
-  pub added_room : {base : List (List ℕ)} {most most_bytes es bs : ℕ} → Space base most most_bytes es bs → Room (beside added_bytes added_places added_lengths) most most_bytes
-  added_room p = record {
-    few = omega (arith, p.few);
-    short = omega (arith, p.short);
-    long_places = omega (arith, p.few, l.places_long);
-    long_lengths = omega (arith, p.few, l.lengths_long);
-    long_bytes = omega (arith, p.short, l.bytes_long);
-  }
-
-  -- .. a mark for each name
-  pub marked : {base : List (List ℕ)} {most most_bytes es bs count : ℕ} → Space base most most_bytes es bs → length base ≡ count → count ≤ length marks
-  marked p z = omega (arith, p.few, l.marks_long, z)
-
-  -- .. and all gaps
-  pub gaps_room : {sections n cap symbols : ℕ} → sections ≤ 64 → n ≤ cap → cap ≤ 1024 → symbols ≤ 4096 → Roomy keys gap_ends sections n symbols
-  gaps_room a b c d = record { long_keys = omega (arith, l.keys_long); long_ends = omega (arith, l.gap_ends_long) }
+-- .. and all rows
+pub rows_long : {starts ends units rest : List ℕ} {room : ℕ} → room ≤ 1024 → length starts ≡ 1024 → length ends ≡ 1024 → length units ≡ 1024 → length rest ≡ 1024
+    → Long (columns starts ends units rest) room
+rows_long h s e u r = record { starts = omega (arith, h, s); ends = omega (arith, h, e); units = omega (arith, h, u); rest = omega (arith, h, r) }

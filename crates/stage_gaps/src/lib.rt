@@ -4,28 +4,32 @@
 
 ghost use Rattle.std.specs.Prelude.{◌≡◌, [], ◌∷◌, ◌++◌, ◌*◌, ◌≤◌, ◌<◌, length};
 ghost use Rattle.outputs.specs.Outputs.{counts_of};
-ghost use Rattle.names.specs.Names.{names_of, Named};
-ghost use Rattle.tables.specs.Records.{sections_in};
-ghost use Rattle.symbol_order.specs.Order.{symbol_of};
-ghost use Rattle.symbols.specs.Sound.{Sound};
-ghost use Rattle.sections.specs.Image.{image_in, TablesIn};
-ghost use Rattle.sections.specs.Sections.{sections_of};
-ghost use Rattle.splits.specs.Columns.{columns, rows, Long};
-ghost use Rattle.splits.specs.Table.{columns_of};
-ghost use Rattle.merge.specs.Merge.{given};
-ghost use Rattle.gap_splits.specs.Answers.{beside, added, ceilings, Stand};
-ghost use Rattle.create_gap_splits.specs.Create.{gaps_filled};
+ghost use Rattle.names.specs.Names.{Named};
+ghost use Rattle.splits.specs.Table.{rows_of, rows_in};
+ghost use Rattle.gap_splits.specs.Answers.{names_in, added_in, ceilings, ceilings_in};
+ghost use Rattle.stage_splits.specs.StageSplits.{room_of};
 ghost use Rattle.obj.specs.Records.{split_width};
-ghost use Rattle.stage_gaps.specs.StageGaps.{from_splits, Gives, Laid, Names as NamesRead, Headed, Space, Columns, Lent};
+ghost use Rattle.stage_gaps.specs.StageGaps.{stage_of, filling_of, GivesIn, LaidIn, SameLengths, SpaceIn, Passed, Scratch};
 
-use gap_splits::Entered;
+use create_gap_splits::create_gap_splits;
+use gap_columns::GapTable;
+use gap_splits::AddedNames;
 use names::{NameIndex, Names};
-use obj::{Refusal, SPLIT_BYTES, Table};
+use obj::{Refusal, Table};
 use outputs::{clear_from, put_count};
 use sections::Obj;
-use splits::SplitColumns;
+use splits::{SplitColumns, SplitTable};
 use stage_names::give_names;
 use stage_splits::{put_splits, room_of, take_split_columns};
+
+// The outputs that are lent to the stage: the ends and the bytes of the names, the splits, and the counts of all three.
+#[derive(Drop)]
+pub struct GapOutputs<'e, 'b, 's, 'c> {
+    pub ends: &'e mut [u8],
+    pub bytes: &'b mut [u8],
+    pub splits: &'s mut [u8],
+    pub counts: &'c mut [u8],
+}
 
 // ---- the outputs
 
@@ -41,119 +45,97 @@ fn give_counts(counts: &mut [u8], names: usize, bytes: usize, splits: usize)
 }
 
 // What the filling left in the columns, in the outputs.
-fn give_filled(
-    names: &Names,
-    added_names: &Names,
-    splits: &SplitColumns,
-    filled: Entered,
-    most: usize,
-    most_bytes: usize,
-    out_ends: &mut [u8],
-    out_bytes: &mut [u8],
-    out: &mut [u8],
-    counts: &mut [u8],
-)
+fn give_filled(names: &Names, added: &AddedNames, splits: &SplitColumns, outputs: &mut GapOutputs)
     requires { (Named names.now.bytes.now names.now.places.now names.now.lengths.now (length names.now.places.now))
-        × Space (names_of names.now.bytes.now names.now.places.now names.now.lengths.now (length names.now.places.now)) most most_bytes (length out_ends.old) (length out_bytes.old)
-        × Stand (beside added_names.now.bytes.now added_names.now.places.now added_names.now.lengths.now) filled.names filled.used most most_bytes
-        × Long (columns_of splits.now) filled.splits
-        × (split_width * filled.splits ≤ length out.old)
-        × (filled.splits ≤ 1024) }
-    ensures { Laid
-        (record {
-          names = names_of names.now.bytes.now names.now.places.now names.now.lengths.now (length names.now.places.now) ++ added (beside added_names.now.bytes.now added_names.now.places.now added_names.now.lengths.now) filled.names;
-          rows = rows (columns_of splits.now) filled.splits;
-        })
-        (length out_ends.old) (length out_bytes.old) (length out.old) (length counts.old) out_ends.new out_bytes.new out.new counts.new }
+        × SpaceIn names.now added.now.most added.now.most_bytes outputs.old
+        × (split_width * splits.now.count ≤ length outputs.old.splits.now)
+        × (splits.now.count ≤ 1024) }
+    ensures laid { LaidIn (record { names = names_in names.now ++ added_in added.now; rows = rows_of splits.now }) outputs.old outputs.new }
+    ensures lengths { SameLengths outputs.old outputs.new }
 {
-    let bytes = give_names(names, added_names, filled.names, out_ends, out_bytes);
-    put_splits(splits, filled.splits, out);
-    let names = names.places.len() + filled.names;
-    give_counts(counts, names, bytes, filled.splits);
+    let bytes = give_names(
+        names,
+        &added.names(),
+        added.count,
+        outputs.ends,
+        outputs.bytes,
+    );
+    put_splits(splits, outputs.splits);
+    let count = names.places.len() + added.count;
+    give_counts(outputs.counts, count, bytes, splits.count);
 }
 
 // ---- the tables
 
-// The filling of gaps between n rows, and its outputs.
+// The filling of gaps between the rows of the table, and its outputs.
 fn fill_rows(
     obj: &Obj,
     index: &NameIndex,
     image: &Table,
-    starts: &mut [u32],
-    ends: &mut [u32],
-    units: &mut [u16],
-    rest: &mut [u64],
-    n: usize,
-    cap: usize,
-    added_bytes: &mut [u8],
-    added_places: &mut [u32],
-    added_lengths: &mut [u8],
+    table: &mut SplitTable,
+    added: &mut AddedNames,
+    marks: &mut [u8],
+    found: &mut GapTable,
+    outputs: &mut GapOutputs,
+) -> Result<(), Refusal>
+    requires { Passed obj.now index.now image.now
+        × SpaceIn obj.now.names added.old.most added.old.most_bytes outputs.old
+        × Scratch marks.old found.old
+        × (table.old.room ≤ 1024)
+        × (split_width * table.old.room ≤ length outputs.old.splits.now) }
+    ensures gives { GivesIn
+        (filling_of obj.now image.now table.old.room (ceilings_in obj.now.names added.old) (rows_in table.old))
+        result outputs.old outputs.new }
+    ensures lengths { SameLengths outputs.old outputs.new }
+{
+    create_gap_splits(obj, index, image, table, added, marks, found)?;
+    give_filled(&obj.names, added, &table.columns(), outputs);
+    Ok(())
+}
+
+// The same, with columns of its own for the names that are added and the gaps.
+fn with_added(
+    obj: &Obj,
+    index: &NameIndex,
+    image: &Table,
+    table: &mut SplitTable,
     most: usize,
     most_bytes: usize,
-    marks: &mut [u8],
-    keys: &mut [u64],
-    gap_ends: &mut [u32],
-    out_ends: &mut [u8],
-    out_bytes: &mut [u8],
-    out: &mut [u8],
-    counts: &mut [u8],
+    outputs: &mut GapOutputs,
 ) -> Result<(), Refusal>
-    requires { TablesIn obj.now
-        × Sound (symbol_of obj.now.symbols.bytes.now obj.now.symbols.places.now) (length obj.now.symbols.places.now)
-        × NamesRead obj.now.names.bytes.now obj.now.names.places.now obj.now.names.lengths.now index.now.heads.now index.now.chain.now
-        × Headed obj.now.heads.bytes.now obj.now.heads.places.now image.now.bytes.now image.now.places.now obj.now.names.bytes.now obj.now.names.places.now obj.now.names.lengths.now
-        × Space (names_of obj.now.names.bytes.now obj.now.names.places.now obj.now.names.lengths.now (length obj.now.names.places.now)) most most_bytes (length out_ends.old) (length out_bytes.old)
-        × Columns starts.old ends.old units.old rest.old
-        × Lent added_bytes.old added_places.old added_lengths.old marks.old keys.old gap_ends.old
-        × (n ≤ cap)
-        × (cap ≤ 1024)
-        × (split_width * cap ≤ length out.old)
-        × (length obj.now.symbols.places.now ≤ 4096) }
-    ensures { Gives
-        (gaps_filled (image_in obj.now) (sections_of obj.now.heads.bytes.now obj.now.heads.places.now image.now.bytes.now image.now.places.now) (given (sections_in obj.now.heads.bytes.now obj.now.heads.places.now) cap) (ceilings (names_of obj.now.names.bytes.now obj.now.names.places.now obj.now.names.lengths.now (length obj.now.names.places.now)) most most_bytes) (record { names = (names_of obj.now.names.bytes.now obj.now.names.places.now obj.now.names.lengths.now (length obj.now.names.places.now)); rows = (rows (columns starts.old ends.old units.old rest.old) n) }))
-        result (length out_ends.old) (length out_bytes.old) (length out.old) (length counts.old) out_ends.new out_bytes.new out.new counts.new }
+    requires { Passed obj.now index.now image.now
+        × SpaceIn obj.now.names most most_bytes outputs.old
+        × (table.old.room ≤ 1024)
+        × (split_width * table.old.room ≤ length outputs.old.splits.now) }
+    ensures gives { GivesIn
+        (filling_of obj.now image.now table.old.room (ceilings (names_in obj.now.names) most most_bytes) (rows_in table.old))
+        result outputs.old outputs.new }
+    ensures lengths { SameLengths outputs.old outputs.new }
 {
-    let filled = create_gap_splits::create_gap_splits(
-        obj,
-        index,
-        image,
-        starts,
-        ends,
-        units,
-        rest,
-        n,
-        cap,
-        added_bytes,
-        added_places,
-        added_lengths,
+    let mut bytes = [0u8; 65535];
+    let mut places = [0u32; 4096];
+    let mut lengths = [0u8; 4096];
+    let mut marks = [0u8; 4096];
+    let mut keys = [0u64; 6208];
+    let mut ends = [0u32; 6208];
+    let mut added = AddedNames {
+        bytes: &mut bytes,
+        places: &mut places,
+        lengths: &mut lengths,
+        count: 0,
+        used: 0,
         most,
         most_bytes,
-        marks,
-        keys,
-        gap_ends,
-    )?;
-    give_filled(
-        &obj.names,
-        &Names {
-            bytes: &*added_bytes,
-            places: &*added_places,
-            lengths: &*added_lengths,
-        },
-        &SplitColumns {
-            starts: &*starts,
-            ends: &*ends,
-            units: &*units,
-            rest: &*rest,
-        },
-        filled,
-        most,
-        most_bytes,
-        out_ends,
-        out_bytes,
-        out,
-        counts,
-    );
-    Ok(())
+    };
+    let mut found = GapTable {
+        keys: &mut keys,
+        ends: &mut ends,
+        count: 0,
+        room: 6208,
+    };
+    fill_rows(
+        obj, index, image, table, &mut added, &mut marks, &mut found, outputs,
+    )
 }
 
 // The splits in lent columns, and the filling.
@@ -163,75 +145,25 @@ fn from_splits(
     image: &Table,
     splits: &[u8],
     places: &mut [u32],
-    starts: &mut [u32],
-    ends: &mut [u32],
-    units: &mut [u16],
-    rest: &mut [u64],
-    added_bytes: &mut [u8],
-    added_places: &mut [u32],
-    added_lengths: &mut [u8],
+    table: &mut SplitTable,
     most: usize,
     most_bytes: usize,
-    marks: &mut [u8],
-    keys: &mut [u64],
-    gap_ends: &mut [u32],
-    out_ends: &mut [u8],
-    out_bytes: &mut [u8],
-    out: &mut [u8],
-    counts: &mut [u8],
+    outputs: &mut GapOutputs,
 ) -> Result<(), Refusal>
-    requires { TablesIn obj.now
-        × Sound (symbol_of obj.now.symbols.bytes.now obj.now.symbols.places.now) (length obj.now.symbols.places.now)
-        × NamesRead obj.now.names.bytes.now obj.now.names.places.now obj.now.names.lengths.now index.now.heads.now index.now.chain.now
-        × Headed obj.now.heads.bytes.now obj.now.heads.places.now image.now.bytes.now image.now.places.now obj.now.names.bytes.now obj.now.names.places.now obj.now.names.lengths.now
-        × Space (names_of obj.now.names.bytes.now obj.now.names.places.now obj.now.names.lengths.now (length obj.now.names.places.now)) most most_bytes (length out_ends.old) (length out_bytes.old)
-        × Columns starts.old ends.old units.old rest.old
-        × Lent added_bytes.old added_places.old added_lengths.old marks.old keys.old gap_ends.old
+    requires { Passed obj.now index.now image.now
+        × SpaceIn obj.now.names most most_bytes outputs.old
         × (length places.old ≡ 1024)
-        × (length obj.now.symbols.places.now ≤ 4096) }
-    ensures { Gives
-        (from_splits obj.now.names.lengths.now (sections_in obj.now.heads.bytes.now obj.now.heads.places.now) (image_in obj.now) (sections_of obj.now.heads.bytes.now obj.now.heads.places.now image.now.bytes.now image.now.places.now) (ceilings (names_of obj.now.names.bytes.now obj.now.names.places.now obj.now.names.lengths.now (length obj.now.names.places.now)) most most_bytes) (names_of obj.now.names.bytes.now obj.now.names.places.now obj.now.names.lengths.now (length obj.now.names.places.now)) splits.now (length out.old))
-        result (length out_ends.old) (length out_bytes.old) (length out.old) (length counts.old) out_ends.new out_bytes.new out.new counts.new }
+        × (table.old.room ≡ room_of (length outputs.old.splits.now)) }
+    ensures gives { GivesIn
+        (stage_of obj.now image.now (ceilings (names_in obj.now.names) most most_bytes) splits.now (length outputs.old.splits.now))
+        result outputs.old outputs.new }
+    ensures lengths { SameLengths outputs.old outputs.new }
 {
-    let room = room_of(out.len());
-    take_split_columns(
-        obj.names.lengths,
-        &obj.heads,
-        splits,
-        room,
-        places,
-        starts,
-        ends,
-        units,
-        rest,
-    )?;
-    let n = splits.len() / SPLIT_BYTES;
-    fill_rows(
-        obj,
-        index,
-        image,
-        starts,
-        ends,
-        units,
-        rest,
-        n,
-        room,
-        added_bytes,
-        added_places,
-        added_lengths,
-        most,
-        most_bytes,
-        marks,
-        keys,
-        gap_ends,
-        out_ends,
-        out_bytes,
-        out,
-        counts,
-    )
+    take_split_columns(obj.names.lengths, &obj.heads, splits, places, table)?;
+    with_added(obj, index, image, table, most, most_bytes, outputs)
 }
 
-// The same, with columns of its own for the splits, the names that are added and the gaps.
+// The same, with columns of its own for the splits.
 pub fn with_splits(
     obj: &Obj,
     index: &NameIndex,
@@ -239,53 +171,36 @@ pub fn with_splits(
     splits: &[u8],
     most: usize,
     most_bytes: usize,
-    out_ends: &mut [u8],
-    out_bytes: &mut [u8],
-    out: &mut [u8],
-    counts: &mut [u8],
+    outputs: &mut GapOutputs,
 ) -> Result<(), Refusal>
-    requires { TablesIn obj.now
-        × Sound (symbol_of obj.now.symbols.bytes.now obj.now.symbols.places.now) (length obj.now.symbols.places.now)
-        × NamesRead obj.now.names.bytes.now obj.now.names.places.now obj.now.names.lengths.now index.now.heads.now index.now.chain.now
-        × Headed obj.now.heads.bytes.now obj.now.heads.places.now image.now.bytes.now image.now.places.now obj.now.names.bytes.now obj.now.names.places.now obj.now.names.lengths.now
-        × Space (names_of obj.now.names.bytes.now obj.now.names.places.now obj.now.names.lengths.now (length obj.now.names.places.now)) most most_bytes (length out_ends.old) (length out_bytes.old)
-        × (length obj.now.symbols.places.now ≤ 4096) }
-    ensures { Gives
-        (from_splits obj.now.names.lengths.now (sections_in obj.now.heads.bytes.now obj.now.heads.places.now) (image_in obj.now) (sections_of obj.now.heads.bytes.now obj.now.heads.places.now image.now.bytes.now image.now.places.now) (ceilings (names_of obj.now.names.bytes.now obj.now.names.places.now obj.now.names.lengths.now (length obj.now.names.places.now)) most most_bytes) (names_of obj.now.names.bytes.now obj.now.names.places.now obj.now.names.lengths.now (length obj.now.names.places.now)) splits.now (length out.old))
-        result (length out_ends.old) (length out_bytes.old) (length out.old) (length counts.old) out_ends.new out_bytes.new out.new counts.new }
+    requires { Passed obj.now index.now image.now × SpaceIn obj.now.names most most_bytes outputs.old }
+    ensures gives { GivesIn
+        (stage_of obj.now image.now (ceilings (names_in obj.now.names) most most_bytes) splits.now (length outputs.old.splits.now))
+        result outputs.old outputs.new }
+    ensures lengths { SameLengths outputs.old outputs.new }
 {
     let mut places = [0u32; 1024];
     let mut starts = [0u32; 1024];
     let mut ends = [0u32; 1024];
     let mut units = [0u16; 1024];
     let mut rest = [0u64; 1024];
-    let mut added_bytes = [0u8; 65535];
-    let mut added_places = [0u32; 4096];
-    let mut added_lengths = [0u8; 4096];
-    let mut marks = [0u8; 4096];
-    let mut keys = [0u64; 6208];
-    let mut gap_ends = [0u32; 6208];
+    let mut table = SplitTable {
+        starts: &mut starts,
+        ends: &mut ends,
+        units: &mut units,
+        rest: &mut rest,
+        count: 0,
+        room: room_of(outputs.splits.len()),
+    };
     from_splits(
         obj,
         index,
         image,
         splits,
         &mut places,
-        &mut starts,
-        &mut ends,
-        &mut units,
-        &mut rest,
-        &mut added_bytes,
-        &mut added_places,
-        &mut added_lengths,
+        &mut table,
         most,
         most_bytes,
-        &mut marks,
-        &mut keys,
-        &mut gap_ends,
-        out_ends,
-        out_bytes,
-        out,
-        counts,
+        outputs,
     )
 }

@@ -8,27 +8,33 @@ use Rattle.loaded.specs.Tables.{tables_with}
 use Rattle.loaded.specs.declared.Loaded.{Loaded as Lent}
 use Rattle.splits.specs.Table.{columns_of}
 use Rattle.stage_walk.specs.Room.{room_in}
-use Rattle.run.proofs.Linking.{splits-taken, units_taken}
-use Rattle.run.proofs.Answering.{entered_tabled, unlinked_right, order_whole, order_named, refused_right, made_right, refused_before, entered_before}
+use Rattle.loaded.proofs.Laws.{few_units}
+use Rattle.run.proofs.Linking.{splits_held, units_whole, rows_below, records_below}
+use Rattle.run.proofs.Answering.{unlinked_right, order_whole, order_named, refused_right, made_right, refused_before, entered_before}
 use Rattle.run.proofs.order_and_walk.Goals as goal
 
 -- the tables that the run walks; the partial list has had its part
 abbrev tables_of : Lent → Loaded
 tables_of l = tables_with l.names.now l.lengths.now l.sections.now l.symbols.now l.relocs.now [] l.units.now
 
-pub returns-in_err-entered : goal.returns-in_err-entered
-returns-in_err-entered c =
+pub returns-in_err-filled : goal.returns-in_err-filled
+returns-in_err-filled c =
     let p = err_from_is_err_and c.from_residual.result c.from_residual.ensures.1 in
     let a = c.args in
     let t = tables_of a.loaded.now in
     let room = room_in (length a.pieces.now) (length a.entries.now) (length a.offsets.now) in
     let table = columns_of a.splits.now in
-    rw (p.1, p.2) (refused_before a.loaded.now.file.now t room table a.out_units.now a.pieces.now a.entries.now a.offsets.now (length a.out_units.now / 8) a.e c.in_err-entered.was)
+    rw (p.1, p.2) (refused_before a.loaded.now.file.now t room table a.names a.used a.splits.now.count a.out_units.now a.pieces.now a.entries.now a.offsets.now (length a.out_units.now / 8) a.filled c.in_err-filled.was)
+
+pub invariant_of-ordered : goal.invariant_of-ordered
+invariant_of-ordered c =
+    let q = c.requires in
+    record { held = splits_held q.0.usable _ _ (q.1 c.in_ok-filled.was); whole = units_whole q.0.usable; few_units = few_units q.0.usable }
 
 pub ordered-linked-requires : goal.ordered-linked-requires
 ordered-linked-requires c =
     let q = c.requires in
-    (splits-taken q.0.usable _ _ (entered_tabled c.in_ok-entered.was q.1), units_taken q.0.usable)
+    record { splits = rows_below q.0.usable _ _ (q.1 c.in_ok-filled.was); records = records_below q.0.usable }
 
 pub walk_with_columns-requires : goal.walk_with_columns-requires
 walk_with_columns-requires c =
@@ -37,11 +43,10 @@ walk_with_columns-requires c =
     let t = tables_of a.loaded.now in
     let room = room_in (length a.pieces.now) (length a.entries.now) (length a.offsets.now) in
     let table = columns_of a.splits.now in
-    let x = c.in_ok-entered.entered in
-    let w = entered_tabled c.in_ok-entered.was q.1 in
+    let w = q.1 c.in_ok-filled.was in
     let o = c.ordered-linked in
     let is = c.in_ok-k.was in
-    (q.0, w, order_whole a.loaded.now.file.now t room table x.names x.used x.splits o.new.out [] [] [] q.0.usable w (length a.out_units.now) o.ensures _ is, order_named a.loaded.now.file.now t room table x.names x.used x.splits o.new.out [] [] [] q.0.usable w (length a.out_units.now) o.ensures _ is)
+    (q.0, w, order_whole a.loaded.now.file.now t room table a.names a.used a.splits.now.count o.new.out [] [] [] q.0.usable w (length a.out_units.now) o.ensures _ is, order_named a.loaded.now.file.now t room table a.names a.used a.splits.now.count o.new.out [] [] [] q.0.usable w (length a.out_units.now) o.ensures _ is)
 
 pub returns-in_err-k : goal.returns-in_err-k
 returns-in_err-k c =
@@ -52,12 +57,11 @@ returns-in_err-k c =
     let t = tables_of a.loaded.now in
     let room = room_in (length a.pieces.now) (length a.entries.now) (length a.offsets.now) in
     let table = columns_of a.splits.now in
-    let x = c.in_ok-entered.entered in
-    let w = entered_tabled c.in_ok-entered.was q.1 in
+    let w = q.1 c.in_ok-filled.was in
     let o = c.ordered-linked in
     rw (p.1, p.2)
-    (entered_before a.loaded.now.file.now t room table o.new.out a.pieces.now a.entries.now a.offsets.now (length a.out_units.now / 8) a.e c.in_ok-entered.was
-    (unlinked_right a.loaded.now.file.now t room table x.names x.used x.splits o.new.out a.pieces.now a.entries.now a.offsets.now q.0.usable w (length a.out_units.now) o.ensures _ c.in_err-k.was))
+    (entered_before a.loaded.now.file.now t room table a.names a.used a.splits.now.count o.new.out a.pieces.now a.entries.now a.offsets.now (length a.out_units.now / 8) a.filled c.in_ok-filled.was
+    (unlinked_right a.loaded.now.file.now t room table a.names a.used a.splits.now.count o.new.out a.pieces.now a.entries.now a.offsets.now q.0.usable w (length a.out_units.now) o.ensures _ c.in_err-k.was))
 
 pub returns-in_err-made : goal.returns-in_err-made
 returns-in_err-made c =
@@ -68,13 +72,12 @@ returns-in_err-made c =
     let t = tables_of a.loaded.now in
     let room = room_in (length a.pieces.now) (length a.entries.now) (length a.offsets.now) in
     let table = columns_of a.splits.now in
-    let x = c.in_ok-entered.entered in
-    let w = entered_tabled c.in_ok-entered.was q.1 in
+    let w = q.1 c.in_ok-filled.was in
     let o = c.ordered-linked in
     let k = c.walk_with_columns.new in
     rw (p.1, p.2)
-    (entered_before a.loaded.now.file.now t room table o.new.out k.pieces k.entries k.offsets (length a.out_units.now / 8) a.e c.in_ok-entered.was
-    (refused_right a.loaded.now.file.now t room table x.names x.used x.splits o.new.out k.pieces k.entries k.offsets q.0.usable w (length a.out_units.now) o.ensures _ c.in_ok-k.was _ c.in_err-made.ensures))
+    (entered_before a.loaded.now.file.now t room table a.names a.used a.splits.now.count o.new.out k.pieces k.entries k.offsets (length a.out_units.now / 8) a.filled c.in_ok-filled.was
+    (refused_right a.loaded.now.file.now t room table a.names a.used a.splits.now.count o.new.out k.pieces k.entries k.offsets q.0.usable w (length a.out_units.now) o.ensures _ c.in_ok-k.was _ c.in_err-made.ensures))
 
 pub returns : goal.returns
 returns c =
@@ -83,9 +86,8 @@ returns c =
     let t = tables_of a.loaded.now in
     let room = room_in (length a.pieces.now) (length a.entries.now) (length a.offsets.now) in
     let table = columns_of a.splits.now in
-    let x = c.in_ok-entered.entered in
-    let w = entered_tabled c.in_ok-entered.was q.1 in
+    let w = q.1 c.in_ok-filled.was in
     let o = c.ordered-linked in
     let k = c.walk_with_columns.new in
-    entered_before a.loaded.now.file.now t room table o.new.out k.pieces k.entries k.offsets (length a.out_units.now / 8) a.e c.in_ok-entered.was
-    (made_right a.loaded.now.file.now t room table x.names x.used x.splits o.new.out k.pieces k.entries k.offsets q.0.usable w (length a.out_units.now) o.ensures _ c.in_ok-k.was _ c.in_ok-made.ensures)
+    entered_before a.loaded.now.file.now t room table a.names a.used a.splits.now.count o.new.out k.pieces k.entries k.offsets (length a.out_units.now / 8) a.filled c.in_ok-filled.was
+    (made_right a.loaded.now.file.now t room table a.names a.used a.splits.now.count o.new.out k.pieces k.entries k.offsets q.0.usable w (length a.out_units.now) o.ensures _ c.in_ok-k.was _ c.in_ok-made.ensures)

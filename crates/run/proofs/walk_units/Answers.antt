@@ -20,7 +20,7 @@ walk_columns-requires c =
     let q = c.requires in
     let n = c.number_units in
     let count = length-take-le a.k c.fill_places.new.places (omega (arith, q.2.few, q.4.places_long, c.fill_places.auto.places)) in (
-      ready q.0 a.unit_table.now (take a.k c.fill_places.new.places) n.new.column (columns_of a.splits.now) a.n q.1 n.ensures
+      ready q.0 a.unit_table.now (take a.k c.fill_places.new.places) n.new.column (columns_of a.splits.now) a.splits.now.count q.1 n.ensures
           (omega (arith, count, q.2.few)) (omega (arith, n.auto.column, q.4.numbers_long)),
       few_symbols q.0.usable,
     )
@@ -28,5 +28,5 @@ walk_columns-requires c =
 pub returns : goal.returns
 returns c =
     let a = c.args in
-    walked_as c.requires.0 (rows (columns_of a.splits.now) a.n) a.unit_table.now _ a.k
+    walked_as c.requires.0 (rows (columns_of a.splits.now) a.splits.now.count) a.unit_table.now _ a.k
     (room_in (length a.pieces.now) (length a.entries.now) (length a.offsets.now)) c.fill_places.ensures c.walk_columns.ensures

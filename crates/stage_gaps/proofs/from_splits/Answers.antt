@@ -1,62 +1,47 @@
 -- Splits that are refused are the answer; else the columns hold them, and the filling starts from them.
-use Rattle.std.proofs.Common.{◌∙◌, sym, ap, arith, length}
-use Rattle.obj.proofs.Errors.{same_err}
+use Rattle.std.proofs.Common.{ap, arith, length}
 use Rattle.obj.specs.Answers.{meaning}
-use Rattle.names.specs.Names.{names_of}
+use Rattle.obj.proofs.Errors.{same_err}
 use Rattle.tables.specs.Records.{sections_in}
-use Rattle.stage_tables.proofs.Laws.{table_passed}
 use Rattle.sections.specs.Image.{image_in}
 use Rattle.sections.specs.Sections.{sections_of}
-use Rattle.splits.specs.Columns.{columns}
+use Rattle.splits.specs.Table.{rows_in}
 use Rattle.stage_splits.proofs.Laws.{room_low, room_fits}
-use Rattle.gap_splits.specs.Answers.{ceilings}
-use Rattle.obj.specs.Records.{split_width}
-use Rattle.stage_gaps.proofs.Laws.{splits_stop, splits_go, rows_long}
+use Rattle.gap_splits.specs.Answers.{names_in, ceilings}
+use Rattle.stage_gaps.proofs.Laws.{splits_stop, splits_go}
 use Rattle.stage_gaps.proofs.from_splits.Goals as goal
 
 pub take_split_columns-requires : goal.take_split_columns-requires
 take_split_columns-requires c =
-    let a = c.args in
     let q = c.requires in
-    let e = c.room_of-room.ensures in
-    let h = room_low (length a.out.now) in
-    (q.3.all, record { few = omega (arith, e, h); long = omega (arith, e, h, q.7) }, rows_long (omega (arith, e, h)) q.5)
+    let h = room_low (length c.args.outputs.now.splits.now) in
+    (q.0.headed.all, record { few = omega (arith, q.3, h); long = omega (arith, q.3, h, q.2) })
 
-pub returns-in_err-take_split_columns : goal.returns-in_err-take_split_columns
-returns-in_err-take_split_columns c =
+pub returns-in_err-take_split_columns-clause-gives : goal.returns-in_err-take_split_columns-clause-gives
+returns-in_err-take_split_columns-clause-gives c =
     let a = c.args in
-    let base = (names_of a.obj.now.names.bytes.now a.obj.now.names.places.now a.obj.now.names.lengths.now (length a.obj.now.names.places.now)) in
-    rw (same_err c.from_residual.result c.take_split_columns.result c.from_residual.ensures.1 c.in_err-take_split_columns.was)
-    (splits_stop a.obj.now.names.lengths.now (sections_in a.obj.now.heads.bytes.now a.obj.now.heads.places.now) (image_in a.obj.now) (sections_of a.obj.now.heads.bytes.now a.obj.now.heads.places.now a.image.now.bytes.now a.image.now.places.now) (ceilings base a.most a.most_bytes) base a.splits.now c.room_of-room.ensures c.take_split_columns.ensures.said (ap meaning c.in_err-take_split_columns.was))
+    let o = a.obj.now in
+    let t = c.take_split_columns in
+    let base = names_in o.names in
+    rw (same_err c.from_residual.result t.result c.from_residual.ensures.1 c.in_err-take_split_columns.was)
+    (splits_stop o.names.lengths.now (sections_in o.heads.bytes.now o.heads.places.now) (image_in o)
+    (sections_of o.heads.bytes.now o.heads.places.now a.image.now.bytes.now a.image.now.places.now) (ceilings base a.most a.most_bytes) base a.splits.now
+    c.requires.3 t.ensures.taken.said (ap meaning c.in_err-take_split_columns.was))
 
-pub fill_rows-requires : goal.fill_rows-requires
-fill_rows-requires c =
-    let a = c.args in
+pub with_added-requires : goal.with_added-requires
+with_added-requires c =
     let q = c.requires in
-    let e = c.room_of-room.ensures in
-    let t = c.take_split_columns in
-    let h = room_low (length a.out.now) in (
-      q.0,
-      q.1,
-      q.2,
-      q.3,
-      q.4,
-      record {
-        starts_long = t.auto.starts ∙ q.5.starts_long;
-        ends_long = t.auto.ends ∙ q.5.ends_long;
-        units_long = t.auto.units ∙ q.5.units_long;
-        rest_long = t.auto.rest ∙ q.5.rest_long;
-      },
-      q.6,
-      (table_passed split_width _ a.splits.now _ (sym t.ensures.said ∙ ap meaning c.in_ok-take_split_columns.was)).1,
-      omega (arith, e, h),
-      omega (arith, e, room_fits (length a.out.now)),
-      q.8,
-    )
+    let size = length c.args.outputs.now.splits.now in
+    let e = c.take_split_columns.ensures.room in
+    (q.0, q.1, omega (arith, e, q.3, room_low size), omega (arith, e, q.3, room_fits size))
 
-pub returns : goal.returns
-returns c =
+pub returns-clause-gives : goal.returns-clause-gives
+returns-clause-gives c =
     let a = c.args in
+    let o = a.obj.now in
     let t = c.take_split_columns in
-    let base = (names_of a.obj.now.names.bytes.now a.obj.now.names.places.now a.obj.now.names.lengths.now (length a.obj.now.names.places.now)) in
-    splits_go a.obj.now.names.lengths.now (sections_in a.obj.now.heads.bytes.now a.obj.now.heads.places.now) (image_in a.obj.now) (sections_of a.obj.now.heads.bytes.now a.obj.now.heads.places.now a.image.now.bytes.now a.image.now.places.now) (ceilings base a.most a.most_bytes) base a.splits.now (columns t.new.starts t.new.ends t.new.units t.new.rest) c.room_of-room.ensures t.ensures (ap meaning c.in_ok-take_split_columns.was) c.fill_rows.ensures
+    let base = names_in o.names in
+    let w = rw t.ensures.room at c.with_added.ensures.gives in
+    splits_go o.names.lengths.now (sections_in o.heads.bytes.now o.heads.places.now) (image_in o)
+    (sections_of o.heads.bytes.now o.heads.places.now a.image.now.bytes.now a.image.now.places.now) (ceilings base a.most a.most_bytes) base a.splits.now
+    (rows_in t.new.table) c.requires.3 t.ensures.taken (ap meaning c.in_ok-take_split_columns.was) w
