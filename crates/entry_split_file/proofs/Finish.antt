@@ -14,7 +14,7 @@ use Rattle.splits.specs.Columns.{Columns, Long}
 use Rattle.order.specs.Bytes.{units_bytes}
 use Rattle.gap_splits.specs.Entering.{bytes_of}
 use Rattle.pieces.specs.Pieces.{pieces_in, symbols_in, relocs_in, piece_width}
-use Rattle.walk.specs.declared.Counts.{Counts}
+use Rattle.pieces.specs.declared.Counts.{Counts}
 use Rattle.stage_walk.specs.Room.{room_in}
 use Rattle.stage_walk.proofs.Room.{room_low, room_pieces, room_12, room_8}
 use Rattle.run.specs.Run.{Result, Ended}

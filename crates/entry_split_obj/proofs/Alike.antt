@@ -17,7 +17,7 @@ use Rattle.sections.specs.Bytes.{bytes_of}
 use Rattle.sections.specs.Ends.{splitting_end}
 use Rattle.sections.specs.Sections.{head_of, sections_of}
 use Rattle.splits.specs.Questions.{within, next_start}
-use Rattle.walk.specs.declared.Counts.{Counts}
+use Rattle.pieces.specs.declared.Counts.{Counts}
 use Rattle.walk.specs.Walk.{Input, Output, given, on_aligned, on_kept, on_split, walk_splits, walk_section, walk_sections, walk, nothing}
 use Rattle.walk.specs.Giving.{input_of}
 

@@ -10,19 +10,15 @@ use Rattle.lists.proofs.Clear.{clear_all}
 use Rattle.obj.specs.Answers.{outcome_word}
 use Rattle.outputs.specs.Outputs.{counts_of, store_count, store_counts}
 use Rattle.outputs.proofs.Laws.{counts_stored}
-use Rattle.walk.specs.declared.Counts.{Counts}
+use Rattle.pieces.specs.declared.Counts.{Counts}
+use Rattle.pieces.specs.declared.lent.PieceTables.{PieceTables}
 use Rattle.walk.specs.Walk.{Output}
-use Rattle.walk.specs.Giving.{output_in}
+use Rattle.walk.specs.Giving.{output_in, gave_meaning}
 use Rattle.std.specs.Prelude.{Result, Ok, Err}
 use Rattle.obj.specs.declared.Refusal.{Refusal}
-use Rattle.split_obj.specs.Loop.{seen}
-use Rattle.stage_walk.specs.Room.{room_in}
-use Rattle.stage_walk.specs.Lines.{Within}
-use Rattle.stage_walk.proofs.Room.{room_low, room_pieces, room_12, room_8}
 use Rattle.stage_walk.proofs.Walked.{none_read}
 use Rattle.entry_split_obj.specs.Entry.{Sizes, Laid, Leaves, output_of}
 use Rattle.entry_split_obj.specs.Lines.{made_by, word_by, Fits}
-use Rattle.pieces.specs.Pieces.{piece_width}
 
 -- ---- the counts
 pub three_counts : (size a b c : ℕ) (before : List ℕ) → length before ≡ size
@@ -32,39 +28,40 @@ three_counts size a b c before e =
     ap (λ (l : List ℕ). store_count 2 c (store_count 1 b (store_count 0 a l))) (clear_all 0 before ∙ ap (λ (k : ℕ). replicate k 0) e) ∙ counts_stored size (a ∷ b ∷ c ∷ [])
 
 -- ---- the entry's end
-pub made_fits : (pieces entries offsets : ℕ) (r : Result Counts Refusal) → Within (room_in pieces entries offsets) r → Fits (made_by r) pieces entries offsets
-made_fits pieces entries offsets (Ok made) w =
+pub made_fits : (t : PieceTables) (r : Result (Unit {0}) Refusal) → Fits (made_by r t.made) (length t.pieces.now) (length t.symbols.now) (length t.relocs.now)
+made_fits t (Ok u) =
+    let f = t.fits in
     record {
-      pieces_fit = omega (arith, w.0, room_pieces 1024 pieces);
-      entries_fit = omega (arith, w.1, room_12 4096 entries);
-      offsets_fit = omega (arith, w.2, room_8 4096 offsets);
-      few_pieces = omega (arith, w.0, room_low 1024 pieces piece_width);
-      few_symbols = omega (arith, w.1, room_low 4096 entries 12);
-      few_relocs = omega (arith, w.2, room_low 4096 offsets 8);
+      pieces_fit = omega (arith, f.pieces_long, f.few_pieces);
+      entries_fit = omega (arith, f.symbols_long, f.few_symbols);
+      offsets_fit = omega (arith, f.relocs_long, f.few_relocs);
+      few_pieces = omega (arith, f.few_pieces, f.most_pieces);
+      few_symbols = omega (arith, f.few_symbols, f.most_symbols);
+      few_relocs = omega (arith, f.few_relocs, f.most_relocs);
     }
-made_fits pieces entries offsets (Err r) w =
+made_fits t (Err r) =
     record { pieces_fit = omega arith; entries_fit = omega arith; offsets_fit = omega arith; few_pieces = omega arith; few_symbols = omega arith; few_relocs = omega arith }
 
-pub left_is : (pieces entries offsets : List ℕ) (r : Result Counts Refusal) → output_in pieces entries offsets (made_by r) ≡ output_of (seen pieces entries offsets r)
-left_is pieces entries offsets (Ok made) = refl
-left_is pieces entries offsets (Err r) = none_read pieces entries offsets
+pub left_is : (t : PieceTables) (r : Result (Unit {0}) Refusal) → output_in t.pieces.now t.symbols.now t.relocs.now (made_by r t.made) ≡ output_of (gave_meaning t r)
+left_is t (Ok u) = refl
+left_is t (Err r) = none_read t.pieces.now t.symbols.now t.relocs.now
 
-pub word_is : (pieces entries offsets : List ℕ) (r : Result Counts Refusal) → word_by r ≡ outcome_word (seen pieces entries offsets r)
-word_is pieces entries offsets (Ok made) = refl
-word_is pieces entries offsets (Err r) = refl
+pub word_is : (t : PieceTables) (r : Result (Unit {0}) Refusal) → word_by r ≡ outcome_word (gave_meaning t r)
+word_is t (Ok u) = refl
+word_is t (Err r) = refl
 
 -- the sizes are those of the lent tables, and what is left is what the outcome leaves
-pub leaves_at : (o : Outcome Output) (made : Counts) (sizes lent : Sizes) (answer : ℕ) (r : Result Counts Refusal) (before-pieces before-entries before-offsets pieces symbols relocs counts : List ℕ)
-    → made ≡ made_by r → lent ≡ sizes → seen before-pieces before-entries before-offsets r ≡ o → answer ≡ word_by r
+pub leaves_at : (o : Outcome Output) (t : PieceTables) (made : Counts) (sizes lent : Sizes) (answer : ℕ) (r : Result (Unit {0}) Refusal) (before-pieces before-entries before-offsets pieces symbols relocs counts : List ℕ)
+    → before-pieces ≡ t.pieces.now → before-entries ≡ t.symbols.now → before-offsets ≡ t.relocs.now → made ≡ made_by r t.made → lent ≡ sizes → gave_meaning t r ≡ o → answer ≡ word_by r
     → Laid (output_in before-pieces before-entries before-offsets made) lent pieces symbols relocs counts
     → Leaves o sizes answer pieces symbols relocs counts
-leaves_at o made sizes lent answer r before-pieces before-entries before-offsets pieces symbols relocs counts m z e w d =
+leaves_at o t made sizes lent answer r before-pieces before-entries before-offsets pieces symbols relocs counts p y f m z e w d =
     record {
-      said = w ∙ word_is before-pieces before-entries before-offsets r ∙ ap outcome_word e;
+      said = w ∙ word_is t r ∙ ap outcome_word e;
       left =
           subst (λ (x : Output). Laid x sizes pieces symbols relocs counts)
-          (ap (output_in before-pieces before-entries before-offsets) m ∙ left_is before-pieces before-entries before-offsets r ∙ ap output_of e)
-          (subst (λ (y : Sizes). Laid (output_in before-pieces before-entries before-offsets made) y pieces symbols relocs counts) z d);
+          ((λ k. output_in (p k) (y k) (f k) (m k)) ∙ left_is t r ∙ ap output_of e)
+          (subst (λ (x : Sizes). Laid (output_in before-pieces before-entries before-offsets made) x pieces symbols relocs counts) z d);
     }
 
 -- tables of the same sizes

@@ -14,7 +14,7 @@ use Rattle.sections.specs.Image.{Image, image_of}
 use Rattle.sections.specs.Sections.{Sections, sections_of}
 use Rattle.relocs.specs.Relocs.{reloc_of}
 use Rattle.units.specs.Units.{unit_names}
-use Rattle.walk.specs.declared.Counts.{Counts}
+use Rattle.pieces.specs.declared.Counts.{Counts}
 use Rattle.walk.specs.Walk.{Output, walk}
 use Rattle.walk.specs.Giving.{input_of}
 use Rattle.stage_walk.specs.Lines.{from_units, from_splits}

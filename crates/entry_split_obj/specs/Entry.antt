@@ -17,7 +17,7 @@ use Rattle.sections.specs.Sections.{Sections, sections_of}
 use Rattle.relocs.specs.Relocs.{reloc_of}
 use Rattle.units.specs.Units.{unit_names}
 use Rattle.pieces.specs.Pieces.{piece_bytes, symbol_bytes, reloc_bytes, packed}
-use Rattle.walk.specs.declared.Counts.{Counts}
+use Rattle.pieces.specs.declared.Counts.{Counts}
 use Rattle.walk.specs.Walk.{Input, Output, nothing, walk}
 use Rattle.walk.specs.Giving.{input_of}
 

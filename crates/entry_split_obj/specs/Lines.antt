@@ -12,7 +12,7 @@ use Rattle.stage_tables.specs.StageTables.{stage_sections, image_check, symbols_
 use Rattle.sections.specs.Image.{Image, image_of}
 use Rattle.sections.specs.Sections.{Sections}
 use Rattle.relocs.specs.Relocs.{reloc_of}
-use Rattle.walk.specs.declared.Counts.{Counts}
+use Rattle.pieces.specs.declared.Counts.{Counts}
 use Rattle.walk.specs.Walk.{Output}
 use Rattle.stage_walk.specs.Lines.{from_splits, none}
 use Rattle.pieces.specs.Pieces.{piece_width}
@@ -40,14 +40,14 @@ from_sections name_bytes name_places name_lengths sections places image symbols 
 
 -- ---- what is answered
 
--- how many records an answer leaves
-abbrev pub made_by : Result Counts Refusal → Counts
-made_by (Ok made) = made
-made_by (Err r) = none
+-- how many of the records that are made an answer leaves
+abbrev pub made_by : Result (Unit {0}) Refusal → Counts → Counts
+made_by (Ok u) made = made
+made_by (Err r) made = none
 
 -- an answer's word
-abbrev pub word_by : Result Counts Refusal → ℕ
-word_by (Ok made) = 0
+abbrev pub word_by : Result (Unit {0}) Refusal → ℕ
+word_by (Ok u) = 0
 word_by (Err r) = refusal_word r.number r.section r.address
 
 -- so many records are whole in tables of these sizes

@@ -20,12 +20,11 @@ use name_table::check_names;
 use names::Names;
 use obj::{Refusal, Table, word_of};
 use outputs::{clear_from, put_count};
-use pieces::PIECE_BYTES;
+use pieces::{Counts, PIECE_BYTES, PieceTables};
 use sections::Obj;
 use stage_symbols::{take_image_places, take_symbol_order};
 use stage_tables::{take_image, take_relocs};
-use stage_walk::with_splits;
-use walk::Counts;
+use stage_walk::{room_of, with_splits};
 
 // The relocations in a lent column, and the tables after them.
 fn from_relocs(
@@ -34,10 +33,8 @@ fn from_relocs(
     lent: &StageTables,
     places: &mut [u32],
     floors: &mut [u32],
-    pieces: &mut [u8],
-    entries: &mut [u8],
-    offsets: &mut [u8],
-) -> Result<Counts, Refusal>
+    tables: &mut PieceTables,
+) -> Result<(), Refusal>
     requires { Asked obj.now.symbols.bytes.now obj.now.symbols.places.now obj.now.order.now obj.now.names.bytes.now obj.now.names.places.now obj.now.names.lengths.now
         × Headed obj.now.heads.bytes.now obj.now.heads.places.now image.now.bytes.now image.now.places.now obj.now.names.places.now
         × (length obj.now.names.lengths.now ≤ 4096)
@@ -45,8 +42,8 @@ fn from_relocs(
         × (length places.old ≡ 4096)
         × (length floors.old ≡ 64) }
     ensures { Gives
-        (from_relocs obj.now.names.lengths.now (sections_in obj.now.heads.bytes.now obj.now.heads.places.now) (image_in obj.now) (sections_of obj.now.heads.bytes.now obj.now.heads.places.now image.now.bytes.now image.now.places.now) lent.now.relocs.now lent.now.splits.now lent.now.units.now (room_in (length pieces.old) (length entries.old) (length offsets.old)))
-        (room_in (length pieces.old) (length entries.old) (length offsets.old)) result pieces.new entries.new offsets.new }
+        (from_relocs obj.now.names.lengths.now (sections_in obj.now.heads.bytes.now obj.now.heads.places.now) (image_in obj.now) (sections_of obj.now.heads.bytes.now obj.now.heads.places.now image.now.bytes.now image.now.places.now) lent.now.relocs.now lent.now.splits.now lent.now.units.now tables.old.room)
+        tables.old tables.new result }
 {
     take_relocs(
         &obj.heads,
@@ -66,9 +63,7 @@ fn from_relocs(
         },
         lent.splits,
         lent.units,
-        pieces,
-        entries,
-        offsets,
+        tables,
     )
 }
 
@@ -77,30 +72,19 @@ fn with_relocs(
     obj: &Obj,
     image: &Table,
     lent: &StageTables,
-    pieces: &mut [u8],
-    entries: &mut [u8],
-    offsets: &mut [u8],
-) -> Result<Counts, Refusal>
+    tables: &mut PieceTables,
+) -> Result<(), Refusal>
     requires { Asked obj.now.symbols.bytes.now obj.now.symbols.places.now obj.now.order.now obj.now.names.bytes.now obj.now.names.places.now obj.now.names.lengths.now
         × Headed obj.now.heads.bytes.now obj.now.heads.places.now image.now.bytes.now image.now.places.now obj.now.names.places.now
         × (length obj.now.names.lengths.now ≤ 4096)
         × (length obj.now.symbols.places.now ≤ 4096) }
     ensures { Gives
-        (from_relocs obj.now.names.lengths.now (sections_in obj.now.heads.bytes.now obj.now.heads.places.now) (image_in obj.now) (sections_of obj.now.heads.bytes.now obj.now.heads.places.now image.now.bytes.now image.now.places.now) lent.now.relocs.now lent.now.splits.now lent.now.units.now (room_in (length pieces.old) (length entries.old) (length offsets.old)))
-        (room_in (length pieces.old) (length entries.old) (length offsets.old)) result pieces.new entries.new offsets.new }
+        (from_relocs obj.now.names.lengths.now (sections_in obj.now.heads.bytes.now obj.now.heads.places.now) (image_in obj.now) (sections_of obj.now.heads.bytes.now obj.now.heads.places.now image.now.bytes.now image.now.places.now) lent.now.relocs.now lent.now.splits.now lent.now.units.now tables.old.room)
+        tables.old tables.new result }
 {
     let mut places = [0u32; 4096];
     let mut floors = [0u32; 64];
-    from_relocs(
-        obj,
-        image,
-        lent,
-        &mut places,
-        &mut floors,
-        pieces,
-        entries,
-        offsets,
-    )
+    from_relocs(obj, image, lent, &mut places, &mut floors, tables)
 }
 
 // The symbols with their order in lent columns, and the tables after them.
@@ -112,17 +96,15 @@ fn from_symbols(
     places: &mut [u32],
     order: &mut [u16],
     scratch: &mut [u16],
-    pieces: &mut [u8],
-    entries: &mut [u8],
-    offsets: &mut [u8],
-) -> Result<Counts, Refusal>
+    tables: &mut PieceTables,
+) -> Result<(), Refusal>
     requires { NamesRead names.now.bytes.now names.now.places.now names.now.lengths.now
         × Headed heads.now.bytes.now heads.now.places.now image.now.bytes.now image.now.places.now names.now.places.now
         × (length names.now.lengths.now ≤ 4096)
         × symbol_columns.Room 4096 places.old order.old scratch.old }
     ensures { Gives
-        (from_symbols names.now.bytes.now names.now.places.now names.now.lengths.now (sections_in heads.now.bytes.now heads.now.places.now) (sections_of heads.now.bytes.now heads.now.places.now image.now.bytes.now image.now.places.now) lent.now.symbols.now lent.now.relocs.now lent.now.splits.now lent.now.units.now (room_in (length pieces.old) (length entries.old) (length offsets.old)))
-        (room_in (length pieces.old) (length entries.old) (length offsets.old)) result pieces.new entries.new offsets.new }
+        (from_symbols names.now.bytes.now names.now.places.now names.now.lengths.now (sections_in heads.now.bytes.now heads.now.places.now) (sections_of heads.now.bytes.now heads.now.places.now image.now.bytes.now image.now.places.now) lent.now.symbols.now lent.now.relocs.now lent.now.splits.now lent.now.units.now tables.old.room)
+        tables.old tables.new result }
 {
     let ordered = take_symbol_order(
         names.lengths.len(),
@@ -146,9 +128,7 @@ fn from_symbols(
         },
         image,
         lent,
-        pieces,
-        entries,
-        offsets,
+        tables,
     )
 }
 
@@ -158,16 +138,14 @@ fn with_symbols(
     heads: &Table,
     image: &Table,
     lent: &StageTables,
-    pieces: &mut [u8],
-    entries: &mut [u8],
-    offsets: &mut [u8],
-) -> Result<Counts, Refusal>
+    tables: &mut PieceTables,
+) -> Result<(), Refusal>
     requires { NamesRead names.now.bytes.now names.now.places.now names.now.lengths.now
         × Headed heads.now.bytes.now heads.now.places.now image.now.bytes.now image.now.places.now names.now.places.now
         × (length names.now.lengths.now ≤ 4096) }
     ensures { Gives
-        (from_symbols names.now.bytes.now names.now.places.now names.now.lengths.now (sections_in heads.now.bytes.now heads.now.places.now) (sections_of heads.now.bytes.now heads.now.places.now image.now.bytes.now image.now.places.now) lent.now.symbols.now lent.now.relocs.now lent.now.splits.now lent.now.units.now (room_in (length pieces.old) (length entries.old) (length offsets.old)))
-        (room_in (length pieces.old) (length entries.old) (length offsets.old)) result pieces.new entries.new offsets.new }
+        (from_symbols names.now.bytes.now names.now.places.now names.now.lengths.now (sections_in heads.now.bytes.now heads.now.places.now) (sections_of heads.now.bytes.now heads.now.places.now image.now.bytes.now image.now.places.now) lent.now.symbols.now lent.now.relocs.now lent.now.splits.now lent.now.units.now tables.old.room)
+        tables.old tables.new result }
 {
     let mut places = [0u32; 4096];
     let mut order = [0u16; 4096];
@@ -180,9 +158,7 @@ fn with_symbols(
         &mut places,
         &mut order,
         &mut scratch,
-        pieces,
-        entries,
-        offsets,
+        tables,
     )
 }
 
@@ -192,17 +168,15 @@ fn from_sections(
     lent: &StageTables,
     heads: &mut [u32],
     images: &mut [u32],
-    pieces: &mut [u8],
-    entries: &mut [u8],
-    offsets: &mut [u8],
-) -> Result<Counts, Refusal>
+    tables: &mut PieceTables,
+) -> Result<(), Refusal>
     requires { NamesRead names.now.bytes.now names.now.places.now names.now.lengths.now
         × (length names.now.lengths.now ≤ 4096)
         × (length heads.old ≡ 64)
         × (length images.old ≡ 64) }
     ensures { Gives
-        (from_sections names.now.bytes.now names.now.places.now names.now.lengths.now lent.now.sections.now lent.now.section_places.now lent.now.image.now lent.now.symbols.now lent.now.relocs.now lent.now.splits.now lent.now.units.now (room_in (length pieces.old) (length entries.old) (length offsets.old)))
-        (room_in (length pieces.old) (length entries.old) (length offsets.old)) result pieces.new entries.new offsets.new }
+        (from_sections names.now.bytes.now names.now.places.now names.now.lengths.now lent.now.sections.now lent.now.section_places.now lent.now.image.now lent.now.symbols.now lent.now.relocs.now lent.now.splits.now lent.now.units.now tables.old.room)
+        tables.old tables.new result }
 {
     take_image(
         names.lengths,
@@ -225,37 +199,21 @@ fn from_sections(
             places: &images[..p],
         },
         lent,
-        pieces,
-        entries,
-        offsets,
+        tables,
     )
 }
 
 // The same, with columns of its own for the sections.
-fn with_sections(
-    names: &Names,
-    lent: &StageTables,
-    pieces: &mut [u8],
-    entries: &mut [u8],
-    offsets: &mut [u8],
-) -> Result<Counts, Refusal>
+fn with_sections(names: &Names, lent: &StageTables, tables: &mut PieceTables) -> Result<(), Refusal>
     requires { NamesRead names.now.bytes.now names.now.places.now names.now.lengths.now
         × (length names.now.lengths.now ≤ 4096) }
     ensures { Gives
-        (from_sections names.now.bytes.now names.now.places.now names.now.lengths.now lent.now.sections.now lent.now.section_places.now lent.now.image.now lent.now.symbols.now lent.now.relocs.now lent.now.splits.now lent.now.units.now (room_in (length pieces.old) (length entries.old) (length offsets.old)))
-        (room_in (length pieces.old) (length entries.old) (length offsets.old)) result pieces.new entries.new offsets.new }
+        (from_sections names.now.bytes.now names.now.places.now names.now.lengths.now lent.now.sections.now lent.now.section_places.now lent.now.image.now lent.now.symbols.now lent.now.relocs.now lent.now.splits.now lent.now.units.now tables.old.room)
+        tables.old tables.new result }
 {
     let mut heads = [0u32; 64];
     let mut images = [0u32; 64];
-    from_sections(
-        names,
-        lent,
-        &mut heads,
-        &mut images,
-        pieces,
-        entries,
-        offsets,
-    )
+    from_sections(names, lent, &mut heads, &mut images, tables)
 }
 
 // All tables, with the names in lent columns.
@@ -265,14 +223,12 @@ fn from_names(
     lengths: &mut [u8],
     index: &mut [u16],
     chain: &mut [u16],
-    pieces: &mut [u8],
-    entries: &mut [u8],
-    offsets: &mut [u8],
-) -> Result<Counts, Refusal>
+    tables: &mut PieceTables,
+) -> Result<(), Refusal>
     requires { stored.Room 4096 places.old lengths.old index.old chain.old }
     ensures { Gives
-        (split_obj_of lent.now.name_ends.now lent.now.name_bytes.now lent.now.sections.now lent.now.section_places.now lent.now.image.now lent.now.symbols.now lent.now.relocs.now lent.now.splits.now lent.now.units.now (room_in (length pieces.old) (length entries.old) (length offsets.old)))
-        (room_in (length pieces.old) (length entries.old) (length offsets.old)) result pieces.new entries.new offsets.new }
+        (split_obj_of lent.now.name_ends.now lent.now.name_bytes.now lent.now.sections.now lent.now.section_places.now lent.now.image.now lent.now.symbols.now lent.now.relocs.now lent.now.splits.now lent.now.units.now tables.old.room)
+        tables.old tables.new result }
 {
     check_names(
         lent.name_ends,
@@ -291,22 +247,15 @@ fn from_names(
             lengths: &lengths[..n],
         },
         lent,
-        pieces,
-        entries,
-        offsets,
+        tables,
     )
 }
 
 // All tables, with columns of its own for the names: their places and lengths, and the index.
-fn with_names(
-    lent: &StageTables,
-    pieces: &mut [u8],
-    entries: &mut [u8],
-    offsets: &mut [u8],
-) -> Result<Counts, Refusal>
+fn with_names(lent: &StageTables, tables: &mut PieceTables) -> Result<(), Refusal>
     ensures { Gives
-        (split_obj_of lent.now.name_ends.now lent.now.name_bytes.now lent.now.sections.now lent.now.section_places.now lent.now.image.now lent.now.symbols.now lent.now.relocs.now lent.now.splits.now lent.now.units.now (room_in (length pieces.old) (length entries.old) (length offsets.old)))
-        (room_in (length pieces.old) (length entries.old) (length offsets.old)) result pieces.new entries.new offsets.new }
+        (split_obj_of lent.now.name_ends.now lent.now.name_bytes.now lent.now.sections.now lent.now.section_places.now lent.now.image.now lent.now.symbols.now lent.now.relocs.now lent.now.splits.now lent.now.units.now tables.old.room)
+        tables.old tables.new result }
 {
     let mut places = [0u32; 4096];
     let mut lengths = [0u8; 4096];
@@ -318,18 +267,16 @@ fn with_names(
         &mut lengths,
         &mut index,
         &mut chain,
-        pieces,
-        entries,
-        offsets,
+        tables,
     )
 }
 
 // How many records are left of each: none after a refusal.
-pub fn made_of(r: Result<Counts, Refusal>) -> Counts
-    ensures { result ≡ made_by r }
+pub fn made_of(r: Result<(), Refusal>, made: Counts) -> Counts
+    ensures { result ≡ made_by r made }
 {
     match r {
-        Ok(made) => made,
+        Ok(_) => made,
         Err(_) => Counts {
             pieces: 0,
             symbols: 0,
@@ -338,7 +285,7 @@ pub fn made_of(r: Result<Counts, Refusal>) -> Counts
     }
 }
 
-fn word_for(r: Result<Counts, Refusal>) -> u64
+fn word_for(r: Result<(), Refusal>) -> u64
     ensures { result ≡ word_by r }
 {
     match r {
@@ -389,6 +336,17 @@ pub fn split_obj(
         (split_obj_of name_ends.now name_bytes.now sections.now section_places.now image.now symbols.now relocs.now splits.now unit_table.now (room_in (length pieces.old) (length entries.old) (length offsets.old)))
         (sizes_of pieces.old entries.old offsets.old counts.old) result pieces.new entries.new offsets.new counts.new }
 {
+    let mut tables = PieceTables {
+        room: room_of(pieces.len(), entries.len(), offsets.len()),
+        made: Counts {
+            pieces: 0,
+            symbols: 0,
+            relocs: 0,
+        },
+        pieces: &mut *pieces,
+        symbols: &mut *entries,
+        relocs: &mut *offsets,
+    };
     let r = with_names(
         &StageTables {
             name_ends,
@@ -402,10 +360,9 @@ pub fn split_obj(
             splits,
             units: unit_table,
         },
-        pieces,
-        entries,
-        offsets,
+        &mut tables,
     );
-    lay(made_of(r), pieces, entries, offsets, counts);
+    let made = made_of(r, tables.made);
+    lay(made, pieces, entries, offsets, counts);
     word_for(r)
 }

@@ -1,3 +1,4 @@
 pub mod Counts
 pub mod Chains
 pub mod Regions
+pub mod Same

@@ -1,10 +1,12 @@
 -- The columns beside the walk's output. `counts` has, for each unit, how many pieces it has. `heads` has, for each symbol, one more than the place of its
 -- last entry among the piece symbols, and `prevs`, for each entry, the same of the entry before it of the same symbol; 0 ends a chain. What they answer
 -- is what looking through the output answers: `count_of` and `has` of pieces.
-use Rattle.std.specs.Prelude.{ℕ, zero, suc, ◌+◌, ◌*◌, ◌≤◌, ◌<◌, ◌≡◌, List, [], ◌∷◌, ◌++◌, cond, eqb, length, get_or, take, drop}
+use Rattle.std.specs.Prelude.{ℕ, zero, suc, ◌+◌, ◌*◌, ◌≤◌, ◌<◌, ◌≡◌, List, cond, eqb, length, get_or, take, drop}
 use Rattle.pieces.specs.declared.Piece.{Piece}
 use Rattle.pieces.specs.declared.PieceSymbol.{PieceSymbol}
-use Rattle.pieces.specs.Pieces.{pieces_in, symbol_at, symbols_in}
+use Rattle.pieces.specs.declared.lent.PieceTables.{PieceTables}
+use Rattle.pieces.specs.Pieces.{pieces_in, symbol_at}
+use Rattle.pieces.specs.Tables.{AddedPiece, AddedSymbol}
 use Rattle.pieces.specs.Questions.{count_of}
 
 -- each unit's pieces among the first k are counted
@@ -34,12 +36,19 @@ pub record Chained (heads prevs out : List ℕ) (k : ℕ) : Type 0 where
   pub room : k ≤ length prevs
   pub held : 12 * k ≤ length out
 
--- a piece was put behind the first k, and counted
-pub record PushedPiece (counts before after : List ℕ) (k : ℕ) (p : Piece) : Type 0 where
-  pub more : pieces_in after (k + 1) ≡ pieces_in before k ++ (p ∷ [])
-  pub counted : Counted counts after (k + 1)
+-- the units' counts, and the chains, are those of what the tables hold
+abbrev pub CountedIn : (counts : List ℕ) → PieceTables → Type 0
+CountedIn counts t = Counted counts t.pieces.now t.made.pieces
 
--- a piece symbol was put behind the first k, and chained
-pub record PushedSymbol (heads prevs before after : List ℕ) (k : ℕ) (y : PieceSymbol) : Type 0 where
-  pub more : symbols_in after (k + 1) ≡ symbols_in before k ++ (y ∷ [])
-  pub chained : Chained heads prevs after (k + 1)
+abbrev pub ChainedIn : (chains : List ℕ) → PieceTables → Type 0
+ChainedIn chains t = Chained (lasts_in chains) (prevs_in chains) t.symbols.now t.made.symbols
+
+-- a piece was put behind the others, and counted
+pub record PushedPiece (counts : List ℕ) (before after : PieceTables) (p : Piece) : Type 0 where
+  pub added : AddedPiece before after p
+  pub counted : CountedIn counts after
+
+-- a piece symbol was put behind the others, and chained
+pub record PushedSymbol (chains : List ℕ) (before after : PieceTables) (y : PieceSymbol) : Type 0 where
+  pub added : AddedSymbol before after y
+  pub chained : ChainedIn chains after

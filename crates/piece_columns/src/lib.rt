@@ -3,40 +3,40 @@
 // then for each entry the one before it.
 #![tactic(auto)]
 
-ghost use Rattle.std.specs.Prelude.{◌≡◌, [], ◌∷◌, ◌++◌, ◌+◌, ◌*◌, ◌≤◌, ◌<◌, length};
-ghost use Rattle.pieces.specs.Pieces.{pieces_in, symbols_in, piece_width};
+ghost use Rattle.std.specs.Prelude.{◌≡◌, ◌<◌, length};
+ghost use Rattle.pieces.specs.Tables.{pieces_of, symbols_of};
 ghost use Rattle.pieces.specs.Questions.{count_of, has};
-ghost use Rattle.piece_columns.specs.Columns.{Counted, Chained, lasts_in, prevs_in, PushedPiece, PushedSymbol};
+ghost use Rattle.piece_columns.specs.Columns.{CountedIn, ChainedIn, lasts_in, prevs_in, PushedPiece, PushedSymbol};
 
-use pieces::{Piece, PieceSymbol, add_piece, add_piece_symbol, piece_symbol_at};
+use pieces::{Piece, PieceSymbol, PieceTables, piece_symbol_at};
 use symbol_order::number;
 
-// How many of the first k pieces are the unit's: the number in its unit of the next one.
-pub fn count_of(counts: &[u16], out: &[u8], k: usize, unit: usize) -> u16
-    requires { (unit < length counts.now) × Counted counts.now out.now k }
-    ensures { result ≡ count_of unit (pieces_in out.now k) }
+// How many of the pieces are the unit's: the number in its unit of the next one.
+pub fn count_of(counts: &[u16], tables: &PieceTables, unit: usize) -> u16
+    requires { (unit < length counts.now) × CountedIn counts.now tables.now }
+    ensures { result ≡ count_of unit (pieces_of tables.now) }
 {
     counts[unit]
 }
 
-// One piece more, behind the k that are there.
-pub fn push_piece(counts: &mut [u16], out: &mut [u8], k: usize, p: Piece)
-    requires { (p.unit < length counts.old) × Counted counts.old out.old k × (piece_width * k + piece_width ≤ length out.old) × (k < 65535) }
-    ensures { PushedPiece counts.new out.old out.new k p }
+// One piece more, behind those that are there.
+pub fn push_piece(counts: &mut [u16], tables: &mut PieceTables, p: Piece)
+    requires { (p.unit < length counts.old) × CountedIn counts.old tables.old × (tables.old.made.pieces < tables.old.room.pieces) }
+    ensures { PushedPiece counts.new tables.old tables.new p }
 {
     counts[usize::from(p.unit)] += 1;
-    add_piece(out, k, p);
+    tables.add_piece(p);
 }
 
-// Whether one of the first k piece symbols is this symbol of the unit, along the chain of its entries, from the last to the first.
-pub fn has_symbol(chains: &[u16], out: &[u8], k: usize, unit: u16, symbol: usize) -> bool
-    requires { (symbol < length (lasts_in chains.now)) × Chained (lasts_in chains.now) (prevs_in chains.now) out.now k }
-    ensures { result ≡ has unit symbol (symbols_in out.now k) }
+// Whether one of the piece symbols is this symbol of the unit, along the chain of its entries, from the last to the first.
+pub fn has_symbol(chains: &[u16], tables: &PieceTables, unit: u16, symbol: usize) -> bool
+    requires { (symbol < length (lasts_in chains.now)) × ChainedIn chains.now tables.now }
+    ensures { result ≡ has unit symbol (symbols_of tables.now) }
 {
     // along a chain: no count
     let mut j = number(chains, symbol);
     while j != 0 {
-        let y = piece_symbol_at(out, j - 1);
+        let y = piece_symbol_at(tables.symbols, j - 1);
         if y.unit == unit {
             return true;
         }
@@ -45,13 +45,17 @@ pub fn has_symbol(chains: &[u16], out: &[u8], k: usize, unit: u16, symbol: usize
     false
 }
 
-// One piece symbol more, behind the k that are there, and at the front of its chain.
-pub fn push_symbol(chains: &mut [u16], out: &mut [u8], k: usize, y: PieceSymbol)
-    requires { (y.symbol < length (lasts_in chains.old)) × Chained (lasts_in chains.old) (prevs_in chains.old) out.old k × (k < length (prevs_in chains.old)) × (12 * k + 12 ≤ length out.old) × (k < 65535) }
-    ensures { PushedSymbol (lasts_in chains.new) (prevs_in chains.new) out.old out.new k y }
+// One piece symbol more, behind those that are there, and at the front of its chain.
+pub fn push_symbol(chains: &mut [u16], tables: &mut PieceTables, y: PieceSymbol)
+    requires { (y.symbol < length (lasts_in chains.old))
+        × ChainedIn chains.old tables.old
+        × (tables.old.made.symbols < length (prevs_in chains.old))
+        × (tables.old.made.symbols < tables.old.room.symbols) }
+    ensures { PushedSymbol chains.new tables.old tables.new y }
 {
     let i = usize::from(y.symbol);
+    let k = tables.made.symbols;
     chains[4096 + k] = chains[i];
     chains[i] = k as u16 + 1;
-    add_piece_symbol(out, k, y);
+    tables.add_symbol(y);
 }

@@ -2,11 +2,14 @@
 // A piece symbol's and a piece relocation's other fields are those of the image's record of that number.
 #![tactic(auto)]
 
-ghost use Rattle.std.specs.Prelude.{◌≡◌, [], ◌∷◌, ◌++◌, ◌+◌, ◌*◌, ◌-◌, ◌≤◌, length, take, drop};
+mod lent;
+
+ghost use Rattle.std.specs.Prelude.{◌≡◌, [], ◌∷◌, ◌++◌, ◌+◌, ◌*◌, ◌-◌, ◌≤◌, ◌<◌, length, take, drop};
 ghost use Rattle.std.proofs.lemmas.List.Edits.{sets};
 ghost use Rattle.pieces.specs.Pieces.{piece_width, piece_head, piece_bytes, symbol_bytes, reloc_bytes, piece_at, symbol_at, reloc_at, pieces_in, symbols_in, relocs_in};
 
 use fields::{get16, get32, get64, put16, put32, put64};
+pub use lent::PieceTables;
 
 #[derive(Clone, Copy)]
 pub struct Piece {
@@ -35,6 +38,14 @@ pub struct PieceReloc {
     pub piece: u16,
     pub relocation: u16,
     pub offset: u32,
+}
+
+// So many pieces, piece symbols and piece relocations.
+#[derive(Clone, Copy)]
+pub struct Counts {
+    pub pieces: usize,
+    pub symbols: usize,
+    pub relocs: usize,
 }
 
 // Bytes of a piece's record.
@@ -134,26 +145,33 @@ fn put_piece_reloc(out: &mut [u8], at: usize, r: PieceReloc)
     put32(out, at + 4, r.offset);
 }
 
-// One piece more, behind the k that are there.
-pub fn add_piece(out: &mut [u8], k: usize, p: Piece)
-    requires { piece_width * k + piece_width ≤ length out.old }
-    ensures { pieces_in out.new (k + 1) ≡ pieces_in out.old k ++ (p ∷ []) }
-{
-    put_piece(out, PIECE_BYTES * k, p);
-}
+impl PieceTables<'_, '_, '_> {
+    ghost use Rattle.pieces.specs.Tables.{AddedPiece, AddedSymbol, AddedReloc};
 
-pub fn add_piece_symbol(out: &mut [u8], k: usize, y: PieceSymbol)
-    requires { 12 * k + 12 ≤ length out.old }
-    ensures { symbols_in out.new (k + 1) ≡ symbols_in out.old k ++ (y ∷ []) }
-{
-    put_piece_symbol(out, 12 * k, y);
-}
+    // One piece more, behind those that are there.
+    pub fn add_piece(&mut self, p: Piece)
+        requires { self.old.made.pieces < self.old.room.pieces }
+        ensures { AddedPiece self.old self.new p }
+    {
+        put_piece(self.pieces, PIECE_BYTES * self.made.pieces, p);
+        self.made.pieces += 1;
+    }
 
-pub fn add_piece_reloc(out: &mut [u8], k: usize, r: PieceReloc)
-    requires { 8 * k + 8 ≤ length out.old }
-    ensures { relocs_in out.new (k + 1) ≡ relocs_in out.old k ++ (r ∷ []) }
-{
-    put_piece_reloc(out, 8 * k, r);
+    pub fn add_symbol(&mut self, y: PieceSymbol)
+        requires { self.old.made.symbols < self.old.room.symbols }
+        ensures { AddedSymbol self.old self.new y }
+    {
+        put_piece_symbol(self.symbols, 12 * self.made.symbols, y);
+        self.made.symbols += 1;
+    }
+
+    pub fn add_reloc(&mut self, r: PieceReloc)
+        requires { self.old.made.relocs < self.old.room.relocs }
+        ensures { AddedReloc self.old self.new r }
+    {
+        put_piece_reloc(self.relocs, 8 * self.made.relocs, r);
+        self.made.relocs += 1;
+    }
 }
 
 // ---- bytes

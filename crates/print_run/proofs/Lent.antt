@@ -9,7 +9,7 @@ use Rattle.names.specs.Append.{Columns as Beside}
 use Rattle.load.specs.declared.Counts as load
 use Rattle.load.specs.Columns.{tables_in}
 use Rattle.load.proofs.Parts.{part-lent}
-use Rattle.walk.specs.declared.Counts.{Counts}
+use Rattle.pieces.specs.declared.Counts.{Counts}
 use Rattle.listing.specs.Listing.{listing}
 use Rattle.listing.specs.Tables.{Readable, run_of}
 use Rattle.print_run.specs.Printed.{tables_of, done_text, Printable}

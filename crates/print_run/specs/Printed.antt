@@ -6,7 +6,7 @@ use Rattle.std.specs.Io.KnownBytes.{Appends}
 use Rattle.names.specs.Append.{Columns as Beside}
 use Rattle.load.specs.declared.Counts as load
 use Rattle.load.specs.Columns.{tables_in}
-use Rattle.walk.specs.declared.Counts.{Counts}
+use Rattle.pieces.specs.declared.Counts.{Counts}
 use Rattle.run.specs.declared.Ran.{Ran}
 use Rattle.std.specs.Prelude.{Result, Ok, Err}
 use Rattle.order.specs.declared.Unlinked.{Unlinked}

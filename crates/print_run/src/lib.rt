@@ -18,12 +18,12 @@ use load::{Counts, NAMES, RELOCATIONS, SYMBOLS};
 use names::Names;
 use obj::Table;
 use order::Unlinked;
+use pieces::Counts as Made;
 use run::Ran;
 use run_file::run_file;
 use std::io;
 use std::io::Write;
 use tables::fill_places;
-use walk::Counts as Made;
 
 // The listing, line by line: a unit, "After a unit's pieces come `sym` ..; then `reloc` ..", and at the end the total.
 fn print_lines<'a, W: Write>(

@@ -17,7 +17,7 @@ use Rattle.sections.specs.Bytes.{zero_between}
 use Rattle.pieces.specs.declared.Piece.{Piece}
 use Rattle.pieces.specs.Questions.{count_of}
 use Rattle.units.specs.Units.{unit_of}
-use Rattle.walk.specs.declared.Counts.{Counts}
+use Rattle.pieces.specs.declared.Counts.{Counts}
 use Rattle.walk.specs.Walk.{Input, Output, start_in, alignment_in, fits, halved, piece_of, given, over, on_aligned, on_kept, on_split}
 use Rattle.splits.specs.Questions.{is_common, is_skipped}
 use Rattle.restore.proofs.Parts.{and_false_left, second}

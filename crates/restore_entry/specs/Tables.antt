@@ -9,7 +9,7 @@ use Rattle.stage_tables.specs.StageTables.{stage_sections, stage_splits, image_c
 use Rattle.sections.specs.Image.{image_of}
 use Rattle.sections.specs.Sections.{sections_of}
 use Rattle.pieces.specs.declared.Piece.{Piece}
-use Rattle.walk.specs.declared.Counts.{Counts}
+use Rattle.pieces.specs.declared.Counts.{Counts}
 use Rattle.walk.specs.Walk.{Input, Output, walk}
 
 -- what the entry is lent, and how it reads names, relocations and units

@@ -26,16 +26,15 @@ use Rattle.order.specs.LinkOrder.{link_order, nodes_left}
 use Rattle.order.specs.Columns.{said_of, kept, answer_of, NotCycle, Resolves}
 use Rattle.gap_splits.specs.Added.{added}
 use Rattle.gap_splits.specs.Answers as entering
-use Rattle.walk.specs.declared.Counts.{Counts}
+use Rattle.pieces.specs.declared.Counts.{Counts}
 use Rattle.walk.specs.Giving.{output_in}
-use Rattle.stage_walk.specs.Lines.{Gives}
 use Rattle.run.specs.declared.Ran.{Ran}
 use Rattle.std.specs.Prelude.{Result, Ok, Err}
 use Rattle.obj.specs.declared.Refusal.{Refusal}
 use Rattle.order.specs.declared.Unlinked.{Unlinked}
 use Rattle.order.specs.declared.Unlinked.TheVariants.{Refused, Cycle}
 use Rattle.run.specs.Run.{done, cycle, linked, units_of, walked, on_order, ordered_and_walked}
-use Rattle.run.specs.Answers.{units_at, ran_in, Tabled, Units, Keeps, walked_after}
+use Rattle.run.specs.Answers.{units_at, ran_in, Tabled, Units, Keeps, WalkGives, walked_after}
 use Rattle.run.proofs.Ends.{Linked, in_order, on_cycle, stopped, left_nodes, link_ends}
 use Rattle.run.proofs.Records.{Stands, resolved_stands}
 
@@ -62,33 +61,33 @@ module _ (file : List ℕ) (t : Loaded) (room : Counts) (table : Columns) (names
 
   -- the walk in an order that was found
   module _ (k : ℕ) (whole : Units out k) where
-    walk_refused : (l : List ℕ) (e : Refusal) → Gives (walked file t room S (units_of file t S l)) room (Err e) pieces entries offsets → Answers (accepted (all l)) (Err (Refused e))
+    walk_refused : (l : List ℕ) (e : Refusal) → WalkGives (walked file t room S (units_of file t S l)) room (Err e) pieces entries offsets → Answers (accepted (all l)) (Err (Refused e))
     unfolding ◌>>=◌ on_order
     walk_refused l e g =
         record { is = λ c. sym (bind_stops (walked file t room S (units_of file t S l)) _ e.number e.section e.address (sym g.is)); keeps = tt }
 
-    walk_made : (l : List ℕ) (made : Counts) → units_at out k ≡ units_of file t S l → Gives (walked file t room S (units_of file t S l)) room (Ok made) pieces entries offsets
+    walk_made : (l : List ℕ) (made : Counts) → units_at out k ≡ units_of file t S l → WalkGives (walked file t room S (units_of file t S l)) room (Ok made) pieces entries offsets
         → Answers (accepted (all l)) (Ok (record { names = names; used = used; splits = splits; units = k; made = made }))
     unfolding ◌>>=◌ on_order
     walk_made l made read g = record {
       is = λ c.
           ap (λ (u : List units.Unit). accepted (done (record { added = added c names; splits = S; units = u; output = output_in pieces entries offsets made }))) read
           ∙ sym (bind_goes (walked file t room S (units_of file t S l)) _ _ (sym g.is));
-      keeps = (refl, refl, refl, whole, record { pieces = g.within.0; symbols = g.within.1; relocs = g.within.2 });
+      keeps = (refl, refl, refl, whole, g.within);
     }
 
     refused_answers : (o : Outcome End) → Linked (linked file t S) o → accepted tt ≡ said_of o → units_at out k ≡ units_of file t S (nodes_left o) → (e : Refusal)
-        → Gives (walked file t room S (units_at out k)) room (Err e) pieces entries offsets → Answers o (Err (Refused e))
+        → WalkGives (walked file t room S (units_at out k)) room (Err e) pieces entries offsets → Answers o (Err (Refused e))
     refused_answers o (in_order l h) said read e g =
-        walk_refused l e (subst (λ (u : List units.Unit). Gives (walked file t room S u) room (Err e) pieces entries offsets) read g)
+        walk_refused l e (subst (λ (u : List units.Unit). WalkGives (walked file t room S u) room (Err e) pieces entries offsets) read g)
     refused_answers o (on_cycle l h) said read e g = absurd (not_both (sym said))
     refused_answers o (stopped number section address q) said read e g = absurd (not_both (sym said))
 
     made_answers : (o : Outcome End) → Linked (linked file t S) o → accepted tt ≡ said_of o → units_at out k ≡ units_of file t S (nodes_left o) → (made : Counts)
-        → Gives (walked file t room S (units_at out k)) room (Ok made) pieces entries offsets
+        → WalkGives (walked file t room S (units_at out k)) room (Ok made) pieces entries offsets
         → Answers o (Ok (record { names = names; used = used; splits = splits; units = k; made = made }))
     made_answers o (in_order l h) said read made g =
-        walk_made l made read (subst (λ (u : List units.Unit). Gives (walked file t room S u) room (Ok made) pieces entries offsets) read g)
+        walk_made l made read (subst (λ (u : List units.Unit). WalkGives (walked file t room S u) room (Ok made) pieces entries offsets) read g)
     made_answers o (on_cycle l h) said read made g = absurd (not_both (sym said))
     made_answers o (stopped number section address q) said read made g = absurd (not_both (sym said))
 
@@ -129,11 +128,11 @@ module _ (file : List ℕ) (t : Loaded) (room : Counts) (table : Columns) (names
       pub order_named : All (λ (x : units.Unit). x.name < 4096) (units_at out n)
       order_named = subst (λ (x : Result ℕ Unlinked). All (λ (y : units.Unit). y.name < 4096) (units_at out (kept x))) is stands.named
 
-      pub refused_right : (e : Refusal) → Gives (walked file t room S (units_at out n)) room (Err e) pieces entries offsets
+      pub refused_right : (e : Refusal) → WalkGives (walked file t room S (units_at out n)) room (Err e) pieces entries offsets
           → Answers (link_order (linked file t S) (size / 8)) (Err (Refused e))
       refused_right e g = refused_answers n order_whole (link_order (linked file t S) (size / 8)) ends order_said order_read e g
 
-      pub made_right : (made : Counts) → Gives (walked file t room S (units_at out n)) room (Ok made) pieces entries offsets
+      pub made_right : (made : Counts) → WalkGives (walked file t room S (units_at out n)) room (Ok made) pieces entries offsets
           → Answers (link_order (linked file t S) (size / 8)) (Ok (record { names = names; used = used; splits = splits; units = n; made = made }))
       made_right made g = made_answers n order_whole (link_order (linked file t S) (size / 8)) ends order_said order_read made g
 

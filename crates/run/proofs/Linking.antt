@@ -13,9 +13,10 @@ use Rattle.tables.specs.Records.{no_split}
 use Rattle.load.specs.Load.{Loaded}
 use Rattle.load.proofs.Laws.{name_known}
 use Rattle.loaded.specs.Tables.{Usable}
-use Rattle.loaded.proofs.Laws.{few_names, few_units, measured, all_named, section_named, sections_heads}
+use Rattle.loaded.proofs.Laws.{few_names, all_named, section_named, sections_heads}
 use Rattle.splits.specs.Columns.{Columns, row_at, rows}
-use Rattle.order_numbers.specs.Numbers.{Whole, unit_of}
+use Rattle.symbol_order.specs.Keys.{unit_of}
+use Rattle.order_numbers.specs.Numbers.{Whole}
 use Rattle.link_graph.specs.Columns.{SectionNames, Splits, UnitsBelow}
 use Rattle.run_splits.specs.Table.{Homed}
 use Rattle.run.specs.Answers.{Tabled}

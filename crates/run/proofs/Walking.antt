@@ -20,7 +20,8 @@ use Rattle.sections.specs.Sections.{sections_of, Kept}
 use Rattle.splits.specs.Columns.{Columns}
 use Rattle.relocs.specs.Relocs.{reloc_of}
 use Rattle.units.specs.Units.{unit_names, Listed, Numbered}
-use Rattle.walk.specs.declared.Counts.{Counts}
+use Rattle.pieces.specs.declared.Counts.{Counts}
+use Rattle.pieces.specs.declared.lent.PieceTables.{PieceTables}
 use Rattle.std.specs.Prelude.{Result}
 use Rattle.obj.specs.declared.Refusal.{Refusal}
 use Rattle.split_obj.specs.Loop.{Ready}
@@ -58,7 +59,6 @@ module _ {file names lengths sections images symbols order relocs us : List ℕ}
     few_relocs = few_relocs p.usable;
     numbered = numbered;
     few_units = few;
-    long = w.long;
     named = λ i h. omega (arith, long, (row_homed c n w.homed i h).unit);
     within = omega arith;
   }
@@ -66,10 +66,9 @@ module _ {file names lengths sections images symbols order relocs us : List ℕ}
   abbrev image : Image
   image = image_of file symbols file names lengths
 
-  pub walked_as : {r : Result Counts Refusal} {pieces entries offsets : List ℕ} (rows : List Split) (unit_table places : List ℕ) (k : ℕ) (room : Counts) → places ≡ stage_places 8 k
-      → Gives (walk_of image (sections_of file sections file images) (reloc_of file relocs) (length relocs) rows (unit_names unit_table places) room)
-      room r pieces entries offsets
-      → Gives (walked file (tables_with names lengths sections symbols relocs [] us) room rows (units_at unit_table k)) room r pieces entries offsets
+  pub walked_as : {before after : PieceTables} {r : Result (Unit {0}) Refusal} (rows : List Split) (unit_table places : List ℕ) (k : ℕ) (room : Counts) → places ≡ stage_places 8 k
+      → Gives (walk_of image (sections_of file sections file images) (reloc_of file relocs) (length relocs) rows (unit_names unit_table places) room) before after r
+      → Gives (walked file (tables_with names lengths sections symbols relocs [] us) room rows (units_at unit_table k)) before after r
   unfolding walked
   walked_as rows unit_table places k room e g =
       gives_as

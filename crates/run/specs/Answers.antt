@@ -9,11 +9,13 @@ use Rattle.load.specs.Load.{Loaded}
 use Rattle.loaded.specs.Tables.{byte_places, tables_with, Usable}
 use Rattle.names.specs.Append.{Packed, Columns as Beside}
 use Rattle.symbol_order.specs.Order.{symbol_of, order_of}
-use Rattle.splits.specs.Columns.{Columns, rows, Long}
+use Rattle.splits.specs.Columns.{Columns, rows}
 use Rattle.order.specs.Bytes.{units_bytes}
 use Rattle.gap_splits.specs.Entering.{Filled, bytes_of}
 use Rattle.gap_splits.specs.Added.{added}
-use Rattle.walk.specs.declared.Counts.{Counts}
+use Rattle.pieces.specs.declared.Counts.{Counts}
+use Rattle.obj.specs.declared.Refusal.{Refusal}
+use Rattle.walk.specs.Walk.{Output}
 use Rattle.walk.specs.Giving.{output_in}
 use Rattle.run_splits.specs.Table.{Homed}
 use Rattle.run.specs.declared.Ran.{Ran}
@@ -40,7 +42,6 @@ pub record Prepared (file names lengths sections images symbols order relocs uni
 
 -- n rows of a split table that was made of it: their sections are there, and their units are names
 pub record Tabled (sections : ℕ) (table : Columns) (n : ℕ) : Type 0 where
-  pub long : Long table n
   pub few : n ≤ 1024
   pub homed : All (Homed sections 4096) (rows table n)
 
@@ -64,6 +65,19 @@ pub record Within (room made : Counts) : Type 0 where
   pub pieces : made.pieces ≤ room.pieces
   pub symbols : made.symbols ≤ room.symbols
   pub relocs : made.relocs ≤ room.relocs
+
+-- what an answer of the walk means over the lent tables, and that what was made is within the room
+abbrev pub walk_meaning : (pieces entries offsets : List ℕ) → Result Counts Refusal → Outcome Output
+walk_meaning pieces entries offsets (Ok made) = accepted (output_in pieces entries offsets made)
+walk_meaning pieces entries offsets (Err r) = refused r.number r.section r.address
+
+abbrev pub MadeWithin : (room : Counts) → Result Counts Refusal → Type 0
+MadeWithin room (Ok made) = Within room made
+MadeWithin room (Err r) = Unit {0}
+
+pub record WalkGives (o : Outcome Output) (room : Counts) (r : Result Counts Refusal) (pieces entries offsets : List ℕ) : Type 0 where
+  pub is : walk_meaning pieces entries offsets r ≡ o
+  pub within : MadeWithin room r
 
 -- what is known of an answer beside its meaning: names and splits are as many as were given, units and output are within their tables
 abbrev pub Keeps : (names used splits : ℕ) → (room : Counts) → (units : List ℕ) → Result Ran Unlinked → Type 0

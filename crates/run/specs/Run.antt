@@ -16,7 +16,7 @@ use Rattle.link_graph.specs.Graph as graph
 use Rattle.link_graph.specs.Columns.{pointers_in}
 use Rattle.order.specs.LinkOrder.{link_order, records_of}
 use Rattle.toposort.specs.Search.{End, all, cyclic, lost}
-use Rattle.walk.specs.declared.Counts.{Counts}
+use Rattle.pieces.specs.declared.Counts.{Counts}
 use Rattle.walk.specs.Walk as walking
 use Rattle.walk.specs.Giving.{input_of}
 use Rattle.run_splits.specs.Table.{split_table}

@@ -13,19 +13,19 @@ ghost use Rattle.gap_splits.specs.Answers as entering;
 ghost use Rattle.stage_walk.specs.Room.{room_in};
 ghost use Rattle.stage_walk.specs.Lines.{Gives, UnitScratch};
 ghost use Rattle.run.specs.Run.{walked, ordered_and_walked};
-ghost use Rattle.run.specs.Answers.{units_at, ran_in, Prepared, Tabled, Units, Keeps, walked_after};
+ghost use Rattle.run.specs.Answers.{units_at, ran_in, Prepared, Tabled, Units, Keeps, WalkGives, walked_after};
 
 use link_graph::LinkTables;
 use loaded::Loaded;
 use names::Names;
 use obj::{Refusal, Table};
 use order::{Unlinked, ordered};
+use pieces::{Counts, PieceTables};
 use sections::Obj;
 use splits::SplitColumns;
-use stage_walk::walk_columns;
+use stage_walk::{room_of, walk_columns};
 use tables::fill_places;
 use units::number_units;
-use walk::Counts;
 
 // What a run leaves: how many names were added, with how many bytes, and how many splits, units and records of the walk there are.
 #[derive(Clone, Copy)]
@@ -45,10 +45,8 @@ fn walk_units(
     k: usize,
     places: &mut [u32],
     unit_numbers: &mut [u16],
-    pieces: &mut [u8],
-    entries: &mut [u8],
-    offsets: &mut [u8],
-) -> Result<Counts, Refusal>
+    tables: &mut PieceTables,
+) -> Result<(), Refusal>
     requires { Prepared loaded.now.file.now loaded.now.names.now loaded.now.lengths.now loaded.now.sections.now loaded.now.images.now loaded.now.symbols.now loaded.now.order.now loaded.now.relocs.now loaded.now.units.now
         × Tabled (length loaded.now.sections.now) (columns_of splits.now) splits.now.count
         × Units unit_table.now k
@@ -56,9 +54,9 @@ fn walk_units(
         × UnitScratch places.old unit_numbers.old }
     ensures { Gives
         (walked loaded.now.file.now (tables_with loaded.now.names.now loaded.now.lengths.now loaded.now.sections.now loaded.now.symbols.now loaded.now.relocs.now [] loaded.now.units.now)
-        (room_in (length pieces.old) (length entries.old) (length offsets.old))
+        tables.old.room
         (rows_of splits.now) (units_at unit_table.now k))
-        (room_in (length pieces.old) (length entries.old) (length offsets.old)) result pieces.new entries.new offsets.new }
+        tables.old tables.new result }
 {
     fill_places(places, 8, k);
     let unit_records = Table {
@@ -92,17 +90,45 @@ fn walk_units(
             places: loaded.relocs,
         },
         splits,
-        splits.count,
         &unit_records,
         unit_numbers,
-        pieces,
-        entries,
-        offsets,
+        tables,
     )
 }
 
 // The same, with columns of its own for the units.
 fn walk_with_columns(
+    loaded: &Loaded,
+    splits: &SplitColumns,
+    unit_table: &[u8],
+    k: usize,
+    tables: &mut PieceTables,
+) -> Result<(), Refusal>
+    requires { Prepared loaded.now.file.now loaded.now.names.now loaded.now.lengths.now loaded.now.sections.now loaded.now.images.now loaded.now.symbols.now loaded.now.order.now loaded.now.relocs.now loaded.now.units.now
+        × Tabled (length loaded.now.sections.now) (columns_of splits.now) splits.now.count
+        × Units unit_table.now k
+        × All (λ (u : unit_records.Unit). u.name < 4096) (units_at unit_table.now k) }
+    ensures { Gives
+        (walked loaded.now.file.now (tables_with loaded.now.names.now loaded.now.lengths.now loaded.now.sections.now loaded.now.symbols.now loaded.now.relocs.now [] loaded.now.units.now)
+        tables.old.room
+        (rows_of splits.now) (units_at unit_table.now k))
+        tables.old tables.new result }
+{
+    let mut places = [0u32; 1024];
+    let mut unit_numbers = [0u16; 4096];
+    walk_units(
+        loaded,
+        splits,
+        unit_table,
+        k,
+        &mut places,
+        &mut unit_numbers,
+        tables,
+    )
+}
+
+// The same, over lent bytes: how many records are made.
+fn walk_lent(
     loaded: &Loaded,
     splits: &SplitColumns,
     unit_table: &[u8],
@@ -115,25 +141,25 @@ fn walk_with_columns(
         × Tabled (length loaded.now.sections.now) (columns_of splits.now) splits.now.count
         × Units unit_table.now k
         × All (λ (u : unit_records.Unit). u.name < 4096) (units_at unit_table.now k) }
-    ensures { Gives
+    ensures { WalkGives
         (walked loaded.now.file.now (tables_with loaded.now.names.now loaded.now.lengths.now loaded.now.sections.now loaded.now.symbols.now loaded.now.relocs.now [] loaded.now.units.now)
         (room_in (length pieces.old) (length entries.old) (length offsets.old))
         (rows_of splits.now) (units_at unit_table.now k))
         (room_in (length pieces.old) (length entries.old) (length offsets.old)) result pieces.new entries.new offsets.new }
 {
-    let mut places = [0u32; 1024];
-    let mut unit_numbers = [0u16; 4096];
-    walk_units(
-        loaded,
-        splits,
-        unit_table,
-        k,
-        &mut places,
-        &mut unit_numbers,
-        pieces,
-        entries,
-        offsets,
-    )
+    let mut tables = PieceTables {
+        room: room_of(pieces.len(), entries.len(), offsets.len()),
+        made: Counts {
+            pieces: 0,
+            symbols: 0,
+            relocs: 0,
+        },
+        pieces: &mut *pieces,
+        symbols: &mut *entries,
+        relocs: &mut *offsets,
+    };
+    walk_with_columns(loaded, splits, unit_table, k, &mut tables)?;
+    Ok(tables.made)
 }
 
 // The link order and the walk of what the stages before gave, with so many names added of so many bytes: what they refused is refused.
@@ -179,7 +205,7 @@ pub fn order_and_walk(
         out_units,
     );
     let k = linked?;
-    let made = walk_with_columns(loaded, splits, out_units, k, pieces, entries, offsets)?;
+    let made = walk_lent(loaded, splits, out_units, k, pieces, entries, offsets)?;
     Ok(Ran {
         names,
         used,

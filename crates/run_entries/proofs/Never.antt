@@ -41,7 +41,7 @@ use Rattle.link_graph.proofs.Graph.{in_at}
 use Rattle.order.specs.LinkOrder.{link_order}
 use Rattle.order.proofs.Theorems.{Ways, number_twice, no_room, ordered, on_cycle}
 use Rattle.units.specs.Units.{unit_of}
-use Rattle.walk.specs.declared.Counts.{Counts}
+use Rattle.pieces.specs.declared.Counts.{Counts}
 use Rattle.walk.specs.Walk.{Input, start_in, splitting_end_in}
 use Rattle.walk.specs.Giving.{input_of}
 use Rattle.run_splits.specs.Table as table

@@ -37,7 +37,7 @@ use Rattle.order.specs.Bytes.{units_bytes}
 use Rattle.order.proofs.Theorems.{Ways, number_twice, no_room, ordered, on_cycle}
 use Rattle.toposort.specs.Search.{End}
 use Rattle.relocs.specs.Relocs.{reloc_of}
-use Rattle.walk.specs.declared.Counts.{Counts}
+use Rattle.pieces.specs.declared.Counts.{Counts}
 use Rattle.walk.specs.Giving.{input_of}
 use Rattle.stage_walk.specs.Room.{room_in}
 use Rattle.run_splits.specs.Table as table

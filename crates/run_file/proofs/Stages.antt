@@ -23,7 +23,7 @@ use Rattle.gap_splits.specs.Entering.{Filled, bytes_of}
 use Rattle.gap_splits.specs.Answers.{added, beside, ceilings, Room, Stand, names, used, splits}
 use Rattle.gap_splits.specs.declared.Entered.{Entered}
 use Rattle.toposort.specs.Search.{End, all, cyclic, lost}
-use Rattle.walk.specs.declared.Counts.{Counts}
+use Rattle.pieces.specs.declared.Counts.{Counts}
 use Rattle.run_splits.specs.Table.{split_table}
 use Rattle.order.specs.LinkOrder.{link_order}
 use Rattle.run.specs.Run.{Rooms, Ended, linked, walked, on_order, ordered_and_walked, stages}

@@ -15,7 +15,7 @@ use Rattle.symbol_order.specs.Order.{symbol_of, order_of}
 use Rattle.splits.specs.Columns.{Columns}
 use Rattle.gap_splits.specs.Entering.{bytes_of}
 use Rattle.gap_splits.specs.Answers.{ceilings}
-use Rattle.walk.specs.declared.Counts.{Counts}
+use Rattle.pieces.specs.declared.Counts.{Counts}
 use Rattle.run.specs.Run.{Rooms, Ended, run_of}
 use Rattle.run.specs.Answers.{ran_in, Names, Units, Within}
 use Rattle.run.specs.declared.Ran.{Ran}

@@ -23,7 +23,7 @@ use Rattle.pieces.specs.Pieces.{piece_at, symbol_at, reloc_at, pieces_in, symbol
 use Rattle.pieces.specs.declared.Piece.{Piece}
 use Rattle.pieces.specs.declared.PieceSymbol.{PieceSymbol}
 use Rattle.pieces.specs.declared.PieceReloc.{PieceReloc}
-use Rattle.walk.specs.declared.Counts.{Counts}
+use Rattle.pieces.specs.declared.Counts.{Counts}
 use Rattle.run_splits.specs.Table.{Homed}
 use Rattle.run_splits.proofs.Keeping.{table_homed}
 use Rattle.std.specs.Prelude.{Ok}

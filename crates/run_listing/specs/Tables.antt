@@ -3,7 +3,7 @@ use Rattle.std.specs.Prelude.{ℕ, List}
 use Rattle.obj.specs.Records.{stage_places}
 use Rattle.names.specs.Append.{Columns as Beside}
 use Rattle.load.specs.Load.{Loaded}
-use Rattle.walk.specs.declared.Counts.{Counts}
+use Rattle.pieces.specs.declared.Counts.{Counts}
 use Rattle.listing.specs.Tables.{Tables}
 
 -- n units, and what the walk made

@@ -5,7 +5,7 @@ use Rattle.obj.specs.Answers.{refusal_word}
 use Rattle.names.specs.Append.{Columns as Beside}
 use Rattle.splits.specs.Columns.{Columns, rows, Long}
 use Rattle.gap_splits.specs.Answers.{added}
-use Rattle.walk.specs.declared.Counts.{Counts}
+use Rattle.pieces.specs.declared.Counts.{Counts}
 use Rattle.pieces.specs.Pieces.{piece_bytes, symbol_bytes, reloc_bytes, packed, piece_width}
 use Rattle.walk.specs.Walk.{Output}
 use Rattle.walk.specs.Giving.{output_in}

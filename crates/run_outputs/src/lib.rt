@@ -16,12 +16,11 @@ use names::Names;
 use obj::{refuse, word_of};
 use order::Unlinked;
 use outputs::{clear_from, put_count};
-use pieces::PIECE_BYTES;
+use pieces::{Counts, PIECE_BYTES};
 use run::Ran;
 use splits::SplitColumns;
 use stage_names::put_names;
 use stage_splits::put_splits;
-use walk::Counts;
 
 // How many records are kept in each table.
 #[derive(Clone, Copy)]

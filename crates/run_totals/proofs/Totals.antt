@@ -32,7 +32,7 @@ use Rattle.run_splits.proofs.Keeping.{merged_fine, common_fine, gaps_fine}
 use Rattle.units.specs.Units.{unit_names}
 use Rattle.pieces.specs.Pieces.{piece_width}
 use Rattle.pieces.specs.declared.PieceSymbol.{PieceSymbol}
-use Rattle.walk.specs.declared.Counts.{Counts}
+use Rattle.pieces.specs.declared.Counts.{Counts}
 use Rattle.restore.proofs.Walked.{pieces_room}
 use Rattle.stage_walk.specs.Room.{room_in}
 use Rattle.stage_walk.proofs.Room.{room_low}

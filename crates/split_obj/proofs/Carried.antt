@@ -16,13 +16,15 @@ use Rattle.splits.specs.Columns.{Columns, row_at, rows as rows_of}
 use Rattle.splits.specs.Questions.{within, from_hit}
 use Rattle.relocs.specs.Relocs.{reloc_of}
 use Rattle.units.specs.Units.{unit_names}
-use Rattle.walk.specs.declared.Counts.{Counts}
+use Rattle.pieces.specs.declared.Counts.{Counts}
+use Rattle.pieces.specs.declared.lent.PieceTables.{PieceTables}
 use Rattle.walk.specs.declared.Step.{Step}
 use Rattle.walk.specs.declared.Step.TheVariants.{Skip, Give}
+use Rattle.pieces.specs.Tables.{SameLent}
 use Rattle.walk.specs.Walk.{Input, Output, start_in, splitting_end_in, halved, on_aligned, walk_splits, walk_sections}
 use Rattle.walk.specs.Steps.{decide}
-use Rattle.walk.specs.Giving.{input_of, output_in}
-use Rattle.split_obj.specs.Loop.{Hits, Tabled, seen, Left}
+use Rattle.walk.specs.Giving.{input_of, output_of, gave_meaning, Besides}
+use Rattle.split_obj.specs.Loop.{Hits, Tabled}
 use Rattle.split_obj.proofs.Turns.{turn_fault, turn_skip, turn_misfit, turn_refused, turn_given, splits-none, section_short, section_starts, section_ends, sections_end}
 
 -- ---- the input, of the lent tables
@@ -32,19 +34,11 @@ tables_input symbols symbol_places name_bytes name_places name_lengths heads hea
 
 -- ---- the state
 
--- lent columns keep their lengths
-pub record Lengths (scratch₀ part₀ pieces₀ entries₀ offsets₀ scratch part pieces entries offsets : List ℕ) : Type 0 where
-  pub of_scratch : length scratch ≡ length scratch₀
-  pub of_part : length part ≡ length part₀
-  pub of_pieces : length pieces ≡ length pieces₀
-  pub of_entries : length entries ≡ length entries₀
-  pub of_offsets : length offsets ≡ length offsets₀
-
 -- what is left from section n on
-pub record AtSection (t : Input) (whole : Outcome Output) (symbols relocs units last n : ℕ) (done : Counts) (scratch part pieces entries offsets : List ℕ) : Type 0 where
+pub record AtSection (t : Input) (whole : Outcome Output) (symbols relocs units last n : ℕ) (scratch part : List ℕ) (tables : PieceTables) : Type 0 where
   pub up : n ≤ last
-  pub same : walk_sections t n (last - n) (output_in pieces entries offsets done) ≡ whole
-  pub tabled : Tabled symbols relocs units t.room done scratch part pieces entries offsets
+  pub same : walk_sections t n (last - n) (output_of tables) ≡ whole
+  pub tabled : Tabled symbols relocs units scratch part tables
 
 -- what follows section n
 abbrev pub after : Input → (last n : ℕ) → Output → Outcome Output
@@ -54,18 +48,18 @@ after t last n o = walk_sections t (n + 1) (last - (n + 1)) o
 abbrev pub splits_left : Input → (last n low end : ℕ) → Columns → (rows current i : ℕ) → Output → Outcome Output
 splits_left t last n low end c rows current i out = walk_splits t n end current out (from_hit (within n low end) c rows i) >>= after t last n
 
-pub record AtSplit (t : Input) (whole : Outcome Output) (symbols relocs units last n low end : ℕ) (c : Columns) (rows current i : ℕ) (done : Counts) (scratch part pieces entries offsets : List ℕ) : Type 0 where
+pub record AtSplit (t : Input) (whole : Outcome Output) (symbols relocs units last n low end : ℕ) (c : Columns) (rows current i : ℕ) (scratch part : List ℕ) (tables : PieceTables) : Type 0 where
   pub small : i ≤ rows
   pub passes : i < rows → within n low end (row_at c i) ≡ true
-  pub same : splits_left t last n low end c rows current i (output_in pieces entries offsets done) ≡ whole
-  pub tabled : Tabled symbols relocs units t.room done scratch part pieces entries offsets
+  pub same : splits_left t last n low end c rows current i (output_of tables) ≡ whole
+  pub tabled : Tabled symbols relocs units scratch part tables
 
 -- ---- an answer
-pub refused_at : (symbols : ℕ) (room : Counts) (scratch pieces entries offsets : List ℕ) (r : Result Counts Refusal) (e : Refusal) (whole : Outcome Output)
-    → r ≡ Err e → refused e.number e.section e.address ≡ whole
-    → (seen pieces entries offsets r ≡ whole) × Left symbols room scratch pieces entries offsets r
-refused_at symbols room scratch pieces entries offsets r e whole is q =
-    subst (λ (x : Result Counts Refusal). (seen pieces entries offsets x ≡ whole) × Left symbols room scratch pieces entries offsets x) (sym is) (q, tt)
+pub refused_at : (symbols : ℕ) (before : PieceTables) (scratch : List ℕ) (t : PieceTables) (r : Result (Unit {0}) Refusal) (e : Refusal) (whole : Outcome Output)
+    → r ≡ Err e → refused e.number e.section e.address ≡ whole → SameLent before t
+    → (gave_meaning t r ≡ whole) × Besides symbols scratch t r × SameLent before t
+refused_at symbols before scratch t r e whole is q same =
+    subst (λ (x : Result (Unit {0}) Refusal). (gave_meaning t x ≡ whole) × Besides symbols scratch t x × SameLent before t) (sym is) (q, tt, same)
 
 -- ---- a section
 module _ (t : Input) (n last : ℕ) (out : Output) (whole : Outcome Output) (same : walk_sections t n (last - n) out ≡ whole) where

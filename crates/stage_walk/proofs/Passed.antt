@@ -4,10 +4,10 @@ use mathlib.Core.Path.{◌≡◌, sym, ap, subst, ◌∙◌}
 use mathlib.Core.List.{List, [], ◌∷◌}
 use native.Mathlib.Nat.{zero-add, mul-div-le}
 use native.Mathlib.Omega.{arith}
-use lib.ListN.{length, get_or}
+use lib.ListN.{length, get_or, length-map}
 use Rattle.lists.specs.Outcome.{accepted}
-use Rattle.lists.proofs.Rows.{get_d_tabulate, get_d_map}
-use Rattle.obj.specs.Records.{unit_at, stage_places, split_width}
+use Rattle.lists.proofs.Rows.{get_d_tabulate, get_d_map, length-tabulate}
+use Rattle.obj.specs.Records.{unit_at, split_at, stage_places, split_width}
 use Rattle.obj.specs.declared.Section.{Section}
 use Rattle.obj.specs.declared.Split.{Split}
 use Rattle.obj.specs.declared.Unit as unit_records
@@ -29,21 +29,23 @@ known (x ∷ l) zero h = omega arith
 known (x ∷ l) (suc k) h = suc-le-suc (known l k h)
 
 -- ---- splits
-pub rows_named : (ceiling : ℕ) (lengths : List ℕ) (heads : List Section) (b : List ℕ) (c : Columns) → splits_check ceiling lengths heads b ≡ accepted tt
-    → rows c (length b / split_width) ≡ stage_splits b → Long c (length b / split_width) → Rowed c (length b / split_width) (length lengths)
-rows_named ceiling lengths heads b c passed taken long =
+pub rows_named : (ceiling : ℕ) (lengths : List ℕ) (heads : List Section) (b : List ℕ) (c : Columns) (n : ℕ) → splits_check ceiling lengths heads b ≡ accepted tt
+    → rows c n ≡ stage_splits b → Rowed c n (length lengths)
+rows_named ceiling lengths heads b c n passed taken =
     record {
-      long = long;
       named = λ k h.
           known lengths (row_at c k).unit
           (subst (λ (s : Split). 0 < get_or lengths s.unit 0) (sym (row_is k h))
-          (tables.partials_named lengths (stage_splits b) n (tables.splits_partials lengths heads (stage_splits b) n records) k h));
+          (tables.partials_named lengths (stage_splits b) m (tables.splits_partials lengths heads (stage_splits b) m records) k (omega (arith, h, many))));
     }
   where
-    n : ℕ
-    n = length b / split_width
+    m : ℕ
+    m = length b / split_width
 
-    records : records_check (split_fault lengths heads (stage_splits b)) n ≡ accepted tt
+    many : n ≡ m
+    many = sym (length-tabulate (row_at c) 0 n) ∙ ap length taken ∙ length-map (stage_places split_width m) (split_at b) ∙ length-stage_places split_width m
+
+    records : records_check (split_fault lengths heads (stage_splits b)) m ≡ accepted tt
     records = (table_passed split_width ceiling b _ passed).2
 
     row_is : (k : ℕ) → k < n → row_at c k ≡ get_or (stage_splits b) k no_split

@@ -12,7 +12,10 @@ use lib.Seq.{length-take-le}
 use Rattle.lists.specs.Rows.{clear_from}
 use Rattle.lists.specs.Tables.{laid}
 use Rattle.lists.proofs.Clear.{clear_is}
-use Rattle.stage_walk.specs.Room.{room_for}
+use Rattle.pieces.specs.declared.Counts.{Counts}
+use Rattle.pieces.specs.Room.{Fits}
+use Rattle.stage_walk.specs.Room.{room_for, room_in}
+use Rattle.stage_walk.specs.Lines.{none}
 use Rattle.pieces.specs.Pieces.{piece_width}
 
 module _ (ceiling size : ℕ) where
@@ -47,6 +50,25 @@ module _ (ceiling size : ℕ) where
       go : (t : Bool) → ltb (size / 8) ceiling ≡ t → 8 * cond t (size / 8) ceiling ≤ size
       go true e = mul-div-le size 8
       go false e = omega (arith, ltb-false (size / 8) ceiling e, mul-div-le size 8)
+
+-- lent tables with that room, in which nothing is made
+pub fits_none : (pieces symbols relocs : List ℕ) (room made : Counts) → room ≡ room_in (length pieces) (length symbols) (length relocs) → made ≡ none
+    → Fits pieces symbols relocs room made
+fits_none pieces symbols relocs room made e n =
+    let p = ap (λ (m : Counts). m.pieces) e in
+    let s = ap (λ (m : Counts). m.symbols) e in
+    let r = ap (λ (m : Counts). m.relocs) e in
+    record {
+      pieces_long = omega (arith, p, room_pieces 1024 (length pieces));
+      symbols_long = omega (arith, s, room_12 4096 (length symbols));
+      relocs_long = omega (arith, r, room_8 4096 (length relocs));
+      most_pieces = omega (arith, p, room_low 1024 (length pieces) piece_width);
+      most_symbols = omega (arith, s, room_low 4096 (length symbols) 12);
+      most_relocs = omega (arith, r, room_low 4096 (length relocs) 8);
+      few_pieces = omega (arith, ap (λ (m : Counts). m.pieces) n);
+      few_symbols = omega (arith, ap (λ (m : Counts). m.symbols) n);
+      few_relocs = omega (arith, ap (λ (m : Counts). m.relocs) n);
+    }
 
 -- ---- records, and zeros after them
 pub cleared : (b records : List ℕ) (k : ℕ) → records ≡ take k b → k ≤ length b → clear_from 0 k b ≡ laid (length b) records

@@ -7,23 +7,23 @@ use native.Mathlib.Omega.{arith}
 use lib.ListN.{length, get_or}
 use lib.Seq.{length-take-le, get_or-take, get_or-drop}
 use Rattle.lists.specs.Rows.{tabulate}
-use Rattle.pieces.specs.Pieces.{pieces_in, symbols_in, relocs_in, piece_width}
+use Rattle.pieces.specs.Pieces.{pieces_in, symbols_in, relocs_in}
+use Rattle.pieces.specs.Tables.{SameLent}
 use Rattle.pieces.specs.Questions.{count_of}
 use Rattle.piece_columns.specs.Columns.{Counted, Chained, last_of, lasts_in, prevs_in}
 use Rattle.piece_columns.proofs.Regions.{in_lasts, last_at}
-use Rattle.walk.specs.declared.Counts.{Counts}
+use Rattle.pieces.specs.declared.Counts.{Counts}
+use Rattle.pieces.specs.declared.lent.PieceTables.{PieceTables}
 use Rattle.obj.specs.declared.Reloc.{Reloc}
 use Rattle.obj.specs.declared.Split.{Split}
 use Rattle.sections.specs.Image.{Image}
 use Rattle.sections.specs.Sections.{Sections}
 use Rattle.walk.specs.Walk.{nothing, walk_sections, walk}
-use Rattle.walk.specs.Giving.{input_of, output_in, chains_in, counts_in}
-use Rattle.std.specs.Prelude.{Result, Ok, Err}
+use Rattle.walk.specs.Giving.{input_of, output_in, gave_meaning, chains_in, counts_in}
+use Rattle.std.specs.Prelude.{Result}
 use Rattle.obj.specs.declared.Refusal.{Refusal}
-use Rattle.split_obj.specs.Loop.{seen, Left, Tabled}
-use Rattle.stage_walk.specs.Room.{room_in}
-use Rattle.stage_walk.specs.Lines.{walk_of, none, Within, Gives}
-use Rattle.stage_walk.proofs.Room.{room_low, room_pieces, room_12, room_8}
+use Rattle.split_obj.specs.Loop.{Tabled}
+use Rattle.stage_walk.specs.Lines.{walk_of, none, Gives}
 
 -- ---- nothing is made yet, where a column has only zeros
 module _ (scratch : List ℕ) (zeros : (i : ℕ) → get_or scratch i 0 ≡ 0) where
@@ -51,28 +51,15 @@ module _ (scratch : List ℕ) (zeros : (i : ℕ) → get_or scratch i 0 ≡ 0) w
   }
 
   -- such columns beside the outputs
-  pub tabled_none : (symbols relocs units : ℕ) (part pieces entries offsets : List ℕ) → length scratch ≡ 9216
-      → units ≤ 1024 → relocs ≤ length part → symbols ≤ 4096
-      → Tabled symbols relocs units (room_in (length pieces) (length entries) (length offsets)) none scratch part pieces entries offsets
-  tabled_none symbols relocs units part pieces entries offsets long few_units part_long most =
-      let chains-long : length (chains_in scratch) ≡ 8192 = length_chains (omega (arith, long)) in
+  pub tabled_none : (symbols relocs units : ℕ) (part : List ℕ) (t : PieceTables) → t.made ≡ none → length scratch ≡ 9216
+      → units ≤ 1024 → relocs ≤ length part → symbols ≤ 4096 → Tabled symbols relocs units scratch part t
+  tabled_none symbols relocs units part t made long few_units part_long most =
       record {
         beside = record {
-          side = record {
-            counted = none-counted pieces;
-            few_pieces = omega arith;
-            few_relocs = omega arith;
-            pieces_long = room_pieces 1024 (length pieces);
-            offsets_long = room_8 4096 (length offsets);
-            most_pieces = room_low 1024 (length pieces) piece_width;
-            most_relocs = room_low 4096 (length offsets) 8;
-          };
+          counted = subst (λ (m : Counts). Counted (counts_in scratch) t.pieces.now m.pieces) (sym made) (none-counted t.pieces.now);
           entered = record {
-            chained = none-chained entries;
-            few = omega arith;
-            long = omega (arith, chains-long, room_low 4096 (length entries) 12);
-            out_long = room_12 4096 (length entries);
-            most = room_low 4096 (length entries) 12;
+            chained = subst (λ (m : Counts). Chained (lasts_in (chains_in scratch)) (prevs_in (chains_in scratch)) t.symbols.now m.symbols) (sym made) (none-chained t.symbols.now);
+            long = omega (arith, length_chains (omega (arith, long)));
             most_symbols = most;
           };
           long = omega (arith, long);
@@ -86,20 +73,14 @@ pub none_read : (pieces entries offsets : List ℕ) → output_in pieces entries
 unfolding pieces_in symbols_in relocs_in tabulate
 none_read pieces entries offsets = refl
 
--- what was made is within the room
-pub left_within : (symbols : ℕ) (room : Counts) (scratch pieces entries offsets : List ℕ) (r : Result Counts Refusal) → Left symbols room scratch pieces entries offsets r → Within room r
-left_within symbols room scratch pieces entries offsets (Ok made) b = (b.side.few_pieces, b.entered.few, b.side.few_relocs)
-left_within symbols room scratch pieces entries offsets (Err r) b = tt
-
 -- the walk of all sections, from nothing
-pub walked_all : (g : Image) (sections : Sections) (reloc : ℕ → Reloc) (relocs : ℕ) (splits : List Split) (units : List ℕ) (room most : Counts) (symbols : ℕ)
-    (scratch before-pieces before-entries before-offsets pieces entries offsets : List ℕ) (r : Result Counts Refusal) → room ≡ most
-    → seen pieces entries offsets r ≡ walk_sections (input_of g sections reloc relocs splits units room) 0 (sections.count - 0) (output_in before-pieces before-entries before-offsets none)
-    → Left symbols room scratch pieces entries offsets r → Gives (walk_of g sections reloc relocs splits units most) most r pieces entries offsets
+pub walked_all : (g : Image) (sections : Sections) (reloc : ℕ → Reloc) (relocs : ℕ) (splits : List Split) (units : List ℕ) (before after : PieceTables)
+    (pieces entries offsets : List ℕ) (r : Result (Unit {0}) Refusal)
+    → gave_meaning after r ≡ walk_sections (input_of g sections reloc relocs splits units before.room) 0 (sections.count - 0) (output_in pieces entries offsets none)
+    → SameLent before after → Gives (walk_of g sections reloc relocs splits units before.room) before after r
 unfolding walk
-walked_all g sections reloc relocs splits units room most symbols scratch before-pieces before-entries before-offsets pieces entries offsets r z e b =
-    subst (λ (m : Counts). Gives (walk_of g sections reloc relocs splits units m) m r pieces entries offsets) z
-    (record {
-      is = e ∙ (λ d. walk_sections (input_of g sections reloc relocs splits units room) 0 (sub-zero sections.count d) (none_read before-pieces before-entries before-offsets d));
-      within = left_within symbols room scratch pieces entries offsets r b;
-    })
+walked_all g sections reloc relocs splits units before after pieces entries offsets r e lent =
+    record {
+      is = e ∙ (λ d. walk_sections (input_of g sections reloc relocs splits units before.room) 0 (sub-zero sections.count d) (none_read pieces entries offsets d));
+      lent = lent;
+    }

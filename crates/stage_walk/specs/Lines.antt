@@ -2,7 +2,7 @@
 use Rattle.std.specs.Prelude.{ℕ, ◌/◌, ◌≤◌, ◌<◌, ◌≡◌, List, length}
 use Rattle.lists.specs.Outcome.{Outcome, ◌>>◌}
 use Rattle.obj.specs.Records.{stage_places}
-use Rattle.std.specs.Prelude.{Result, Ok, Err}
+use Rattle.std.specs.Prelude.{Result}
 use Rattle.obj.specs.declared.Refusal.{Refusal}
 use Rattle.obj.specs.declared.Section.{Section}
 use Rattle.obj.specs.declared.Reloc.{Reloc}
@@ -14,10 +14,11 @@ use Rattle.sections.specs.Sections.{Sections, Kept}
 use Rattle.splits.specs.Columns.{Columns, row_at, Long}
 use Rattle.relocs.specs.Relocs.{reloc_of, Whole, Rising}
 use Rattle.units.specs.Units.{unit_names}
-use Rattle.walk.specs.declared.Counts.{Counts}
+use Rattle.pieces.specs.declared.Counts.{Counts}
+use Rattle.pieces.specs.declared.lent.PieceTables.{PieceTables}
+use Rattle.pieces.specs.Tables.{SameLent}
 use Rattle.walk.specs.Walk.{Output, walk}
-use Rattle.walk.specs.Giving.{input_of}
-use Rattle.split_obj.specs.Loop.{seen}
+use Rattle.walk.specs.Giving.{input_of, gave_meaning}
 
 -- ---- the definition, from one table on
 
@@ -41,15 +42,10 @@ from_splits lengths heads g sections reloc relocs splits units room = do
 abbrev pub none : Counts
 none = record { pieces = 0; symbols = 0; relocs = 0 }
 
--- what was made is within the room
-abbrev pub Within : (room : Counts) → Result Counts Refusal → Type 0
-Within room (Ok made) = (made.pieces ≤ room.pieces) × (made.symbols ≤ room.symbols) × (made.relocs ≤ room.relocs)
-Within room (Err r) = Unit {0}
-
 -- the outcome that an answer means, over what is in the output tables; after a refusal they are still to be cleared
-pub record Gives (o : Outcome Output) (room : Counts) (r : Result Counts Refusal) (pieces entries offsets : List ℕ) : Type 0 where
-  pub is : seen pieces entries offsets r ≡ o
-  pub within : Within room r
+pub record Gives (o : Outcome Output) (before after : PieceTables) (r : Result (Unit {0}) Refusal) : Type 0 where
+  pub is : gave_meaning after r ≡ o
+  pub lent : SameLent before after
 
 -- ---- what the functions are given
 
@@ -66,16 +62,7 @@ pub record Relocated (relocs reloc_places : List ℕ) : Type 0 where
 
 -- the splits that passed, in columns: each one's unit name is there
 pub record Rowed (c : Columns) (rows names : ℕ) : Type 0 where
-  pub long : Long c rows
   pub named : (i : ℕ) → i < rows → (row_at c i).unit < names
-
--- lent columns for a split table
-pub record Scratch (places starts ends units rest : List ℕ) : Type 0 where
-  pub places_long : length places ≡ 1024
-  pub starts_long : length starts ≡ 1024
-  pub ends_long : length ends ≡ 1024
-  pub units_long : length units ≡ 1024
-  pub rest_long : length rest ≡ 1024
 
 -- lent columns for the units, and for a number of each name
 pub record UnitScratch (places numbers : List ℕ) : Type 0 where

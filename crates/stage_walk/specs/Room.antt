@@ -1,6 +1,6 @@
 -- The room of the outputs of the walk: how many records each lent table may take.
 use Rattle.std.specs.Prelude.{ℕ, ◌/◌, cond, ltb}
-use Rattle.walk.specs.declared.Counts.{Counts}
+use Rattle.pieces.specs.declared.Counts.{Counts}
 use Rattle.pieces.specs.Pieces.{piece_width}
 
 -- a table of `size` bytes for records of `width` bytes: "A shorter lent output table has its own length as ceiling"

@@ -6,24 +6,22 @@ ghost use Rattle.std.specs.Prelude.{◌≡◌, ◌≤◌, ◌<◌, length};
 ghost use Rattle.tables.specs.Records.{sections_in};
 ghost use Rattle.sections.specs.Image.{image_in};
 ghost use Rattle.sections.specs.Sections.{sections_of};
-ghost use Rattle.splits.specs.Columns.{rows as rows_of};
-ghost use Rattle.splits.specs.Table.{columns_of};
+ghost use Rattle.splits.specs.Table.{columns_of, rows_of};
 ghost use Rattle.relocs.specs.Relocs.{reloc_of};
 ghost use Rattle.units.specs.Units.{unit_names};
 ghost use Rattle.walk.specs.Steps.{Asked};
 ghost use Rattle.split_obj.specs.Loop.{Ready};
 ghost use Rattle.stage_walk.specs.Room.{room_for, room_in};
-ghost use Rattle.stage_walk.specs.Lines.{walk_of, from_units, from_splits, Gives, Headed, Relocated, Rowed, Scratch, UnitScratch};
+ghost use Rattle.stage_walk.specs.Lines.{walk_of, from_units, from_splits, Gives, Headed, Relocated, Rowed, UnitScratch};
 
-use obj::{Refusal, SPLIT_BYTES, Table};
-use pieces::PIECE_BYTES;
+use obj::{Refusal, Table};
+use pieces::{Counts, PIECE_BYTES, PieceTables};
 use sections::Obj;
 use split_obj::walk_sections;
-use splits::SplitColumns;
+use splits::{SplitColumns, SplitTable};
 use stage_splits::take_split_columns;
 use stage_tables::take_units;
 use units::number_units;
-use walk::Counts;
 
 // How many records of `width` bytes a lent table of `size` bytes may take: "A shorter lent output table has its own length as ceiling".
 pub fn room_for(ceiling: usize, width: usize, size: usize) -> usize
@@ -37,33 +35,36 @@ pub fn room_for(ceiling: usize, width: usize, size: usize) -> usize
     ceiling
 }
 
-// The walk of all sections, with columns of its own beside the outputs.
+// How many records lent tables of these sizes may take.
+pub fn room_of(pieces: usize, symbols: usize, relocs: usize) -> Counts
+    ensures { result ≡ room_in pieces symbols relocs }
+{
+    Counts {
+        pieces: room_for(1024, PIECE_BYTES, pieces),
+        symbols: room_for(4096, 12, symbols),
+        relocs: room_for(4096, 8, relocs),
+    }
+}
+
+// The walk of all sections from nothing, with columns of its own beside the outputs.
 pub fn walk_columns(
     obj: &Obj,
     image: &Table,
     relocs: &Table,
     splits: &SplitColumns,
-    rows: usize,
     unit_table: &Table,
     unit_numbers: &[u16],
-    pieces: &mut [u8],
-    entries: &mut [u8],
-    offsets: &mut [u8],
-) -> Result<Counts, Refusal>
-    requires { Ready obj.now.symbols.bytes.now obj.now.symbols.places.now obj.now.order.now obj.now.names.bytes.now obj.now.names.places.now obj.now.names.lengths.now obj.now.heads.bytes.now obj.now.heads.places.now image.now.bytes.now image.now.places.now relocs.now.bytes.now relocs.now.places.now unit_table.now.bytes.now unit_table.now.places.now unit_numbers.now (columns_of splits.now) rows (length obj.now.heads.places.now)
+    tables: &mut PieceTables,
+) -> Result<(), Refusal>
+    requires { Ready obj.now.symbols.bytes.now obj.now.symbols.places.now obj.now.order.now obj.now.names.bytes.now obj.now.names.places.now obj.now.names.lengths.now obj.now.heads.bytes.now obj.now.heads.places.now image.now.bytes.now image.now.places.now relocs.now.bytes.now relocs.now.places.now unit_table.now.bytes.now unit_table.now.places.now unit_numbers.now (columns_of splits.now) splits.now.count (length obj.now.heads.places.now)
         × (length obj.now.symbols.places.now ≤ 4096) }
     ensures { Gives
-        (walk_of (image_in obj.now) (sections_of obj.now.heads.bytes.now obj.now.heads.places.now image.now.bytes.now image.now.places.now) (reloc_of relocs.now.bytes.now relocs.now.places.now) (length relocs.now.places.now) (rows_of (columns_of splits.now) rows) (unit_names unit_table.now.bytes.now unit_table.now.places.now) (room_in (length pieces.old) (length entries.old) (length offsets.old)))
-        (room_in (length pieces.old) (length entries.old) (length offsets.old)) result pieces.new entries.new offsets.new }
+        (walk_of (image_in obj.now) (sections_of obj.now.heads.bytes.now obj.now.heads.places.now image.now.bytes.now image.now.places.now) (reloc_of relocs.now.bytes.now relocs.now.places.now) (length relocs.now.places.now) (rows_of splits.now) (unit_names unit_table.now.bytes.now unit_table.now.places.now) tables.old.room)
+        tables.old tables.new result }
 {
     let mut scratch = [0u16; 9216];
     let mut part = [0u16; 4096];
-    let room = Counts {
-        pieces: room_for(1024, PIECE_BYTES, pieces.len()),
-        symbols: room_for(4096, 12, entries.len()),
-        relocs: room_for(4096, 8, offsets.len()),
-    };
-    let made = Counts {
+    tables.made = Counts {
         pieces: 0,
         symbols: 0,
         relocs: 0,
@@ -71,20 +72,15 @@ pub fn walk_columns(
     walk_sections(
         &mut scratch,
         &mut part,
-        pieces,
-        entries,
-        offsets,
+        tables,
         obj,
         image,
         relocs,
         splits,
-        rows,
         unit_table,
         unit_numbers,
         0,
         obj.heads.places.len(),
-        room,
-        made,
     )
 }
 
@@ -94,24 +90,21 @@ fn from_units(
     image: &Table,
     relocs: &Table,
     splits: &SplitColumns,
-    rows: usize,
     unit_table: &[u8],
     places: &mut [u32],
     unit_numbers: &mut [u16],
-    pieces: &mut [u8],
-    entries: &mut [u8],
-    offsets: &mut [u8],
-) -> Result<Counts, Refusal>
+    tables: &mut PieceTables,
+) -> Result<(), Refusal>
     requires { Asked obj.now.symbols.bytes.now obj.now.symbols.places.now obj.now.order.now obj.now.names.bytes.now obj.now.names.places.now obj.now.names.lengths.now
         × Headed obj.now.heads.bytes.now obj.now.heads.places.now image.now.bytes.now image.now.places.now obj.now.names.places.now
         × Relocated relocs.now.bytes.now relocs.now.places.now
-        × Rowed (columns_of splits.now) rows (length obj.now.names.lengths.now)
+        × Rowed (columns_of splits.now) splits.now.count (length obj.now.names.lengths.now)
         × (length obj.now.names.lengths.now ≤ 4096)
         × (length obj.now.symbols.places.now ≤ 4096)
         × UnitScratch places.old unit_numbers.old }
     ensures { Gives
-        (from_units obj.now.names.lengths.now (image_in obj.now) (sections_of obj.now.heads.bytes.now obj.now.heads.places.now image.now.bytes.now image.now.places.now) (reloc_of relocs.now.bytes.now relocs.now.places.now) (length relocs.now.places.now) (rows_of (columns_of splits.now) rows) unit_table.now (room_in (length pieces.old) (length entries.old) (length offsets.old)))
-        (room_in (length pieces.old) (length entries.old) (length offsets.old)) result pieces.new entries.new offsets.new }
+        (from_units obj.now.names.lengths.now (image_in obj.now) (sections_of obj.now.heads.bytes.now obj.now.heads.places.now image.now.bytes.now image.now.places.now) (reloc_of relocs.now.bytes.now relocs.now.places.now) (length relocs.now.places.now) (rows_of splits.now) unit_table.now tables.old.room)
+        tables.old tables.new result }
 {
     take_units(obj.names.lengths, unit_table, 1024, places)?;
     let n = unit_table.len() / 8;
@@ -125,12 +118,9 @@ fn from_units(
         image,
         relocs,
         splits,
-        rows,
         &unit_records,
         unit_numbers,
-        pieces,
-        entries,
-        offsets,
+        tables,
     )
 }
 
@@ -140,21 +130,18 @@ fn with_units(
     image: &Table,
     relocs: &Table,
     splits: &SplitColumns,
-    rows: usize,
     unit_table: &[u8],
-    pieces: &mut [u8],
-    entries: &mut [u8],
-    offsets: &mut [u8],
-) -> Result<Counts, Refusal>
+    tables: &mut PieceTables,
+) -> Result<(), Refusal>
     requires { Asked obj.now.symbols.bytes.now obj.now.symbols.places.now obj.now.order.now obj.now.names.bytes.now obj.now.names.places.now obj.now.names.lengths.now
         × Headed obj.now.heads.bytes.now obj.now.heads.places.now image.now.bytes.now image.now.places.now obj.now.names.places.now
         × Relocated relocs.now.bytes.now relocs.now.places.now
-        × Rowed (columns_of splits.now) rows (length obj.now.names.lengths.now)
+        × Rowed (columns_of splits.now) splits.now.count (length obj.now.names.lengths.now)
         × (length obj.now.names.lengths.now ≤ 4096)
         × (length obj.now.symbols.places.now ≤ 4096) }
     ensures { Gives
-        (from_units obj.now.names.lengths.now (image_in obj.now) (sections_of obj.now.heads.bytes.now obj.now.heads.places.now image.now.bytes.now image.now.places.now) (reloc_of relocs.now.bytes.now relocs.now.places.now) (length relocs.now.places.now) (rows_of (columns_of splits.now) rows) unit_table.now (room_in (length pieces.old) (length entries.old) (length offsets.old)))
-        (room_in (length pieces.old) (length entries.old) (length offsets.old)) result pieces.new entries.new offsets.new }
+        (from_units obj.now.names.lengths.now (image_in obj.now) (sections_of obj.now.heads.bytes.now obj.now.heads.places.now image.now.bytes.now image.now.places.now) (reloc_of relocs.now.bytes.now relocs.now.places.now) (length relocs.now.places.now) (rows_of splits.now) unit_table.now tables.old.room)
+        tables.old tables.new result }
 {
     let mut places = [0u32; 1024];
     let mut unit_numbers = [0u16; 4096];
@@ -163,13 +150,10 @@ fn with_units(
         image,
         relocs,
         splits,
-        rows,
         unit_table,
         &mut places,
         &mut unit_numbers,
-        pieces,
-        entries,
-        offsets,
+        tables,
     )
 }
 
@@ -181,52 +165,22 @@ fn from_splits(
     splits: &[u8],
     unit_table: &[u8],
     places: &mut [u32],
-    starts: &mut [u32],
-    ends: &mut [u32],
-    units: &mut [u16],
-    rest: &mut [u64],
-    pieces: &mut [u8],
-    entries: &mut [u8],
-    offsets: &mut [u8],
-) -> Result<Counts, Refusal>
+    table: &mut SplitTable,
+    tables: &mut PieceTables,
+) -> Result<(), Refusal>
     requires { Asked obj.now.symbols.bytes.now obj.now.symbols.places.now obj.now.order.now obj.now.names.bytes.now obj.now.names.places.now obj.now.names.lengths.now
         × Headed obj.now.heads.bytes.now obj.now.heads.places.now image.now.bytes.now image.now.places.now obj.now.names.places.now
         × Relocated relocs.now.bytes.now relocs.now.places.now
         × (length obj.now.names.lengths.now ≤ 4096)
         × (length obj.now.symbols.places.now ≤ 4096)
-        × Scratch places.old starts.old ends.old units.old rest.old }
+        × (length places.old ≡ 1024)
+        × (table.old.room ≡ 1024) }
     ensures { Gives
-        (from_splits obj.now.names.lengths.now (sections_in obj.now.heads.bytes.now obj.now.heads.places.now) (image_in obj.now) (sections_of obj.now.heads.bytes.now obj.now.heads.places.now image.now.bytes.now image.now.places.now) (reloc_of relocs.now.bytes.now relocs.now.places.now) (length relocs.now.places.now) splits.now unit_table.now (room_in (length pieces.old) (length entries.old) (length offsets.old)))
-        (room_in (length pieces.old) (length entries.old) (length offsets.old)) result pieces.new entries.new offsets.new }
+        (from_splits obj.now.names.lengths.now (sections_in obj.now.heads.bytes.now obj.now.heads.places.now) (image_in obj.now) (sections_of obj.now.heads.bytes.now obj.now.heads.places.now image.now.bytes.now image.now.places.now) (reloc_of relocs.now.bytes.now relocs.now.places.now) (length relocs.now.places.now) splits.now unit_table.now tables.old.room)
+        tables.old tables.new result }
 {
-    take_split_columns(
-        obj.names.lengths,
-        &obj.heads,
-        splits,
-        1024,
-        places,
-        starts,
-        ends,
-        units,
-        rest,
-    )?;
-    let rows = splits.len() / SPLIT_BYTES;
-    with_units(
-        obj,
-        image,
-        relocs,
-        &SplitColumns {
-            starts: &*starts,
-            ends: &*ends,
-            units: &*units,
-            rest: &*rest,
-        },
-        rows,
-        unit_table,
-        pieces,
-        entries,
-        offsets,
-    )
+    take_split_columns(obj.names.lengths, &obj.heads, splits, places, table)?;
+    with_units(obj, image, relocs, &table.columns(), unit_table, tables)
 }
 
 // The same, with columns of its own for the splits.
@@ -236,24 +190,30 @@ pub fn with_splits(
     relocs: &Table,
     splits: &[u8],
     unit_table: &[u8],
-    pieces: &mut [u8],
-    entries: &mut [u8],
-    offsets: &mut [u8],
-) -> Result<Counts, Refusal>
+    tables: &mut PieceTables,
+) -> Result<(), Refusal>
     requires { Asked obj.now.symbols.bytes.now obj.now.symbols.places.now obj.now.order.now obj.now.names.bytes.now obj.now.names.places.now obj.now.names.lengths.now
         × Headed obj.now.heads.bytes.now obj.now.heads.places.now image.now.bytes.now image.now.places.now obj.now.names.places.now
         × Relocated relocs.now.bytes.now relocs.now.places.now
         × (length obj.now.names.lengths.now ≤ 4096)
         × (length obj.now.symbols.places.now ≤ 4096) }
     ensures { Gives
-        (from_splits obj.now.names.lengths.now (sections_in obj.now.heads.bytes.now obj.now.heads.places.now) (image_in obj.now) (sections_of obj.now.heads.bytes.now obj.now.heads.places.now image.now.bytes.now image.now.places.now) (reloc_of relocs.now.bytes.now relocs.now.places.now) (length relocs.now.places.now) splits.now unit_table.now (room_in (length pieces.old) (length entries.old) (length offsets.old)))
-        (room_in (length pieces.old) (length entries.old) (length offsets.old)) result pieces.new entries.new offsets.new }
+        (from_splits obj.now.names.lengths.now (sections_in obj.now.heads.bytes.now obj.now.heads.places.now) (image_in obj.now) (sections_of obj.now.heads.bytes.now obj.now.heads.places.now image.now.bytes.now image.now.places.now) (reloc_of relocs.now.bytes.now relocs.now.places.now) (length relocs.now.places.now) splits.now unit_table.now tables.old.room)
+        tables.old tables.new result }
 {
     let mut places = [0u32; 1024];
     let mut starts = [0u32; 1024];
     let mut ends = [0u32; 1024];
     let mut units = [0u16; 1024];
     let mut rest = [0u64; 1024];
+    let mut table = SplitTable {
+        starts: &mut starts,
+        ends: &mut ends,
+        units: &mut units,
+        rest: &mut rest,
+        count: 0,
+        room: 1024,
+    };
     from_splits(
         obj,
         image,
@@ -261,12 +221,7 @@ pub fn with_splits(
         splits,
         unit_table,
         &mut places,
-        &mut starts,
-        &mut ends,
-        &mut units,
-        &mut rest,
-        pieces,
-        entries,
-        offsets,
+        &mut table,
+        tables,
     )
 }

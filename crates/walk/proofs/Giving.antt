@@ -23,17 +23,13 @@ use Rattle.sections.specs.Image.{Image}
 use Rattle.pieces.specs.declared.Piece.{Piece}
 use Rattle.pieces.specs.declared.PieceSymbol.{PieceSymbol}
 use Rattle.pieces.specs.declared.PieceReloc.{PieceReloc}
-use Rattle.pieces.specs.Pieces.{pieces_in, symbols_in, relocs_in}
 use Rattle.pieces.specs.Questions.{count_of}
-use Rattle.pieces.proofs.Laws.{length-pieces_in, length-symbols_in, length-relocs_in}
 use Rattle.relocs.specs.Relocs.{relocs_of, has_relocs}
 use Rattle.relocs.proofs.Laws.{relocs_some}
 use Rattle.splits.specs.Questions.{is_common}
-use Rattle.std.specs.Prelude.{Some, None}
-use Rattle.walk.specs.declared.Counts.{Counts}
+use Rattle.pieces.specs.declared.Counts.{Counts}
 use Rattle.walk.specs.Walk.{Input, Output, fits, add_symbols, add_relocs, split_symbols, split_relocs, piece_of, given, over, on_aligned}
-use Rattle.walk.specs.Adding.{Entries}
-use Rattle.walk.specs.Giving.{input_of, output_in, pieces_with, relocs_with, PieceGives, PieceSide, chains_in, counts_in, Beside}
+use Rattle.walk.specs.Giving.{input_of, pieces_with, relocs_with}
 
 -- ---- tests
 
@@ -87,117 +83,82 @@ module _ (t : Input) (n current unit alignment : ℕ) (s : Split) (out : Output)
     pub aligned_made : over t.room o ≡ false → on_aligned t n current unit alignment s out ≡ accepted o
     aligned_made e = forward ∙ passes 76 n current _ _ e
 
--- ---- what is given, of the lent tables
-module _ (image : Image) (head : ℕ → Section) (reloc : ℕ → Reloc) (relocs n unit alignment : ℕ) (s : Split) (room made : Counts) (pieces entries offsets : List ℕ) where
+-- ---- what is given, of what is there
+module _ (image : Image) (head : ℕ → Section) (reloc : ℕ → Reloc) (relocs n unit alignment : ℕ) (s : Split) (room : Counts) (o : Output) where
   -- the entries with the split's symbols
   abbrev pub symbols_with : List PieceSymbol
-  symbols_with = add_symbols image unit made.pieces s (symbols_in entries made.symbols) (split_symbols image n s)
+  symbols_with = add_symbols image unit (length o.pieces) s o.symbols (split_symbols image n s)
 
-  abbrev common_out : Output
-  common_out = record { pieces = pieces_in pieces made.pieces; symbols = symbols_with; relocs = relocs_in offsets made.relocs }
+  abbrev pub common_out : Output
+  common_out = record { pieces = o.pieces; symbols = symbols_with; relocs = o.relocs }
 
-  abbrev piece_out : Output
-  piece_out = record { pieces = pieces_with (head n) n unit alignment s pieces made; symbols = symbols_with; relocs = relocs_with reloc relocs n s offsets made }
+  abbrev pub piece_out : Output
+  piece_out = record {
+    pieces = pieces_with (head n) n unit alignment s o.pieces;
+    symbols = symbols_with;
+    relocs = relocs_with reloc relocs n s (length o.pieces) o.relocs;
+  }
 
   -- whether it is common or not
   abbrev either_out : Output
   either_out = record {
-    pieces = pieces_in pieces made.pieces ++ cond (is_common s) [] (piece_of (head n) n unit (count_of unit (pieces_in pieces made.pieces)) alignment s ∷ []);
+    pieces = o.pieces ++ cond (is_common s) [] (piece_of (head n) n unit (count_of unit o.pieces) alignment s ∷ []);
     symbols = symbols_with;
-    relocs = cond (is_common s) (relocs_in offsets made.relocs) (relocs_with reloc relocs n s offsets made);
+    relocs = cond (is_common s) o.relocs (relocs_with reloc relocs n s (length o.pieces) o.relocs);
   }
 
   module _ (count : ℕ) (bytes : ℕ → List ℕ) (splits : List Split) (units : List ℕ) where
     abbrev t : Input
     t = input_of image (record { count = count; head = head; bytes = bytes }) reloc relocs splits units room
 
-    abbrev out : Output
-    out = output_in pieces entries offsets made
-
-    long : length (pieces_in pieces made.pieces) ≡ made.pieces
-    long = length-pieces_in pieces made.pieces
-
-    pub given_either : given t n unit alignment s out ≡ either_out
+    pub given_either : given t n unit alignment s o ≡ either_out
     unfolding given
-    given_either = λ d. record {
-      pieces = pieces_in pieces made.pieces ++ cond (is_common s) [] (piece_of (head n) n unit (count_of unit (pieces_in pieces made.pieces)) alignment s ∷ []);
-      symbols = add_symbols image unit (long d) s (symbols_in entries made.symbols) (split_symbols image n s);
-      relocs = cond (is_common s) (relocs_in offsets made.relocs) (add_relocs reloc (long d) s.start (relocs_in offsets made.relocs) (split_relocs reloc relocs n s));
-    }
+    given_either = refl
 
-    pub given_common : is_common s ≡ true → given t n unit alignment s out ≡ common_out
+    pub given_common : is_common s ≡ true → given t n unit alignment s o ≡ common_out
     given_common e =
         given_either
         ∙ (λ d. record {
-          pieces = pieces_in pieces made.pieces ++ cond (e d) [] (piece_of (head n) n unit (count_of unit (pieces_in pieces made.pieces)) alignment s ∷ []);
+          pieces = o.pieces ++ cond (e d) [] (piece_of (head n) n unit (count_of unit o.pieces) alignment s ∷ []);
           symbols = symbols_with;
-          relocs = cond (e d) (relocs_in offsets made.relocs) (relocs_with reloc relocs n s offsets made);
+          relocs = cond (e d) o.relocs (relocs_with reloc relocs n s (length o.pieces) o.relocs);
         })
-        ∙ (λ d. record { pieces = append-nil (pieces_in pieces made.pieces) d; symbols = symbols_with; relocs = relocs_in offsets made.relocs })
+        ∙ (λ d. record { pieces = append-nil o.pieces d; symbols = symbols_with; relocs = o.relocs })
 
-    pub given_piece : is_common s ≡ false → given t n unit alignment s out ≡ piece_out
+    pub given_piece : is_common s ≡ false → given t n unit alignment s o ≡ piece_out
     given_piece e =
         given_either
         ∙ (λ d. record {
-          pieces = pieces_in pieces made.pieces ++ cond (e d) [] (piece_of (head n) n unit (count_of unit (pieces_in pieces made.pieces)) alignment s ∷ []);
+          pieces = o.pieces ++ cond (e d) [] (piece_of (head n) n unit (count_of unit o.pieces) alignment s ∷ []);
           symbols = symbols_with;
-          relocs = cond (e d) (relocs_in offsets made.relocs) (relocs_with reloc relocs n s offsets made);
+          relocs = cond (e d) o.relocs (relocs_with reloc relocs n s (length o.pieces) o.relocs);
         })
 
     module _ (fit : fits alignment s.start ≡ true) where
       abbrev whole : Outcome Output
-      whole = on_aligned t n s.start unit alignment s out
+      whole = on_aligned t n s.start unit alignment s o
 
       abbrev asked : Bool
-      asked = backwards t n s.start unit alignment s out fit
+      asked = backwards t n s.start unit alignment s o fit
 
       module _ (forwards : asked ≡ false) where
         -- no room for the symbols
         pub symbols_full : room.symbols < length symbols_with → whole ≡ refused 76 n s.start
-        symbols_full h = aligned_full t n s.start unit alignment s out fit forwards either_out given_either (over_symbols room either_out h)
+        symbols_full h = aligned_full t n s.start unit alignment s o fit forwards either_out given_either (over_symbols room either_out h)
 
-        -- the symbols are there
-        module _ (entries' : List ℕ) (k : ℕ) (is : symbols_in entries' k ≡ symbols_with) (few : k ≤ room.symbols) where
-          symbols_few : length symbols_with ≤ room.symbols
-          symbols_few = omega (arith, ap length is, length-symbols_in entries' k, few)
-
-          pub common_made : is_common s ≡ true → made.pieces ≤ room.pieces → made.relocs ≤ room.relocs
-              → whole ≡ accepted (output_in pieces entries' offsets (record { pieces = made.pieces; symbols = k; relocs = made.relocs }))
+        -- there is room for the symbols
+        module _ (few : length symbols_with ≤ room.symbols) where
+          pub common_made : is_common s ≡ true → length o.pieces ≤ room.pieces → length o.relocs ≤ room.relocs → whole ≡ accepted common_out
           common_made e p r =
-              aligned_made t n s.start unit alignment s out fit forwards common_out (given_common e)
-              (over_none room common_out symbols_few (omega (arith, length-relocs_in offsets made.relocs, r)) (omega (arith, long, p)))
-              ∙ (λ d. accepted (record { pieces = pieces_in pieces made.pieces; symbols = sym is d; relocs = relocs_in offsets made.relocs }))
+              aligned_made t n s.start unit alignment s o fit forwards common_out (given_common e) (over_none room common_out few r p)
 
-          -- by what was answered of the piece and the relocations
-          pub piece_given : is_common s ≡ false → (counts pieces' offsets' : List ℕ) (m : Counts)
-              → PieceGives (pieces_with (head n) n unit alignment s pieces made) (relocs_with reloc relocs n s offsets made) room (record { pieces = made.pieces; symbols = k; relocs = made.relocs }) counts pieces' offsets' (Some m)
-              → whole ≡ accepted (output_in pieces' entries' offsets' m)
-          piece_given e counts pieces' offsets' m g =
-              aligned_made t n s.start unit alignment s out fit forwards piece_out (given_piece e)
-              (over_none room piece_out symbols_few
-              (omega (arith, ap length g.relocs_are, length-relocs_in offsets' m.relocs, g.side.few_relocs))
-              (omega (arith, ap length g.is, length-pieces_in pieces' m.pieces, g.side.few_pieces)))
-              ∙ (λ d. accepted (record {
-                pieces = sym g.is d;
-                symbols = (sym is ∙ ap (symbols_in entries') (sym g.symbols_are)) d;
-                relocs = sym g.relocs_are d;
-              }))
+          pub piece_made : is_common s ≡ false → length piece_out.pieces ≤ room.pieces → length piece_out.relocs ≤ room.relocs → whole ≡ accepted piece_out
+          piece_made e p r =
+              aligned_made t n s.start unit alignment s o fit forwards piece_out (given_piece e) (over_none room piece_out few r p)
 
-          pub piece_full : is_common s ≡ false → (counts pieces' offsets' : List ℕ)
-              → PieceGives (pieces_with (head n) n unit alignment s pieces made) (relocs_with reloc relocs n s offsets made) room (record { pieces = made.pieces; symbols = k; relocs = made.relocs }) counts pieces' offsets' None
-              → whole ≡ refused 76 n s.start
-          piece_full e counts pieces' offsets' g = aligned_full t n s.start unit alignment s out fit forwards piece_out (given_piece e) (over_later room piece_out g)
-
--- the tables after the piece
-pub piece_beside : (symbols : ℕ) (room now : Counts) (scratch chains entries counts pieces offsets : List ℕ) (wanted : List Piece) (wanted-relocs : List PieceReloc) (m : Counts)
-    → chains_in scratch ≡ chains → counts_in scratch ≡ counts → 8192 ≤ length scratch
-    → Entries symbols room.symbols chains entries now.symbols → PieceGives wanted wanted-relocs room now counts pieces offsets (Some m)
-    → Beside symbols room m scratch pieces entries offsets
-piece_beside symbols room now scratch chains entries counts pieces offsets wanted wanted-relocs m e f h q g = record {
-  side = subst (λ (l : List ℕ). PieceSide room m l pieces offsets) (sym f) g.side;
-  entered = subst (λ (l : List ℕ). Entries symbols room.symbols l entries m.symbols) (sym e) (subst (Entries symbols room.symbols chains entries) (sym g.symbols_are) q);
-  long = h;
-}
+        pub piece_full : is_common s ≡ false → (ltb room.relocs (length piece_out.relocs) || ltb room.pieces (length piece_out.pieces)) ≡ true
+            → whole ≡ refused 76 n s.start
+        piece_full e g = aligned_full t n s.start unit alignment s o fit forwards piece_out (given_piece e) (over_later room piece_out g)
 
 -- ---- no room for the piece or its relocations
 le_below : (a b : ℕ) → leb a b ≡ ltb a (b + 1)

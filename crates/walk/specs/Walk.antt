@@ -23,7 +23,7 @@ use Rattle.pieces.specs.declared.PieceReloc.{PieceReloc}
 use Rattle.pieces.specs.Questions.{count_of, has}
 use Rattle.relocs.specs.Relocs.{relocs_between, has_relocs}
 use Rattle.units.specs.Units.{unit_of}
-use Rattle.walk.specs.declared.Counts.{Counts}
+use Rattle.pieces.specs.declared.Counts.{Counts}
 
 -- ---- what the walk is given, and what it gives
 

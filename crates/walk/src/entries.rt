@@ -1,18 +1,18 @@
 // The symbols and relocations of a split, as entries behind those that are there.
-ghost use Rattle.std.specs.Prelude.{◌≡◌, cond, eqb, ◌+◌, ◌*◌, ◌<◌, ◌≤◌, length};
+ghost use Rattle.std.specs.Prelude.{◌≡◌, cond, eqb, ◌+◌, ◌≤◌, length};
 ghost use Rattle.obj.specs.Records.{Held};
 ghost use Rattle.names.specs.Fixed.{is_vector_table_end};
 ghost use Rattle.symbol_order.specs.Order.{symbol_of};
 ghost use Rattle.sections.specs.Image.{image_of, SymbolNames};
-ghost use Rattle.pieces.specs.Pieces.{symbols_in, relocs_in};
+ghost use Rattle.pieces.specs.Tables.{symbols_of, relocs_of};
 ghost use Rattle.relocs.specs.Relocs.{reloc_of, Readable};
 ghost use Rattle.walk.specs.Walk.{passed_over, entry_of, add_symbol, add_symbols, reloc_entry, add_relocs};
-ghost use Rattle.walk.specs.Adding.{Entries, Lying, Adds, Above};
+ghost use Rattle.walk.specs.Adding.{Entries, Lying, Adds, Above, AddsRelocs};
 
 use names::{Names, is_linker_generated_label, is_vector_table_end, name_at};
 use obj::{Split, Symbol, Table, reloc_at, symbol_at};
 use piece_columns::{has_symbol, push_symbol};
-use pieces::{PieceReloc, PieceSymbol, add_piece_reloc};
+use pieces::{PieceReloc, PieceSymbol, PieceTables};
 use symbol_order::number;
 
 // "one at the end is passed over, `gTRKInterruptVectorTableEnd` at the start instead": where a symbol of this name is passed over.
@@ -65,90 +65,69 @@ fn entry_of(unit: u16, place: u16, s: Split, i: u16, y: Symbol) -> PieceSymbol
     }
 }
 
-// Symbol i of a split, "each once per unit", behind the first k entries: how many there are then, or nothing if there is no room for another.
+// Symbol i of a split, "each once per unit", behind the entries that are there, if there is room for it.
 fn add_symbol(
     symbols: &Table,
     names: &Names,
     s: Split,
     unit: u16,
-    place: u16,
     i: usize,
-    room: usize,
-    k: usize,
     chains: &mut [u16],
-    out: &mut [u8],
-) -> Option<usize>
+    tables: &mut PieceTables,
+) -> Option<()>
     requires { Held 20 symbols.now.bytes.now symbols.now.places.now i
         × SymbolNames symbols.now.bytes.now symbols.now.places.now names.now.bytes.now names.now.places.now names.now.lengths.now
         × (s.start ≤ (symbol_of symbols.now.bytes.now symbols.now.places.now i).address)
-        × Entries (length symbols.now.places.now) room chains.old out.old k }
-    ensures { Adds (add_symbol (image_of symbols.now.bytes.now symbols.now.places.now names.now.bytes.now names.now.places.now names.now.lengths.now) unit place s (symbols_in out.old k) i) room chains.new out.new result }
+        × Entries (length symbols.now.places.now) chains.old tables.old }
+    ensures { Adds (add_symbol (image_of symbols.now.bytes.now symbols.now.places.now names.now.bytes.now names.now.places.now names.now.lengths.now) unit tables.old.made.pieces s (symbols_of tables.old) i) chains.new tables.old tables.new result }
 {
     let y = symbol_at(symbols, i);
     let name = name_at(names, y.name as usize);
-    if is_passed_over(name, s, y) | has_symbol(chains, out, k, unit, i) {
-        return Some(k);
+    if is_passed_over(name, s, y) | has_symbol(chains, tables, unit, i) {
+        return Some(());
     }
-    if k == room {
+    if tables.made.symbols == tables.room.symbols {
         return None;
     }
-    push_symbol(chains, out, k, entry_of(unit, place, s, i as u16, y));
-    Some(k + 1)
+    let place = tables.made.pieces as u16;
+    push_symbol(chains, tables, entry_of(unit, place, s, i as u16, y));
+    Some(())
 }
 
-// The symbols of a split, whose numbers are `part`, behind the first `made` entries: how many there are then, if there is room.
+// The symbols of a split, whose numbers are `part`, behind the entries that are there, if there is room for them.
 pub fn add_symbols(
     symbols: &Table,
     names: &Names,
     part: &[u16],
     s: Split,
     unit: u16,
-    place: u16,
-    room: usize,
-    made: usize,
     chains: &mut [u16],
-    out: &mut [u8],
-) -> Option<usize>
+    tables: &mut PieceTables,
+) -> Option<()>
     requires { Lying symbols.now.bytes.now symbols.now.places.now part.now s.start
         × SymbolNames symbols.now.bytes.now symbols.now.places.now names.now.bytes.now names.now.places.now names.now.lengths.now
-        × Entries (length symbols.now.places.now) room chains.old out.old made }
-    ensures { Adds (add_symbols (image_of symbols.now.bytes.now symbols.now.places.now names.now.bytes.now names.now.places.now names.now.lengths.now) unit place s (symbols_in out.old made) part.now) room chains.new out.new result }
+        × Entries (length symbols.now.places.now) chains.old tables.old }
+    ensures { Adds (add_symbols (image_of symbols.now.bytes.now symbols.now.places.now names.now.bytes.now names.now.places.now names.now.lengths.now) unit tables.old.made.pieces s (symbols_of tables.old) part.now) chains.new tables.old tables.new result }
 {
-    let mut k = made;
     for i in 0..part.len() {
-        k = add_symbol(
-            symbols,
-            names,
-            s,
-            unit,
-            place,
-            number(part, i),
-            room,
-            k,
-            chains,
-            out,
-        )?;
+        add_symbol(symbols, names, s, unit, number(part, i), chains, tables)?;
     }
-    Some(k)
+    Some(())
 }
 
-// The relocations of a piece that starts at `start`, whose numbers are `part`, behind the first `made`: "Relocation offsets in a piece are rounded down to
-// fours."
-pub fn add_relocs(relocs: &Table, part: &[u16], start: u32, place: u16, made: usize, out: &mut [u8])
-    requires { Above relocs.now.bytes.now relocs.now.places.now part.now start × (8 * (made + length part.now) ≤ length out.old) }
-    ensures { relocs_in out.new (made + length part.now) ≡ add_relocs (reloc_of relocs.now.bytes.now relocs.now.places.now) place start (relocs_in out.old made) part.now }
+// The relocations of the next piece, which starts at `start`; `part` are their numbers: "Relocation offsets in a piece are rounded down to fours."
+pub fn add_relocs(relocs: &Table, part: &[u16], start: u32, tables: &mut PieceTables)
+    requires { Above relocs.now.bytes.now relocs.now.places.now part.now start × (tables.old.made.relocs + length part.now ≤ tables.old.room.relocs) }
+    ensures { AddsRelocs (add_relocs (reloc_of relocs.now.bytes.now relocs.now.places.now) tables.old.made.pieces start (relocs_of tables.old) part.now) (length part.now) tables.old tables.new }
 {
+    let place = tables.made.pieces as u16;
     for i in 0..part.len() {
         let k = number(part, i);
         let r = reloc_at(relocs, k);
-        add_piece_reloc(
-            out,
-            made + i,
-            PieceReloc {
-                piece: place,
-                relocation: k as u16,
-                offset: (r.address - start) / 4 * 4,
-            },
-        );
+        tables.add_reloc(PieceReloc {
+            piece: place,
+            relocation: k as u16,
+            offset: (r.address - start) / 4 * 4,
+        });
     }
 }

@@ -12,14 +12,6 @@ pub use choice::choose;
 use obj::{Refusal, refuse};
 pub use output::give;
 
-// So many pieces, piece symbols and piece relocations.
-#[derive(Clone, Copy)]
-pub struct Counts {
-    pub pieces: usize,
-    pub symbols: usize,
-    pub relocs: usize,
-}
-
 // What a split asks for.
 #[derive(Clone, Copy)]
 pub enum Step {

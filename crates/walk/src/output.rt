@@ -4,16 +4,18 @@ ghost use Rattle.symbol_order.specs.Order.{symbol_of, Order};
 ghost use Rattle.symbols.specs.Ranges.{has_symbols};
 ghost use Rattle.sections.specs.Image.{image_in, TablesIn};
 ghost use Rattle.sections.specs.Sections.{head_of};
+ghost use Rattle.pieces.specs.Tables.{pieces_of, relocs_of};
+ghost use Rattle.piece_columns.specs.Columns.{CountedIn};
 ghost use Rattle.relocs.specs.Relocs.{reloc_of};
 ghost use Rattle.splits.specs.Questions.{is_common};
 ghost use Rattle.walk.specs.Walk.{fits, piece_of};
-ghost use Rattle.walk.specs.Giving.{counts_in, Beside, PieceSide, PieceGives, pieces_with, relocs_with, Sided, SectionRelocs, GivesOut};
+ghost use Rattle.walk.specs.Giving.{counts_in, Beside, PieceGives, pieces_with, relocs_with, Sided, SectionRelocs, GivesOut};
 
 use crate::entries::{add_relocs, add_symbols};
-use crate::{Counts, refuse_at};
+use crate::refuse_at;
 use obj::{Refusal, Section, Split, Table, section_at};
 use piece_columns::{count_of, push_piece};
-use pieces::Piece;
+use pieces::{Piece, PieceTables};
 use relocs::range;
 use sections::Obj;
 use symbols::{for_section_through, has_symbols};
@@ -60,8 +62,7 @@ fn is_backwards(symbols: &Table, order: &[u16], part: &[u16], n: usize, s: Split
 // The relocations and the piece of a split that is not common, if there is room; `part` are the section's relocations.
 fn give_piece(
     counts: &mut [u16],
-    pieces: &mut [u8],
-    offsets: &mut [u8],
+    tables: &mut PieceTables,
     heads: &Table,
     relocs: &Table,
     part: &[u16],
@@ -69,42 +70,33 @@ fn give_piece(
     s: Split,
     unit: usize,
     alignment: u32,
-    room: Counts,
-    made: Counts,
-) -> Option<Counts>
-    requires { PieceSide room made counts.old pieces.old offsets.old
+) -> Option<()>
+    requires { CountedIn counts.old tables.old
         × SectionRelocs relocs.now.bytes.now relocs.now.places.now part.now n
         × Sided heads.now.bytes.now heads.now.places.now n s
         × (unit < length counts.old) × (unit < 65536) × (s.start ≤ s.end) }
     ensures { PieceGives
-        (pieces_with (head_of heads.now.bytes.now heads.now.places.now n) n unit alignment s pieces.old made)
-        (relocs_with (reloc_of relocs.now.bytes.now relocs.now.places.now) (length relocs.now.places.now) n s offsets.old made)
-        room made counts.new pieces.new offsets.new result }
+        (pieces_with (head_of heads.now.bytes.now heads.now.places.now n) n unit alignment s (pieces_of tables.old))
+        (relocs_with (reloc_of relocs.now.bytes.now relocs.now.places.now) (length relocs.now.places.now) n s tables.old.made.pieces (relocs_of tables.old))
+        counts.new tables.old tables.new result }
 {
     let inside = range(relocs, part, s.start, s.end);
-    let most = made.relocs + inside.len();
-    if (room.relocs < most) | (room.pieces <= made.pieces) {
+    let most = tables.made.relocs + inside.len();
+    if (tables.room.relocs < most) | (tables.room.pieces <= tables.made.pieces) {
         return None;
     }
-    let place = made.pieces as u16;
-    add_relocs(relocs, inside, s.start, place, made.relocs, offsets);
+    add_relocs(relocs, inside, s.start, tables);
     let head = section_at(heads, n);
-    let number = count_of(counts, pieces, made.pieces, unit);
+    let number = count_of(counts, tables, unit);
     let p = piece_of(head, n as u16, unit as u16, number, alignment, s);
-    push_piece(counts, pieces, made.pieces, p);
-    Some(Counts {
-        pieces: made.pieces + 1,
-        symbols: made.symbols,
-        relocs: most,
-    })
+    push_piece(counts, tables, p);
+    Some(())
 }
 
 // The split s of section n gives to the unit, with an alignment that fits; `part` are the section's relocations.
 pub fn give(
     scratch: &mut [u16],
-    pieces: &mut [u8],
-    entries: &mut [u8],
-    offsets: &mut [u8],
+    tables: &mut PieceTables,
     obj: &Obj,
     relocs: &Table,
     part: &[u16],
@@ -112,10 +104,8 @@ pub fn give(
     s: Split,
     unit: usize,
     alignment: u32,
-    room: Counts,
-    made: Counts,
-) -> Result<Counts, Refusal>
-    requires { Beside (length obj.now.symbols.places.now) room made scratch.old pieces.old entries.old offsets.old
+) -> Result<(), Refusal>
+    requires { Beside (length obj.now.symbols.places.now) scratch.old tables.old
         × TablesIn obj.now
         × SectionRelocs relocs.now.bytes.now relocs.now.places.now part.now n
         × Sided obj.now.heads.bytes.now obj.now.heads.places.now n s
@@ -125,10 +115,7 @@ pub fn give(
         (head_of obj.now.heads.bytes.now obj.now.heads.places.now)
         (reloc_of relocs.now.bytes.now relocs.now.places.now)
         (length relocs.now.places.now)
-        n unit alignment s room made
-        pieces.old entries.old offsets.old
-        scratch.new pieces.new entries.new offsets.new
-        result }
+        n unit alignment s scratch.new tables.old tables.new result }
 {
     if is_backwards(&obj.symbols, obj.order, part, n, s) {
         return refuse_at(11, n, s.start);
@@ -147,27 +134,18 @@ pub fn give(
         inside,
         s,
         unit as u16,
-        made.pieces as u16,
-        room.symbols,
-        made.symbols,
         &mut scratch[..8192],
-        entries,
+        tables,
     );
-    let Some(k) = added else {
+    let Some(()) = added else {
         return refuse_at(76, n, s.start);
     };
-    let now = Counts {
-        pieces: made.pieces,
-        symbols: k,
-        relocs: made.relocs,
-    };
     if s.flags % 2 == 1 {
-        return Ok(now);
+        return Ok(());
     }
     let given = give_piece(
         &mut scratch[8192..],
-        pieces,
-        offsets,
+        tables,
         &obj.heads,
         relocs,
         part,
@@ -175,11 +153,9 @@ pub fn give(
         s,
         unit,
         alignment,
-        room,
-        now,
     );
-    let Some(most) = given else {
+    let Some(()) = given else {
         return refuse_at(76, n, s.start);
     };
-    Ok(most)
+    Ok(())
 }

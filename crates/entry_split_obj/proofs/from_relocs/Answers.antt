@@ -8,12 +8,12 @@ use Prim.Native.Nat.{◌/◌, ◌≤◌}
 use native.Mathlib.Omega.{arith}
 use lib.ListN.{length}
 use lib.Seq.{length-take-le}
+use Rattle.pieces.proofs.Same.{lent_same}
 use Rattle.obj.specs.Answers.{meaning}
 use Rattle.stage_tables.proofs.Laws.{taken_few, taken_places}
 use Rattle.sections.specs.Image.{image_in}
 use Rattle.sections.specs.Sections.{sections_of}
 use Rattle.tables.specs.Records.{sections_in}
-use Rattle.stage_walk.specs.Room.{room_in}
 use Rattle.entry_split_obj.specs.Lines.{from_relocs}
 use Rattle.entry_split_obj.proofs.Passed.{relocs_taken}
 use Rattle.stage_walk.proofs.Lines.{gives_as, gives_stops, gives_goes}
@@ -43,11 +43,11 @@ unfolding from_relocs
 returns c =
     let a = c.args in
     gives_goes (sym c.take_relocs.ensures.said ∙ (ap meaning c.in_ok-take_relocs.was))
-    (gives_as (relocs_as a.obj.now.names.lengths.now (sections_in a.obj.now.heads.bytes.now a.obj.now.heads.places.now) (image_in a.obj.now) (sections_of a.obj.now.heads.bytes.now a.obj.now.heads.places.now a.image.now.bytes.now a.image.now.places.now) a.lent.now.relocs.now _ a.lent.now.splits.now a.lent.now.units.now (room_in (length a.pieces.now) (length a.entries.now) (length a.offsets.now)) (taken_places 23 4096 a.lent.now.relocs.now _ _ c.take_relocs.ensures (ap meaning c.in_ok-take_relocs.was)))
+    (gives_as (relocs_as a.obj.now.names.lengths.now (sections_in a.obj.now.heads.bytes.now a.obj.now.heads.places.now) (image_in a.obj.now) (sections_of a.obj.now.heads.bytes.now a.obj.now.heads.places.now a.image.now.bytes.now a.image.now.places.now) a.lent.now.relocs.now _ a.lent.now.splits.now a.lent.now.units.now a.tables.now.room (taken_places 23 4096 a.lent.now.relocs.now _ _ c.take_relocs.ensures (ap meaning c.in_ok-take_relocs.was)))
     c.with_splits.ensures)
 
 pub returns-in_err-take_relocs : goal.returns-in_err-take_relocs
 unfolding from_relocs
 returns-in_err-take_relocs c =
     let p = err_from_is_err_and c.from_residual.result c.from_residual.ensures.1 in
-    gives_stops _ (p.1 ∙ ap (λ (x : Refusal). Err x) p.2) c.in_err-take_relocs.ensures.said
+    gives_stops _ (p.1 ∙ ap (λ (x : Refusal). Err x) p.2) c.in_err-take_relocs.ensures.said lent_same

@@ -7,9 +7,9 @@ use Rattle.obj.specs.declared.Refusal.{Refusal}
 use mathlib.Core.Path.{sym, ap, ◌∙◌}
 use native.Mathlib.Omega.{arith}
 use lib.ListN.{length}
+use Rattle.pieces.proofs.Same.{lent_same}
 use Rattle.obj.specs.Answers.{meaning}
 use Rattle.stage_tables.proofs.Laws.{taken_few, taken_places, taken-count, taken-held}
-use Rattle.stage_walk.specs.Room.{room_in}
 use Rattle.entry_split_obj.specs.Lines.{from_sections}
 use Rattle.stage_walk.proofs.Lines.{gives_as, gives_stops, gives_goes}
 use Rattle.entry_split_obj.proofs.Lines.{sections_as}
@@ -45,7 +45,7 @@ returns c =
     let passed = sym c.take_image.ensures.said ∙ e in
     gives_goes passed
     (gives_as
-    (sections_as a.names.now.bytes.now a.names.now.places.now a.names.now.lengths.now a.lent.now.sections.now a.lent.now.image.now _ _ a.lent.now.section_places.now a.lent.now.symbols.now a.lent.now.relocs.now a.lent.now.splits.now a.lent.now.units.now (room_in (length a.pieces.now) (length a.entries.now) (length a.offsets.now))
+    (sections_as a.names.now.bytes.now a.names.now.places.now a.names.now.lengths.now a.lent.now.sections.now a.lent.now.image.now _ _ a.lent.now.section_places.now a.lent.now.symbols.now a.lent.now.relocs.now a.lent.now.splits.now a.lent.now.units.now a.tables.now.room
     (taken_places 15 64 a.lent.now.sections.now _ _ c.take_image.ensures e)
     (λ n h.
     place_is 64 a.names.now.lengths.now a.lent.now.section_places.now a.lent.now.image.now a.lent.now.sections.now passed _ _ c.take_image_places-p.ensures n
@@ -56,4 +56,4 @@ pub returns-in_err-take_image : goal.returns-in_err-take_image
 unfolding from_sections
 returns-in_err-take_image c =
     let p = err_from_is_err_and c.from_residual.result c.from_residual.ensures.1 in
-    gives_stops _ (p.1 ∙ ap (λ (x : Refusal). Err x) p.2) c.in_err-take_image.ensures.said
+    gives_stops _ (p.1 ∙ ap (λ (x : Refusal). Err x) p.2) c.in_err-take_image.ensures.said lent_same

@@ -14,8 +14,8 @@ use Rattle.stage_tables.proofs.Laws.{table_passed}
 use Rattle.sections.specs.Image.{image_of}
 use Rattle.sections.specs.Sections.{sections_of}
 use Rattle.tables.specs.Records.{sections_in}
-use Rattle.stage_walk.specs.Room.{room_in}
 use Rattle.entry_split_obj.specs.Lines.{from_relocs, from_symbols}
+use Rattle.pieces.proofs.Same.{lent_same}
 use Rattle.stage_walk.proofs.Lines.{gives_as, gives_stops, gives_goes}
 use Rattle.stage_symbols.proofs.Laws.{tables-taken, symbols_sound}
 use Rattle.obj.proofs.Laws.{length-stage_places}
@@ -56,11 +56,11 @@ unfolding from_symbols
 returns c =
     let a = c.args in
     gives_goes (sym c.in_ok-ordered.ensures.said)
-    (gives_as (ap (λ (l : List ℕ). from_relocs a.names.now.lengths.now (sections_in a.heads.now.bytes.now a.heads.now.places.now) (image_of a.lent.now.symbols.now l a.names.now.bytes.now a.names.now.places.now a.names.now.lengths.now) (sections_of a.heads.now.bytes.now a.heads.now.places.now a.image.now.bytes.now a.image.now.places.now) a.lent.now.relocs.now a.lent.now.splits.now a.lent.now.units.now (room_in (length a.pieces.now) (length a.entries.now) (length a.offsets.now))) (c.in_ok-ordered.ensures.placed (sym c.in_ok-ordered.ensures.said)))
+    (gives_as (ap (λ (l : List ℕ). from_relocs a.names.now.lengths.now (sections_in a.heads.now.bytes.now a.heads.now.places.now) (image_of a.lent.now.symbols.now l a.names.now.bytes.now a.names.now.places.now a.names.now.lengths.now) (sections_of a.heads.now.bytes.now a.heads.now.places.now a.image.now.bytes.now a.image.now.places.now) a.lent.now.relocs.now a.lent.now.splits.now a.lent.now.units.now a.tables.now.room) (c.in_ok-ordered.ensures.placed (sym c.in_ok-ordered.ensures.said)))
     c.with_relocs.ensures)
 
 pub returns-in_err-ordered : goal.returns-in_err-ordered
 unfolding from_symbols
 returns-in_err-ordered c =
     let p = err_from_is_err_and c.from_residual.result c.from_residual.ensures.1 in
-    gives_stops _ (p.1 ∙ ap (λ (x : Refusal). Err x) p.2) c.in_err-ordered.ensures.said
+    gives_stops _ (p.1 ∙ ap (λ (x : Refusal). Err x) p.2) c.in_err-ordered.ensures.said lent_same

@@ -1,25 +1,34 @@
--- `entry_split_obj::split_obj` meets its contract. What was made is whole in the outputs, and the rest of them is zeros.
+-- `entry_split_obj::split_obj` meets its contract. The tables are still those that were lent; what was made is whole in them, and the rest of them is zeros.
 -- Assumes nothing.
-use mathlib.Core.Path.{sym, subst}
+use mathlib.Core.Path.{◌≡◌, refl, sym, ap, subst, ◌∙◌}
+use mathlib.Core.List.{List}
+use Prim.Native.Nat.{ℕ}
 use lib.ListN.{length}
-use Rattle.walk.specs.declared.Counts.{Counts}
+use Rattle.pieces.specs.declared.Counts.{Counts}
+use Rattle.stage_walk.proofs.Room.{fits_none}
 use Rattle.entry_split_obj.specs.Lines.{Fits}
-use Rattle.entry_split_obj.proofs.Finish.{made_fits, leaves_at, fits_as}
-use Rattle.entry_split_obj.specs.Lines.{made_by}
+use Rattle.entry_split_obj.specs.Entry.{split_obj_of}
+use Rattle.entry_split_obj.proofs.Finish.{made_fits, fits_as, leaves_at}
 use Rattle.entry_split_obj.proofs.split_obj.Goals as goal
+
+pub invariant_of-tables : goal.invariant_of-tables
+invariant_of-tables c = record { fits = fits_none c.args.pieces.now c.args.entries.now c.args.offsets.now _ _ c.room_of.ensures refl }
 
 pub lay-requires : goal.lay-requires
 lay-requires c =
-    let w = c in
-    let a = c.args in
-    subst (λ (m : Counts). Fits m (length w.with_names-r.new.pieces) (length w.with_names-r.new.entries) (length w.with_names-r.new.offsets)) (sym c.made_of.ensures)
-    (fits_as (made_by w.with_names-r.result) _ _ _ _ _ _ w.with_names-r.auto.pieces w.with_names-r.auto.entries w.with_names-r.auto.offsets
-    (made_fits (length a.pieces.now) (length a.entries.now) (length a.offsets.now) w.with_names-r.result w.with_names-r.ensures.within))
+    let w = c.with_names-r in
+    let t = w.new.tables in
+    subst (λ (m : Counts). Fits m (length c.pieces-1.given.0) (length c.entries-1.given.0) (length c.offsets-1.given.0)) (sym c.made_of-made.ensures)
+    (fits_as _ _ _ _ _ _ _ (ap (λ (l : List ℕ). length l) (c.pieces-1.given.1.1 (sym w.ensures.lent.pieces))) (ap (λ (l : List ℕ). length l) (c.entries-1.given.1.1 (sym w.ensures.lent.symbols))) (ap (λ (l : List ℕ). length l) (c.offsets-1.given.1.1 (sym w.ensures.lent.relocs)))
+    (made_fits t w.result))
 
 pub returns : goal.returns
 returns c =
-    let w = c in
     let a = c.args in
-    leaves_at _ c.made_of.result _ _ _ w.with_names-r.result w.with_names-r.new.pieces w.with_names-r.new.entries w.with_names-r.new.offsets _ _ _ _ c.made_of.ensures
-    (λ d. record { pieces = w.with_names-r.auto.pieces d; symbols = w.with_names-r.auto.entries d; relocs = w.with_names-r.auto.offsets d; counts = length a.counts.now })
-    w.with_names-r.ensures.is c.word_for.ensures c.lay.ensures
+    let w = c.with_names-r in
+    leaves_at _ w.new.tables c.made_of-made.result _ _ _ w.result _ _ _ _ _ _ _
+    (c.pieces-1.given.1.1 (sym w.ensures.lent.pieces)) (c.entries-1.given.1.1 (sym w.ensures.lent.symbols)) (c.offsets-1.given.1.1 (sym w.ensures.lent.relocs))
+    c.made_of-made.ensures
+    (λ d. record { pieces = c.pieces-1.given.1.0 d; symbols = c.entries-1.given.1.0 d; relocs = c.offsets-1.given.1.0 d; counts = length a.counts.now })
+    (w.ensures.is ∙ ap (split_obj_of a.name_ends.now a.name_bytes.now a.sections.now a.section_places.now a.image.now a.symbols.now a.relocs.now a.splits.now a.unit_table.now) c.room_of.ensures)
+    c.word_for.ensures c.lay.ensures

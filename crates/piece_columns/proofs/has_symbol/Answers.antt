@@ -15,15 +15,15 @@ use Rattle.piece_columns.proofs.has_symbol.Goals.{After-number-j-in-loop-j, Else
 behind : (c : Else-y-unit) → 4096 + (c.loop-j.j - 1) < length c.args.chains.now
 behind c =
     let a = c.args in
-    omega (arith, c.loop-j-test.true, on_le (entry_at a.out.now) a.unit a.symbol a.k c.loop-j.j c.loop-j.invariant, c.requires.1.room, length_prevs a.chains.now)
+    omega (arith, c.loop-j-test.true, on_le (entry_at a.tables.now.symbols.now) a.unit a.symbol a.tables.now.made.symbols c.loop-j.j c.loop-j.invariant, c.requires.1.room, length_prevs a.chains.now)
 
 -- the next on the chain
 onward : (c : After-number-j-in-loop-j)
-    → On (entry_at c.args.out.now) c.args.unit c.args.symbol c.args.k c.number-j-in-loop-j.result × (c.number-j-in-loop-j.result < c.loop-j.j)
+    → On (entry_at c.args.tables.now.symbols.now) c.args.unit c.args.symbol c.args.tables.now.made.symbols c.number-j-in-loop-j.result × (c.number-j-in-loop-j.result < c.loop-j.j)
 onward c =
     let a = c.args in
-    let le = on_le (entry_at a.out.now) a.unit a.symbol a.k c.loop-j.j c.loop-j.invariant in
-    on_next (entry_at a.out.now) a.unit a.symbol a.k c.loop-j.j c.loop-j.invariant c.loop-j-test.true c.number-j-in-loop-j.result
+    let le = on_le (entry_at a.tables.now.symbols.now) a.unit a.symbol a.tables.now.made.symbols c.loop-j.j c.loop-j.invariant in
+    on_next (entry_at a.tables.now.symbols.now) a.unit a.symbol a.tables.now.made.symbols c.loop-j.j c.loop-j.invariant c.loop-j-test.true c.number-j-in-loop-j.result
     (λ e. c.if-y-unit.false (ap (λ (y : PieceSymbol). y.unit) c.piece_symbol_at-y.ensures ∙ e))
     (c.number-j-in-loop-j.ensures ∙ prev_at a.chains.now (c.loop-j.j - 1) ∙ c.requires.1.prev (c.loop-j.j - 1) (omega (arith, le, c.loop-j-test.true)))
 
@@ -34,20 +34,20 @@ pub loop-j-init : goal.loop-j-init
 loop-j-init c =
     let s = c in
     let a = s.args in
-    on_start (entry_at a.out.now) a.unit a.symbol a.k _
+    on_start (entry_at a.tables.now.symbols.now) a.unit a.symbol a.tables.now.made.symbols _
     (c.number-j.ensures ∙ last_at a.chains.now a.symbol (in_lasts a.chains.now a.symbol s.requires.0).0 ∙ s.requires.1.head a.symbol s.requires.0)
 
 pub piece_symbol_at-y-requires : goal.piece_symbol_at-y-requires
 piece_symbol_at-y-requires c =
     let a = c.args in
-    omega (arith, on_le (entry_at a.out.now) a.unit a.symbol a.k c.loop-j.j c.loop-j.invariant, c.requires.1.held)
+    omega (arith, on_le (entry_at a.tables.now.symbols.now) a.unit a.symbol a.tables.now.made.symbols c.loop-j.j c.loop-j.invariant, c.requires.1.held)
 
 pub returns-then-y-unit : goal.returns-then-y-unit
 unfolding symbols_in
 returns-then-y-unit c =
     let l = c in
     let a = l.args in
-    on_hit (entry_at a.out.now) a.unit a.symbol a.k l.loop-j.j l.loop-j.invariant c.loop-j-test.true (ap (λ (y : PieceSymbol). y.unit) (sym c.piece_symbol_at-y.ensures) ∙ c.if-y-unit.true)
+    on_hit (entry_at a.tables.now.symbols.now) a.unit a.symbol a.tables.now.made.symbols l.loop-j.j l.loop-j.invariant c.loop-j-test.true (ap (λ (y : PieceSymbol). y.unit) (sym c.piece_symbol_at-y.ensures) ∙ c.if-y-unit.true)
 
 pub overflow_add-j : goal.overflow_add-j
 overflow_add-j c = omega (arith, behind (goal.at.overflow_add-j c).Else-y-unit)
@@ -66,4 +66,4 @@ unfolding symbols_in
 returns c =
     let l = c in
     let a = l.args in
-    on_end (entry_at a.out.now) a.unit a.symbol a.k l.loop-j.j l.loop-j.invariant c.loop-j-test.false
+    on_end (entry_at a.tables.now.symbols.now) a.unit a.symbol a.tables.now.made.symbols l.loop-j.j l.loop-j.invariant c.loop-j-test.false

@@ -4,7 +4,7 @@ use Rattle.piece_columns.proofs.Chains.{On}
 use Rattle.piece_columns.proofs.has_symbol.Given as goal
 
 abbrev pub invariant-loop-j : goal.invariant-loop-j
-invariant-loop-j l = On (entry_at l.out) l.unit l.symbol l.k l.j
+invariant-loop-j l = On (entry_at l.tables.symbols.now) l.unit l.symbol l.tables.made.symbols l.j
 
 abbrev pub decreases-loop-j : goal.decreases-loop-j
 decreases-loop-j l = l.j

@@ -1,7 +1,9 @@
 -- `piece_columns::push_symbol` meets its contract: the entry is put behind the others, and at the front of its symbol's chain.
+use mathlib.Core.Path.{sym, ap, ◌∙◌}
 use native.Mathlib.Omega.{arith}
 use lib.ListN.{length-set}
-use Rattle.piece_columns.proofs.Chains.{pushed_symbol}
+use Rattle.pieces.specs.Pieces.{symbols_in}
+use Rattle.piece_columns.proofs.Chains.{pushed_symbol, chained_at}
 use Rattle.piece_columns.proofs.Regions.{in_lasts, length_prevs, pushed_both}
 use Rattle.piece_columns.proofs.push_symbol.Goals as goal
 
@@ -17,6 +19,15 @@ bounds-chains-i-2 c = simp (length-set, c.from-i.ensures) (in_lasts c.args.chain
 pub returns : goal.returns
 returns c =
     let a = c.args in
+    let k = a.tables.now.made.symbols in
+    let added = c.add_symbol.ensures in
+    let after = c.add_symbol.new.self in
+    let one = added.one in
     rw c.from-i.ensures
-    (pushed_both a.chains.now _ _ a.k a.y (in_lasts a.chains.now a.y.symbol c.requires.0).0
-    (pushed_symbol _ _ _ a.y c.add_piece_symbol.ensures _ _ c.requires.1 c.requires.0 c.requires.2 (omega (arith, c.requires.3, c.add_piece_symbol.auto.out))))
+    (record {
+      added = added;
+      chained =
+          chained_at one
+          (pushed_both a.chains.now _ _ k a.y (in_lasts a.chains.now a.y.symbol c.requires.0).0
+          (pushed_symbol _ _ _ a.y (ap (symbols_in after.symbols.now) (sym one) ∙ added.more) _ _ c.requires.1 c.requires.0 c.requires.2 (omega (arith, one, after.fits.few_symbols, after.fits.symbols_long)))).chained;
+    })

@@ -1,7 +1,7 @@
 -- The lent tables have document 01's ceilings.
 use Rattle.std.specs.Prelude.{OnOk}
 use Rattle.std.proofs.Common.{rules, subst}
-use Rattle.walk.specs.declared.Counts.{Counts}
+use Rattle.pieces.specs.declared.Counts.{Counts}
 use Rattle.print_run.specs.Printed.{Prints}
 use Rattle.print_run.proofs.Ended.{room_is}
 use Rattle.print_run.proofs.print_run.Goals as goal

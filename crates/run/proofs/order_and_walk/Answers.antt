@@ -36,8 +36,8 @@ ordered-linked-requires c =
     let q = c.requires in
     record { splits = rows_below q.0.usable _ _ (q.1 c.in_ok-filled.was); records = records_below q.0.usable }
 
-pub walk_with_columns-requires : goal.walk_with_columns-requires
-walk_with_columns-requires c =
+pub walk_lent-requires : goal.walk_lent-requires
+walk_lent-requires c =
     let a = c.args in
     let q = c.requires in
     let t = tables_of a.loaded.now in
@@ -74,7 +74,7 @@ returns-in_err-made c =
     let table = columns_of a.splits.now in
     let w = q.1 c.in_ok-filled.was in
     let o = c.ordered-linked in
-    let k = c.walk_with_columns.new in
+    let k = c.walk_lent.new in
     rw (p.1, p.2)
     (entered_before a.loaded.now.file.now t room table a.names a.used a.splits.now.count o.new.out k.pieces k.entries k.offsets (length a.out_units.now / 8) a.filled c.in_ok-filled.was
     (refused_right a.loaded.now.file.now t room table a.names a.used a.splits.now.count o.new.out k.pieces k.entries k.offsets q.0.usable w (length a.out_units.now) o.ensures _ c.in_ok-k.was _ c.in_err-made.ensures))
@@ -88,6 +88,6 @@ returns c =
     let table = columns_of a.splits.now in
     let w = q.1 c.in_ok-filled.was in
     let o = c.ordered-linked in
-    let k = c.walk_with_columns.new in
+    let k = c.walk_lent.new in
     entered_before a.loaded.now.file.now t room table a.names a.used a.splits.now.count o.new.out k.pieces k.entries k.offsets (length a.out_units.now / 8) a.filled c.in_ok-filled.was
     (made_right a.loaded.now.file.now t room table a.names a.used a.splits.now.count o.new.out k.pieces k.entries k.offsets q.0.usable w (length a.out_units.now) o.ensures _ c.in_ok-k.was _ c.in_ok-made.ensures)

@@ -1,11 +1,9 @@
 -- The units have their places and each name the number of its unit, and the sections are walked.
 use native.Mathlib.Omega.{arith}
-use lib.ListN.{length, take}
+use lib.ListN.{take}
 use lib.Seq.{length-take-le}
 use Rattle.loaded.proofs.Laws.{few_symbols}
-use Rattle.splits.specs.Columns.{rows}
-use Rattle.splits.specs.Table.{columns_of}
-use Rattle.stage_walk.specs.Room.{room_in}
+use Rattle.splits.specs.Table.{columns_of, rows_of}
 use Rattle.run.proofs.Walking.{units_listed, ready, walked_as}
 use Rattle.run.proofs.walk_units.Goals as goal
 
@@ -28,5 +26,5 @@ walk_columns-requires c =
 pub returns : goal.returns
 returns c =
     let a = c.args in
-    walked_as c.requires.0 (rows (columns_of a.splits.now) a.splits.now.count) a.unit_table.now _ a.k
-    (room_in (length a.pieces.now) (length a.entries.now) (length a.offsets.now)) c.fill_places.ensures c.walk_columns.ensures
+    walked_as c.requires.0 (rows_of a.splits.now) a.unit_table.now _ a.k
+    a.tables.now.room c.fill_places.ensures c.walk_columns.ensures

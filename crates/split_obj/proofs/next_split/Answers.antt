@@ -18,7 +18,7 @@ returns-then-is_within c =
     let f = row_at (columns_of a.splits.now) in
     let p = sym c.is_within.ensures ∙ c.if-is_within.true in
     record {
-      is = l.invariant.2 ∙ filter_hit (within a.n a.low a.end) f a.rows l.i h p ∙ rw (lt-ltb l.i a.rows h);
+      is = l.invariant.2 ∙ filter_hit (within a.n a.low a.end) f a.splits.now.count l.i h p ∙ rw (lt-ltb l.i a.splits.now.count h);
       past = omega arith;
       small = omega arith;
       passes = λ _. p;
@@ -30,7 +30,7 @@ loop-i-preserved c =
     let l = c.loop-i in
     let a = c.args in
     let f = row_at (columns_of a.splits.now) in
-    let miss = filter_miss (within a.n a.low a.end) f a.rows l.i c.loop-i-test.true (sym c.is_within.ensures ∙ c.if-is_within.false) in
+    let miss = filter_miss (within a.n a.low a.end) f a.splits.now.count l.i c.loop-i-test.true (sym c.is_within.ensures ∙ c.if-is_within.false) in
     (omega arith, omega arith, l.invariant.2 ∙ miss)
 
 pub returns : goal.returns
@@ -40,7 +40,7 @@ returns c =
     let h = c.loop-i-test.false in
     let f = row_at (columns_of a.splits.now) in
     record {
-      is = l.invariant.2 ∙ filter_none (within a.n a.low a.end) f a.rows l.i h ∙ rw (le-ltb a.rows a.rows (omega arith));
+      is = l.invariant.2 ∙ filter_none (within a.n a.low a.end) f a.splits.now.count l.i h ∙ rw (le-ltb a.splits.now.count a.splits.now.count (omega arith));
       past = omega arith;
       small = omega arith;
       passes = λ q. absurd (omega arith);

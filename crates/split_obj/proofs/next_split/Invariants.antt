@@ -11,9 +11,9 @@ use Rattle.split_obj.proofs.next_split.Given as goal
 abbrev pub invariant-loop-i : goal.invariant-loop-i
 invariant-loop-i l =
     (l.from ≤ l.i)
-    × (l.i ≤ l.rows)
-    × (keep_if (within l.n l.low l.end) (tabulate (row_at (columns_of l.splits)) l.from (l.rows - l.from))
-    ≡ keep_if (within l.n l.low l.end) (tabulate (row_at (columns_of l.splits)) l.i (l.rows - l.i)))
+    × (l.i ≤ l.splits.count)
+    × (keep_if (within l.n l.low l.end) (tabulate (row_at (columns_of l.splits)) l.from (l.splits.count - l.from))
+    ≡ keep_if (within l.n l.low l.end) (tabulate (row_at (columns_of l.splits)) l.i (l.splits.count - l.i)))
 
 abbrev pub decreases-loop-i : goal.decreases-loop-i
-decreases-loop-i l = l.rows - l.i
+decreases-loop-i l = l.splits.count - l.i

@@ -3,10 +3,11 @@
 use Prim.Native.Nat.{◌-◌}
 use lib.ListN.{length}
 use Rattle.splits.specs.Table.{columns_of}
+use Rattle.pieces.specs.Tables.{SameLent}
 use Rattle.walk.specs.Walk.{halved, walk_sections}
-use Rattle.walk.specs.Giving.{output_in}
+use Rattle.walk.specs.Giving.{output_of}
 use Rattle.split_obj.proofs.Halving.{Halving}
-use Rattle.split_obj.proofs.Carried.{tables_input, Lengths, AtSection, AtSplit, splits_left}
+use Rattle.split_obj.proofs.Carried.{tables_input, AtSection, AtSplit, splits_left}
 use Rattle.split_obj.proofs.walk_sections.Given as goal
 
 abbrev pub invariant-loop-a : goal.invariant-loop-a
@@ -17,20 +18,20 @@ decreases-loop-a l = l.a
 
 abbrev pub invariant-loop-current : goal.invariant-loop-current
 invariant-loop-current l =
-    AtSplit (tables_input l.obj.symbols.bytes.now l.obj.symbols.places.now l.obj.names.bytes.now l.obj.names.places.now l.obj.names.lengths.now l.obj.heads.bytes.now l.obj.heads.places.now l.image.bytes.now l.image.places.now l.relocs.bytes.now l.relocs.places.now (columns_of l.splits) l.rows l.unit_table.bytes.now l.unit_table.places.now l.room)
-    (splits_left (tables_input l.obj.symbols.bytes.now l.obj.symbols.places.now l.obj.names.bytes.now l.obj.names.places.now l.obj.names.lengths.now l.obj.heads.bytes.now l.obj.heads.places.now l.image.bytes.now l.image.places.now l.relocs.bytes.now l.relocs.places.now (columns_of l.splits) l.rows l.unit_table.bytes.now l.unit_table.places.now l.room) l.last l.n l.low l.end (columns_of l.splits) l.rows l.initial.current l.initial.i (output_in l.initial.pieces l.initial.entries l.initial.offsets l.initial.done))
-    (length l.obj.symbols.places.now) (length l.relocs.places.now) (length l.unit_table.places.now) l.last l.n l.low l.end (columns_of l.splits) l.rows l.current l.i l.done l.scratch l.part l.pieces l.entries l.offsets
-    × Lengths l.initial.scratch l.part l.initial.pieces l.initial.entries l.initial.offsets l.scratch l.part l.pieces l.entries l.offsets
+    AtSplit (tables_input l.obj.symbols.bytes.now l.obj.symbols.places.now l.obj.names.bytes.now l.obj.names.places.now l.obj.names.lengths.now l.obj.heads.bytes.now l.obj.heads.places.now l.image.bytes.now l.image.places.now l.relocs.bytes.now l.relocs.places.now (columns_of l.splits) l.splits.count l.unit_table.bytes.now l.unit_table.places.now l.tables.room)
+    (splits_left (tables_input l.obj.symbols.bytes.now l.obj.symbols.places.now l.obj.names.bytes.now l.obj.names.places.now l.obj.names.lengths.now l.obj.heads.bytes.now l.obj.heads.places.now l.image.bytes.now l.image.places.now l.relocs.bytes.now l.relocs.places.now (columns_of l.splits) l.splits.count l.unit_table.bytes.now l.unit_table.places.now l.initial.tables.room) l.last l.n l.low l.end (columns_of l.splits) l.splits.count l.initial.current l.initial.i (output_of l.initial.tables))
+    (length l.obj.symbols.places.now) (length l.relocs.places.now) (length l.unit_table.places.now) l.last l.n l.low l.end (columns_of l.splits) l.splits.count l.current l.i l.scratch l.part l.tables
+    × SameLent l.initial.tables l.tables
 
 abbrev pub decreases-loop-current : goal.decreases-loop-current
-decreases-loop-current l = l.rows - l.i
+decreases-loop-current l = l.splits.count - l.i
 
 abbrev pub invariant-sections : goal.invariant-sections
 invariant-sections l =
-    AtSection (tables_input l.obj.symbols.bytes.now l.obj.symbols.places.now l.obj.names.bytes.now l.obj.names.places.now l.obj.names.lengths.now l.obj.heads.bytes.now l.obj.heads.places.now l.image.bytes.now l.image.places.now l.relocs.bytes.now l.relocs.places.now (columns_of l.splits) l.rows l.unit_table.bytes.now l.unit_table.places.now l.room)
-    (walk_sections (tables_input l.obj.symbols.bytes.now l.obj.symbols.places.now l.obj.names.bytes.now l.obj.names.places.now l.obj.names.lengths.now l.obj.heads.bytes.now l.obj.heads.places.now l.image.bytes.now l.image.places.now l.relocs.bytes.now l.relocs.places.now (columns_of l.splits) l.rows l.unit_table.bytes.now l.unit_table.places.now l.room) l.initial.n (l.last - l.initial.n) (output_in l.initial.pieces l.initial.entries l.initial.offsets l.initial.done))
-    (length l.obj.symbols.places.now) (length l.relocs.places.now) (length l.unit_table.places.now) l.last l.n l.done l.scratch l.part l.pieces l.entries l.offsets
-    × Lengths l.initial.scratch l.initial.part l.initial.pieces l.initial.entries l.initial.offsets l.scratch l.part l.pieces l.entries l.offsets
+    AtSection (tables_input l.obj.symbols.bytes.now l.obj.symbols.places.now l.obj.names.bytes.now l.obj.names.places.now l.obj.names.lengths.now l.obj.heads.bytes.now l.obj.heads.places.now l.image.bytes.now l.image.places.now l.relocs.bytes.now l.relocs.places.now (columns_of l.splits) l.splits.count l.unit_table.bytes.now l.unit_table.places.now l.tables.room)
+    (walk_sections (tables_input l.obj.symbols.bytes.now l.obj.symbols.places.now l.obj.names.bytes.now l.obj.names.places.now l.obj.names.lengths.now l.obj.heads.bytes.now l.obj.heads.places.now l.image.bytes.now l.image.places.now l.relocs.bytes.now l.relocs.places.now (columns_of l.splits) l.splits.count l.unit_table.bytes.now l.unit_table.places.now l.initial.tables.room) l.initial.n (l.last - l.initial.n) (output_of l.initial.tables))
+    (length l.obj.symbols.places.now) (length l.relocs.places.now) (length l.unit_table.places.now) l.last l.n l.scratch l.part l.tables
+    × SameLent l.initial.tables l.tables
 
 abbrev pub decreases-sections : goal.decreases-sections
 decreases-sections l = l.last - l.n

@@ -7,14 +7,14 @@ use Prim.Native.Nat.{◌/◌}
 use mathlib.Core.Path.{sym, ap, ◌∙◌}
 use native.Mathlib.Omega.{arith}
 use lib.ListN.{length}
+use Rattle.pieces.proofs.Same.{lent_same}
 use Rattle.obj.specs.Answers.{meaning}
 use Rattle.stage_tables.proofs.Laws.{table_passed}
 use Rattle.sections.specs.Image.{image_in}
 use Rattle.sections.specs.Sections.{sections_of}
 use Rattle.relocs.specs.Relocs.{reloc_of}
-use Rattle.splits.specs.Columns.{columns, rows as rows_of}
+use Rattle.splits.specs.Table.{columns_of, rows_of}
 use Rattle.tables.specs.Records.{sections_in}
-use Rattle.stage_walk.specs.Room.{room_in}
 use Rattle.stage_walk.specs.Lines.{from_splits}
 use Rattle.obj.specs.Records.{split_width}
 use Rattle.stage_walk.proofs.Passed.{rows_named}
@@ -24,21 +24,13 @@ use Rattle.stage_walk.proofs.from_splits.Goals as goal
 pub with_units-requires : goal.with_units-requires
 with_units-requires c =
     let a = c.args in
-    let passed = sym c.take_split_columns.ensures.said ∙ ap meaning c.in_ok-take_split_columns.was in
-    let few = (table_passed split_width 1024 a.splits.now _ passed).1 in
-    let long = c.requires.5 in
-    let kept = c.take_split_columns.auto in
-    let last = c.take_split_columns.new in (
+    let taken = c.take_split_columns.ensures.taken in
+    let passed = sym taken.said ∙ ap meaning c.in_ok-take_split_columns.was in
+    let s = c.columns.result in (
       c.requires.0,
       c.requires.1,
       c.requires.2,
-      rows_named 1024 a.obj.now.names.lengths.now (sections_in a.obj.now.heads.bytes.now a.obj.now.heads.places.now) a.splits.now (columns last.starts last.ends last.units last.rest) passed (c.take_split_columns.ensures.taken passed)
-          (record {
-            starts = omega (arith, few, long.starts_long, kept.starts);
-            ends = omega (arith, few, long.ends_long, kept.ends);
-            units = omega (arith, few, long.units_long, kept.units);
-            rest = omega (arith, few, long.rest_long, kept.rest);
-          }),
+      rows_named a.table.now.room a.obj.now.names.lengths.now (sections_in a.obj.now.heads.bytes.now a.obj.now.heads.places.now) a.splits.now (columns_of s) s.count passed (c.columns.ensures.rows ∙ taken.taken passed),
       c.requires.3,
       c.requires.4,
     )
@@ -46,13 +38,14 @@ with_units-requires c =
 pub returns : goal.returns
 returns c =
     let a = c.args in
-    let passed = sym c.take_split_columns.ensures.said ∙ ap meaning c.in_ok-take_split_columns.was in
+    let taken = rw c.requires.6 at c.take_split_columns.ensures.taken in
+    let passed = sym taken.said ∙ ap meaning c.in_ok-take_split_columns.was in
     splits_go a.obj.now.names.lengths.now (sections_in a.obj.now.heads.bytes.now a.obj.now.heads.places.now) (image_in a.obj.now) (sections_of a.obj.now.heads.bytes.now a.obj.now.heads.places.now a.image.now.bytes.now a.image.now.places.now) (reloc_of a.relocs.now.bytes.now a.relocs.now.places.now) (length a.relocs.now.places.now) a.splits.now a.unit_table.now
-    (rows_of (columns c.take_split_columns.new.starts c.take_split_columns.new.ends c.take_split_columns.new.units c.take_split_columns.new.rest) (length a.splits.now / split_width)) (room_in (length a.pieces.now) (length a.entries.now) (length a.offsets.now)) c.with_units.result c.with_units.new.pieces c.with_units.new.entries c.with_units.new.offsets
-    passed (c.take_split_columns.ensures.taken passed) c.with_units.ensures
+    (rows_of c.columns.result) a.tables.now.room
+    passed (c.columns.ensures.rows ∙ taken.taken passed) c.with_units.ensures
 
 pub returns-in_err-take_split_columns : goal.returns-in_err-take_split_columns
 unfolding from_splits
 returns-in_err-take_split_columns c =
     let p = err_from_is_err_and c.from_residual.result c.from_residual.ensures.1 in
-    gives_stops _ (p.1 ∙ ap (λ (x : Refusal). Err x) p.2) c.in_err-take_split_columns.ensures.said
+    gives_stops _ (p.1 ∙ ap (λ (x : Refusal). Err x) p.2) (rw c.requires.6 at c.in_err-take_split_columns.ensures.taken).said lent_same

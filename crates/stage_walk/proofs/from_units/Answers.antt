@@ -8,14 +8,13 @@ use Prim.Native.Nat.{◌/◌, ◌≤◌}
 use native.Mathlib.Omega.{arith}
 use lib.ListN.{length, take}
 use lib.Seq.{length-take-le}
+use Rattle.pieces.proofs.Same.{lent_same}
 use Rattle.obj.specs.Answers.{meaning}
 use Rattle.stage_tables.proofs.Laws.{taken_few, taken_places}
 use Rattle.sections.specs.Image.{image_in}
 use Rattle.sections.specs.Sections.{sections_of}
 use Rattle.relocs.specs.Relocs.{reloc_of}
-use Rattle.splits.specs.Columns.{rows as rows_of}
-use Rattle.splits.specs.Table.{columns_of}
-use Rattle.stage_walk.specs.Room.{room_in}
+use Rattle.splits.specs.Table.{rows_of}
 use Rattle.stage_walk.specs.Lines.{from_units}
 use Rattle.stage_walk.proofs.Passed.{units_listed}
 use Rattle.stage_walk.proofs.Lines.{gives_stops, units_go}
@@ -38,12 +37,12 @@ number_units-requires c =
 pub returns : goal.returns
 returns c =
     let a = c.args in
-    units_go a.obj.now.names.lengths.now (image_in a.obj.now) (sections_of a.obj.now.heads.bytes.now a.obj.now.heads.places.now a.image.now.bytes.now a.image.now.places.now) (reloc_of a.relocs.now.bytes.now a.relocs.now.places.now) (length a.relocs.now.places.now) (rows_of (columns_of a.splits.now) a.rows) a.unit_table.now
-    (take (length a.unit_table.now / 8) c.take_units.new.places) (room_in (length a.pieces.now) (length a.entries.now) (length a.offsets.now)) c.walk_columns.result c.walk_columns.new.pieces c.walk_columns.new.entries c.walk_columns.new.offsets
+    units_go a.obj.now.names.lengths.now (image_in a.obj.now) (sections_of a.obj.now.heads.bytes.now a.obj.now.heads.places.now a.image.now.bytes.now a.image.now.places.now) (reloc_of a.relocs.now.bytes.now a.relocs.now.places.now) (length a.relocs.now.places.now) (rows_of a.splits.now) a.unit_table.now
+    (take (length a.unit_table.now / 8) c.take_units.new.places) a.tables.now.room
     (sym c.take_units.ensures.said ∙ ap meaning c.in_ok-take_units.was) (taken_places 8 1024 c.args.unit_table.now _ _ c.take_units.ensures (ap meaning c.in_ok-take_units.was)) c.walk_columns.ensures
 
 pub returns-in_err-take_units : goal.returns-in_err-take_units
 unfolding from_units
 returns-in_err-take_units c =
     let p = err_from_is_err_and c.from_residual.result c.from_residual.ensures.1 in
-    gives_stops _ (p.1 ∙ ap (λ (x : Refusal). Err x) p.2) c.in_err-take_units.ensures.said
+    gives_stops _ (p.1 ∙ ap (λ (x : Refusal). Err x) p.2) c.in_err-take_units.ensures.said lent_same

@@ -7,7 +7,8 @@ use lib.ListN.{length, drop}
 use Rattle.lists.proofs.All.{all_at}
 use Rattle.obj.specs.declared.Reloc.{Reloc}
 use Rattle.pieces.specs.declared.PieceReloc.{PieceReloc}
-use Rattle.pieces.specs.Pieces.{relocs_in}
+use Rattle.pieces.specs.Tables.{relocs_of}
+use Rattle.pieces.proofs.Same.{pieces_still, symbols_still, lent_still}
 use Rattle.relocs.specs.Relocs.{reloc_of, address_of}
 use Rattle.relocs.proofs.Laws.{held_at}
 use Rattle.walk.specs.Walk.{reloc_entry, add_relocs}
@@ -22,25 +23,32 @@ overflow_sub-r c = omega (arith, all_at c.loop-i.i 0 c.requires.0.above c.loop-i
 
 pub loop-i-preserved : goal.loop-i-preserved
 loop-i-preserved c =
-    let s = c in
+    let a = c.args in
     let l = c.loop-i in
-    let f = reloc_of s.args.relocs.now.bytes.now s.args.relocs.now.places.now in (
+    let f = reloc_of a.relocs.now.bytes.now a.relocs.now.places.now in
+    let place = a.tables.now.made.pieces in
+    let e = c.add_reloc.ensures in
+    let entry = ap (reloc_entry place a.start c.number-k.result) c.reloc_at-r.ensures ∙ ap (λ (i : ℕ). reloc_entry place a.start i (f i)) c.number-k.ensures in (
       omega arith,
-      c.add_piece_reloc.auto.out ∙ l.invariant.1,
-      ap (λ (t : List PieceReloc). add_relocs f s.args.place s.args.start t (drop (l.i + 1) s.args.part.now))
-          (ap (relocs_in c.add_piece_reloc.new.out) (let z : s.args.made + (l.i + 1) ≡ s.args.made + l.i + 1 = omega arith in z)
-          ∙ c.add_piece_reloc.ensures
-          ∙ ap (λ (e : PieceReloc). relocs_in l.out (s.args.made + l.i) ++ (e ∷ [])) (let s = c in ap (reloc_entry s.args.place s.args.start c.number-k.result) c.reloc_at-r.ensures ∙ ap (λ (i : ℕ). reloc_entry s.args.place s.args.start i (reloc_of s.args.relocs.now.bytes.now s.args.relocs.now.places.now i)) c.number-k.ensures))
-          ∙ sym (relocs_turn f s.args.place s.args.start (relocs_in l.out (s.args.made + l.i)) s.args.part.now l.i c.loop-i-test.true)
-          ∙ l.invariant.2,
+      omega (arith, e.one, l.invariant.1),
+      pieces_still l.invariant.2 e.pieces,
+      symbols_still l.invariant.3 e.symbols,
+      lent_still l.invariant.4 e.lent,
+      ap (λ (t : List PieceReloc). add_relocs f place a.start t (drop (l.i + 1) a.part.now)) (e.more ∙ ap (λ (r : PieceReloc). relocs_of l.tables ++ (r ∷ [])) entry)
+          ∙ sym (relocs_turn f place a.start (relocs_of l.tables) a.part.now l.i c.loop-i-test.true)
+          ∙ l.invariant.5,
     )
 
 pub returns : goal.returns
 returns c =
-    let s = c in
+    let a = c.args in
     let l = c.loop-i in
-    let f = reloc_of s.args.relocs.now.bytes.now s.args.relocs.now.places.now in
-    let e : l.i ≡ length s.args.part.now = omega (arith, l.invariant.0, c.loop-i-test.false) in
-    ap (λ (k : ℕ). relocs_in l.out (s.args.made + k)) (sym e)
-    ∙ sym (relocs_done f s.args.place s.args.start (relocs_in l.out (s.args.made + l.i)) s.args.part.now l.i c.loop-i-test.false)
-    ∙ l.invariant.2
+    let f = reloc_of a.relocs.now.bytes.now a.relocs.now.places.now in
+    let e : l.i ≡ length a.part.now = omega (arith, l.invariant.0, c.loop-i-test.false) in
+    record {
+      is = sym (relocs_done f a.tables.now.made.pieces a.start (relocs_of l.tables) a.part.now l.i c.loop-i-test.false) ∙ l.invariant.5;
+      made = l.invariant.1 ∙ ap (λ (k : ℕ). a.tables.now.made.relocs + k) e;
+      pieces = l.invariant.2;
+      symbols = l.invariant.3;
+      lent = l.invariant.4;
+    }

@@ -1,50 +1,73 @@
 -- `walk::entries::add_symbol` meets its contract: the symbol is passed over, or the unit has it, or there is no room, or it is entered.
-use mathlib.Core.Path.{sym, ap, ap₂, ◌∙◌}
+use mathlib.Core.Path.{◌≡◌, refl, sym, ap, ap₂, ◌∙◌}
 use mathlib.Core.List.{[], ◌∷◌, ◌++◌}
-use mathlib.Core.Bool.{Bool, ◌||◌}
+use mathlib.Core.Bool.{Bool, false, ◌||◌}
 use native.Mathlib.Omega.{arith}
 use lib.ListN.{length, length-append}
 use Rattle.sections.specs.Image.{image_of}
 use Rattle.pieces.specs.declared.PieceSymbol.{PieceSymbol}
-use Rattle.pieces.specs.Pieces.{symbols_in}
+use Rattle.pieces.specs.Tables.{symbols_of}
 use Rattle.pieces.proofs.Laws.{length-symbols_in}
+use Rattle.pieces.proofs.Same.{lent_same}
 use Rattle.piece_columns.proofs.Regions.{length_lasts, length_prevs}
-use Rattle.walk.specs.Walk.{entry_of}
+use Rattle.walk.specs.Walk.{entry_of, add_symbol}
 use Rattle.walk.proofs.Adding.{entry_symbol, symbol_passed, symbol_entered}
 use Rattle.walk.proofs.entries.add_symbol.Goals as goal
+use Rattle.walk.proofs.entries.add_symbol.Goals.{Else-is_passed_over-has_symbol}
+
+-- a symbol that is not passed over is entered
+entered : (c : Else-is_passed_over-has_symbol)
+    → symbols_of c.args.tables.now ++ (entry_of c.args.unit c.args.tables.now.made.pieces c.args.s c.args.i c.symbol_at-y.result ∷ [])
+    ≡ add_symbol (image_of c.args.symbols.now.bytes.now c.args.symbols.now.places.now c.args.names.now.bytes.now c.args.names.now.places.now c.args.names.now.lengths.now) c.args.unit c.args.tables.now.made.pieces c.args.s (symbols_of c.args.tables.now) c.args.i
+entered c =
+    let a = c.args in
+    symbol_entered (image_of a.symbols.now.bytes.now a.symbols.now.places.now a.names.now.bytes.now a.names.now.places.now a.names.now.lengths.now) a.unit a.tables.now.made.pieces a.s (symbols_of a.tables.now) a.i c.symbol_at-y.result c.name_at-name.result.now c.symbol_at-y.ensures c.name_at-name.ensures
+    (ap₂ (λ (p q : Bool). p || q) (sym c.is_passed_over.ensures) (sym c.has_symbol.ensures) ∙ c.if-is_passed_over-has_symbol.false)
 
 pub has_symbol-requires : goal.has_symbol-requires
 has_symbol-requires c =
-    (omega (arith, c.requires.0.there, c.requires.3.most_symbols, (length_lasts c.args.chains.now (omega (arith, c.requires.3.long)))), c.requires.3.chained)
+    let e = c.requires.3 in
+    (omega (arith, c.requires.0.there, e.most_symbols, length_lasts c.args.chains.now (omega (arith, e.long))), e.chained)
 
 pub returns-then-is_passed_over-has_symbol : goal.returns-then-is_passed_over-has_symbol
 returns-then-is_passed_over-has_symbol c =
+    let a = c.args in
     record {
-      is = symbol_passed (image_of c.args.symbols.now.bytes.now c.args.symbols.now.places.now c.args.names.now.bytes.now c.args.names.now.places.now c.args.names.now.lengths.now) c.args.unit c.args.place c.args.s (let a = c.args in symbols_in a.out.now a.k) c.args.i c.symbol_at-y.result c.name_at-name.result.now (c.symbol_at-y.ensures) c.name_at-name.ensures (ap₂ (λ (p q : Bool). p || q) (sym c.is_passed_over.ensures) (sym c.has_symbol.ensures) ∙ c.if-is_passed_over-has_symbol.true);
-      few = c.requires.3.few;
+      is = symbol_passed (image_of a.symbols.now.bytes.now a.symbols.now.places.now a.names.now.bytes.now a.names.now.places.now a.names.now.lengths.now) a.unit a.tables.now.made.pieces a.s (symbols_of a.tables.now) a.i c.symbol_at-y.result c.name_at-name.result.now c.symbol_at-y.ensures c.name_at-name.ensures
+          (ap₂ (λ (p q : Bool). p || q) (sym c.is_passed_over.ensures) (sym c.has_symbol.ensures) ∙ c.if-is_passed_over-has_symbol.true);
       chained = c.requires.3.chained;
+      pieces = record { bytes = refl; made = refl };
+      relocs = record { bytes = refl; made = refl };
+      lent = lent_same;
     }
 
-pub returns-then-k-room : goal.returns-then-k-room
-returns-then-k-room c =
-    let l = (let a = c.args in symbols_in a.out.now a.k) in
-    omega (arith, c.if-k-room.true, length-symbols_in c.args.out.now c.args.k, length-append l (entry_of c.args.unit c.args.place c.args.s c.args.i c.symbol_at-y.result ∷ []), ap length (symbol_entered (image_of c.args.symbols.now.bytes.now c.args.symbols.now.places.now c.args.names.now.bytes.now c.args.names.now.places.now c.args.names.now.lengths.now) c.args.unit c.args.place c.args.s (let a = c.args in symbols_in a.out.now a.k) c.args.i c.symbol_at-y.result c.name_at-name.result.now (c.symbol_at-y.ensures) c.name_at-name.ensures (ap₂ (λ (p q : Bool). p || q) (sym c.is_passed_over.ensures) (sym c.has_symbol.ensures) ∙ c.if-is_passed_over-has_symbol.false)))
+pub returns-then-tables : goal.returns-then-tables
+returns-then-tables c =
+    let t = c.args.tables.now in (
+      omega (arith, c.if-tables.true, length-symbols_in t.symbols.now t.made.symbols, length-append (symbols_of t) (entry_of c.args.unit t.made.pieces c.args.s c.args.i c.symbol_at-y.result ∷ []), ap length (entered (goal.at.returns-then-tables c).Else-is_passed_over-has_symbol)),
+      lent_same,
+    )
 
 pub push_symbol-requires : goal.push_symbol-requires
 push_symbol-requires c =
-    let h = c.if-k-room.false in
-    let e = ap (λ (y : PieceSymbol). y.symbol) c.entry_of.ensures ∙ entry_symbol c.args.unit c.args.place c.args.s c.args.i c.symbol_at-y.result in (
-      omega (arith, e, c.requires.0.there, c.requires.3.most_symbols, (length_lasts c.args.chains.now (omega (arith, c.requires.3.long)))),
-      c.requires.3.chained,
-      omega (arith, c.requires.3.few, c.requires.3.long, length_prevs c.args.chains.now),
-      omega (arith, c.requires.3.few, c.requires.3.out_long),
-      omega (arith, c.requires.3.few, c.requires.3.most),
+    let t = c.args.tables.now in
+    let h = c.if-tables.false in
+    let e = c.requires.3 in
+    let y = ap (λ (y : PieceSymbol). y.symbol) c.entry_of.ensures ∙ entry_symbol c.args.unit t.made.pieces c.args.s c.args.i c.symbol_at-y.result in (
+      omega (arith, y, c.requires.0.there, e.most_symbols, length_lasts c.args.chains.now (omega (arith, e.long))),
+      e.chained,
+      omega (arith, t.fits.few_symbols, t.fits.most_symbols, h, e.long, length_prevs c.args.chains.now),
+      omega (arith, t.fits.few_symbols, h),
     )
 
 pub returns : goal.returns
 returns c =
+    let pushed = c.push_symbol.ensures in
     record {
-      is = c.push_symbol.ensures.more ∙ ap (λ (y : PieceSymbol). (let a = c.args in symbols_in a.out.now a.k) ++ (y ∷ [])) c.entry_of.ensures ∙ (symbol_entered (image_of c.args.symbols.now.bytes.now c.args.symbols.now.places.now c.args.names.now.bytes.now c.args.names.now.places.now c.args.names.now.lengths.now) c.args.unit c.args.place c.args.s (let a = c.args in symbols_in a.out.now a.k) c.args.i c.symbol_at-y.result c.name_at-name.result.now (c.symbol_at-y.ensures) c.name_at-name.ensures (ap₂ (λ (p q : Bool). p || q) (sym c.is_passed_over.ensures) (sym c.has_symbol.ensures) ∙ c.if-is_passed_over-has_symbol.false));
-      few = let h = c.if-k-room.false in omega (arith, c.requires.3.few);
-      chained = c.push_symbol.ensures.chained;
+      is = pushed.added.more ∙ ap (λ (y : PieceSymbol). symbols_of c.args.tables.now ++ (y ∷ [])) c.entry_of.ensures
+          ∙ entered (goal.at.returns c).Else-is_passed_over-has_symbol;
+      chained = pushed.chained;
+      pieces = pushed.added.pieces;
+      relocs = pushed.added.relocs;
+      lent = pushed.added.lent;
     }

@@ -1,32 +1,41 @@
 -- `walk::output::give` meets its contract: 11, no room for the symbols, a common split that has given, or what the piece and its relocations come to.
-use mathlib.Core.Path.{◌≡◌, sym, subst, ◌∙◌}
+use mathlib.Core.Path.{◌≡◌, refl, sym, ap, subst, ◌∙◌}
 use mathlib.Core.List.{List, ◌++◌}
 use mathlib.Core.Bool.{not, ◌||◌}
 use Prim.Native.Nat.{ℕ, ◌-◌, ◌%◌, ◌≤◌, ◌<◌}
 use native.Mathlib.Omega.{arith}
 use borrow.Author.Tests.{eq-eqb, ne_eqb}
 use borrow.Rule.Slice.PartMut.{same_len_mid}
-use lib.Dec.{eqb, leb}
+use lib.Dec.{eqb, leb, ltb}
 use lib.ListN.{length, take, drop}
 use lib.Seq.{length-take-le, length_front}
+use Rattle.lists.specs.Outcome.{accepted}
 use Rattle.obj.specs.declared.Split.{Split}
 use Rattle.symbols.specs.Ranges.{has_symbols}
 use Rattle.symbols.proofs.Parts.{part_readable}
 use Rattle.sections.specs.Image.{image_in}
 use Rattle.sections.specs.Sections.{head_of}
-use Rattle.pieces.specs.Pieces.{symbols_in}
+use Rattle.pieces.specs.declared.Counts.{Counts}
+use Rattle.pieces.specs.declared.Piece.{Piece}
+use Rattle.pieces.specs.declared.PieceSymbol.{PieceSymbol}
+use Rattle.pieces.specs.declared.PieceReloc.{PieceReloc}
+use Rattle.pieces.specs.Tables.{pieces_of, symbols_of, relocs_of}
+use Rattle.pieces.proofs.Laws.{length-pieces_in, length-symbols_in, length-relocs_in}
+use Rattle.pieces.proofs.Same.{pieces_same, symbols_same, relocs_same, lent_same, lent_still}
 use Rattle.relocs.specs.Relocs.{reloc_of}
-use Rattle.piece_columns.specs.Columns.{Counted}
+use Rattle.piece_columns.proofs.Same.{counted_same, chained_same}
+use Rattle.piece_columns.specs.Columns.{CountedIn}
 use Rattle.walk.specs.Walk.{add_symbols, split_symbols}
 use Rattle.walk.specs.Adding.{Entries, AddsNow}
-use Rattle.walk.specs.Giving.{input_of, output_in, chains_in, counts_in, pieces_with, relocs_with}
-use Rattle.walk.proofs.Giving.{aligned_backwards, symbols_full, common_made, piece_given, piece_full, piece_beside, kept_above, backwards_is, forwards_ends}
+use Rattle.walk.specs.Giving.{input_of, output_of, chains_in, counts_in, pieces_with, relocs_with}
+use Rattle.walk.proofs.Giving.{symbols_with, common_out, piece_out, aligned_backwards, symbols_full, common_made, piece_made, piece_full, kept_above, backwards_is, forwards_ends}
 use Rattle.walk.proofs.Regions.{chains_front, counts_front, counts_whole, chains_behind, counts_behind}
 use Rattle.walk.proofs.output.give.Goals as goal
 
 pub returns-then-is_backwards : goal.returns-then-is_backwards
 returns-then-is_backwards c =
     let a = c.args in
+    let t = a.tables.now in
     let g = image_in a.obj.now in
     let head = head_of a.obj.now.heads.bytes.now a.obj.now.heads.places.now in
     let reloc = reloc_of a.relocs.now.bytes.now a.relocs.now.places.now in
@@ -34,9 +43,10 @@ returns-then-is_backwards c =
     rw c.refuse_at.ensures
     (record {
       is = λ count bytes splits units.
-          aligned_backwards (input_of g (record { count = count; head = head; bytes = bytes }) reloc relocs splits units a.room) a.n a.s.start a.unit a.alignment a.s (output_in a.pieces.now a.entries.now a.offsets.now a.made) c.requires.6
-          (sym (backwards_is (input_of g (record { count = count; head = head; bytes = bytes }) reloc relocs splits units a.room) a.n a.s.start a.unit a.alignment a.s (output_in a.pieces.now a.entries.now a.offsets.now a.made) c.requires.6 a.part.now c.requires.2.is) ∙ sym c.is_backwards.ensures ∙ c.if-is_backwards.true);
+          aligned_backwards (input_of g (record { count = count; head = head; bytes = bytes }) reloc relocs splits units t.room) a.n a.s.start a.unit a.alignment a.s (output_of t) c.requires.6
+          (sym (backwards_is (input_of g (record { count = count; head = head; bytes = bytes }) reloc relocs splits units t.room) a.n a.s.start a.unit a.alignment a.s (output_of t) c.requires.6 a.part.now c.requires.2.is) ∙ sym c.is_backwards.ensures ∙ c.if-is_backwards.true);
       beside = tt;
+      lent = lent_same;
     })
 
 pub add_symbols-added-requires : goal.add_symbols-added-requires
@@ -56,93 +66,71 @@ add_symbols-added-requires c =
 pub returns-in_default : goal.returns-in_default
 returns-in_default c =
     let a = c.args in
+    let t = a.tables.now in
     let g = image_in a.obj.now in
     let head = head_of a.obj.now.heads.bytes.now a.obj.now.heads.places.now in
     let reloc = reloc_of a.relocs.now.bytes.now a.relocs.now.places.now in
     let relocs = length a.relocs.now.places.now in
-    let wanted = add_symbols g a.unit a.made.pieces a.s (symbols_in a.entries.now a.made.symbols) in
-    let inside : c.for_section_through-inside.result.now ≡ split_symbols g a.n a.s = c.for_section_through-inside.ensures in
-    let forwards = λ (count : ℕ) (bytes : ℕ → List ℕ) (splits : List Split) (units : List ℕ). sym (backwards_is (input_of g (record { count = count; head = head; bytes = bytes }) reloc relocs splits units a.room) a.n a.s.start a.unit a.alignment a.s (output_in a.pieces.now a.entries.now a.offsets.now a.made) c.requires.6 a.part.now c.requires.2.is) ∙ sym c.is_backwards.ensures ∙ c.if-is_backwards.false in
-    let full : a.room.symbols < length (wanted (split_symbols g a.n a.s)) = subst (λ (l : List ℕ). a.room.symbols < length (wanted l)) inside c.in_default.ensures in
+    let forwards = λ (count : ℕ) (bytes : ℕ → List ℕ) (splits : List Split) (units : List ℕ). (sym (backwards_is (input_of g (record { count = count; head = head; bytes = bytes }) reloc relocs splits units t.room) a.n a.s.start a.unit a.alignment a.s (output_of t) c.requires.6 a.part.now c.requires.2.is) ∙ sym c.is_backwards.ensures ∙ c.if-is_backwards.false) in
+    let wanted : add_symbols g a.unit t.made.pieces a.s (symbols_of t) c.for_section_through-inside.result.now ≡ symbols_with g head reloc relocs a.n a.unit a.alignment a.s t.room (output_of t) =
+    λ d. add_symbols g a.unit (sym (length-pieces_in t.pieces.now t.made.pieces) d) a.s (symbols_of t) (c.for_section_through-inside.ensures d) in
+    let full = c.in_default.ensures in
     rw c.refuse_at-in_default.ensures
     (record {
-      is = λ count bytes splits units. symbols_full g head reloc relocs a.n a.unit a.alignment a.s a.room a.made a.pieces.now a.entries.now a.offsets.now count bytes splits units c.requires.6
-          (forwards count bytes splits units) full;
+      is = λ count bytes splits units. symbols_full g head reloc relocs a.n a.unit a.alignment a.s t.room (output_of t) count bytes splits units c.requires.6
+          (forwards count bytes splits units) (subst (λ (l : List PieceSymbol). t.room.symbols < length l) wanted full.0);
       beside = tt;
+      lent = full.1;
     })
 
 pub returns-then-s-eq1 : goal.returns-then-s-eq1
 returns-then-s-eq1 c =
     let a = c.args in
+    let t = a.tables.now in
     let g = image_in a.obj.now in
     let head = head_of a.obj.now.heads.bytes.now a.obj.now.heads.places.now in
     let reloc = reloc_of a.relocs.now.bytes.now a.relocs.now.places.now in
     let relocs = length a.relocs.now.places.now in
-    let wanted = add_symbols g a.unit a.made.pieces a.s (symbols_in a.entries.now a.made.symbols) in
-    let inside : c.for_section_through-inside.result.now ≡ split_symbols g a.n a.s = c.for_section_through-inside.ensures in
-    let forwards = λ (count : ℕ) (bytes : ℕ → List ℕ) (splits : List Split) (units : List ℕ). sym (backwards_is (input_of g (record { count = count; head = head; bytes = bytes }) reloc relocs splits units a.room) a.n a.s.start a.unit a.alignment a.s (output_in a.pieces.now a.entries.now a.offsets.now a.made) c.requires.6 a.part.now c.requires.2.is) ∙ sym c.is_backwards.ensures ∙ c.if-is_backwards.false in
+    let forwards = λ (count : ℕ) (bytes : ℕ → List ℕ) (splits : List Split) (units : List ℕ). (sym (backwards_is (input_of g (record { count = count; head = head; bytes = bytes }) reloc relocs splits units t.room) a.n a.s.start a.unit a.alignment a.s (output_of t) c.requires.6 a.part.now c.requires.2.is) ∙ sym c.is_backwards.ensures ∙ c.if-is_backwards.false) in
+    let wanted : add_symbols g a.unit t.made.pieces a.s (symbols_of t) c.for_section_through-inside.result.now ≡ symbols_with g head reloc relocs a.n a.unit a.alignment a.s t.room (output_of t) =
+    λ d. add_symbols g a.unit (sym (length-pieces_in t.pieces.now t.made.pieces) d) a.s (symbols_of t) (c.for_section_through-inside.ensures d) in
     let more = c.add_symbols-added in
+    let mid = more.new.tables in
+    let now = c.in-Some.ensures in
+    let entries : symbols_of mid ≡ symbols_with g head reloc relocs a.n a.unit a.alignment a.s t.room (output_of t) = now.is ∙ wanted in
+    let few : length (symbols_with g head reloc relocs a.n a.unit a.alignment a.s t.room (output_of t)) ≤ t.room.symbols =
+    omega (arith, ap (λ (l : List PieceSymbol). length l) entries, length-symbols_in mid.symbols.now mid.made.symbols, mid.fits.few_symbols, ap (λ (m : Counts). m.symbols) now.lent.room) in
     let front : length more.new.chains ≡ 8192 = more.auto.chains ∙ length-take-le 8192 a.scratch.now c.requires.0.long in
     let between : List ℕ = more.new.chains ++ drop 8192 a.scratch.now in
     let long : length between ≡ length a.scratch.now = length_front a.scratch.now more.new.chains 8192 more.auto.chains in
     let far : 8192 ≤ length between = omega (arith, c.requires.0.long, long) in
-    let k = c.in-Some.k in
-    let now = subst (λ (l : List ℕ). AddsNow (wanted l) a.room.symbols more.new.chains more.new.out k) inside c.in-Some.ensures in
     let e = c.requires.0.entered in
-    let entered : Entries (length a.obj.now.symbols.places.now) a.room.symbols more.new.chains more.new.out k = record {
-      chained = now.chained;
-      few = now.few;
-      long = omega (arith, front, e.most);
-      out_long = omega (arith, e.out_long, more.auto.out);
-      most = e.most;
-      most_symbols = e.most_symbols;
-    } in
-    let q = c.requires.0 in
+    let entered : Entries (length a.obj.now.symbols.places.now) more.new.chains mid = record { chained = now.chained; long = omega (arith, front); most_symbols = e.most_symbols } in
     record {
       is = λ count bytes splits units.
-          common_made g head reloc relocs a.n a.unit a.alignment a.s a.room a.made a.pieces.now a.entries.now a.offsets.now count bytes splits units c.requires.6
-          (forwards count bytes splits units) more.new.out k now.is now.few
-          (eq-eqb (a.s.flags % 2) 1 c.if-s-eq1.true) q.side.few_pieces q.side.few_relocs;
+          common_made g head reloc relocs a.n a.unit a.alignment a.s t.room (output_of t) count bytes splits units c.requires.6
+          (forwards count bytes splits units) few (eq-eqb (a.s.flags % 2) 1 c.if-s-eq1.true)
+          (omega (arith, length-pieces_in t.pieces.now t.made.pieces, t.fits.few_pieces)) (omega (arith, length-relocs_in t.relocs.now t.made.relocs, t.fits.few_relocs))
+          ∙ (λ d. accepted (record { pieces = sym (pieces_same now.pieces) d; symbols = sym entries d; relocs = sym (relocs_same now.relocs) d }));
       beside = record {
-        side = record {
-          counted = subst (λ (l : List ℕ). Counted l a.pieces.now a.made.pieces) (sym (counts_front more.new.chains a.scratch.now front)) q.side.counted;
-          few_pieces = q.side.few_pieces;
-          few_relocs = q.side.few_relocs;
-          pieces_long = q.side.pieces_long;
-          offsets_long = q.side.offsets_long;
-          most_pieces = q.side.most_pieces;
-          most_relocs = q.side.most_relocs;
-        };
-        entered =
-            subst (λ (l : List ℕ). Entries (length a.obj.now.symbols.places.now) a.room.symbols l more.new.out k)
-            (sym (chains_front more.new.chains a.scratch.now front)) entered;
-        long = omega (arith, q.long, long);
+        counted = subst (λ (l : List ℕ). CountedIn l mid) (sym (counts_front more.new.chains a.scratch.now front)) (counted_same now.pieces c.requires.0.counted);
+        entered = subst (λ (l : List ℕ). Entries (length a.obj.now.symbols.places.now) l mid) (sym (chains_front more.new.chains a.scratch.now front)) entered;
+        long = omega (arith, c.requires.0.long, long);
       };
+      lent = now.lent;
     }
 
 pub give_piece-given-requires : goal.give_piece-given-requires
 give_piece-given-requires c =
     let a = c.args in
     let g = image_in a.obj.now in
-    let head = head_of a.obj.now.heads.bytes.now a.obj.now.heads.places.now in
-    let reloc = reloc_of a.relocs.now.bytes.now a.relocs.now.places.now in
-    let relocs = length a.relocs.now.places.now in
     let more = c.add_symbols-added in
     let front : length more.new.chains ≡ 8192 = more.auto.chains ∙ length-take-le 8192 a.scratch.now c.requires.0.long in
     let between : List ℕ = more.new.chains ++ drop 8192 a.scratch.now in
     let long : length between ≡ length a.scratch.now = length_front a.scratch.now more.new.chains 8192 more.auto.chains in
     let far : 8192 ≤ length between = omega (arith, c.requires.0.long, long) in
-    let lent : take (length between - 8192) (drop 8192 between) ≡ counts_in a.scratch.now = counts_whole between ∙ counts_front more.new.chains a.scratch.now front in
-    let q = c.requires.0.side in (
-      record {
-        counted = subst (λ (l : List ℕ). Counted l a.pieces.now a.made.pieces) (sym lent) q.counted;
-        few_pieces = q.few_pieces;
-        few_relocs = q.few_relocs;
-        pieces_long = q.pieces_long;
-        offsets_long = q.offsets_long;
-        most_pieces = q.most_pieces;
-        most_relocs = q.most_relocs;
-      },
+    let lent : take (length between - 8192) (drop 8192 between) ≡ counts_in a.scratch.now = counts_whole between ∙ counts_front more.new.chains a.scratch.now front in (
+      subst (λ (l : List ℕ). CountedIn l more.new.tables) (sym lent) (counted_same c.in-Some.ensures.pieces c.requires.0.counted),
       c.requires.2,
       c.requires.3,
       subst (λ (l : List ℕ). a.unit < length l) (sym lent) c.requires.4,
@@ -153,64 +141,84 @@ give_piece-given-requires c =
 pub returns-in_default-given : goal.returns-in_default-given
 returns-in_default-given c =
     let a = c.args in
+    let t = a.tables.now in
     let g = image_in a.obj.now in
     let head = head_of a.obj.now.heads.bytes.now a.obj.now.heads.places.now in
     let reloc = reloc_of a.relocs.now.bytes.now a.relocs.now.places.now in
     let relocs = length a.relocs.now.places.now in
-    let wanted = add_symbols g a.unit a.made.pieces a.s (symbols_in a.entries.now a.made.symbols) in
-    let inside : c.for_section_through-inside.result.now ≡ split_symbols g a.n a.s = c.for_section_through-inside.ensures in
-    let forwards = λ (count : ℕ) (bytes : ℕ → List ℕ) (splits : List Split) (units : List ℕ). sym (backwards_is (input_of g (record { count = count; head = head; bytes = bytes }) reloc relocs splits units a.room) a.n a.s.start a.unit a.alignment a.s (output_in a.pieces.now a.entries.now a.offsets.now a.made) c.requires.6 a.part.now c.requires.2.is) ∙ sym c.is_backwards.ensures ∙ c.if-is_backwards.false in
+    let forwards = λ (count : ℕ) (bytes : ℕ → List ℕ) (splits : List Split) (units : List ℕ). (sym (backwards_is (input_of g (record { count = count; head = head; bytes = bytes }) reloc relocs splits units t.room) a.n a.s.start a.unit a.alignment a.s (output_of t) c.requires.6 a.part.now c.requires.2.is) ∙ sym c.is_backwards.ensures ∙ c.if-is_backwards.false) in
+    let wanted : add_symbols g a.unit t.made.pieces a.s (symbols_of t) c.for_section_through-inside.result.now ≡ symbols_with g head reloc relocs a.n a.unit a.alignment a.s t.room (output_of t) =
+    λ d. add_symbols g a.unit (sym (length-pieces_in t.pieces.now t.made.pieces) d) a.s (symbols_of t) (c.for_section_through-inside.ensures d) in
     let more = c.add_symbols-added in
-    let k = c.in-Some.k in
-    let now = subst (λ (l : List ℕ). AddsNow (wanted l) a.room.symbols more.new.chains more.new.out k) inside c.in-Some.ensures in
+    let mid = more.new.tables in
+    let now = c.in-Some.ensures in
+    let entries : symbols_of mid ≡ symbols_with g head reloc relocs a.n a.unit a.alignment a.s t.room (output_of t) = now.is ∙ wanted in
+    let few : length (symbols_with g head reloc relocs a.n a.unit a.alignment a.s t.room (output_of t)) ≤ t.room.symbols =
+    omega (arith, ap (λ (l : List PieceSymbol). length l) entries, length-symbols_in mid.symbols.now mid.made.symbols, mid.fits.few_symbols, ap (λ (m : Counts). m.symbols) now.lent.room) in
+    let pieces : pieces_with (head a.n) a.n a.unit a.alignment a.s (pieces_of mid) ≡ pieces_with (head a.n) a.n a.unit a.alignment a.s (pieces_of t) =
+    ap (pieces_with (head a.n) a.n a.unit a.alignment a.s) (pieces_same now.pieces) in
+    let place = now.pieces.made ∙ sym (length-pieces_in t.pieces.now t.made.pieces) in
+    let offsets : relocs_with reloc relocs a.n a.s mid.made.pieces (relocs_of mid) ≡ relocs_with reloc relocs a.n a.s (length (pieces_of t)) (relocs_of t) =
+    λ d. relocs_with reloc relocs a.n a.s (place d) (relocs_same now.relocs d) in
     let gp = c.give_piece-given in
+    let full = c.in_default-given.ensures in
     rw c.refuse_at-in_default-given.ensures
     (record {
       is = λ count bytes splits units.
-          piece_full g head reloc relocs a.n a.unit a.alignment a.s a.room a.made a.pieces.now a.entries.now a.offsets.now count bytes splits units c.requires.6
-          (forwards count bytes splits units) more.new.out k now.is now.few
-          (ne_eqb (a.s.flags % 2) 1 c.if-s-eq1.false) gp.new.counts gp.new.pieces gp.new.offsets c.in_default-given.ensures;
+          piece_full g head reloc relocs a.n a.unit a.alignment a.s t.room (output_of t) count bytes splits units c.requires.6
+          (forwards count bytes splits units) (ne_eqb (a.s.flags % 2) 1 c.if-s-eq1.false)
+          ((λ d. ltb (sym now.lent.room d).relocs (length (sym offsets d)) || ltb (sym now.lent.room d).pieces (length (sym pieces d))) ∙ full.0);
       beside = tt;
+      lent = lent_still now.lent full.1;
     })
 
 pub returns : goal.returns
 returns c =
     let a = c.args in
+    let t = a.tables.now in
     let g = image_in a.obj.now in
     let head = head_of a.obj.now.heads.bytes.now a.obj.now.heads.places.now in
     let reloc = reloc_of a.relocs.now.bytes.now a.relocs.now.places.now in
     let relocs = length a.relocs.now.places.now in
-    let wanted = add_symbols g a.unit a.made.pieces a.s (symbols_in a.entries.now a.made.symbols) in
-    let inside : c.for_section_through-inside.result.now ≡ split_symbols g a.n a.s = c.for_section_through-inside.ensures in
-    let forwards = λ (count : ℕ) (bytes : ℕ → List ℕ) (splits : List Split) (units : List ℕ). sym (backwards_is (input_of g (record { count = count; head = head; bytes = bytes }) reloc relocs splits units a.room) a.n a.s.start a.unit a.alignment a.s (output_in a.pieces.now a.entries.now a.offsets.now a.made) c.requires.6 a.part.now c.requires.2.is) ∙ sym c.is_backwards.ensures ∙ c.if-is_backwards.false in
+    let forwards = λ (count : ℕ) (bytes : ℕ → List ℕ) (splits : List Split) (units : List ℕ). (sym (backwards_is (input_of g (record { count = count; head = head; bytes = bytes }) reloc relocs splits units t.room) a.n a.s.start a.unit a.alignment a.s (output_of t) c.requires.6 a.part.now c.requires.2.is) ∙ sym c.is_backwards.ensures ∙ c.if-is_backwards.false) in
+    let wanted : add_symbols g a.unit t.made.pieces a.s (symbols_of t) c.for_section_through-inside.result.now ≡ symbols_with g head reloc relocs a.n a.unit a.alignment a.s t.room (output_of t) =
+    λ d. add_symbols g a.unit (sym (length-pieces_in t.pieces.now t.made.pieces) d) a.s (symbols_of t) (c.for_section_through-inside.ensures d) in
     let more = c.add_symbols-added in
+    let mid = more.new.tables in
+    let now = c.in-Some.ensures in
+    let entries : symbols_of mid ≡ symbols_with g head reloc relocs a.n a.unit a.alignment a.s t.room (output_of t) = now.is ∙ wanted in
+    let few : length (symbols_with g head reloc relocs a.n a.unit a.alignment a.s t.room (output_of t)) ≤ t.room.symbols =
+    omega (arith, ap (λ (l : List PieceSymbol). length l) entries, length-symbols_in mid.symbols.now mid.made.symbols, mid.fits.few_symbols, ap (λ (m : Counts). m.symbols) now.lent.room) in
+    let pieces : pieces_with (head a.n) a.n a.unit a.alignment a.s (pieces_of mid) ≡ pieces_with (head a.n) a.n a.unit a.alignment a.s (pieces_of t) =
+    ap (pieces_with (head a.n) a.n a.unit a.alignment a.s) (pieces_same now.pieces) in
+    let place = now.pieces.made ∙ sym (length-pieces_in t.pieces.now t.made.pieces) in
+    let offsets : relocs_with reloc relocs a.n a.s mid.made.pieces (relocs_of mid) ≡ relocs_with reloc relocs a.n a.s (length (pieces_of t)) (relocs_of t) =
+    λ d. relocs_with reloc relocs a.n a.s (place d) (relocs_same now.relocs d) in
+    let gp = c.give_piece-given in
     let front : length more.new.chains ≡ 8192 = more.auto.chains ∙ length-take-le 8192 a.scratch.now c.requires.0.long in
     let between : List ℕ = more.new.chains ++ drop 8192 a.scratch.now in
     let long : length between ≡ length a.scratch.now = length_front a.scratch.now more.new.chains 8192 more.auto.chains in
     let far : 8192 ≤ length between = omega (arith, c.requires.0.long, long) in
-    let k = c.in-Some.k in
-    let now = subst (λ (l : List ℕ). AddsNow (wanted l) a.room.symbols more.new.chains more.new.out k) inside c.in-Some.ensures in
-    let e = c.requires.0.entered in
-    let entered : Entries (length a.obj.now.symbols.places.now) a.room.symbols more.new.chains more.new.out k = record {
-      chained = now.chained;
-      few = now.few;
-      long = omega (arith, front, e.most);
-      out_long = omega (arith, e.out_long, more.auto.out);
-      most = e.most;
-      most_symbols = e.most_symbols;
-    } in
-    let gp = c.give_piece-given in
-    let m = c.in-Some-given.most in
+    let made = c.in-Some-given.ensures in
+    let after = gp.new.tables in
+    let lent = lent_still now.lent made.lent in
     let behind = same_len_mid 8192 (length between - 8192) between gp.new.counts gp.auto.counts ∙ long in
+    let chains = chains_behind between gp.new.counts far ∙ chains_front more.new.chains a.scratch.now front in
+    let out = piece_out g head reloc relocs a.n a.unit a.alignment a.s t.room (output_of t) in
+    let written : pieces_of after ≡ out.pieces = made.is ∙ pieces in
+    let moved : relocs_of after ≡ out.relocs = made.relocs_are ∙ offsets in
     record {
       is = λ count bytes splits units.
-          piece_given g head reloc relocs a.n a.unit a.alignment a.s a.room a.made a.pieces.now a.entries.now a.offsets.now count bytes splits units c.requires.6
-          (forwards count bytes splits units) more.new.out k now.is now.few
-          (ne_eqb (a.s.flags % 2) 1 c.if-s-eq1.false) gp.new.counts gp.new.pieces gp.new.offsets m c.in-Some-given.ensures;
-      beside =
-          piece_beside g.count a.room (record { pieces = a.made.pieces; symbols = k; relocs = a.made.relocs }) _ more.new.chains more.new.out gp.new.counts gp.new.pieces gp.new.offsets
-          (pieces_with (head a.n) a.n a.unit a.alignment a.s a.pieces.now a.made)
-          (relocs_with reloc relocs a.n a.s a.offsets.now a.made) m
-          (chains_behind between gp.new.counts far ∙ chains_front more.new.chains a.scratch.now front) (counts_behind between gp.new.counts far) (omega (arith, c.requires.0.long, behind))
-          entered c.in-Some-given.ensures;
+          piece_made g head reloc relocs a.n a.unit a.alignment a.s t.room (output_of t) count bytes splits units c.requires.6
+          (forwards count bytes splits units) few (ne_eqb (a.s.flags % 2) 1 c.if-s-eq1.false)
+          (omega (arith, ap (λ (l : List Piece). length l) written, length-pieces_in after.pieces.now after.made.pieces, after.fits.few_pieces, ap (λ (m : Counts). m.pieces) lent.room))
+          (omega (arith, ap (λ (l : List PieceReloc). length l) moved, length-relocs_in after.relocs.now after.made.relocs, after.fits.few_relocs, ap (λ (m : Counts). m.relocs) lent.room))
+          ∙ (λ d. accepted (record { pieces = sym written d; symbols = sym (symbols_same made.symbols ∙ entries) d; relocs = sym moved d }));
+      beside = record {
+        counted = subst (λ (l : List ℕ). CountedIn l after) (sym (counts_behind between gp.new.counts far)) made.counted;
+        entered = subst (λ (l : List ℕ). Entries (length a.obj.now.symbols.places.now) l after) (sym chains)
+            (record { chained = chained_same more.new.chains made.symbols now.chained; long = omega (arith, front); most_symbols = c.requires.0.entered.most_symbols });
+        long = omega (arith, c.requires.0.long, behind);
+      };
+      lent = lent;
     }
