@@ -20,8 +20,8 @@ use Rattle.loaded.specs.Tables.{tables_with, Usable}
 use Rattle.loaded.proofs.Laws.{all_named, measured}
 use Rattle.splits.specs.Columns.{columns, Long}
 use Rattle.gap_splits.specs.Entering.{Filled, bytes_of}
-use Rattle.gap_splits.specs.Answers.{added, beside, ceilings, Room, Stand, names, used, splits}
-use Rattle.gap_splits.specs.declared.Entered.{Entered}
+use Rattle.gap_splits.specs.Added.{added, Room, Stand}
+use Rattle.gap_splits.specs.Answers.{ceilings}
 use Rattle.toposort.specs.Search.{End, all, cyclic, lost}
 use Rattle.pieces.specs.declared.Counts.{Counts}
 use Rattle.run_splits.specs.Table.{split_table}
@@ -30,13 +30,12 @@ use Rattle.run.specs.Run.{Rooms, Ended, linked, walked, on_order, ordered_and_wa
 use Rattle.run.specs.Answers.{walked_after, Keeps}
 use Rattle.run.specs.declared.Ran.{Ran}
 use Rattle.std.specs.Prelude.{Result, Ok, Err}
-use Rattle.obj.specs.declared.Refusal.{Refusal}
 use Rattle.order.specs.declared.Unlinked.{Unlinked}
 use Rattle.order.specs.declared.Unlinked.TheVariants.{Refused, Cycle}
 use Rattle.run_room.specs.Room.{sum}
 use Rattle.run_room.proofs.Sums.{sum_turn, sum-none}
 use Rattle.lists.specs.Bounds.{lower}
-use Rattle.run_file.specs.RunFile.{rooms_in, Lent, Holds}
+use Rattle.run_file.specs.RunFile.{rooms_in, Holds}
 
 -- ---- the lower of two
 module _ (a b : ℕ) where
@@ -118,11 +117,11 @@ module _ (file names' lengths sections symbols relocs partials units : List ℕ)
       ∙ ap (λ (n : ℕ). ordered_and_walked file whole room.units room.output (drop n full.names) full.rows) (ap length e)) d)
 
 -- ---- what is known of an answer
-pub holds : (r : Result Ran Unlinked) (most most_bytes cap : ℕ) (room : Counts) (c : Beside) (units : List ℕ) (e : Result Entered Refusal) {a b : ℕ} → Keeps (names e) (used e) (splits e) room units r
-    → Stand c (names e) (used e) a b → splits e ≤ cap → a ≤ most → a ≤ 4096 → b ≤ most_bytes → b ≤ 65535 → Holds most most_bytes cap room c units r
-holds (Ok r) most most_bytes cap room c units e keeps stand few p q v w = (
+pub holds : (r : Result Ran Unlinked) (most most_bytes cap : ℕ) (room : Counts) (c : Beside) (units : List ℕ) (names used splits : ℕ) {a b : ℕ} → Keeps names used splits room units r
+    → Stand c names used a b → splits ≤ cap → a ≤ most → a ≤ 4096 → b ≤ most_bytes → b ≤ 65535 → Holds most most_bytes cap room c units r
+holds (Ok r) most most_bytes cap room c units names used splits keeps stand few p q v w = (
   record {
-    packed = subst (λ (x : ℕ). Packed c.bytes c.places c.lengths x r.used) (sym keeps.0) (subst (λ (y : ℕ). Packed c.bytes c.places c.lengths (names e) y) (sym keeps.1) stand.packed);
+    packed = subst (λ (x : ℕ). Packed c.bytes c.places c.lengths x r.used) (sym keeps.0) (subst (λ (y : ℕ). Packed c.bytes c.places c.lengths names y) (sym keeps.1) stand.packed);
     sum = keeps.1 ∙ stand.sum ∙ ap (λ (x : ℕ). bytes_of (added c x)) (sym keeps.0);
     few = omega (arith, keeps.0, stand.few, p);
     small = omega (arith, keeps.0, stand.few, q);
@@ -133,8 +132,8 @@ holds (Ok r) most most_bytes cap room c units e keeps stand few p q v w = (
   keeps.3,
   keeps.4,
 )
-holds (Err (Cycle count)) most most_bytes cap room c units e keeps stand few p q v w = keeps
-holds (Err (Refused r)) most most_bytes cap room c units e keeps stand few p q v w = tt
+holds (Err (Cycle count)) most most_bytes cap room c units names used splits keeps stand few p q v w = keeps
+holds (Err (Refused r)) most most_bytes cap room c units names used splits keeps stand few p q v w = tt
 
 -- ---- what the ceilings leave
 module _ {a : ℕ} (most n ceiling : ℕ) (e : a ≡ lower (ceiling - n) most) where
@@ -147,16 +146,12 @@ module _ {a : ℕ} (most n ceiling : ℕ) (e : a ≡ lower (ceiling - n) most) w
   pub left_sum : n ≤ ceiling → n + a ≤ ceiling
   left_sum h = omega (arith, e, h, lower-first (ceiling - n) most)
 
-pub room_beside : {starts ends units rest added_bytes added_places added_lengths : List ℕ} {a b : ℕ} → Lent starts ends units rest added_bytes added_places added_lengths
-    → a ≤ 4096 → b ≤ 65535 → Room (beside added_bytes added_places added_lengths) a b
-room_beside l p q = record {
-  few = p;
-  short = q;
-  long_places = omega (arith, p, l.places_long);
-  long_lengths = omega (arith, p, l.lengths_long);
-  long_bytes = omega (arith, q, l.bytes_long);
+-- less room for names
+pub room_less : (c : Beside) {a b m n : ℕ} → Room c m n → a ≤ m → b ≤ n → Room c a b
+room_less c r p q = record {
+  few = omega (arith, p, r.few);
+  short = omega (arith, q, r.short);
+  long_places = omega (arith, p, r.long_places);
+  long_lengths = omega (arith, p, r.long_lengths);
+  long_bytes = omega (arith, q, r.long_bytes);
 }
-
-pub lent_long : {starts ends units rest added_bytes added_places added_lengths : List ℕ} {cap : ℕ} → Lent starts ends units rest added_bytes added_places added_lengths → cap ≤ 1024
-    → Long (columns starts ends units rest) cap
-lent_long l h = record { starts = omega (arith, h, l.starts_long); ends = omega (arith, h, l.ends_long); units = omega (arith, h, l.units_long); rest = omega (arith, h, l.rest_long) }

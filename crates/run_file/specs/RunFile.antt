@@ -14,7 +14,10 @@ use Rattle.loaded.specs.Tables.{byte_places, tables_with, Usable}
 use Rattle.symbol_order.specs.Order.{symbol_of, order_of}
 use Rattle.splits.specs.Columns.{Columns}
 use Rattle.gap_splits.specs.Entering.{bytes_of}
+use Rattle.gap_splits.specs.Added.{beside}
 use Rattle.gap_splits.specs.Answers.{ceilings}
+use Rattle.gap_splits.specs.declared.added_names.AddedNames.{AddedNames}
+use Rattle.splits.specs.declared.split_table.SplitTable.{SplitTable}
 use Rattle.pieces.specs.declared.Counts.{Counts}
 use Rattle.run.specs.Run.{Rooms, Ended, run_of}
 use Rattle.run.specs.Answers.{ran_in, Names, Units, Within}
@@ -46,15 +49,15 @@ pub record Ready (file names lengths buckets chain sections images symbols order
   pub images_are : images ≡ byte_places sections
   pub order_is : order ≡ order_of (symbol_of file symbols) (length symbols)
 
--- lent columns for a split table, and for the names that are added
-pub record Lent (starts ends units rest added_bytes added_places added_lengths : List ℕ) : Type 0 where
-  pub starts_long : length starts ≡ 1024
-  pub ends_long : length ends ≡ 1024
-  pub units_long : length units ≡ 1024
-  pub rest_long : length rest ≡ 1024
-  pub bytes_long : length added_bytes ≡ 65535
-  pub places_long : length added_places ≡ 4096
-  pub lengths_long : length added_lengths ≡ 4096
+-- a split table of no more rows than document 01 allows, and room for all names that may be added
+pub record Lent (t : SplitTable) (a : AddedNames) : Type 0 where
+  pub rows : t.room ≤ 1024
+  pub names : a.most ≡ 4096
+  pub bytes : a.most_bytes ≡ 65535
+
+-- the columns of the names that are added
+abbrev pub beside_in : AddedNames → Beside
+beside_in a = beside a.bytes.now a.places.now a.lengths.now
 
 -- lent columns for the loader, the places of the sections' bytes and the symbol order
 pub record Loader (places lengths heads chain images order : List ℕ) : Type 0 where

@@ -8,16 +8,17 @@ ghost use Rattle.tables.specs.Tables.{main_ceilings};
 ghost use Rattle.load.specs.Load.{load_of};
 ghost use Rattle.names.specs.Names.{names_of};
 ghost use Rattle.loaded.specs.Tables.{tables_with};
-ghost use Rattle.splits.specs.Columns.{columns, Long};
+ghost use Rattle.splits.specs.Table.{rows_in, columns_in};
 ghost use Rattle.gap_splits.specs.Answers as entering;
 ghost use Rattle.run_load.specs.Prepared.{Prepares};
 ghost use Rattle.run_splits.specs.Table.{split_table};
 ghost use Rattle.stage_walk.specs.Room.{room_in};
 ghost use Rattle.run.specs.Run.{stages, run_of};
 ghost use Rattle.run.specs.Answers.{ran_in};
-ghost use Rattle.run_file.specs.RunFile.{rooms_in, Ready, Lent, Loader, Stored, Holds, Runs};
+ghost use Rattle.run_file.specs.RunFile.{rooms_in, beside_in, Ready, Lent, Loader, Stored, Holds, Runs};
 
-use gap_splits::Entered;
+use gap_columns::GapTable;
+use gap_splits::AddedNames;
 use load::{Counts, NAMES, RELOCATIONS, SPLITS, SYMBOLS, UNITS};
 use loaded::Loaded;
 use names::NameIndex;
@@ -27,7 +28,7 @@ use run::{Ran, order_and_walk};
 use run_load::{Prepared, prepare};
 use run_room::{bytes_room, names_room};
 use run_splits::split_table;
-use splits::SplitColumns;
+use splits::SplitTable;
 
 // What the run answers, and how many records of each kind the file has.
 #[derive(Clone, Copy)]
@@ -66,64 +67,39 @@ fn prepare_file(
 fn split_rows(
     loaded: &Loaded,
     index: &NameIndex,
-    starts: &mut [u32],
-    ends: &mut [u32],
-    units: &mut [u16],
-    rest: &mut [u64],
-    cap: usize,
-    added_bytes: &mut [u8],
-    added_places: &mut [u32],
-    added_lengths: &mut [u8],
-    most: usize,
-    most_bytes: usize,
-) -> Result<Entered, Refusal>
+    table: &mut SplitTable,
+    added: &mut AddedNames,
+) -> Result<(), Refusal>
     requires { Ready loaded.now.file.now loaded.now.names.now loaded.now.lengths.now index.now.heads.now index.now.chain.now loaded.now.sections.now loaded.now.images.now loaded.now.symbols.now loaded.now.order.now loaded.now.relocs.now loaded.now.partials.now loaded.now.units.now
-        × Long (columns starts.old ends.old units.old rest.old) cap × (cap ≤ 1024)
-        × entering.Room (entering.beside added_bytes.old added_places.old added_lengths.old) most most_bytes }
-    ensures { (entering.meant (names_of loaded.now.file.now loaded.now.names.now loaded.now.lengths.now (length loaded.now.names.now))
-        (entering.beside added_bytes.new added_places.new added_lengths.new)
-        (columns starts.new ends.new units.new rest.new) result
-        ≡ split_table loaded.now.file.now (tables_with loaded.now.names.now loaded.now.lengths.now loaded.now.sections.now loaded.now.symbols.now loaded.now.relocs.now loaded.now.partials.now loaded.now.units.now) cap
-        (entering.ceilings (names_of loaded.now.file.now loaded.now.names.now loaded.now.lengths.now (length loaded.now.names.now)) most most_bytes))
-        × entering.Stand (entering.beside added_bytes.new added_places.new added_lengths.new) (entering.names result) (entering.used result) most most_bytes
-        × (entering.splits result ≤ cap) }
+        × (table.old.room ≤ 1024) }
+    ensures tables { entering.meant (names_of loaded.now.file.now loaded.now.names.now loaded.now.lengths.now (length loaded.now.names.now))
+        (entering.added_in added.new) (rows_in table.new) result
+        ≡ split_table loaded.now.file.now (tables_with loaded.now.names.now loaded.now.lengths.now loaded.now.sections.now loaded.now.symbols.now loaded.now.relocs.now loaded.now.partials.now loaded.now.units.now) table.old.room
+        (entering.ceilings (names_of loaded.now.file.now loaded.now.names.now loaded.now.lengths.now (length loaded.now.names.now)) added.old.most added.old.most_bytes) }
+    ensures ceilings { entering.SameCeilings added.old added.new }
+    ensures room { table.new.room ≡ table.old.room }
 {
     let mut marks = [0u8; 4096];
     let mut keys = [0u64; 6208];
     let mut gap_ends = [0u32; 6208];
     let mut falls = [0u32; 1024];
+    let mut found = GapTable {
+        keys: &mut keys,
+        ends: &mut gap_ends,
+        count: 0,
+        room: 6208,
+    };
     split_table(
-        loaded,
-        index,
-        starts,
-        ends,
-        units,
-        rest,
-        cap,
-        added_bytes,
-        added_places,
-        added_lengths,
-        most,
-        most_bytes,
-        &mut marks,
-        &mut keys,
-        &mut gap_ends,
-        &mut falls,
+        loaded, index, table, added, &mut marks, &mut found, &mut falls,
     )
 }
 
-// The stages over the tables of a file: at most `cap` splits, and added names of which `most` have a place and `most_bytes` bytes are lent.
+// The stages over the tables of a file, and added names of which `most` have a place and `most_bytes` bytes are lent.
 fn run_tables(
     loaded: &Loaded,
     index: &NameIndex,
-    starts: &mut [u32],
-    ends: &mut [u32],
-    units: &mut [u16],
-    rest: &mut [u64],
-    cap: usize,
-    added_bytes: &mut [u8],
-    added_places: &mut [u32],
-    added_lengths: &mut [u8],
+    table: &mut SplitTable,
+    added: &mut AddedNames,
     most: usize,
     most_bytes: usize,
     out_units: &mut [u8],
@@ -132,42 +108,27 @@ fn run_tables(
     offsets: &mut [u8],
 ) -> Result<Ran, Unlinked>
     requires { Ready loaded.now.file.now loaded.now.names.now loaded.now.lengths.now index.now.heads.now index.now.chain.now loaded.now.sections.now loaded.now.images.now loaded.now.symbols.now loaded.now.order.now loaded.now.relocs.now loaded.now.partials.now loaded.now.units.now
-        × Lent starts.old ends.old units.old rest.old added_bytes.old added_places.old added_lengths.old
-        × (cap ≤ 1024) }
-    ensures { (ran_in (entering.beside added_bytes.new added_places.new added_lengths.new)
-        (columns starts.new ends.new units.new rest.new) out_units.new pieces.new entries.new offsets.new result
+        × Lent table.old added.old }
+    ensures { (ran_in (beside_in added.new)
+        (columns_in table.new) out_units.new pieces.new entries.new offsets.new result
         ≡ stages loaded.now.file.now
         (tables_with loaded.now.names.now loaded.now.lengths.now loaded.now.sections.now loaded.now.symbols.now loaded.now.relocs.now loaded.now.partials.now loaded.now.units.now)
-        (rooms_in loaded.now.file.now most most_bytes cap (length out_units.old / 8) (room_in (length pieces.old) (length entries.old) (length offsets.old))
+        (rooms_in loaded.now.file.now most most_bytes table.old.room (length out_units.old / 8) (room_in (length pieces.old) (length entries.old) (length offsets.old))
         (tables_with loaded.now.names.now loaded.now.lengths.now loaded.now.sections.now loaded.now.symbols.now loaded.now.relocs.now loaded.now.partials.now loaded.now.units.now)))
-        × Holds most most_bytes cap (room_in (length pieces.old) (length entries.old) (length offsets.old))
-        (entering.beside added_bytes.new added_places.new added_lengths.new) out_units.new result }
+        × Holds most most_bytes table.old.room (room_in (length pieces.old) (length entries.old) (length offsets.old))
+        (beside_in added.new) out_units.new result }
 {
-    let more_names = names_room(loaded.names.len(), most);
-    let more_bytes = bytes_room(loaded.lengths, most_bytes);
-    let e = split_rows(
-        loaded,
-        index,
-        starts,
-        ends,
-        units,
-        rest,
-        cap,
-        added_bytes,
-        added_places,
-        added_lengths,
-        more_names,
-        more_bytes,
-    );
+    added.count = 0;
+    added.used = 0;
+    added.most = names_room(loaded.names.len(), most);
+    added.most_bytes = bytes_room(loaded.lengths, most_bytes);
+    let filled = split_rows(loaded, index, table, added);
     order_and_walk(
-        e,
+        filled,
         loaded,
-        &SplitColumns {
-            starts: &*starts,
-            ends: &*ends,
-            units: &*units,
-            rest: &*rest,
-        },
+        added.count,
+        added.used,
+        &table.columns(),
         out_units,
         pieces,
         entries,
@@ -185,14 +146,8 @@ fn run_loaded<'a>(
     index: &NameIndex,
     images: &'a [u32],
     order: &'a [u16],
-    starts: &mut [u32],
-    ends: &mut [u32],
-    units: &mut [u16],
-    rest: &mut [u64],
-    cap: usize,
-    added_bytes: &mut [u8],
-    added_places: &mut [u32],
-    added_lengths: &mut [u8],
+    table: &mut SplitTable,
+    added: &mut AddedNames,
     most: usize,
     most_bytes: usize,
     out_units: &mut [u8],
@@ -201,15 +156,14 @@ fn run_loaded<'a>(
     offsets: &mut [u8],
 ) -> Result<Ran, Unlinked>
     requires { Stored file.now counts ordered places.now lengths.now index.now.heads.now index.now.chain.now images.now order.now
-        × Lent starts.old ends.old units.old rest.old added_bytes.old added_places.old added_lengths.old
-        × (cap ≤ 1024) }
-    ensures { (ran_in (entering.beside added_bytes.new added_places.new added_lengths.new)
-        (columns starts.new ends.new units.new rest.new) out_units.new pieces.new entries.new offsets.new result
+        × Lent table.old added.old }
+    ensures { (ran_in (beside_in added.new)
+        (columns_in table.new) out_units.new pieces.new entries.new offsets.new result
         ≡ stages file.now (tables_in counts places.now lengths.now)
-        (rooms_in file.now most most_bytes cap (length out_units.old / 8) (room_in (length pieces.old) (length entries.old) (length offsets.old))
+        (rooms_in file.now most most_bytes table.old.room (length out_units.old / 8) (room_in (length pieces.old) (length entries.old) (length offsets.old))
         (tables_in counts places.now lengths.now)))
-        × Holds most most_bytes cap (room_in (length pieces.old) (length entries.old) (length offsets.old))
-        (entering.beside added_bytes.new added_places.new added_lengths.new) out_units.new result }
+        × Holds most most_bytes table.old.room (room_in (length pieces.old) (length entries.old) (length offsets.old))
+        (beside_in added.new) out_units.new result }
 {
     let names = counts.names;
     let sections = counts.sections;
@@ -232,14 +186,8 @@ fn run_loaded<'a>(
             units: &places[UNITS..units_end],
         },
         index,
-        starts,
-        ends,
-        units,
-        rest,
-        cap,
-        added_bytes,
-        added_places,
-        added_lengths,
+        table,
+        added,
         most,
         most_bytes,
         out_units,
@@ -249,8 +197,7 @@ fn run_loaded<'a>(
     )
 }
 
-// The run of a file. `places`, `lengths`, `heads`, `chain`, `images` and `order` then hold what was loaded, the four columns the split table, and the three of added names
-// those names.
+// The run of a file. `places`, `lengths`, `heads`, `chain`, `images` and `order` then hold what was loaded, `table` the split table, and `added` the names that were added.
 pub fn run_file(
     file: &[u8],
     places: &mut [u32],
@@ -259,14 +206,8 @@ pub fn run_file(
     chain: &mut [u16],
     images: &mut [u32],
     order: &mut [u16],
-    starts: &mut [u32],
-    ends: &mut [u32],
-    units: &mut [u16],
-    rest: &mut [u64],
-    cap: usize,
-    added_bytes: &mut [u8],
-    added_places: &mut [u32],
-    added_lengths: &mut [u8],
+    table: &mut SplitTable,
+    added: &mut AddedNames,
     most: usize,
     most_bytes: usize,
     out_units: &mut [u8],
@@ -275,11 +216,10 @@ pub fn run_file(
     offsets: &mut [u8],
 ) -> RanFile
     requires { Loader places.old lengths.old heads.old chain.old images.old order.old
-        × Lent starts.old ends.old units.old rest.old added_bytes.old added_places.old added_lengths.old
-        × (cap ≤ 1024) }
-    ensures { Runs file.now most most_bytes cap (length out_units.old / 8) (room_in (length pieces.old) (length entries.old) (length offsets.old)) result
-        places.new lengths.new (entering.beside added_bytes.new added_places.new added_lengths.new)
-        (columns starts.new ends.new units.new rest.new) out_units.new pieces.new entries.new offsets.new }
+        × Lent table.old added.old }
+    ensures { Runs file.now most most_bytes table.old.room (length out_units.old / 8) (room_in (length pieces.old) (length entries.old) (length offsets.old)) result
+        places.new lengths.new (beside_in added.new)
+        (columns_in table.new) out_units.new pieces.new entries.new offsets.new }
 {
     let prepared = match prepare_file(file, places, lengths, heads, chain, images, order) {
         Ok(prepared) => prepared,
@@ -310,14 +250,8 @@ pub fn run_file(
         },
         images,
         order,
-        starts,
-        ends,
-        units,
-        rest,
-        cap,
-        added_bytes,
-        added_places,
-        added_lengths,
+        table,
+        added,
         most,
         most_bytes,
         out_units,

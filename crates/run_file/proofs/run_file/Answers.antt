@@ -14,20 +14,20 @@ pub returns-in-Err : goal.returns-in-Err
 returns-in-Err c =
     let a = c.args in
     let rooms : Loaded → Rooms = λ t.
-    rooms_in a.file.now a.most a.most_bytes a.cap (length a.out_units.now / 8) (room_in (length a.pieces.now) (length a.entries.now) (length a.offsets.now)) t in
+    rooms_in a.file.now a.most a.most_bytes a.table.now.room (length a.out_units.now / 8) (room_in (length a.pieces.now) (length a.entries.now) (length a.offsets.now)) t in
     record { is = run_refused c.prepare_file.ensures c.in-Err.is rooms; holds = tt; loaded = λ e q. absurd (not_both q) }
 
 pub run_loaded-ran-requires : goal.run_loaded-ran-requires
 run_loaded-ran-requires c =
     let q = c.requires in
     let p = c.prepare_file in
-    (stored p.ensures c.in-Ok.is (omega (arith, q.0.images_long, p.auto.images)), q.1, q.2)
+    (stored p.ensures c.in-Ok.is (omega (arith, q.0.images_long, p.auto.images)), q.1)
 
 pub returns : goal.returns
 returns c =
     let a = c.args in
     let rooms : Loaded → Rooms = λ t.
-    rooms_in a.file.now a.most a.most_bytes a.cap (length a.out_units.now / 8) (room_in (length a.pieces.now) (length a.entries.now) (length a.offsets.now)) t in
+    rooms_in a.file.now a.most a.most_bytes a.table.now.room (length a.out_units.now / 8) (room_in (length a.pieces.now) (length a.entries.now) (length a.offsets.now)) t in
     let p = c.prepare_file.ensures in
     let e = c.run_loaded-ran.ensures in
     let told = c.in-Ok.is in

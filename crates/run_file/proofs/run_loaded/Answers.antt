@@ -14,13 +14,13 @@ use borrow.Author.Rules.{rules}
 use Rattle.run_file.proofs.run_loaded.Goals as goal
 
 pub run_tables-requires : goal.run_tables-requires
-run_tables-requires c = let q = c.requires in (parts_ready q.0, q.1, q.2)
+run_tables-requires c = let q = c.requires in (parts_ready q.0, q.1)
 
 pub returns : goal.returns
 returns c =
     let a = c.args in
     let stages_of : Loaded → Outcome Ended = λ t.
     stages a.file.now t
-    (rooms_in a.file.now a.most a.most_bytes a.cap (length a.out_units.now / 8) (room_in (length a.pieces.now) (length a.entries.now) (length a.offsets.now)) t) in
+    (rooms_in a.file.now a.most a.most_bytes a.table.now.room (length a.out_units.now / 8) (room_in (length a.pieces.now) (length a.entries.now) (length a.offsets.now)) t) in
     let e = c.run_tables.ensures in
     (e.0 ∙ ap stages_of (parts_are c.requires.0), e.1)

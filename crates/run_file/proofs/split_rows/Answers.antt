@@ -18,17 +18,13 @@ split_table-requires c =
       r.order_is,
       r.indexed,
       q.1,
-      q.2,
       clean_zeros 4096,
       few_names r.usable,
       omega arith,
-      omega arith,
-      q.3,
-      q.2,
+      q.1,
     )
 
-pub returns : goal.returns
-returns c =
-    let a = c.args in
-    let e = c.split_table.ensures in
-    (e.0 ∙ table_of_parts a.loaded.now.file.now (tables_with a.loaded.now.names.now a.loaded.now.lengths.now a.loaded.now.sections.now a.loaded.now.symbols.now a.loaded.now.relocs.now a.loaded.now.partials.now a.loaded.now.units.now) _ _, e.1, e.2)
+pub returns-clause-tables : goal.returns-clause-tables
+returns-clause-tables c =
+    let l = c.args.loaded.now in
+    c.split_table.ensures.tables ∙ table_of_parts l.file.now (tables_with l.names.now l.lengths.now l.sections.now l.symbols.now l.relocs.now l.partials.now l.units.now) _ _
