@@ -14,28 +14,18 @@ use Rattle.obj.specs.declared.Section.{Section}
 use Rattle.obj.specs.declared.Split.{Split}
 use Rattle.tables.specs.Records.{sections_in, partials_in}
 use Rattle.stage_tables.specs.StageTables.{Room}
-use Rattle.splits.specs.Columns.{Columns, columns, rows, Long}
 use Rattle.merge.specs.Merge.{given, merge_all}
 use Rattle.merge.specs.Answers.{merged}
-use Rattle.entry_add_splits.specs.Entry.{from_splits, from_sections, Scratch}
+use Rattle.entry_add_splits.specs.Entry.{from_splits, from_sections}
 
 -- a column of this length has room for as many records as are allowed
 pub column_room : {ceiling long : ℕ} (places : List ℕ) → ceiling ≤ long → long ≤ 4096 → length places ≡ long → Room ceiling places
 column_room places h q l = record { few = omega arith; long = omega arith }
 
--- the columns hold as many rows as the output
-pub rows_long : {places starts ends units rest : List ℕ} (room : ℕ) → room ≤ 1024 → Scratch places starts ends units rest → Long (columns starts ends units rest) room
-rows_long room h s = record {
-  starts = omega (arith, s.starts_long);
-  ends = omega (arith, s.ends_long);
-  units = omega (arith, s.units_long);
-  rest = omega (arith, s.rest_long);
-}
-
--- the merge over the columns is that of the tables
-pub merged_as : (heads : List Section) (room : ℕ) (c : Columns) (n : ℕ) (l : List Split) (b : List ℕ) {p q : List ℕ} → rows c n ≡ l → p ≡ q
-    → merge_all (given heads room) (rows c n) (partials_in b p) ≡ merge_all (given heads room) l (partials_in b q)
-merged_as heads room c n l b f h = λ i. merge_all (given heads room) (f i) (partials_in b (h i))
+-- the merge over the rows and the places is that of the tables
+pub merged_as : (heads : List Section) (room : ℕ) {k l : List Split} (b : List ℕ) {p q : List ℕ} → k ≡ l → p ≡ q
+    → merge_all (given heads room) k (partials_in b p) ≡ merge_all (given heads room) l (partials_in b q)
+merged_as heads room b f h = λ i. merge_all (given heads room) (f i) (partials_in b (h i))
 
 -- the sections at their places are those of the table
 pub heads_as : (lengths b : List ℕ) {p q : List ℕ} (splits partials : List ℕ) (room : ℕ) → p ≡ q
@@ -48,6 +38,6 @@ pub lengths_as : {l m : List ℕ} (sections splits partials : List ℕ) (room : 
 lengths_as sections splits partials room e = ap (λ (x : List ℕ). from_sections x sections splits partials room) e
 
 -- a table that was refused is the outcome
-pub refused_as : {m : Outcome (Unit {0})} (n : Outcome (List Split)) {a : Answer} {d : Refusal} (c : Columns) → meaning a ≡ m → a ≡ Err d → merged (Err d) c ≡ (m >> n)
+pub refused_as : {m : Outcome (Unit {0})} (n : Outcome (List Split)) {a : Answer} {d : Refusal} (rows : List Split) → meaning a ≡ m → a ≡ Err d → merged (Err d) rows ≡ (m >> n)
 unfolding ◌>>◌
-refused_as n c s e = let q = sym s ∙ ap meaning e in rw q refl
+refused_as n rows s e = let q = sym s ∙ ap meaning e in rw q refl

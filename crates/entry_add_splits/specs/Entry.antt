@@ -1,7 +1,7 @@
 -- The entry `add_splits` on its lent bytes: the tables that it takes, each for 1, 2, then its kind's number, and then the merge of the partial list into the split
 -- table; what it answers and leaves for every input (`Leaves` of stage_splits).
 -- "The merge's partial list is checked as records"; the split table comes before it (DECISIONS.md, 10), and has the output's length as its ceiling (39).
-use Rattle.std.specs.Prelude.{ℕ, ◌≡◌, List, length}
+use Rattle.std.specs.Prelude.{ℕ, List}
 use Rattle.lists.specs.Outcome.{Outcome, ◌>>◌}
 use Rattle.obj.specs.declared.Section.{Section}
 use Rattle.obj.specs.declared.Split.{Split}
@@ -40,11 +40,3 @@ unfoldable pub from_sections : (lengths sections splits partials : List ℕ) →
 from_sections lengths sections splits partials room = do
   sections_check main_ceilings.sections lengths sections
   from_splits lengths (stage_sections sections) splits partials room
-
--- the lent columns are long enough: for the places of splits, and for the rows
-pub record Scratch (places starts ends units rest : List ℕ) : Type 0 where
-  pub places_long : length places ≡ 1024
-  pub starts_long : length starts ≡ 1024
-  pub ends_long : length ends ≡ 1024
-  pub units_long : length units ≡ 1024
-  pub rest_long : length rest ≡ 1024

@@ -2,62 +2,42 @@
 // The columns are local; each function lends them on whole.
 #![tactic(auto)]
 
-ghost use Rattle.std.specs.Prelude.{◌≡◌, ◌*◌, ◌≤◌, length};
+ghost use Rattle.std.specs.Prelude.{◌≡◌, ◌≤◌, length};
 ghost use Rattle.tables.specs.Tables.{AllHeld};
 ghost use Rattle.tables.specs.Records.{sections_in};
 ghost use Rattle.name_table.specs.Stored.{Room as NameRoom};
-ghost use Rattle.splits.specs.Columns.{columns};
+ghost use Rattle.splits.specs.Table.{rows_in};
 ghost use Rattle.stage_splits.specs.StageSplits.{room_of, Gives, Leaves};
-ghost use Rattle.merge.specs.Answers.{merged, count};
-ghost use Rattle.entry_add_splits.specs.Entry.{add_splits_of, from_splits, Scratch};
+ghost use Rattle.merge.specs.Answers.{merged};
+ghost use Rattle.entry_add_splits.specs.Entry.{add_splits_of, from_splits};
 
 use lent_tables::StageTables;
 use name_table::check_names;
-use obj::{PARTIAL_BYTES, Refusal, SPLIT_BYTES, Table};
-use splits::SplitColumns;
+use obj::{PARTIAL_BYTES, Refusal, Table};
+use splits::SplitTable;
 use stage_splits::{finish, give_splits, room_of, take_split_columns};
 use stage_tables::{take_partials, take_sections};
 
-// The split table in the columns, the partial list, and the merge of both: how many rows there are then. `lengths` are those of the names, `heads` the sections at their places; `places` has those
-// of the splits and, once they are in their columns, those of the partial splits.
+// The split table in the lent one, with its room as ceiling, the partial list, and the merge of both. `lengths` are those of the names, `heads` the sections at their places; `places` has those
+// of the splits and, once they are in the table, those of the partial splits.
 fn with_columns(
     lengths: &[u8],
     heads: &Table,
     lent: &StageTables,
-    room: usize,
     places: &mut [u32],
-    starts: &mut [u32],
-    ends: &mut [u32],
-    units: &mut [u16],
-    rest: &mut [u64],
-) -> Result<usize, Refusal>
-    requires { AllHeld 15 heads.now.bytes.now heads.now.places.now × Scratch places.old starts.old ends.old units.old rest.old × (room ≤ 1024) }
-    ensures { (merged result (columns starts.new ends.new units.new rest.new)
-        ≡ from_splits lengths.now (sections_in heads.now.bytes.now heads.now.places.now) lent.now.splits.now lent.now.partials.now room)
-        × (count result ≤ room) }
+    table: &mut SplitTable,
+) -> Result<(), Refusal>
+    requires { AllHeld 15 heads.now.bytes.now heads.now.places.now × (length places.old ≡ 1024) × (table.old.room ≤ 1024) }
+    ensures rows { merged result (rows_in table.new)
+        ≡ from_splits lengths.now (sections_in heads.now.bytes.now heads.now.places.now) lent.now.splits.now lent.now.partials.now table.old.room }
+    ensures room { table.new.room ≡ table.old.room }
 {
-    take_split_columns(
-        lengths,
-        heads,
-        lent.splits,
-        room,
-        places,
-        starts,
-        ends,
-        units,
-        rest,
-    )?;
+    take_split_columns(lengths, heads, lent.splits, places, table)?;
     // "1,024 splits"
     take_partials(lengths, lent.partials, 1024, places)?;
-    let n = lent.splits.len() / SPLIT_BYTES;
     let m = lent.partials.len() / PARTIAL_BYTES;
     merge::add_splits(
-        starts,
-        ends,
-        units,
-        rest,
-        n,
-        room,
+        table,
         heads,
         &Table {
             bytes: lent.partials,
@@ -78,34 +58,21 @@ fn from_splits(
     ensures { Gives (from_splits lengths.now (sections_in heads.now.bytes.now heads.now.places.now) lent.now.splits.now lent.now.partials.now (room_of (length out.old)))
         result (length out.old) (length counts.old) out.new counts.new }
 {
-    let room = room_of(out.len());
     let mut places = [0u32; 1024];
     let mut starts = [0u32; 1024];
     let mut ends = [0u32; 1024];
     let mut units = [0u16; 1024];
     let mut rest = [0u64; 1024];
-    let n = with_columns(
-        lengths,
-        heads,
-        lent,
-        room,
-        &mut places,
-        &mut starts,
-        &mut ends,
-        &mut units,
-        &mut rest,
-    )?;
-    give_splits(
-        &SplitColumns {
-            starts: &starts,
-            ends: &ends,
-            units: &units,
-            rest: &rest,
-        },
-        n,
-        out,
-        counts,
-    );
+    let mut table = SplitTable {
+        starts: &mut starts,
+        ends: &mut ends,
+        units: &mut units,
+        rest: &mut rest,
+        count: 0,
+        room: room_of(out.len()),
+    };
+    with_columns(lengths, heads, lent, &mut places, &mut table)?;
+    give_splits(&table.columns(), out, counts);
     Ok(())
 }
 

@@ -51,11 +51,3 @@ from_sections name_bytes name_places name_lengths sections splits given start si
 pub record Names (bytes places lengths : List ℕ) : Type 0 where
   pub named : Named bytes places lengths (length places)
   pub same : length lengths ≡ length places
-
--- the lent columns hold a split table
-pub record Scratch (places starts ends units rest : List ℕ) : Type 0 where
-  pub places_long : length places ≡ 1024
-  pub starts_long : length starts ≡ 1024
-  pub ends_long : length ends ≡ 1024
-  pub units_long : length units ≡ 1024
-  pub rest_long : length rest ≡ 1024

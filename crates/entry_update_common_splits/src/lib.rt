@@ -6,98 +6,62 @@ ghost use Rattle.std.specs.Prelude.{◌≡◌, ◌*◌, ◌≤◌, length, is_so
 ghost use Rattle.tables.specs.Tables.{AllHeld};
 ghost use Rattle.tables.specs.Records.{sections_in};
 ghost use Rattle.name_table.specs.Stored.{Room};
-ghost use Rattle.splits.specs.Columns.{columns, rows, Long};
-ghost use Rattle.stage_splits.specs.StageSplits.{Gives, Leaves};
+ghost use Rattle.splits.specs.Table.{rows_in};
+ghost use Rattle.stage_splits.specs.StageSplits.{room_of, Gives, Leaves};
 ghost use Rattle.common.specs.Common.{common_of};
-ghost use Rattle.common.specs.Sections.{bss_in, Sections};
+ghost use Rattle.common.specs.Sections.{bss_numbers, SectionsIn};
 ghost use Rattle.obj.specs.Records.{split_width};
-ghost use Rattle.entry_update_common_splits.specs.Entry.{update_of, from_splits, from_sections, Names as NamesRead, Scratch};
+ghost use Rattle.entry_update_common_splits.specs.Entry.{update_of, from_splits, from_sections, Names as NamesRead};
 
 use common::update_common_records;
 use lent_tables::StageTables;
 use name_table::check_names;
 use names::Names;
-use obj::{Refusal, SPLIT_BYTES, Table};
-use splits::SplitColumns;
+use obj::{Refusal, Table};
+use splits::SplitTable;
 use stage_splits::{finish, give_splits, room_of, take_split_columns};
 use stage_tables::take_sections;
 
-// The stage on n rows, which are then given.
+// The stage on the lent table, whose rows are then given.
 fn update(
     names: &Names,
     heads: &Table,
-    starts: &[u32],
-    ends: &[u32],
-    units: &[u16],
-    rest: &mut [u64],
-    n: usize,
+    table: &mut SplitTable,
     given: Option<u32>,
     out: &mut [u8],
     counts: &mut [u8],
 ) -> Result<(), Refusal>
-    requires { Sections names.now.bytes.now names.now.places.now names.now.lengths.now heads.now.bytes.now heads.now.places.now
-        × Long (columns starts.now ends.now units.now rest.old) n
-        × (n ≤ 1024)
-        × (split_width * n ≤ length out.old) }
-    ensures { Gives
-        (common_of (is_some given) (unwrap_or given 0) (bss_in names.now.bytes.now names.now.places.now names.now.lengths.now heads.now.bytes.now heads.now.places.now)
-        (rows (columns starts.now ends.now units.now rest.old) n))
+    requires { SectionsIn names.now heads.now × (table.old.count ≤ 1024) × (split_width * table.old.count ≤ length out.old) }
+    ensures { Gives (common_of (is_some given) (unwrap_or given 0) (bss_numbers names.now heads.now) (rows_in table.old))
         result (length out.old) (length counts.old) out.new counts.new }
 {
-    update_common_records(names, heads, starts, ends, units, rest, n, given)?;
-    give_splits(
-        &SplitColumns {
-            starts,
-            ends,
-            units,
-            rest: &*rest,
-        },
-        n,
-        out,
-        counts,
-    );
+    update_common_records(names, heads, table, given)?;
+    give_splits(&table.columns(), out, counts);
     Ok(())
 }
 
-// The tables from the splits on, in lent columns.
+// The tables from the splits on, in the lent one, whose room is that of the output.
 fn from_splits(
     names: &Names,
     heads: &Table,
     splits: &[u8],
     given: Option<u32>,
     places: &mut [u32],
-    starts: &mut [u32],
-    ends: &mut [u32],
-    units: &mut [u16],
-    rest: &mut [u64],
+    table: &mut SplitTable,
     out: &mut [u8],
     counts: &mut [u8],
 ) -> Result<(), Refusal>
-    requires { Sections names.now.bytes.now names.now.places.now names.now.lengths.now heads.now.bytes.now heads.now.places.now
+    requires { SectionsIn names.now heads.now
         × AllHeld 15 heads.now.bytes.now heads.now.places.now
-        × Scratch places.old starts.old ends.old units.old rest.old }
+        × (length places.old ≡ 1024)
+        × (table.old.room ≡ room_of (length out.old)) }
     ensures { Gives
-        (from_splits names.now.lengths.now (sections_in heads.now.bytes.now heads.now.places.now)
-        (bss_in names.now.bytes.now names.now.places.now names.now.lengths.now heads.now.bytes.now heads.now.places.now)
+        (from_splits names.now.lengths.now (sections_in heads.now.bytes.now heads.now.places.now) (bss_numbers names.now heads.now)
         splits.now (is_some given) (unwrap_or given 0) (length out.old))
         result (length out.old) (length counts.old) out.new counts.new }
 {
-    let room = room_of(out.len());
-    take_split_columns(
-        names.lengths,
-        heads,
-        splits,
-        room,
-        places,
-        starts,
-        ends,
-        units,
-        rest,
-    )?;
-    let n = splits.len() / SPLIT_BYTES;
-    update(
-        names, heads, starts, ends, units, rest, n, given, out, counts,
-    )
+    take_split_columns(names.lengths, heads, splits, places, table)?;
+    update(names, heads, table, given, out, counts)
 }
 
 // The same, with columns of its own for the splits.
@@ -109,11 +73,9 @@ fn with_columns(
     out: &mut [u8],
     counts: &mut [u8],
 ) -> Result<(), Refusal>
-    requires { Sections names.now.bytes.now names.now.places.now names.now.lengths.now heads.now.bytes.now heads.now.places.now
-        × AllHeld 15 heads.now.bytes.now heads.now.places.now }
+    requires { SectionsIn names.now heads.now × AllHeld 15 heads.now.bytes.now heads.now.places.now }
     ensures { Gives
-        (from_splits names.now.lengths.now (sections_in heads.now.bytes.now heads.now.places.now)
-        (bss_in names.now.bytes.now names.now.places.now names.now.lengths.now heads.now.bytes.now heads.now.places.now)
+        (from_splits names.now.lengths.now (sections_in heads.now.bytes.now heads.now.places.now) (bss_numbers names.now heads.now)
         splits.now (is_some given) (unwrap_or given 0) (length out.old))
         result (length out.old) (length counts.old) out.new counts.new }
 {
@@ -122,16 +84,21 @@ fn with_columns(
     let mut ends = [0u32; 1024];
     let mut units = [0u16; 1024];
     let mut rest = [0u64; 1024];
+    let mut table = SplitTable {
+        starts: &mut starts,
+        ends: &mut ends,
+        units: &mut units,
+        rest: &mut rest,
+        count: 0,
+        room: room_of(out.len()),
+    };
     from_splits(
         names,
         heads,
         splits,
         given,
         &mut places,
-        &mut starts,
-        &mut ends,
-        &mut units,
-        &mut rest,
+        &mut table,
         out,
         counts,
     )

@@ -1,6 +1,6 @@
 -- The entry `validate_splits` on its lent bytes: what it answers for every input. "stage tables by kind .., each for 1, 2, then its kind's number", then the
 -- check (validate/specs/Check.antt). Its answer is the word of this outcome.
-use Rattle.std.specs.Prelude.{ℕ, ◌/◌, ◌≡◌, List, length}
+use Rattle.std.specs.Prelude.{ℕ, ◌/◌, List, length}
 use Rattle.lists.specs.Outcome.{Outcome, ◌>>◌}
 use Rattle.obj.specs.Records.{stage_places}
 use Rattle.obj.specs.declared.Section.{Section}
@@ -44,11 +44,3 @@ unfoldable pub from_sections : (lengths sections symbols splits : List ℕ) → 
 from_sections lengths sections symbols splits = do
   sections_check main_ceilings.sections lengths sections
   from_symbols lengths (stage_sections sections) symbols splits
-
--- the lent columns hold a split table
-pub record Scratch (places starts ends units rest : List ℕ) : Type 0 where
-  pub places_long : length places ≡ 1024
-  pub starts_long : length starts ≡ 1024
-  pub ends_long : length ends ≡ 1024
-  pub units_long : length units ≡ 1024
-  pub rest_long : length rest ≡ 1024

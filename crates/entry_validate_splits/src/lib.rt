@@ -10,18 +10,18 @@ ghost use Rattle.name_table.specs.Stored as stored;
 ghost use Rattle.symbol_order.specs.Order.{symbol_of, Order};
 ghost use Rattle.symbols.specs.Sound.{Sound};
 ghost use Rattle.stage_symbols.specs.StageSymbols as symbol_columns;
-ghost use Rattle.entry_validate_splits.specs.Entry.{validate_of, from_splits, from_symbols, from_sections, Scratch};
+ghost use Rattle.entry_validate_splits.specs.Entry.{validate_of, from_splits, from_symbols, from_sections};
 
 use lent_tables::StageTables;
 use name_table::check_names;
-use obj::{Refusal, SPLIT_BYTES, Table, word_of};
-use splits::SplitColumns;
+use obj::{Refusal, Table, word_of};
+use splits::SplitTable;
 use stage_splits::take_split_columns;
 use stage_symbols::take_symbol_order;
 use stage_tables::take_sections;
 use validate::validate;
 
-// The splits in lent columns, and the check.
+// The splits in the lent table, and the check.
 fn from_splits(
     name_lengths: &[u8],
     heads: &Table,
@@ -29,42 +29,19 @@ fn from_splits(
     order: &[u16],
     splits: &[u8],
     places: &mut [u32],
-    starts: &mut [u32],
-    ends: &mut [u32],
-    units: &mut [u16],
-    rest: &mut [u64],
+    table: &mut SplitTable,
 ) -> Result<(), Refusal>
     requires { AllHeld 15 heads.now.bytes.now heads.now.places.now
         × Order symbols.now.bytes.now symbols.now.places.now order.now
         × Sound (symbol_of symbols.now.bytes.now symbols.now.places.now) (length symbols.now.places.now)
-        × Scratch places.old starts.old ends.old units.old rest.old }
+        × (length places.old ≡ 1024)
+        × (table.old.room ≡ 1024) }
     ensures { meaning result
         ≡ from_splits name_lengths.now (sections_in heads.now.bytes.now heads.now.places.now)
         (symbol_of symbols.now.bytes.now symbols.now.places.now) (length symbols.now.places.now) splits.now }
 {
-    take_split_columns(
-        name_lengths,
-        heads,
-        splits,
-        1024,
-        places,
-        starts,
-        ends,
-        units,
-        rest,
-    )?;
-    let n = splits.len() / SPLIT_BYTES;
-    validate(
-        symbols,
-        order,
-        &SplitColumns {
-            starts: &*starts,
-            ends: &*ends,
-            units: &*units,
-            rest: &*rest,
-        },
-        n,
-    )
+    take_split_columns(name_lengths, heads, splits, places, table)?;
+    validate(symbols, order, &table.columns())
 }
 
 // The same, with columns of its own for the splits.
@@ -87,6 +64,14 @@ fn with_splits(
     let mut ends = [0u32; 1024];
     let mut units = [0u16; 1024];
     let mut rest = [0u64; 1024];
+    let mut table = SplitTable {
+        starts: &mut starts,
+        ends: &mut ends,
+        units: &mut units,
+        rest: &mut rest,
+        count: 0,
+        room: 1024,
+    };
     from_splits(
         name_lengths,
         heads,
@@ -94,10 +79,7 @@ fn with_splits(
         order,
         splits,
         &mut places,
-        &mut starts,
-        &mut ends,
-        &mut units,
-        &mut rest,
+        &mut table,
     )
 }
 
