@@ -107,17 +107,14 @@ pub rows_long : {starts ends units rest : List ℕ} (n : ℕ) → n ≤ 1024 →
     → Long (columns starts ends units rest) n
 rows_long n h p q r s = record { starts = omega arith; ends = omega arith; units = omega arith; rest = omega arith }
 
--- it passed, the columns held its splits before they were mended, and what was mended is stored
-pub mended_gives : (lengths : List ℕ) (heads : List Section) (splits : List ℕ) (room : ℕ) {answer : Outcome (Unit {0})} {section_ends : List ℕ} (old c : Columns) (r : Result ℕ Refusal) {a : Answer}
-    {out lines counts out' lines' counts' : List ℕ} → answer ≡ splits_check room lengths heads splits → answer ≡ accepted tt → split_width * room ≤ length out
-    → section_ends ≡ section_ends_of heads → rows old (length splits / split_width) ≡ stage_splits splits
-    → Mends section_ends (rows old (length splits / split_width)) (rows c (length splits / split_width)) lines lines' r
-    → Stores r (rows c (length splits / split_width)) (length splits / split_width) a out counts out' counts'
-    → Gives (from_splits lengths heads splits room (length lines)) a (Laid out lines counts out' lines' counts')
+-- it passed, the table held its splits before they were mended, and what was mended is stored
+pub mended_gives : (lengths : List ℕ) (heads : List Section) (splits : List ℕ) (room : ℕ) {answer : Outcome (Unit {0})} {section_ends : List ℕ} {old : List Split} (c : Columns) (n : ℕ)
+    (r : Result ℕ Refusal) {a : Answer} {out lines counts out' lines' counts' : List ℕ} → answer ≡ splits_check room lengths heads splits → answer ≡ accepted tt
+    → split_width * n ≤ length out → section_ends ≡ section_ends_of heads → old ≡ stage_splits splits → Mends section_ends old (rows c n) lines lines' r
+    → Stores r (rows c n) n a out counts out' counts' → Gives (from_splits lengths heads splits room (length lines)) a (Laid out lines counts out' lines' counts')
 unfolding from_splits
-mended_gives lengths heads splits room old c r {lines = lines} said told h s l w t =
-    let n = (table_passed split_width room splits _ (sym said ∙ told)).1 in
-    stored_gives r c (w.is ∙ ap₂ (λ (x : List ℕ) (y : List Split). mend x (length lines) y) s l ∙ then_goes said _ told) w.stays (omega (arith, n, h)) t
+mended_gives lengths heads splits room c n r {lines = lines} said told h s l w t =
+    stored_gives r c (w.is ∙ ap₂ (λ (x : List ℕ) (y : List Split). mend x (length lines) y) s l ∙ then_goes said _ told) w.stays h t
 
 -- the lines of at most 1,024 rows have at most 49,152 bytes
 pub lines_low : {section_ends : List ℕ} (old : Columns) (n : ℕ) {new : List Split} {before after : List ℕ} {r : Result ℕ Refusal} → n ≤ 1024 → Mends section_ends (rows old n) new before after r

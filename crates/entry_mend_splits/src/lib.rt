@@ -14,8 +14,8 @@ ghost use Rattle.entry_mend_splits.specs.Entry.{mend_splits_of, from_splits, Nam
 use mend::{fill_section_ends, mend_table};
 use mend_outputs::{finish, give_mended};
 use name_table::check_names;
-use obj::{Refusal, SPLIT_BYTES, Table};
-use splits::SplitColumns;
+use obj::{Refusal, Table};
+use splits::SplitTable;
 use stage_splits::{room_of, take_split_columns};
 use stage_tables::take_sections;
 
@@ -81,31 +81,18 @@ fn from_splits(
     let mut ends = [0u32; 1024];
     let mut units = [0u16; 1024];
     let mut rest = [0u64; 1024];
-    take_split_columns(
-        lengths,
-        heads,
-        splits,
-        room_of(out.len()),
-        &mut places,
-        &mut starts,
-        &mut ends,
-        &mut units,
-        &mut rest,
-    )?;
-    let n = splits.len() / SPLIT_BYTES;
-    let r = mend_table(&starts, &mut ends, &units, &rest, n, section_ends, lines);
-    give_mended(
-        r,
-        &SplitColumns {
-            starts: &starts,
-            ends: &ends,
-            units: &units,
-            rest: &rest,
-        },
-        n,
-        out,
-        counts,
-    )
+    let room = room_of(out.len());
+    let mut table = SplitTable {
+        starts: &mut starts,
+        ends: &mut ends,
+        units: &mut units,
+        rest: &mut rest,
+        count: 0,
+        room,
+    };
+    take_split_columns(lengths, heads, splits, &mut places, &mut table)?;
+    let r = mend_table(&mut table, section_ends, lines);
+    give_mended(r, &table.columns(), out, counts)
 }
 
 // All tables, and the outputs where they pass.

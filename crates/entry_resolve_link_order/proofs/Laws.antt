@@ -10,7 +10,7 @@ use lib.ListN.{length, get_or, take, length-map, get_or-eq_default}
 use lib.Seq.{length-take-le, get_or-take}
 use Rattle.lists.specs.Rows.{clear_from}
 use Rattle.lists.specs.Outcome.{Outcome, accepted, refused, ◌>>◌}
-use Rattle.lists.proofs.Rows.{get_d_map, get_d_tabulate}
+use Rattle.lists.proofs.Rows.{get_d_map, get_d_tabulate, length-tabulate}
 use Rattle.lists.proofs.Compare.{lt_or_ge}
 use Rattle.lists.proofs.Outcomes.{then_goes, then_both}
 use Rattle.lists.proofs.Clear.{clear_all}
@@ -37,7 +37,7 @@ use Rattle.name_table.specs.Stored.{Stored, stage_lengths}
 use Rattle.stage_tables.specs.StageTables.{stage_sections, stage_splits, stage_units, sections_check, splits_check, units_check, Filled}
 use Rattle.stage_tables.proofs.Laws.{table_passed, taken_places, taken-count, taken-held}
 use Rattle.stage_splits.specs.StageSplits.{Taken}
-use Rattle.splits.specs.Columns.{Columns, rows, row_at, Long}
+use Rattle.splits.specs.Columns.{Columns, rows, row_at}
 use Rattle.toposort.specs.Search.{End}
 use Rattle.link_graph.specs.Columns.{pointers_in}
 use Rattle.link_graph.proofs.Rows.{row_at_lem}
@@ -138,36 +138,35 @@ sections_taken lengths b places name_bytes name_places f e names =
     }
 
 -- ---- splits
-module _ (lengths heads head_places name_bytes name_places b : List ℕ) (c : Columns) {answer : Outcome (Unit {0})}
-    (t : Taken answer (splits_check 1024 lengths (sections_in heads head_places) b) b c) (e : answer ≡ accepted tt) where
+module _ (lengths heads head_places name_bytes name_places b : List ℕ) (c : Columns) (n : ℕ) {answer : Outcome (Unit {0})}
+    (t : Taken answer (splits_check 1024 lengths (sections_in heads head_places) b) b (rows c n)) (e : answer ≡ accepted tt) where
   passed_table : (length b / split_width ≤ 1024) × (records_check (split_fault lengths (sections_in heads head_places) (stage_splits b)) (length b / split_width) ≡ accepted tt)
   passed_table = let p = table_passed split_width 1024 b (split_fault lengths (sections_in heads head_places) (stage_splits b)) (sym t.said ∙ e) in (p.1, p.2)
 
-  pub rows_taken : rows c (length b / split_width) ≡ stage_splits b
+  pub rows_taken : rows c n ≡ stage_splits b
   rows_taken = t.taken (sym t.said ∙ e)
 
-  row_taken : (i : ℕ) → i < length b / split_width → row_at c i ≡ get_or (stage_splits b) i no_split
-  row_taken i h = sym (row_at_lem c (length b / split_width) i h) ∙ ap (λ (l : List Split). get_or l i no_split) rows_taken
+  count_taken : n ≡ length b / split_width
+  count_taken =
+      sym (length-tabulate (row_at c) 0 n) ∙ ap length rows_taken ∙ length-map (stage_places split_width (length b / split_width)) (split_at b)
+      ∙ length-stage_places split_width (length b / split_width)
 
-  pub splits-taken : SectionsTaken heads head_places name_bytes name_places lengths → Long c 1024
-      → SplitsTaken c (length b / split_width) heads head_places name_bytes name_places lengths
-  splits-taken s long = record {
+  row_taken : (i : ℕ) → i < n → row_at c i ≡ get_or (stage_splits b) i no_split
+  row_taken i h = sym (row_at_lem c n i h) ∙ ap (λ (l : List Split). get_or l i no_split) rows_taken
+
+  pub splits-taken : SectionsTaken heads head_places name_bytes name_places lengths → SplitsTaken c n heads head_places name_bytes name_places lengths
+  splits-taken s = record {
     given = record {
-      long = record {
-        starts = omega (arith, passed_table.0, long.starts);
-        ends = omega (arith, passed_table.0, long.ends);
-        units = omega (arith, passed_table.0, long.units);
-        rest = omega (arith, passed_table.0, long.rest);
-      };
-      few = passed_table.0;
+      few = omega (arith, passed_table.0, count_taken);
       sections = s.sections;
       sectioned = λ i h.
-          let q = tables.splits_section lengths (sections_in heads head_places) (stage_splits b) (length b / split_width) passed_table.1 i h in
+          let q = tables.splits_section lengths (sections_in heads head_places) (stage_splits b) (length b / split_width) passed_table.1 i (omega (arith, count_taken, h)) in
           omega (arith, ap (λ (r : Split). r.section) (row_taken i h), length-map head_places (section_at heads));
     };
     named = λ i h.
         let partials = tables.splits_partials lengths (sections_in heads head_places) (stage_splits b) (length b / split_width) passed_table.1 in
-        let q = known lengths (get_or (stage_splits b) i no_split).unit (tables.partials_named lengths (stage_splits b) (length b / split_width) partials i h) in
+        let there = tables.partials_named lengths (stage_splits b) (length b / split_width) partials i (omega (arith, count_taken, h)) in
+        let q = known lengths (get_or (stage_splits b) i no_split).unit there in
         omega (arith, ap (λ (r : Split). r.unit) (row_taken i h), s.few);
     few = s.few;
   }

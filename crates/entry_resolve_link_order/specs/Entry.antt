@@ -122,11 +122,3 @@ pub record SectionsTaken (heads head_places name_bytes name_places lengths : Lis
   pub held : AllHeld 15 heads head_places
   pub sections : SectionNames heads head_places name_bytes name_places lengths
   pub few : length lengths ≤ 4096
-
--- room for a split table's places and columns
-pub record SplitRoom (places starts ends us rest : List ℕ) : Type 0 where
-  pub places_long : length places ≡ 1024
-  pub starts_long : length starts ≡ 1024
-  pub ends_long : length ends ≡ 1024
-  pub units_long : length us ≡ 1024
-  pub rest_long : length rest ≡ 1024

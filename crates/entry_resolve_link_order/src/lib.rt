@@ -7,52 +7,50 @@ ghost use Rattle.obj.specs.Records.{stage_places};
 ghost use Rattle.tables.specs.Records.{sections_in};
 ghost use Rattle.name_table.specs.Stored.{Room};
 ghost use Rattle.stage_tables.specs.StageTables.{stage_splits, stage_units};
-ghost use Rattle.splits.specs.Columns.{rows};
-ghost use Rattle.splits.specs.Table.{columns_of};
+ghost use Rattle.splits.specs.Table.{columns_of, rows_of};
 ghost use Rattle.link_graph.specs.Columns.{pointers_in};
 ghost use Rattle.order.specs.Columns.{Resolves, SplitsTaken};
-ghost use Rattle.entry_resolve_link_order.specs.Entry.{resolve_of, from_units, from_splits, from_sections, NamesTaken, SectionsTaken, SplitRoom, Leaves};
+ghost use Rattle.entry_resolve_link_order.specs.Entry.{resolve_of, from_units, from_splits, from_sections, NamesTaken, SectionsTaken, Leaves};
 
 use lent_tables::StageTables;
+use link_graph::LinkTables;
 use name_table::check_names;
 use names::Names;
-use obj::{SPLIT_BYTES, Table, word_of};
+use obj::{Table, word_of};
 use order::{Unlinked, answer_of, kept, ordered};
 use outputs::{clear_from, put_count};
-use splits::SplitColumns;
+use splits::{SplitColumns, SplitTable};
 use stage_splits::take_split_columns;
 use stage_tables::{take_sections, take_units};
 
 // The units, and then the stage.
 fn from_units(
     splits: &SplitColumns,
-    n: usize,
     heads: &Table,
     names: &Names,
     unit_bytes: &[u8],
     unit_places: &mut [u32],
     out: &mut [u8],
 ) -> Result<usize, Unlinked>
-    requires { SplitsTaken (columns_of splits.now) n heads.now.bytes.now heads.now.places.now names.now.bytes.now names.now.places.now names.now.lengths.now
+    requires { SplitsTaken (columns_of splits.now) splits.now.count heads.now.bytes.now heads.now.places.now names.now.bytes.now names.now.places.now names.now.lengths.now
         × (length unit_places.old ≡ 1024) }
-    ensures { Resolves (rows (columns_of splits.now) n) (stage_units unit_bytes.now)
-        (from_units names.now.lengths.now (rows (columns_of splits.now) n) (pointers_in heads.now.bytes.now heads.now.places.now names.now.bytes.now names.now.places.now names.now.lengths.now) unit_bytes.now (length out.old))
+    ensures { Resolves (rows_of splits.now) (stage_units unit_bytes.now)
+        (from_units names.now.lengths.now (rows_of splits.now) (pointers_in heads.now.bytes.now heads.now.places.now names.now.bytes.now names.now.places.now names.now.lengths.now) unit_bytes.now (length out.old))
         result out.old out.new }
 {
     // "1,024 units"
     take_units(names.lengths, unit_bytes, 1024, unit_places)?;
     let k = unit_bytes.len() / 8;
-    ordered(
-        splits,
-        n,
-        heads,
-        names,
-        &Table {
+    let tables = LinkTables {
+        splits: *splits,
+        heads: *heads,
+        names: *names,
+        units: Table {
             bytes: unit_bytes,
             places: &unit_places[..k],
         },
-        out,
-    )
+    };
+    ordered(&tables, out)
 }
 
 // The splits, and then the units. `places` is for the places of the splits, and then of the units.
@@ -61,45 +59,19 @@ fn from_splits(
     names: &Names,
     lent: &StageTables,
     places: &mut [u32],
-    starts: &mut [u32],
-    ends: &mut [u32],
-    units: &mut [u16],
-    rest: &mut [u64],
+    table: &mut SplitTable,
     out: &mut [u8],
 ) -> Result<usize, Unlinked>
     requires { SectionsTaken heads.now.bytes.now heads.now.places.now names.now.bytes.now names.now.places.now names.now.lengths.now
-        × SplitRoom places.old starts.old ends.old units.old rest.old }
+        × (table.old.room ≡ 1024)
+        × (length places.old ≡ 1024) }
     ensures { Resolves (stage_splits lent.now.splits.now) (stage_units lent.now.units.now)
         (from_splits names.now.lengths.now (sections_in heads.now.bytes.now heads.now.places.now) (pointers_in heads.now.bytes.now heads.now.places.now names.now.bytes.now names.now.places.now names.now.lengths.now)
         lent.now.splits.now lent.now.units.now (length out.old))
         result out.old out.new }
 {
-    // "1,024 splits"
-    take_split_columns(
-        names.lengths,
-        heads,
-        lent.splits,
-        1024,
-        places,
-        starts,
-        ends,
-        units,
-        rest,
-    )?;
-    from_units(
-        &SplitColumns {
-            starts: &*starts,
-            ends: &*ends,
-            units: &*units,
-            rest: &*rest,
-        },
-        lent.splits.len() / SPLIT_BYTES,
-        heads,
-        names,
-        lent.units,
-        places,
-        out,
-    )
+    take_split_columns(names.lengths, heads, lent.splits, places, table)?;
+    from_units(&table.columns(), heads, names, lent.units, places, out)
 }
 
 // The same, with columns of its own.
@@ -120,17 +92,16 @@ fn split_tables(
     let mut ends = [0u32; 1024];
     let mut units = [0u16; 1024];
     let mut rest = [0u64; 1024];
-    from_splits(
-        heads,
-        names,
-        lent,
-        &mut places,
-        &mut starts,
-        &mut ends,
-        &mut units,
-        &mut rest,
-        out,
-    )
+    // "1,024 splits"
+    let mut table = SplitTable {
+        starts: &mut starts,
+        ends: &mut ends,
+        units: &mut units,
+        rest: &mut rest,
+        count: 0,
+        room: 1024,
+    };
+    from_splits(heads, names, lent, &mut places, &mut table, out)
 }
 
 // The sections, and then the splits.

@@ -5,12 +5,12 @@ use mathlib.Core.Path.{◌≡◌, sym, ap, ap₂, ◌∙◌}
 use mathlib.Core.List.{List}
 use native.Mathlib.Nat.{zero-add}
 use native.Mathlib.Omega.{arith}
-use lib.ListN.{length, get_or, take}
+use lib.ListN.{length, get_or, take, length-map}
 use lib.Seq.{get_or-take, length-take-le}
 use Rattle.lists.specs.Outcome.{Outcome, accepted, ◌>>◌}
-use Rattle.lists.proofs.Rows.{get_d_tabulate}
+use Rattle.lists.proofs.Rows.{get_d_tabulate, length-tabulate}
 use Rattle.obj.specs.Answers.{meaning}
-use Rattle.obj.specs.Records.{stage_places, split_width}
+use Rattle.obj.specs.Records.{split_at, stage_places, split_width}
 use Rattle.obj.specs.Answers.{Answer}
 use Rattle.std.specs.Prelude.{Result, Ok, Err}
 use Rattle.obj.specs.declared.Section.{Section}
@@ -26,7 +26,7 @@ use Rattle.symbol_order.specs.Order.{symbol_of}
 use Rattle.symbols.specs.Sound.{Sound}
 use Rattle.sections.specs.Image.{Image, image_of}
 use Rattle.sections.specs.Sections.{Sections, sections_of}
-use Rattle.splits.specs.Columns.{Columns, row_at, rows, Long}
+use Rattle.splits.specs.Columns.{Columns, row_at, rows}
 use Rattle.stage_symbols.specs.StageSymbols.{answered, Ordered}
 use Rattle.obj.specs.declared.Refusal.{Refusal}
 use Rattle.stage_symbols.proofs.Laws.{symbols_sound}
@@ -46,26 +46,31 @@ module _ {size counts_size : ℕ} {out counts : List ℕ} (a : Answer) (o : Outc
   seen-laid e w = gives_said o (sym e) (gives_laid (sym (ap (λ (x : Answer). seen x l) e) ∙ q) w)
 
 -- ---- splits that passed: each has a section, and ends at or below 0xF0000000
-pub rows-placed : (ceiling : ℕ) (lengths : List ℕ) (heads : List Section) (b : List ℕ) (c : Columns) → splits_check ceiling lengths heads b ≡ accepted tt
-    → rows c (length b / split_width) ≡ stage_splits b → Long c (length b / split_width) → (count : ℕ) → length heads ≡ count → AllPlaced count c (length b / split_width)
-rows-placed ceiling lengths heads b c passed taken long count e =
+pub rows-placed : (ceiling : ℕ) (lengths : List ℕ) (heads : List Section) (b : List ℕ) (c : Columns) (held : ℕ) → splits_check ceiling lengths heads b ≡ accepted tt
+    → rows c held ≡ stage_splits b → (count : ℕ) → length heads ≡ count → AllPlaced count c held
+rows-placed ceiling lengths heads b c held passed taken count e =
     record {
-      long = long;
       each = λ k h.
+          let q : k < n = omega (arith, same) in
           record {
-            section = omega (arith, ap (λ (s : Split). s.section) (row_is k h), splits_section lengths heads (stage_splits b) n records k h, e);
-            end = omega (arith, ap (λ (s : Split). s.end) (row_is k h), partials_end lengths (stage_splits b) n (splits_partials lengths heads (stage_splits b) n records) k h);
+            section = omega (arith, ap (λ (s : Split). s.section) (row_is k h), splits_section lengths heads (stage_splits b) n records k q, e);
+            end = omega (arith, ap (λ (s : Split). s.end) (row_is k h), partials_end lengths (stage_splits b) n (splits_partials lengths heads (stage_splits b) n records) k q);
           };
     }
   where
     n : ℕ
     n = length b / split_width
 
+    same : held ≡ n
+    same =
+        sym (length-tabulate (row_at c) 0 held) ∙ ap length taken ∙ length-map (stage_places split_width n) (split_at b)
+        ∙ length-stage_places split_width n
+
     records : records_check (split_fault lengths heads (stage_splits b)) n ≡ accepted tt
     records = (table_passed split_width ceiling b _ passed).2
 
-    row_is : (k : ℕ) → k < n → row_at c k ≡ get_or (stage_splits b) k no_split
-    row_is k h = sym (get_d_tabulate (row_at c) 0 n k no_split h ∙ ap (row_at c) (zero-add k)) ∙ ap (λ (l : List Split). get_or l k no_split) taken
+    row_is : (k : ℕ) → k < held → row_at c k ≡ get_or (stage_splits b) k no_split
+    row_is k h = sym (get_d_tabulate (row_at c) 0 held k no_split h ∙ ap (row_at c) (zero-add k)) ∙ ap (λ (l : List Split). get_or l k no_split) taken
 
 -- ---- symbols that passed
 module _ (names : ℕ) (heads : List Section) (b places order : List ℕ) (r : Result ℕ Refusal) (o : Ordered (symbols_check 4096 names heads b) b places order r)

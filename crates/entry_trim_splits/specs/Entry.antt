@@ -64,11 +64,8 @@ pub record Headed (heads head_places image image_places name_places : List ℕ) 
   pub all : AllHeld 15 heads head_places
   pub kept : Kept heads head_places image image_places name_places
 
--- the lent columns hold a split table, and a number of each split
-pub record Scratch (places starts ends units rest falls : List ℕ) : Type 0 where
+-- the table has room for the splits that an output of `size` bytes allows, and the lent columns for a place and a number of each
+pub record Scratch (size room : ℕ) (places falls : List ℕ) : Type 0 where
+  pub allowed : room ≡ room_of size
   pub places_long : length places ≡ 1024
-  pub starts_long : length starts ≡ 1024
-  pub ends_long : length ends ≡ 1024
-  pub units_long : length units ≡ 1024
-  pub rest_long : length rest ≡ 1024
   pub falls_long : length falls ≡ 1024

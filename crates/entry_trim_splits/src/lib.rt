@@ -8,77 +8,58 @@ ghost use Rattle.name_table.specs.Stored as stored;
 ghost use Rattle.symbol_order.specs.Order.{symbol_of};
 ghost use Rattle.symbols.specs.Sound.{Sound};
 ghost use Rattle.sections.specs.Image.{image_in, TablesIn};
-ghost use Rattle.sections.specs.Sections.{sections_of, Kept};
-ghost use Rattle.splits.specs.Columns.{columns, rows};
+ghost use Rattle.sections.specs.Sections.{sections_of};
+ghost use Rattle.splits.specs.Table.{columns_in, rows_in};
 ghost use Rattle.stage_symbols.specs.StageSymbols as symbol_columns;
 ghost use Rattle.stage_splits.specs.StageSplits.{Gives, Leaves};
 ghost use Rattle.trim.specs.Trim.{trimmed};
 ghost use Rattle.trim.specs.Steps.{AllPlaced};
+ghost use Rattle.trim.specs.Lent.{sections_in as sections_lent, KeptIn};
 ghost use Rattle.obj.specs.Records.{split_width};
 ghost use Rattle.entry_trim_splits.specs.Entry.{trim_of, from_splits, from_symbols, from_sections, Names as NamesRead, Headed, Scratch};
 
 use lent_tables::StageTables;
 use name_table::check_names;
 use names::Names;
-use obj::{Refusal, SPLIT_BYTES, Table};
+use obj::{Refusal, Table};
 use sections::Obj;
-use splits::SplitColumns;
+use splits::SplitTable;
 use stage_splits::{finish, give_splits, room_of, take_split_columns};
 use stage_symbols::{take_image_places, take_symbol_order};
 use stage_tables::take_image;
 use trim::trim;
 
-// The trim of n rows, which are then given.
+// The trim of the table, which is then given.
 fn trim_rows(
     obj: &Obj,
     image: &Table,
-    starts: &[u32],
-    ends: &mut [u32],
-    units: &[u16],
-    rest: &[u64],
-    n: usize,
+    table: &mut SplitTable,
     falls: &mut [u32],
     out: &mut [u8],
     counts: &mut [u8],
 ) -> Result<(), Refusal>
     requires { TablesIn obj.now
         × Sound (symbol_of obj.now.symbols.bytes.now obj.now.symbols.places.now) (length obj.now.symbols.places.now)
-        × Kept obj.now.heads.bytes.now obj.now.heads.places.now image.now.bytes.now image.now.places.now obj.now.names.places.now
-        × AllPlaced (length obj.now.heads.places.now) (columns starts.now ends.old units.now rest.now) n
-        × (n ≤ length falls.old)
-        × (n ≤ 1024)
-        × (split_width * n ≤ length out.old) }
-    ensures { Gives
-        (trimmed (image_in obj.now)
-        (sections_of obj.now.heads.bytes.now obj.now.heads.places.now image.now.bytes.now image.now.places.now)
-        (rows (columns starts.now ends.old units.now rest.now) n))
+        × KeptIn obj.now image.now
+        × AllPlaced (length obj.now.heads.places.now) (columns_in table.old) table.old.count
+        × (table.old.count ≤ length falls.old)
+        × (table.old.count ≤ 1024)
+        × (split_width * table.old.count ≤ length out.old) }
+    ensures { Gives (trimmed (image_in obj.now) (sections_lent obj.now image.now) (rows_in table.old))
         result (length out.old) (length counts.old) out.new counts.new }
 {
-    trim(obj, image, starts, ends, units, rest, n, falls)?;
-    give_splits(
-        &SplitColumns {
-            starts,
-            ends: &*ends,
-            units,
-            rest,
-        },
-        n,
-        out,
-        counts,
-    );
+    trim(obj, image, table, falls)?;
+    give_splits(&table.columns(), out, counts);
     Ok(())
 }
 
-// The splits in lent columns, and the trim.
+// The splits in a lent table, and the trim.
 fn from_splits(
     obj: &Obj,
     image: &Table,
     splits: &[u8],
     places: &mut [u32],
-    starts: &mut [u32],
-    ends: &mut [u32],
-    units: &mut [u16],
-    rest: &mut [u64],
+    table: &mut SplitTable,
     falls: &mut [u32],
     out: &mut [u8],
     counts: &mut [u8],
@@ -86,28 +67,15 @@ fn from_splits(
     requires { TablesIn obj.now
         × Sound (symbol_of obj.now.symbols.bytes.now obj.now.symbols.places.now) (length obj.now.symbols.places.now)
         × Headed obj.now.heads.bytes.now obj.now.heads.places.now image.now.bytes.now image.now.places.now obj.now.names.places.now
-        × Scratch places.old starts.old ends.old units.old rest.old falls.old }
+        × Scratch (length out.old) table.old.room places.old falls.old }
     ensures { Gives
         (from_splits obj.now.names.lengths.now (sections_in obj.now.heads.bytes.now obj.now.heads.places.now)
-        (image_in obj.now)
-        (sections_of obj.now.heads.bytes.now obj.now.heads.places.now image.now.bytes.now image.now.places.now)
+        (image_in obj.now) (sections_lent obj.now image.now)
         splits.now (length out.old))
         result (length out.old) (length counts.old) out.new counts.new }
 {
-    let room = room_of(out.len());
-    take_split_columns(
-        obj.names.lengths,
-        &obj.heads,
-        splits,
-        room,
-        places,
-        starts,
-        ends,
-        units,
-        rest,
-    )?;
-    let n = splits.len() / SPLIT_BYTES;
-    trim_rows(obj, image, starts, ends, units, rest, n, falls, out, counts)
+    take_split_columns(obj.names.lengths, &obj.heads, splits, places, table)?;
+    trim_rows(obj, image, table, falls, out, counts)
 }
 
 // The same, with columns of its own for the splits.
@@ -123,8 +91,7 @@ fn with_splits(
         × Headed obj.now.heads.bytes.now obj.now.heads.places.now image.now.bytes.now image.now.places.now obj.now.names.places.now }
     ensures { Gives
         (from_splits obj.now.names.lengths.now (sections_in obj.now.heads.bytes.now obj.now.heads.places.now)
-        (image_in obj.now)
-        (sections_of obj.now.heads.bytes.now obj.now.heads.places.now image.now.bytes.now image.now.places.now)
+        (image_in obj.now) (sections_lent obj.now image.now)
         splits.now (length out.old))
         result (length out.old) (length counts.old) out.new counts.new }
 {
@@ -134,15 +101,21 @@ fn with_splits(
     let mut units = [0u16; 1024];
     let mut rest = [0u64; 1024];
     let mut falls = [0u32; 1024];
+    let room = room_of(out.len());
+    let mut table = SplitTable {
+        starts: &mut starts,
+        ends: &mut ends,
+        units: &mut units,
+        rest: &mut rest,
+        count: 0,
+        room,
+    };
     from_splits(
         obj,
         image,
         splits,
         &mut places,
-        &mut starts,
-        &mut ends,
-        &mut units,
-        &mut rest,
+        &mut table,
         &mut falls,
         out,
         counts,

@@ -1,4 +1,4 @@
--- `entry_mend_splits::from_splits` meets its contract. A refused table is the answer; else the columns hold its splits, and what is mended in them is stored.
+-- `entry_mend_splits::from_splits` meets its contract. A refused table is the answer; else the table holds its splits, and what is mended in it is stored.
 -- Assumes nothing.
 use mathlib.Core.Path.{sym, ap, ◌∙◌}
 use Prim.Native.Nat.{ℕ}
@@ -6,72 +6,53 @@ use native.Mathlib.Omega.{arith}
 use lib.ListN.{length}
 use Rattle.obj.specs.Answers.{meaning}
 use Rattle.tables.specs.Records.{sections_in}
-use Rattle.stage_tables.proofs.Laws.{table_passed}
-use Rattle.splits.specs.Columns.{columns}
+use Rattle.splits.specs.Table.{columns_in}
 use Rattle.stage_splits.proofs.Laws.{room_low, room_fits}
 use Rattle.mend_outputs.proofs.Laws.{gives_as, gives_stops}
 use Rattle.entry_mend_splits.specs.Entry.{from_splits}
-use Rattle.obj.specs.Records.{split_width}
 use Rattle.entry_mend_splits.proofs.Laws.{places_room, rows_long, mended_gives, lines_low}
 use borrow.Author.Rules.{rules}
 use Rattle.entry_mend_splits.proofs.from_splits.Goals as goal
 use Rattle.obj.proofs.Errors.{same_err}
 
+pub invariant_of-table-clause-long : goal.invariant_of-table-clause-long
+invariant_of-table-clause-long c =
+    let h = room_low (length c.args.out.now) in
+    rows_long _ (omega (arith, c.room_of-room.ensures, h)) (search rules) (search rules) (search rules) (search rules)
+
 pub take_split_columns-requires : goal.take_split_columns-requires
 take_split_columns-requires c =
-    let s = c in
-    let e = c.room_of.ensures in
-    let h = room_low (length s.args.out.now) in
-    (s.requires.0, places_room _ (omega (arith, e, h)) (search rules), rows_long _ (omega (arith, e, h)) (search rules) (search rules) (search rules) (search rules))
+    let h = room_low (length c.args.out.now) in
+    (c.requires.0, places_room _ (omega (arith, c.room_of-room.ensures, h)) (search rules))
 
 pub returns-in_err-take_split_columns : goal.returns-in_err-take_split_columns
 unfolding from_splits
 returns-in_err-take_split_columns c =
     rw (same_err c.from_residual.result c.take_split_columns.result c.from_residual.ensures.1 c.in_err-take_split_columns.was)
     (let a = c.args in
-    gives_as (ap (λ (room : ℕ). from_splits a.lengths.now (sections_in a.heads.now.bytes.now a.heads.now.places.now) a.splits.now room (length a.lines.now)) c.room_of.ensures)
-    (gives_stops _ c.take_split_columns.ensures.said (ap meaning c.in_err-take_split_columns.was)))
-
-pub mend_table-r-requires : goal.mend_table-r-requires
-mend_table-r-requires c =
-    let t = c.take_split_columns in
-    let s = c in
-    let e = c.room_of.ensures in
-    let h = room_low (length s.args.out.now) in
-    let n = (table_passed split_width _ s.args.splits.now _ (sym t.ensures.said ∙ ap meaning c.in_ok-take_split_columns.was)).1 in
-    record {
-      starts = omega (arith, e, n, h, t.auto.starts);
-      ends = omega (arith, e, n, h, t.auto.ends);
-      units = omega (arith, e, n, h, t.auto.units);
-      rest = omega (arith, e, n, h, t.auto.rest);
-    }
+    gives_as (ap (λ (room : ℕ). from_splits a.lengths.now (sections_in a.heads.now.bytes.now a.heads.now.places.now) a.splits.now room (length a.lines.now)) c.room_of-room.ensures)
+    (gives_stops _ c.take_split_columns.ensures.taken.said (ap meaning c.in_err-take_split_columns.was)))
 
 pub give_mended-requires : goal.give_mended-requires
 give_mended-requires c =
     let t = c.take_split_columns in
     let w = c.mend_table-r in
-    let s = c in
-    let e = c.room_of.ensures in
-    let h = room_low (length s.args.out.now) in
-    let n = (table_passed split_width _ s.args.splits.now _ (sym t.ensures.said ∙ ap meaning c.in_ok-take_split_columns.was)).1 in (
-      record {
-        starts = omega (arith, e, n, h, t.auto.starts);
-        ends = omega (arith, e, n, h, t.auto.ends, w.auto.ends);
-        units = omega (arith, e, n, h, t.auto.units);
-        rest = omega (arith, e, n, h, t.auto.rest);
-      },
-      omega (arith, e, n, room_fits (length s.args.out.now)),
-      omega (arith, e, n, h),
-      lines_low (columns t.new.starts t.new.ends t.new.units t.new.rest) _ (omega (arith, e, n, h)) w.ensures,
+    let size = length c.args.out.now in
+    let room = t.ensures.room ∙ c.room_of-room.ensures in
+    let n = c.columns.ensures.columns.count ∙ w.ensures.others.count in (
+      omega (arith, room, n, room_fits size),
+      omega (arith, room, n, room_low size),
+      lines_low (columns_in t.new.table) t.new.table.count (omega (arith, room, room_low size)) w.ensures.mended,
     )
 
 pub returns : goal.returns
 returns c =
     let t = c.take_split_columns in
     let w = c.mend_table-r in
-    let s = c in
-    let a = s.args in
+    let a = c.args in
     let told = ap meaning c.in_ok-take_split_columns.was in
-    gives_as (ap (λ (room : ℕ). from_splits a.lengths.now (sections_in a.heads.now.bytes.now a.heads.now.places.now) a.splits.now room (length a.lines.now)) c.room_of.ensures)
-    (mended_gives a.lengths.now (sections_in a.heads.now.bytes.now a.heads.now.places.now) a.splits.now _ (columns t.new.starts t.new.ends t.new.units t.new.rest) (columns t.new.starts w.new.ends t.new.units t.new.rest) _ t.ensures.said told
-    (omega (arith, c.room_of.ensures, room_fits (length a.out.now))) s.requires.1 (t.ensures.taken (sym t.ensures.said ∙ told)) w.ensures c.give_mended.ensures)
+    let room = t.ensures.room ∙ c.room_of-room.ensures in
+    gives_as (ap (λ (room : ℕ). from_splits a.lengths.now (sections_in a.heads.now.bytes.now a.heads.now.places.now) a.splits.now room (length a.lines.now)) c.room_of-room.ensures)
+    (mended_gives a.lengths.now (sections_in a.heads.now.bytes.now a.heads.now.places.now) a.splits.now _ (columns_in w.new.table) w.new.table.count _ t.ensures.taken.said told
+    (omega (arith, room, w.ensures.others.count, room_fits (length a.out.now))) c.requires.1 (t.ensures.taken.taken (sym t.ensures.taken.said ∙ told)) w.ensures.mended
+    (let e = c.columns.ensures in rw (e.rows, e.columns.count) at c.give_mended.ensures))

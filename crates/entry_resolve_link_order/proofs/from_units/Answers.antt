@@ -9,29 +9,43 @@ use Rattle.entry_resolve_link_order.proofs.Laws.{refused_table, units_taken, fro
 use Rattle.entry_resolve_link_order.proofs.Refusals.{low_units}
 use Rattle.entry_resolve_link_order.proofs.from_units.Goals as goal
 
-pub slice_bounds-ordered-end : goal.slice_bounds-ordered-end
-slice_bounds-ordered-end c =
+pub slice_bounds-tables-end : goal.slice_bounds-tables-end
+slice_bounds-tables-end c =
     let s = c in
     let a = s.args in
     let t = c.take_units in
     let told = ap meaning c.in_ok-take_units.was in
     omega (arith, taken_few 8 _ a.unit_bytes.now _ _ t.ensures told, t.auto.places, s.requires.1)
 
-pub slice_bounds-ordered-end-2 : goal.slice_bounds-ordered-end-2
-slice_bounds-ordered-end-2 c =
+pub slice_bounds-tables-end-2 : goal.slice_bounds-tables-end-2
+slice_bounds-tables-end-2 c =
     let s = c in
     let a = s.args in
     let t = c.take_units in
     let told = ap meaning c.in_ok-take_units.was in
     sym (taken-count 8 _ a.unit_bytes.now _ _ t.ensures told)
 
+pub invariant_of-tables-clause-held : goal.invariant_of-tables-clause-held
+invariant_of-tables-clause-held c = c.requires.0.given
+
+pub invariant_of-tables-clause-whole : goal.invariant_of-tables-clause-whole
+invariant_of-tables-clause-whole c =
+    let a = c.args in
+    let told = ap meaning c.in_ok-take_units.was in
+    (units_taken a.names.now.lengths.now a.unit_bytes.now _ c.take_units.ensures told c.requires.0.few).whole
+
+pub invariant_of-tables-clause-few_units : goal.invariant_of-tables-clause-few_units
+invariant_of-tables-clause-few_units c =
+    let a = c.args in
+    let told = ap meaning c.in_ok-take_units.was in
+    (units_taken a.names.now.lengths.now a.unit_bytes.now _ c.take_units.ensures told c.requires.0.few).few
+
 pub ordered-requires : goal.ordered-requires
 ordered-requires c =
-    let s = c in
-    let a = s.args in
-    let t = c.take_units in
+    let a = c.args in
     let told = ap meaning c.in_ok-take_units.was in
-    (s.requires.0, units_taken a.names.now.lengths.now a.unit_bytes.now _ t.ensures told s.requires.0.few)
+    let u = units_taken a.names.now.lengths.now a.unit_bytes.now _ c.take_units.ensures told c.requires.0.few in
+    record { splits = c.requires.0.named; records = u.named }
 
 pub returns : goal.returns
 returns c =

@@ -7,13 +7,16 @@ use Rattle.entry_trim_splits.proofs.trim_rows.Goals as goal
 
 pub returns-in_err-trim : goal.returns-in_err-trim
 returns-in_err-trim c =
-    rw (same_err c.from_residual.result c.trim.result c.from_residual.ensures.1 c.in_err-trim.was) (seen_refused _ _ _ c.trim.ensures c.in_err-trim.was)
+    rw (same_err c.from_residual.result c.trim.result c.from_residual.ensures.1 c.in_err-trim.was) (seen_refused _ _ _ c.trim.ensures.rows c.in_err-trim.was)
 
 pub give_splits-requires : goal.give_splits-requires
 give_splits-requires c =
     let p = c.requires in
-    let l = p.3.long in
-    (record { starts = l.starts; ends = omega (arith, l.ends, c.trim.auto.ends); units = l.units; rest = l.rest }, p.6, p.5)
+    let n = c.columns.ensures.columns.count in
+    let m = c.trim.ensures.others.count in
+    (omega (arith, p.6, n, m), omega (arith, p.5, n, m))
 
 pub returns : goal.returns
-returns c = let w = seen-laid _ _ _ c.trim.ensures c.in_ok-trim.was c.give_splits.ensures in rw c.in_ok-trim.was at w
+returns c =
+    let w = seen-laid _ _ _ c.trim.ensures.rows c.in_ok-trim.was (rw c.columns.ensures.rows at c.give_splits.ensures) in
+    rw c.in_ok-trim.was at w
