@@ -18,7 +18,7 @@ use Rattle.elf.specs.Strings.{string_at}
 use Rattle.number_names.specs.Numbers.{Room, enter_name, enter_names}
 use Rattle.std.specs.Prelude.{Result, Ok}
 use Rattle.obj.specs.declared.Refusal.{Refusal}
-use Rattle.number_names.specs.declared.Count.{Count}
+use Rattle.number_names.specs.declared.table.NumberedNames.{NumberedNames}
 use Rattle.number_names.proofs.Laws.{enter_there, enter_cases, entered_as}
 use Rattle.elf_names.specs.Seen.{Seen, EnteredSeen, GoingSeen}
 
@@ -117,17 +117,20 @@ pub seen_as : (strings seen : List ℕ) {o : Outcome (List (List ℕ))} (names :
 seen_as strings seen names s q more e = subst (λ (l : List (List ℕ)). Seen strings l seen) (same_accepted (sym q ∙ e)) s
 
 -- the same outcome, said otherwise
-pub entered_so : {o want : Outcome (List (List ℕ))} {strings ends₀ bytes₀ ends bytes heads chain seen : List ℕ} {r : Result Count Refusal} → o ≡ want
-    → EnteredSeen o strings ends₀ bytes₀ ends bytes heads chain seen r → EnteredSeen want strings ends₀ bytes₀ ends bytes heads chain seen r
-entered_so {ends₀ = ends₀} {bytes₀ = bytes₀} {ends = ends} {bytes = bytes} {heads = heads} {chain = chain} {r = r} q e = record { entered = entered_as ends₀ bytes₀ ends bytes heads chain r q e.entered; right = λ names h. e.right names (q ∙ h) }
+pub entered_so : {o want : Outcome (List (List ℕ))} {strings ends₀ bytes₀ seen : List ℕ} {t : NumberedNames} {r : Result (Unit {0}) Refusal} → o ≡ want
+    → EnteredSeen o strings ends₀ bytes₀ t seen r → EnteredSeen want strings ends₀ bytes₀ t seen r
+entered_so {ends₀ = ends₀} {bytes₀ = bytes₀} {t = t} {r = r} q e = record {
+  entered = entered_as ends₀ bytes₀ t.ends.now t.bytes.now t.heads.now t.chain.now t.count r q e.entered;
+  right = λ names h. e.right names (q ∙ h);
+}
 
 -- ---- a turn of a loop
 
-module _ {room : Room} {left : ℕ → List (List ℕ)} {goal o : Outcome (List (List ℕ))} {strings ends₀ bytes₀ ends bytes heads chain seen ends' bytes' heads' chain' seen' : List ℕ} {i : ℕ} {r r' : Count}
-    (g : GoingSeen room left goal strings ends₀ bytes₀ ends bytes heads chain seen i r) where
+module _ {room : Room} {left : ℕ → List (List ℕ)} {goal o : Outcome (List (List ℕ))} {strings ends₀ bytes₀ seen seen' : List ℕ} {t t' : NumberedNames} {i : ℕ}
+    (g : GoingSeen room left goal strings ends₀ bytes₀ t seen i) where
   pub seen_on : (enter_names room g.going.names (left i) ≡ (o >>= λ more. enter_names room more (left (i + 1))))
-      → EnteredSeen o strings ends₀ bytes₀ ends' bytes' heads' chain' seen' (Ok r')
-      → GoingSeen room left goal strings ends₀ bytes₀ ends' bytes' heads' chain' seen' (i + 1) r'
+      → EnteredSeen o strings ends₀ bytes₀ t' seen' (Ok tt)
+      → GoingSeen room left goal strings ends₀ bytes₀ t' seen' (i + 1)
   unfolding ◌>>=◌
   seen_on turn e =
       let said = e.entered.is in

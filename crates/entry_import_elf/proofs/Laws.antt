@@ -19,10 +19,9 @@ use Rattle.obj.specs.declared.Section.{Section}
 use Rattle.stage_names.specs.StageNames.{flat}
 use Rattle.elf_file.specs.File.{header_table, count, header_of, taken, section_strings, entries_of, symbol_entries, symbol_strings, file_check}
 use Rattle.stage_tables.specs.StageTables.{stage_sections, symbols_check, image_check}
-use Rattle.number_names.specs.Numbers.{name_ends, Laid, Known}
+use Rattle.number_names.specs.Numbers.{name_ends, names_in, Laid, Known}
 use Rattle.name_table.specs.Stored.{stage_lengths, Stored}
 use Rattle.name_table.specs.NameTable.{names_check}
-use Rattle.names.specs.Index.{Indexed}
 use Rattle.number_names.proofs.Laid.{names_back, count_back, length-name_ends}
 use Rattle.import.specs.Import.{Rooms, Tables, names_of, tables_of, tables_check, import_of}
 use Rattle.import_names.specs.Numbered.{NumberedAll}
@@ -162,13 +161,13 @@ module _ (file : ℕ) (room : Rooms) (t : Tables) {w : Outcome (Unit {0})} (said
   unfolding tables_check sections_stage image_stage symbols_stage
   names_go e = then_goes said _ e
 
--- the columns of a name table that passed
+-- the names of a name table that passed
 module _ {names : List (List ℕ)} {ends bytes places lengths heads chain : List ℕ} (l : Laid names ends bytes) (s : Stored ends bytes places lengths heads chain (length ends / 2)) where
-  pub stored_known : Known names ends bytes heads chain
-  stored_known = record { laid = l; index = subst (λ (x : List (List ℕ)). Indexed x heads chain) (names_back l (length ends / 2) (count_back l)) s.index }
+  pub laid_names : names_in ends bytes ≡ names
+  laid_names = names_back l (length ends / 2) (count_back l)
 
-  pub stored_lengths : take (length ends / 2) lengths ≡ stage_lengths (name_ends names) (flat names)
-  stored_lengths = s.sizes ∙ (λ z. stage_lengths (l.ends_are z) (l.bytes_are z))
+  pub stored_known : Known (names_in ends bytes) ends bytes heads chain
+  stored_known = record { laid = subst (λ (x : List (List ℕ)). Laid x ends bytes) (sym laid_names) l; index = s.index }
 
 -- ---- the whole import
 

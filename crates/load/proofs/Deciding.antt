@@ -1,7 +1,7 @@
 -- The number of a record's first fault, as the code finds it: by the length of its payload, the count of its kind, and its kind's test, in
 -- this order. Each law joins what the code's tests and calls answer to the definition. Assumes nothing.
 use Prim.Native.Nat.{ℕ, ◌+◌, ◌-◌, ◌<◌, ◌≤◌}
-use mathlib.Core.Path.{◌≡◌, refl, sym, ap, ap₂}
+use mathlib.Core.Path.{◌≡◌, refl, sym, ap, ap₂, ◌∙◌}
 use mathlib.Core.Bool.{Bool, true, false, not}
 use mathlib.Core.List.{List}
 use native.Mathlib.Omega.{arith}
@@ -22,11 +22,12 @@ use Rattle.names.specs.Index.{Indexed, Sought}
 use Rattle.names.proofs.Laws.{part_is}
 use Rattle.faults.specs.Faults.{section_bad, symbol_bad, reloc_bad, split_bad, unit_bad}
 use Rattle.tables.specs.declared.Ceilings.{Ceilings}
-use Rattle.tables.specs.Tables.{AllHeld}
 use Rattle.tables.specs.Records.{sections_in, relocs_in, no_section, floor_from}
 use Rattle.load.specs.declared.Counts.{Counts}
 use Rattle.load.specs.Load.{Loaded, names_in, repeated, name_number, section_length, section_number, symbol_number, reloc_number, split_number, unit_number, kind_number, record_number}
-use Rattle.load.specs.Columns.{part, tables_in, floors_in, Counted, Tabled, Ready, NamesReady}
+use Rattle.load.specs.Columns.{part, tables_in, floors_in, Counted, Ready, Readable}
+use Rattle.load.specs.Reading.{SameColumns}
+use Rattle.load.specs.declared.reading.Columns.{Columns}
 use Rattle.load.proofs.Laws.{held_sections}
 use Rattle.load.proofs.Keeping.{counted, names-count, sections_count, symbols_count, relocations_count, splits-count, units_count, is_repeated, is_new}
 use Rattle.load.proofs.Parts.{length_part, part-lent}
@@ -46,14 +47,9 @@ module _ (file : List ℕ) (at len : ℕ) where
     unfolding section_length
     length-full k = rw (le-ltb len 15 h, ← read, ne_eqb s.kind 3 k)
 
-module _ (c : Ceilings) (file : List ℕ) (at len : ℕ) (n : Counts) (places lengths : List ℕ) (old : Tabled c file n places lengths) where
+module _ (c : Ceilings) (file : List ℕ) (at len : ℕ) (n : Counts) (places lengths heads chain : List ℕ) (old : Readable c file n places lengths heads chain) where
   here : Counted n
   here = counted old.allowed old.few
-
-  -- the sections have their bytes in the file
-  pub sections_held : AllHeld 15 file (part 0 n.sections places)
-  unfolding tables_in
-  sections_held = held_sections old.good (omega (arith, old.allowed.sections))
 
   -- ---- section_number
   pub section_cut : section_length file at len ≡ true → 1 ≡ section_number c file at len (tables_in n places lengths)
@@ -185,17 +181,17 @@ module _ (c : Ceilings) (file : List ℕ) (at len : ℕ) (n : Counts) (places le
 
 -- ---- name_number
 module _ (c : Ceilings) (file : List ℕ) (at len : ℕ) (n : Counts) (places lengths heads chain : List ℕ)
-    (ready : Ready c file n places lengths heads chain) (fits : at + len ≤ length file) (r : Option ℕ)
+    (ready : Readable c file n places lengths heads chain) (r : Option ℕ)
     (found : Sought (names_in file (tables_in n places lengths)) (take len (drop at file)) r) where
   name_new : is_some r ≡ false → repeated c file at len (tables_in n places lengths) ≡ false
-  name_new h = is_new c file at len n places lengths heads chain ready fits r found h
+  name_new h = is_new c file at len (tables_in n places lengths) r found h
 
   counts_here : length (tables_in n places lengths).names ≡ n.names
-  counts_here = names-count n places lengths ready.tabled.long_places (counted ready.tabled.allowed ready.tabled.few)
+  counts_here = names-count n places lengths ready.long_places (counted ready.allowed ready.few)
 
   pub name_again : is_some r ≡ true → 0 ≡ name_number c file at len (tables_in n places lengths)
   unfolding name_number
-  name_again h = rw (← is_repeated c file at len n places lengths heads chain ready fits r found, h)
+  name_again h = rw (← is_repeated c file at len (tables_in n places lengths) r found, h)
 
   pub name_over : is_some r ≡ false → c.names ≤ n.names → 2 ≡ name_number c file at len (tables_in n places lengths)
   unfolding name_number
@@ -210,35 +206,44 @@ module _ (c : Ceilings) (file : List ℕ) (at len : ℕ) (n : Counts) (places le
     unfolding name_number
     name_passes e = rw (name_new h, counts_here, lt-leb c.names n.names f, ← tested, e)
 
--- what finding a name takes of what is ready
-pub names_ready : {c : Ceilings} {file : List ℕ} {n : Counts} {places lengths heads chain : List ℕ} → Ready c file n places lengths heads chain
-    → NamesReady file n places lengths heads chain
-names_ready ready = record {
-  few = omega (arith, ready.tabled.few.names, ready.tabled.allowed.names);
-  long_places = ready.tabled.long_places;
-  long_lengths = ready.tabled.long_lengths;
-  good = ready.tabled.good.names;
-  indexed = ready.indexed;
-}
+-- what is ready can be read
+pub readable : {c : Ceilings} {file : List ℕ} {n : Counts} {places lengths heads chain : List ℕ} → Ready c file n places lengths heads chain
+    → Readable c file n places lengths heads chain
+unfolding tables_in
+readable ready =
+    let old = ready.tabled in record {
+      allowed = old.allowed;
+      few = old.few;
+      small = old.small;
+      long_places = old.long_places;
+      long_lengths = old.long_lengths;
+      names = old.good.names;
+      sections = held_sections old.good (omega (arith, old.allowed.sections));
+      floors = old.floors;
+      indexed = ready.indexed;
+    }
 
 -- the names' parts, as `find` takes them
-module _ (file : List ℕ) (n : Counts) (places lengths heads chain : List ℕ) (ready : NamesReady file n places lengths heads chain) where
+module _ {c : Ceilings} {file : List ℕ} {n : Counts} {places lengths heads chain : List ℕ} (ready : Readable c file n places lengths heads chain) where
+  few_names : n.names ≤ 4096
+  few_names = omega (arith, ready.few.names, ready.allowed.names)
+
   size : length (tables_in n places lengths).names ≡ n.names
   unfolding tables_in
-  size = length_part 10304 n.names places (omega (arith, ready.long_places, ready.few))
+  size = length_part 10304 n.names places (omega (arith, ready.long_places, few_names))
 
   names_are : names_of file (part 10304 n.names places) (take n.names lengths) n.names ≡ names_in file (tables_in n places lengths)
   unfolding names_in tables_in
-  names_are = ap (names_of file (part 10304 n.names places) (take n.names lengths)) (sym (length_part 10304 n.names places (omega (arith, ready.long_places, ready.few))))
+  names_are = ap (names_of file (part 10304 n.names places) (take n.names lengths)) (sym (length_part 10304 n.names places (omega (arith, ready.long_places, few_names))))
 
   held_here : (k : ℕ) → k < n.names → get_or (part 10304 n.names places) k 0 + get_or (take n.names lengths) k 0 ≤ length file
   unfolding tables_in
-  held_here k h = ready.good.held k (rw size h)
+  held_here k h = ready.names.held k (rw size h)
 
   pub lent-named : Named file (take (10304 + n.names - 10304) (drop 10304 places)) (take n.names lengths) n.names
   lent-named = rw (part-lent 10304 n.names places) (record {
-    placed = rw (length_part 10304 n.names places (omega (arith, ready.long_places, ready.few))) (omega arith);
-    measured = rw (length-take-le n.names lengths (omega (arith, ready.long_lengths, ready.few))) (omega arith);
+    placed = rw (length_part 10304 n.names places (omega (arith, ready.long_places, few_names))) (omega arith);
+    measured = rw (length-take-le n.names lengths (omega (arith, ready.long_lengths, few_names))) (omega arith);
     inside = held_here;
   })
 
@@ -249,6 +254,19 @@ module _ (file : List ℕ) (n : Counts) (places lengths heads chain : List ℕ) 
       → Sought (names_of file (take (10304 + n.names - 10304) (drop 10304 places)) (take n.names lengths) n.names) (take (at + len - at) (drop at file)) r
       → Sought (names_in file (tables_in n places lengths)) (take len (drop at file)) r
   lent_found at len r f = rw (part-lent 10304 n.names places, names_are, part_is file {a = at} {b = len} at len refl refl) at f
+
+-- a search in what is known by other names
+pub sought_so : {file file' places places' lengths lengths' : List ℕ} {n n' : Counts} → file' ≡ file → n' ≡ n → places' ≡ places → lengths' ≡ lengths → (at len : ℕ) (r : Option ℕ)
+    → Sought (names_in file' (tables_in n' places' lengths')) (take len (drop at file')) r
+    → Sought (names_in file (tables_in n places lengths)) (take len (drop at file)) r
+sought_so {n' = n'} ef en ep el at len r s = rw (← ef, ← en, ← ep, ← el) s
+
+-- the columns themselves
+pub same_columns : (k : Columns) → SameColumns k k
+same_columns k = record { places = refl; lengths = refl; heads = refl; chain = refl }
+
+pub same_after : {k l m : Columns} → SameColumns l m → SameColumns k l → SameColumns k m
+same_after a b = record { places = a.places ∙ b.places; lengths = a.lengths ∙ b.lengths; heads = a.heads ∙ b.heads; chain = a.chain ∙ b.chain }
 
 -- ---- by kind
 module _ (c : Ceilings) (file : List ℕ) (at len : ℕ) (t : Loaded) (kind : ℕ) where

@@ -454,6 +454,17 @@ pub kept_as : {c : Ceilings} {file : List ℕ} {at len kind other : ℕ} {t : Lo
 kept_as {c} {file} {at} {len} {kind} {other} {t} {n} {places} {lengths} {heads} {chain} e k =
     subst (λ (j : ℕ). Kept c file at len j t n places lengths heads chain) (sym e) k
 
+-- the name that was found is repeated, another one is not
+module _ (c : Ceilings) (file : List ℕ) (at len : ℕ) (t : Loaded) (r : Option ℕ) (found : Sought (names_in file t) (take len (drop at file)) r) where
+  pub is_repeated : is_some r ≡ repeated c file at len t
+  unfolding repeated names_in
+  is_repeated =
+      sought_asked (names_in file t) (take len (drop at file)) r found
+      ∙ ap (ltb (number_of (names_in file t) (take len (drop at file)))) (length-names file t.names t.lengths (length t.names))
+
+  pub is_new : is_some r ≡ false → repeated c file at len t ≡ false
+  is_new h = sym is_repeated ∙ h
+
 module _ (c : Ceilings) (file : List ℕ) (at len : ℕ) (n : Counts) (places lengths heads chain : List ℕ)
     (ready : Ready c file n places lengths heads chain) (fits : at + len ≤ length file) (r : Option ℕ)
     (found : Sought (names_in file (tables_in n places lengths)) (take len (drop at file)) r) where
@@ -470,15 +481,11 @@ module _ (c : Ceilings) (file : List ℕ) (at len : ℕ) (n : Counts) (places le
   unfolding names_in
   names_size = length-names file (tables_in n places lengths).names (tables_in n places lengths).lengths (length (tables_in n places lengths).names) ∙ names_long
 
-  -- the name that was found is repeated, another one is not
-  pub is_repeated : is_some r ≡ repeated c file at len (tables_in n places lengths)
-  unfolding repeated
-  is_repeated =
-      sought_asked (names_in file (tables_in n places lengths)) (take len (drop at file)) r found
-      ∙ ap (ltb (number_of (names_in file (tables_in n places lengths)) (take len (drop at file)))) (names_size ∙ sym names_long)
+  is_old : is_some r ≡ repeated c file at len (tables_in n places lengths)
+  is_old = is_repeated c file at len (tables_in n places lengths) r found
 
-  pub is_new : is_some r ≡ false → repeated c file at len (tables_in n places lengths) ≡ false
-  is_new h = sym is_repeated ∙ h
+  is_other : is_some r ≡ false → repeated c file at len (tables_in n places lengths) ≡ false
+  is_other h = sym is_old ∙ h
 
   -- a repeated name adds nothing
   with_repeated : repeated c file at len (tables_in n places lengths) ≡ true → with_record c file at len (tables_in n places lengths) 1 ≡ tables_in n places lengths
@@ -486,11 +493,11 @@ module _ (c : Ceilings) (file : List ℕ) (at len : ℕ) (n : Counts) (places le
   with_repeated e = rw e
 
   pub kept_repeated : is_some r ≡ true → Kept c file at len 1 (tables_in n places lengths) n places lengths heads chain
-  kept_repeated h = record { ready = ready; tables = sym (with_repeated (sym is_repeated ∙ h)) }
+  kept_repeated h = record { ready = ready; tables = sym (with_repeated (sym is_old ∙ h)) }
 
   module _ (none : is_some r ≡ false) (number : name_number c file at len (tables_in n places lengths) ≡ 0) where
     passed_name : NewName c file at len (tables_in n places lengths)
-    passed_name = name_passed c file at len (tables_in n places lengths) number (is_new none)
+    passed_name = name_passed c file at len (tables_in n places lengths) number (is_other none)
 
     name_room : n.names < c.names
     name_room = omega (arith, passed_name.room, names_long)
@@ -508,16 +515,16 @@ module _ (c : Ceilings) (file : List ℕ) (at len : ℕ) (n : Counts) (places le
 
     new_tables : tables_in (one_more 1 n) (set places (slot_of 1 n) at) (set lengths n.names len) ≡ with_record c file at len (tables_in n places lengths) 1
     new_tables =
-        name_stored n places lengths at tabled.long_places counts c file len name_below (omega (arith, name_below, tabled.long_lengths)) (is_new none)
+        name_stored n places lengths at tabled.long_places counts c file len name_below (omega (arith, name_below, tabled.long_lengths)) (is_other none)
 
     new_names : names_in file (with_record c file at len (tables_in n places lengths) 1) ≡ names_in file (tables_in n places lengths) ++ (take len (drop at file) ∷ [])
     unfolding names_in
     new_names =
-        rw (with_record_new c file at len (tables_in n places lengths) (is_new none))
+        rw (with_record_new c file at len (tables_in n places lengths) (is_other none))
         (names_more file (tables_in n places lengths).names (tables_in n places lengths).lengths at len tabled.good.names.measured)
 
     same_relocs : (with_record c file at len (tables_in n places lengths) 1).relocations ≡ (tables_in n places lengths).relocations
-    same_relocs = rw (with_record_new c file at len (tables_in n places lengths) (is_new none))
+    same_relocs = rw (with_record_new c file at len (tables_in n places lengths) (is_other none))
 
     name_slot : slot_of 1 n < 14400
     unfolding slot_of

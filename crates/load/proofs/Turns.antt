@@ -236,6 +236,12 @@ module _ (c : Ceilings) (file places lengths heads chain : List ℕ) where
   loads_small {a} h l =
       subst (λ (o : Outcome Loaded). Loads c file o a places lengths heads chain) (sym (passes _ _ _ _ _ (le-ltb 65536 (length file) h))) l
 
+-- the same columns, said otherwise
+pub loads_in : {c : Ceilings} {file : List ℕ} {o : Outcome Loaded} {a : Result Counts Refusal} {places lengths heads chain places' lengths' heads' chain' : List ℕ}
+    → places' ≡ places → lengths' ≡ lengths → heads' ≡ heads → chain' ≡ chain
+    → Loads c file o a places lengths heads chain → Loads c file o a places' lengths' heads' chain'
+loads_in ep el eh ec l = rw (ep, el, eh, ec) l
+
 -- "a file over 65,536 bytes is refused first, at record 0"
 pub too_long : (c : Ceilings) (file : List ℕ) → 65536 < length file → refused 1 0 0 ≡ load_of c file
 unfolding load_of

@@ -7,6 +7,7 @@ use Rattle.obj.specs.Records.{reloc_at}
 use Rattle.obj.specs.declared.Refusal.{Refusal}
 use Rattle.names.specs.Index.{Indexed}
 use Rattle.tables.specs.declared.Ceilings.{Ceilings}
+use Rattle.tables.specs.Tables.{AllHeld}
 use Rattle.tables.specs.Records.{relocs_in, floor_from}
 use Rattle.load.specs.declared.Counts.{Counts}
 use Rattle.load.specs.Load.{Loaded, names_in, with_record}
@@ -118,12 +119,16 @@ pub record Ready (c : Ceilings) (file : List ℕ) (n : Counts) (places lengths h
   pub tabled : Tabled c file n places lengths
   pub indexed : Indexed (names_in file (tables_in n places lengths)) heads chain
 
--- what finding a name takes of that
-pub record NamesReady (file : List ℕ) (n : Counts) (places lengths heads chain : List ℕ) : Type 0 where
-  pub few : n.names ≤ 4096
+-- what the decision on a record takes of that
+pub record Readable (c : Ceilings) (file : List ℕ) (n : Counts) (places lengths heads chain : List ℕ) : Type 0 where
+  pub allowed : Allowed c
+  pub few : Few c n
+  pub small : length file ≤ 65536
   pub long_places : 14464 ≤ length places
   pub long_lengths : 4096 ≤ length lengths
-  pub good : NamesGood file (tables_in n places lengths).names (tables_in n places lengths).lengths
+  pub names : NamesGood file (tables_in n places lengths).names (tables_in n places lengths).lengths
+  pub sections : AllHeld 15 file (part 0 n.sections places)
+  pub floors : (s : ℕ) → get_or (floors_in places) s 0 ≡ floor_from s 0 (relocs_in file (tables_in n places lengths).relocations)
   pub indexed : Indexed (names_in file (tables_in n places lengths)) heads chain
 
 -- the columns hold what is loaded with the record whose payload is at `at`; t is what was loaded before it

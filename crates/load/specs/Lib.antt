@@ -1,3 +1,4 @@
 pub mod Load
 pub mod Good
 pub mod Columns
+pub mod Reading

@@ -3,23 +3,26 @@
 // are only read, and then kept.
 #![tactic(auto)]
 
+mod reading;
+
 ghost use Rattle.std.specs.Prelude.{◌≡◌, ◌+◌, ◌≤◌, ◌<◌, length, get_or, set, take, drop};
 ghost use Rattle.lists.specs.Rows.{clear_from};
 ghost use Rattle.fields.specs.Fields.{le16, le32};
 ghost use Rattle.obj.specs.Records.{reloc_at};
 ghost use Rattle.names.specs.Index.{Sought};
-ghost use Rattle.tables.specs.Tables.{AllHeld};
 ghost use Rattle.tables.specs.Records.{sections_in, no_section};
 ghost use Rattle.load.specs.Load.{nothing, names_in, name_number, section_length, section_number, symbol_number, reloc_number, split_number, unit_number, kind_number, record_number, load_from, load_of};
-ghost use Rattle.load.specs.Columns.{part, tables_in, floors_in, no_counts, fault_as, one_more, slot_of, Room, Tabled, Ready, NamesReady, Counted, RelocFits, Kept, Loads};
+ghost use Rattle.load.specs.Reading.{so_far, fault_in, loaded_in, SameColumns, ReadyIn, KeptIn, LoadsIn};
+ghost use Rattle.load.specs.Columns.{part, tables_in, floors_in, no_counts, fault_as, one_more, slot_of, Room, Ready, Counted, RelocFits, Kept, Loads};
 
 use faults::{reloc_bad, section_bad, split_bad, symbol_bad, unit_bad};
 use fields::{get16, get32};
-use names::{NameIndex, Names, bad_name, bucket_of, clear_heads, enter, find};
+use names::{Names, bad_name, bucket_of, clear_heads, enter, find};
 use obj::{
     PARTIAL_BYTES, Refusal, Section, Table, read_partial, read_reloc, read_section, read_symbol,
     read_unit, refuse,
 };
+use reading::{Columns, Payload, SoFar};
 use tables::{Ceilings, length_of, section_or_none};
 
 // How many records of each kind are loaded.
@@ -66,190 +69,146 @@ fn no_counts() -> Counts
 
 // ---- what a record refers to
 
-// The length of name k, 0 of one that is not among the n names so far.
-fn name_length(lengths: &[u8], n: usize, k: u16) -> usize
-    requires { n ≤ length lengths.now }
-    ensures { result ≡ get_or (take n lengths.now) k 0 }
+// The length of name k, 0 of one that is not among the names so far.
+fn name_length(before: &SoFar, k: u16) -> usize
+    ensures { result ≡ get_or (take before.now.counts.names before.now.lengths.now) k 0 }
 {
-    length_of(&lengths[..n], k as usize)
+    let n = before.counts.names;
+    length_of(&before.lengths[..n], k as usize)
 }
 
-// Section k of the n so far, or an empty one.
-fn home_of(file: &[u8], places: &[u32], n: usize, k: u16) -> Section
-    requires { (n ≤ length places.now) × AllHeld 15 file.now (part 0 n places.now) }
-    ensures { result ≡ get_or (sections_in file.now (part 0 n places.now)) k no_section }
+// Section k of those so far, or an empty one.
+fn home_of(before: &SoFar, k: u16) -> Section
+    ensures { result ≡ get_or (sections_in before.now.file.now (part 0 before.now.counts.sections before.now.places.now)) k no_section }
 {
-    let end = SECTIONS + n;
+    let end = SECTIONS + before.counts.sections;
     section_or_none(
         &Table {
-            bytes: file,
-            places: &places[SECTIONS..end],
+            bytes: before.file,
+            places: &before.places[SECTIONS..end],
         },
         k as usize,
     )
 }
 
 // One more than the address of the last relocation of section k, 0 if there is none.
-fn floor_of(places: &[u32], k: u16) -> u32
-    requires { 14464 ≤ length places.now }
-    ensures { result ≡ get_or (floors_in places.now) k 0 }
+fn floor_of(before: &SoFar, k: u16) -> u32
+    ensures { result ≡ get_or (floors_in before.now.places.now) k 0 }
 {
     let i = FLOORS + (k as usize);
     if i < PLACES {
-        return places[i];
+        return before.places[i];
     }
     0
 }
 
-// The number of the name of `len` bytes at `at` among the names so far, if it is one of them.
-fn find_name(
-    file: &[u8],
-    at: usize,
-    len: usize,
-    n: Counts,
-    places: &[u32],
-    lengths: &[u8],
-    index: &NameIndex,
-) -> Option<usize>
-    requires { (at + len ≤ length file.now) × NamesReady file.now n places.now lengths.now index.now.heads.now index.now.chain.now }
-    ensures { Sought (names_in file.now (tables_in n places.now lengths.now)) (take len (drop at file.now)) result }
+// The number of the name that the payload is, if it is one of the names so far.
+fn find_name(payload: &Payload) -> Option<usize>
+    ensures { Sought (names_in payload.now.before.file.now (so_far payload.now.before)) (take payload.now.len (drop payload.now.at payload.now.before.file.now)) result }
 {
-    let known = n.names;
+    let before = &payload.before;
+    let known = before.counts.names;
     let end = NAMES + known;
-    let past = at + len;
+    let past = payload.at + payload.len;
     find(
         &Names {
-            bytes: file,
-            places: &places[NAMES..end],
-            lengths: &lengths[..known],
+            bytes: before.file,
+            places: &before.places[NAMES..end],
+            lengths: &before.lengths[..known],
         },
         known,
-        index,
-        &file[at..past],
+        &before.index,
+        &before.file[payload.at..past],
     )
 }
 
-// ---- the number of a record's first fault, as the error: "1, 2, then its kind's number". `at` is where its payload starts, `len` the
-// payload's length, `n` counts what is loaded; each takes the columns that mean the tables, so that the contracts read alike. No common function stands for
-// them: each kind reads its own record, looks up other numbers, and asks other columns.
+// ---- the number of a record's first fault, as the error: "1, 2, then its kind's number". No common function stands for them: each kind reads its own record, looks up other
+// numbers, and asks other columns.
 
 // "3 name byte or length"; "a repeated name adds none", so it is never 2 or 3.
-fn name_number(
-    file: &[u8],
-    at: usize,
-    len: usize,
-    c: Ceilings,
-    n: Counts,
-    places: &[u32],
-    lengths: &[u8],
-    index: &NameIndex,
-) -> Result<(), u16>
-    requires { (at + len ≤ length file.now) × Ready c file.now n places.now lengths.now index.now.heads.now index.now.chain.now }
-    ensures { result ≡ fault_as (name_number c file.now at len (tables_in n places.now lengths.now)) }
+fn name_number(payload: &Payload) -> Result<(), u16>
+    ensures { result ≡ fault_in name_number payload.now }
 {
-    let past = at + len;
-    if find_name(file, at, len, n, places, lengths, index).is_some() {
+    if find_name(payload).is_some() {
         return Ok(());
     }
-    if c.names <= n.names {
+    let before = &payload.before;
+    if before.most.names <= before.counts.names {
         return Err(2);
     }
-    if bad_name(&file[at..past]) {
+    let past = payload.at + payload.len;
+    if bad_name(&before.file[payload.at..past]) {
         return Err(3);
     }
     Ok(())
 }
 
 // "then its bytes unless kind 3", "Section bytes equal size": the length is another one.
-fn section_length_wrong(file: &[u8], at: usize, len: usize) -> bool
-    requires { at + len ≤ length file.now }
-    ensures { result ≡ section_length file.now at len }
+fn section_length_wrong(payload: &Payload) -> bool
+    ensures { result ≡ section_length payload.now.before.file.now payload.now.at payload.now.len }
 {
-    if len < 15 {
+    if payload.len < 15 {
         return true;
     }
-    let s = read_section(file, at);
+    let s = read_section(payload.before.file, payload.at);
     if s.kind == 3 {
-        return len != 15;
+        return payload.len != 15;
     }
-    len != 15 + (s.size as usize)
+    payload.len != 15 + (s.size as usize)
 }
 
 // "4 section: .."
-fn section_number(
-    file: &[u8],
-    at: usize,
-    len: usize,
-    c: Ceilings,
-    n: Counts,
-    places: &[u32],
-    lengths: &[u8],
-) -> Result<(), u16>
-    requires { (at + len ≤ length file.now) × Tabled c file.now n places.now lengths.now }
-    ensures { result ≡ fault_as (section_number c file.now at len (tables_in n places.now lengths.now)) }
+fn section_number(payload: &Payload) -> Result<(), u16>
+    ensures { result ≡ fault_in section_number payload.now }
 {
-    if section_length_wrong(file, at, len) {
+    if section_length_wrong(payload) {
         return Err(1);
     }
-    if c.sections <= n.sections {
+    let before = &payload.before;
+    if before.most.sections <= before.counts.sections {
         return Err(2);
     }
-    let s = read_section(file, at);
-    if section_bad(s, name_length(lengths, n.names, s.name)) {
+    let s = read_section(before.file, payload.at);
+    if section_bad(s, name_length(before, s.name)) {
         return Err(4);
     }
     Ok(())
 }
 
 // "5 symbol: .."
-fn symbol_number(
-    file: &[u8],
-    at: usize,
-    len: usize,
-    c: Ceilings,
-    n: Counts,
-    places: &[u32],
-    lengths: &[u8],
-) -> Result<(), u16>
-    requires { (at + len ≤ length file.now) × Tabled c file.now n places.now lengths.now }
-    ensures { result ≡ fault_as (symbol_number c file.now at len (tables_in n places.now lengths.now)) }
+fn symbol_number(payload: &Payload) -> Result<(), u16>
+    ensures { result ≡ fault_in symbol_number payload.now }
 {
-    if len != 20 {
+    if payload.len != 20 {
         return Err(1);
     }
-    if c.symbols <= n.symbols {
+    let before = &payload.before;
+    let n = before.counts;
+    if before.most.symbols <= n.symbols {
         return Err(2);
     }
-    let s = read_symbol(file, at);
-    let home = home_of(file, places, n.sections, s.section);
-    if symbol_bad(s, n.names, n.sections, home) {
+    let s = read_symbol(before.file, payload.at);
+    if symbol_bad(s, n.names, n.sections, home_of(before, s.section)) {
         return Err(5);
     }
     Ok(())
 }
 
 // "6 relocation: .."
-fn reloc_number(
-    file: &[u8],
-    at: usize,
-    len: usize,
-    c: Ceilings,
-    n: Counts,
-    places: &[u32],
-    lengths: &[u8],
-) -> Result<(), u16>
-    requires { (at + len ≤ length file.now) × Tabled c file.now n places.now lengths.now }
-    ensures { result ≡ fault_as (reloc_number c file.now at len (tables_in n places.now lengths.now)) }
+fn reloc_number(payload: &Payload) -> Result<(), u16>
+    ensures { result ≡ fault_in reloc_number payload.now }
 {
-    if len != 23 {
+    if payload.len != 23 {
         return Err(1);
     }
-    if c.relocations <= n.relocations {
+    let before = &payload.before;
+    let n = before.counts;
+    if before.most.relocations <= n.relocations {
         return Err(2);
     }
-    let r = read_reloc(file, at);
-    let home = home_of(file, places, n.sections, r.section);
-    let floor = floor_of(places, r.section);
+    let r = read_reloc(before.file, payload.at);
+    let home = home_of(before, r.section);
+    let floor = floor_of(before, r.section);
     if reloc_bad(r, n.sections, n.symbols, home, floor) {
         return Err(6);
     }
@@ -257,28 +216,20 @@ fn reloc_number(
 }
 
 // "7 split: .."; "a split's section is left to 20"
-fn split_number(
-    file: &[u8],
-    at: usize,
-    len: usize,
-    c: Ceilings,
-    n: Counts,
-    places: &[u32],
-    lengths: &[u8],
-) -> Result<(), u16>
-    requires { (at + len ≤ length file.now) × Tabled c file.now n places.now lengths.now }
-    ensures { result ≡ fault_as (split_number c file.now at len (tables_in n places.now lengths.now)) }
+fn split_number(payload: &Payload) -> Result<(), u16>
+    ensures { result ≡ fault_in split_number payload.now }
 {
-    if len != PARTIAL_BYTES {
+    if payload.len != PARTIAL_BYTES {
         return Err(1);
     }
-    if c.splits <= n.splits {
+    let before = &payload.before;
+    if before.most.splits <= before.counts.splits {
         return Err(2);
     }
     // 7 does not ask for its number
-    let s = read_partial(file, at, 65535);
-    let unit_len = name_length(lengths, n.names, s.unit);
-    let rename_len = name_length(lengths, n.names, s.rename);
+    let s = read_partial(before.file, payload.at, 65535);
+    let unit_len = name_length(before, s.unit);
+    let rename_len = name_length(before, s.rename);
     if split_bad(s, unit_len, rename_len) {
         return Err(7);
     }
@@ -286,80 +237,54 @@ fn split_number(
 }
 
 // "8 unit: .."
-fn unit_number(
-    file: &[u8],
-    at: usize,
-    len: usize,
-    c: Ceilings,
-    n: Counts,
-    places: &[u32],
-    lengths: &[u8],
-) -> Result<(), u16>
-    requires { (at + len ≤ length file.now) × Tabled c file.now n places.now lengths.now }
-    ensures { result ≡ fault_as (unit_number c file.now at len (tables_in n places.now lengths.now)) }
+fn unit_number(payload: &Payload) -> Result<(), u16>
+    ensures { result ≡ fault_in unit_number payload.now }
 {
-    if len != 8 {
+    if payload.len != 8 {
         return Err(1);
     }
-    if c.units <= n.units {
+    let before = &payload.before;
+    if before.most.units <= before.counts.units {
         return Err(2);
     }
-    let u = read_unit(file, at);
-    if unit_bad(u, name_length(lengths, n.names, u.name)) {
+    let u = read_unit(before.file, payload.at);
+    if unit_bad(u, name_length(before, u.name)) {
         return Err(8);
     }
     Ok(())
 }
 
 // By kind; "1 .. unknown kind".
-fn kind_number(
-    kind: u16,
-    file: &[u8],
-    at: usize,
-    len: usize,
-    c: Ceilings,
-    n: Counts,
-    places: &[u32],
-    lengths: &[u8],
-    index: &NameIndex,
-) -> Result<(), u16>
-    requires { (at + len ≤ length file.now) × Ready c file.now n places.now lengths.now index.now.heads.now index.now.chain.now }
-    ensures { result ≡ fault_as (kind_number c file.now at len (tables_in n places.now lengths.now) kind) }
+fn kind_number(kind: u16, payload: &Payload) -> Result<(), u16>
+    ensures { result ≡ fault_in (λ c file at len t. kind_number c file at len t kind) payload.now }
 {
     if kind == 1 {
-        return name_number(file, at, len, c, n, places, lengths, index);
+        return name_number(payload);
     }
     if kind == 2 {
-        return section_number(file, at, len, c, n, places, lengths);
+        return section_number(payload);
     }
     if kind == 3 {
-        return symbol_number(file, at, len, c, n, places, lengths);
+        return symbol_number(payload);
     }
     if kind == 4 {
-        return reloc_number(file, at, len, c, n, places, lengths);
+        return reloc_number(payload);
     }
     if kind == 5 {
-        return split_number(file, at, len, c, n, places, lengths);
+        return split_number(payload);
     }
     if kind == 6 {
-        return unit_number(file, at, len, c, n, places, lengths);
+        return unit_number(payload);
     }
     Err(1)
 }
 
 // The record at `at`: "a four-byte length of its payload, a two-byte kind, the payload"; "1 file cut" within its head or its payload.
-fn record_number(
-    file: &[u8],
-    at: usize,
-    c: Ceilings,
-    n: Counts,
-    places: &[u32],
-    lengths: &[u8],
-    index: &NameIndex,
-) -> Result<(), u16>
-    requires { (at ≤ length file.now) × Ready c file.now n places.now lengths.now index.now.heads.now index.now.chain.now }
-    ensures { result ≡ fault_as (record_number c file.now at (tables_in n places.now lengths.now)) }
+fn record_number(before: &SoFar, at: usize) -> Result<(), u16>
+    requires { at ≤ length before.now.file.now }
+    ensures { result ≡ fault_as (record_number before.now.most before.now.file.now at (so_far before.now)) }
 {
+    let file = before.file;
     let start = at + 6;
     if file.len() < start {
         return Err(1);
@@ -368,20 +293,15 @@ fn record_number(
     if file.len() < start + len {
         return Err(1);
     }
-    kind_number(
-        get16(file, at + 4),
-        file,
-        start,
+    let payload = Payload {
+        before: *before,
+        at: start,
         len,
-        c,
-        n,
-        places,
-        lengths,
-        index,
-    )
+    };
+    kind_number(get16(file, at + 4), &payload)
 }
 
-// ---- a record without a fault is kept; the ceilings are named by the contracts only
+// ---- a record without a fault is kept
 
 // One record more of a kind.
 fn one_more(kind: u16, n: Counts) -> Counts
@@ -450,38 +370,23 @@ fn keep_name(
     len: usize,
     c: Ceilings,
     n: Counts,
-    places: &mut [u32],
-    lengths: &mut [u8],
-    heads: &mut [u16],
-    chain: &mut [u16],
+    columns: &mut Columns,
 ) -> Counts
     requires { (at + len ≤ length file.now)
-        × Ready c file.now n places.old lengths.old heads.old chain.old
-        × (name_number c file.now at len (tables_in n places.old lengths.old) ≡ 0) }
-    ensures { Kept c file.now at len 1 (tables_in n places.old lengths.old) result places.new lengths.new heads.new chain.new }
+        × ReadyIn c file.now n columns.old
+        × (name_number c file.now at len (loaded_in n columns.old) ≡ 0) }
+    ensures { SameColumns columns.old columns.new × KeptIn c file.now at len 1 (loaded_in n columns.old) result columns.new }
 {
-    let known = n.names;
-    if find_name(
-        file,
-        at,
-        len,
-        n,
-        places,
-        lengths,
-        &NameIndex {
-            heads: &*heads,
-            chain: &*chain,
-        },
-    )
-    .is_some()
-    {
+    let before = columns.so_far(file, c, n);
+    if find_name(&Payload { before, at, len }).is_some() {
         return n;
     }
+    let known = n.names;
     let past = at + len;
     let bucket = bucket_of(&file[at..past]);
-    lengths[known] = len as u8;
-    enter(heads, chain, bucket, known);
-    keep_place(1, at, n, places)
+    columns.lengths[known] = len as u8;
+    enter(columns.heads, columns.chain, bucket, known);
+    keep_place(1, at, n, columns.places)
 }
 
 // By kind.
@@ -492,43 +397,32 @@ fn keep_kind(
     len: usize,
     c: Ceilings,
     n: Counts,
-    places: &mut [u32],
-    lengths: &mut [u8],
-    heads: &mut [u16],
-    chain: &mut [u16],
+    columns: &mut Columns,
 ) -> Counts
     requires { (at + len ≤ length file.now)
-        × Ready c file.now n places.old lengths.old heads.old chain.old
-        × (kind_number c file.now at len (tables_in n places.old lengths.old) kind ≡ 0) }
-    ensures { Kept c file.now at len kind (tables_in n places.old lengths.old) result places.new lengths.new heads.new chain.new }
+        × ReadyIn c file.now n columns.old
+        × (kind_number c file.now at len (loaded_in n columns.old) kind ≡ 0) }
+    ensures { SameColumns columns.old columns.new × KeptIn c file.now at len kind (loaded_in n columns.old) result columns.new }
 {
     if kind == 1 {
-        return keep_name(file, at, len, c, n, places, lengths, heads, chain);
+        return keep_name(file, at, len, c, n, columns);
     }
     if kind == 4 {
-        return keep_reloc(file, at, n, places);
+        return keep_reloc(file, at, n, columns.places);
     }
-    keep_place(kind, at, n, places)
+    keep_place(kind, at, n, columns.places)
 }
 
 // The record at `at`.
-fn keep_record(
-    file: &[u8],
-    at: usize,
-    c: Ceilings,
-    n: Counts,
-    places: &mut [u32],
-    lengths: &mut [u8],
-    heads: &mut [u16],
-    chain: &mut [u16],
-) -> Counts
-    requires { Ready c file.now n places.old lengths.old heads.old chain.old
-        × (record_number c file.now at (tables_in n places.old lengths.old) ≡ 0) }
-    ensures { Kept c file.now (at + 6) (le32 file.now at) (le16 file.now (at + 4)) (tables_in n places.old lengths.old) result places.new lengths.new heads.new chain.new }
+fn keep_record(file: &[u8], at: usize, c: Ceilings, n: Counts, columns: &mut Columns) -> Counts
+    requires { ReadyIn c file.now n columns.old
+        × (record_number c file.now at (loaded_in n columns.old) ≡ 0) }
+    ensures { SameColumns columns.old columns.new
+        × KeptIn c file.now (at + 6) (le32 file.now at) (le16 file.now (at + 4)) (loaded_in n columns.old) result columns.new }
 {
     let len = get32(file, at) as usize;
     let kind = get16(file, at + 4);
-    keep_kind(kind, file, at + 6, len, c, n, places, lengths, heads, chain)
+    keep_kind(kind, file, at + 6, len, c, n, columns)
 }
 
 // Where the record after the one at `at` starts.
@@ -542,37 +436,20 @@ fn next_record(file: &[u8], at: usize) -> usize
 // ---- the whole file
 
 // The records in file order, up to the first that has a fault.
-fn load_records(
-    file: &[u8],
-    c: Ceilings,
-    places: &mut [u32],
-    lengths: &mut [u8],
-    heads: &mut [u16],
-    chain: &mut [u16],
-) -> Result<Counts, Refusal>
-    requires { Ready c file.now no_counts places.old lengths.old heads.old chain.old }
-    ensures { Loads c file.now (load_from (length file.now) c file.now 0 0 nothing) result places.new lengths.new heads.new chain.new }
+fn load_records(file: &[u8], c: Ceilings, columns: &mut Columns) -> Result<Counts, Refusal>
+    requires { ReadyIn c file.now no_counts columns.old }
+    ensures { SameColumns columns.old columns.new
+        × LoadsIn c file.now (load_from (length file.now) c file.now 0 0 nothing) result columns.new }
 {
     let mut n = no_counts();
     let mut at = 0;
     let mut r = 0;
     // no count: each record says where the next one starts
     while at < file.len() {
-        if let Err(number) = record_number(
-            file,
-            at,
-            c,
-            n,
-            places,
-            lengths,
-            &NameIndex {
-                heads: &*heads,
-                chain: &*chain,
-            },
-        ) {
+        if let Err(number) = record_number(&columns.so_far(file, c, n), at) {
             return refuse(number, 0, r);
         }
-        n = keep_record(file, at, c, n, places, lengths, heads, chain);
+        n = keep_record(file, at, c, n, columns);
         at = next_record(file, at);
         r += 1;
     }
@@ -604,5 +481,11 @@ pub fn load_file(
     }
     clear_floors(places);
     clear_heads(heads);
-    load_records(file, c, places, lengths, heads, chain)
+    let mut columns = Columns {
+        places,
+        lengths,
+        heads,
+        chain,
+    };
+    load_records(file, c, &mut columns)
 }

@@ -1,17 +1,17 @@
 -- Names looked up along the chain of their bucket, and entered one after another. Assumes nothing.
-use mathlib.Core.Path.{◌≡◌, refl, sym, ap, ap₂, ◌∙◌}
+use mathlib.Core.Path.{◌≡◌, refl, sym, ap, ap₂, subst, ◌∙◌}
 use mathlib.Core.List.{List, [], ◌∷◌, ◌++◌, append-nil}
 use mathlib.Core.Bool.{Bool, true, false}
-use Prim.Native.Nat.{ℕ, ◌+◌, ◌*◌, ◌-◌, ◌≤◌, ◌<◌}
+use Prim.Native.Nat.{ℕ, ◌+◌, ◌*◌, ◌-◌, ◌/◌, ◌≤◌, ◌<◌}
 use native.Mathlib.Omega.{arith}
 use borrow.Author.Tests.{lt-ltb, le-ltb, leb-false, ltb-true, ltb-false}
-use lib.ListN.{length, get_or, take, set, length-append}
-use lib.Seq.{sets, length-sets}
+use lib.ListN.{length, get_or, take, drop, set, length-append, take-append-drop}
+use lib.Seq.{sets, sets-eq, length-sets, length-take-le}
 use lib.Dec.{leb, ltb}
 use Rattle.lists.specs.Rows.{any_of}
 use Rattle.lists.specs.Outcome.{Outcome, accepted, refused, ◌>>=◌}
 use Rattle.lists.proofs.Outcomes.{fails, passes, not_both, same_accepted}
-use Rattle.lists.proofs.Stores.{sets_then, take-sets}
+use Rattle.lists.proofs.Stores.{sets_then, take-sets, part-below-sets}
 use Rattle.lists.proofs.Tests.{none_of}
 use Rattle.fields.specs.Fields.{enc16}
 use Rattle.outputs.specs.Outputs.{halves}
@@ -20,13 +20,15 @@ use Rattle.stage_names.proofs.Fits.{flat_append}
 use Rattle.names.specs.Names.{same_name, number_of}
 use Rattle.names.specs.Index.{bucket_of, Sought, InBucket}
 use Rattle.names.proofs.Laws.{number_le}
-use Rattle.names.proofs.Indexes.{Search, search_bound, search_turn, search_finds, last_below, indexed_entered}
+use Rattle.names.proofs.Indexes.{Search, search_bound, search_turn, search_finds, sought_asked, last_below, indexed_entered}
 use Rattle.name_table.specs.NameTable.{name_in}
-use Rattle.number_names.specs.Numbers.{Room, no_place, enter_name, enter_names, name_ends, Laid, Known, Held, Within, Whole, Short, Entered, Going, InTable, Fits}
-use Rattle.std.specs.Prelude.{Result, Ok, Err, Some}
+use Rattle.number_names.specs.Numbers.{Room, no_place, enter_name, enter_names, name_ends, Laid, Known, Held, Within, Whole, Short, Entered, Going, InTable, Fits, Standing, names_in}
+use Rattle.std.specs.Prelude.{Result, Ok, Err, Option, Some, is_some}
 use Rattle.obj.specs.declared.Refusal.{Refusal}
+use Rattle.number_names.specs.Tables.{SameTable}
 use Rattle.number_names.specs.declared.Count.{Count}
-use Rattle.number_names.proofs.Laid.{name_back, start_back, end_back, length-name_ends}
+use Rattle.number_names.specs.declared.table.NumberedNames.{NumberedNames}
+use Rattle.number_names.proofs.Laid.{name_back, start_back, end_back, names_back, count_back, length-name_ends}
 
 -- ---- a turn of the search: name cur - 1 is the last that is left in the bucket
 
@@ -106,6 +108,23 @@ module _ {names : List (List ℕ)} {ends₀ bytes₀ ends bytes heads chain : Li
   pub held_known : Known names (take (2 * n) ends) (take used bytes) heads chain
   held_known = record { laid = held-laid; index = h.index }
 
+  -- the names at the front are read back
+  pub held_listed : names_in (take (2 * n) ends) (take used bytes) ≡ names
+  held_listed = names_back held-laid (length (take (2 * n) ends) / 2) (count_back held-laid)
+
+  pub held_standing : Standing ends bytes heads chain n used
+  held_standing = record {
+    ends_fit = omega (arith, h.ends_fit, held_ends);
+    bytes_fit = omega (arith, h.bytes_fit, held_bytes);
+    known = subst (λ (l : List (List ℕ)). Known l (take (2 * n) ends) (take used bytes) heads chain) (sym held_listed) held_known;
+  }
+
+  -- whether a name was found is whether it is there
+  pub held_asked : {ends' bytes' : List ℕ} (x : List ℕ) (found : Option ℕ) {r : Bool} → ends' ≡ take (2 * n) ends → bytes' ≡ take used bytes → Sought (names_in ends' bytes') x found
+      → r ≡ is_some found → (t : Bool) → r ≡ t → ltb (number_of names x) (length names) ≡ t
+  held_asked x found ee eb s er t e =
+      sym (sought_asked names _ _ (subst (λ (l : List (List ℕ)). Sought l x found) (ap₂ names_in ee eb ∙ held_listed) s)) ∙ sym er ∙ e
+
   -- one name more
   pub held_more : {x ends' bytes' heads' chain' : List ℕ} {bucket : ℕ}
       → Fits x ends bytes n used
@@ -131,6 +150,42 @@ module _ {names : List (List ℕ)} {ends₀ bytes₀ ends bytes heads chain : Li
     index =
         indexed_entered h.index (sym h.counted) (record { is = refl; few = number_le names x }) (omega (arith, h.counted, new)) f.few refl b eh ec;
   }
+
+-- ---- what stands at the front
+
+-- what stands at the front of a list may be stored there again
+front_again : (l : List ℕ) (k : ℕ) → k ≤ length l → l ≡ sets l 0 (take k l)
+front_again l k h =
+    let long : length (take k l) ≡ k = length-take-le k l h in
+    sym (sets-eq (take k l) l 0 (omega arith) ∙ ap (λ (m : ℕ). take k l ++ drop m l) (let e : 0 + length (take k l) ≡ k = omega arith in e) ∙ take-append-drop k l)
+
+module _ {ends bytes heads chain : List ℕ} {n used : ℕ} (s : Standing ends bytes heads chain n used) where
+  -- they are held, over the outputs themselves
+  pub standing_held : Held (names_in (take (2 * n) ends) (take used bytes)) ends bytes ends bytes heads chain n used
+  standing_held =
+      let k = s.known in
+      let long : length (take (2 * n) ends) ≡ 2 * n = length-take-le (2 * n) ends s.ends_fit in
+      let sum : used ≡ length (flat (names_in (take (2 * n) ends) (take used bytes))) = sym (length-take-le used bytes s.bytes_fit) ∙ ap length k.laid.bytes_are in
+      record {
+        ends_are = front_again ends (2 * n) s.ends_fit ∙ ap (sets ends 0) k.laid.ends_are;
+        bytes_are = front_again bytes used s.bytes_fit ∙ ap (sets bytes 0) k.laid.bytes_are;
+        counted = omega (arith, long, count_back k.laid);
+        sum = sum;
+        ends_fit = s.ends_fit;
+        bytes_fit = s.bytes_fit;
+        small = omega (arith, sum, k.laid.small);
+        index = k.index;
+      }
+
+  -- bytes behind them may change
+  pub standing_bytes : (x : List ℕ) → used + length x ≤ length bytes → Standing ends (sets bytes used x) heads chain n used
+  standing_bytes x h =
+      let same = part-below-sets bytes used x h 0 used (omega arith) in
+      record {
+        ends_fit = s.ends_fit;
+        bytes_fit = omega (arith, s.bytes_fit, length-sets bytes used x);
+        known = subst (λ (front : List ℕ). Known (names_in (take (2 * n) ends) front) (take (2 * n) ends) front heads chain) (sym same) s.known;
+      }
 
 -- ---- what entering a name gives
 
@@ -178,6 +233,15 @@ place_free x ends bytes n used most most_bytes w e =
       short = omega (arith, b, w.short);
     }
 
+-- outputs of the same lengths have the same room
+pub within_as : {most most_bytes ends bytes ends' bytes' : ℕ} → ends' ≡ ends → bytes' ≡ bytes → Within most most_bytes ends bytes → Within most most_bytes ends' bytes'
+within_as e b w = record {
+  few = w.few;
+  ends_fit = omega (arith, w.ends_fit, e);
+  short = w.short;
+  bytes_fit = omega (arith, w.bytes_fit, b);
+}
+
 -- ---- names one after another, as a loop enters them
 
 -- one name, and then the others
@@ -192,15 +256,6 @@ enter_nil room names = refl
 
 module _ {room : Room} {left : ℕ → List (List ℕ)} {goal : Outcome (List (List ℕ))} {ends₀ bytes₀ ends bytes heads chain : List ℕ} {i : ℕ} {r : Count}
     (g : Going room left goal ends₀ bytes₀ ends bytes heads chain i r) where
-  -- the outputs are as long as what was lent, so they have the same room
-  pub going_within : {most most_bytes : ℕ} → Within most most_bytes (length ends₀) (length bytes₀) → Within most most_bytes (length ends) (length bytes)
-  going_within w = record {
-    few = w.few;
-    ends_fit = omega (arith, w.ends_fit, held_ends g.held);
-    short = w.short;
-    bytes_fit = omega (arith, w.bytes_fit, held_bytes g.held);
-  }
-
   module _ {o : Outcome (List (List ℕ))} {ends' bytes' heads' chain' : List ℕ}
       (turn : enter_names room g.names (left i) ≡ (o >>= λ more. enter_names room more (left (i + 1)))) where
     -- the turn found no place: that is the outcome
@@ -217,21 +272,11 @@ module _ {room : Room} {left : ℕ → List (List ℕ)} {goal : Outcome (List (L
   pub going_done : enter_names room g.names (left i) ≡ accepted g.names → Whole goal ends₀ bytes₀ ends bytes heads chain r
   going_done d = record { names = g.names; is = sym g.same ∙ d; held = g.held }
 
--- the room of outputs that hold names
-pub held-within : {names : List (List ℕ)} {ends₀ bytes₀ ends bytes heads chain : List ℕ} {n used most most_bytes : ℕ} → Held names ends₀ bytes₀ ends bytes heads chain n used
-    → Within most most_bytes (length ends) (length bytes) → Within most most_bytes (length ends₀) (length bytes₀)
-held-within h w = record {
-  few = w.few;
-  ends_fit = omega (arith, w.ends_fit, held_ends h);
-  short = w.short;
-  bytes_fit = omega (arith, w.bytes_fit, held_bytes h);
-}
-
 -- the same outcome, said otherwise
-pub entered_as : {o want : Outcome (List (List ℕ))} (ends₀ bytes₀ ends bytes heads chain : List ℕ) (r : Result Count Refusal) → o ≡ want
-    → Entered o ends₀ bytes₀ ends bytes heads chain r → Entered want ends₀ bytes₀ ends bytes heads chain r
-entered_as ends₀ bytes₀ ends bytes heads chain (Ok n) q e = record { names = e.names; is = sym q ∙ e.is; held = e.held }
-entered_as ends₀ bytes₀ ends bytes heads chain (Err r) q e = record { names = e.names; is = sym q ∙ e.is; was = e.was; held = e.held }
+pub entered_as : {o want : Outcome (List (List ℕ))} (ends₀ bytes₀ ends bytes heads chain : List ℕ) (n : Count) (r : Result (Unit {0}) Refusal) → o ≡ want
+    → Entered o ends₀ bytes₀ ends bytes heads chain n r → Entered want ends₀ bytes₀ ends bytes heads chain n r
+entered_as ends₀ bytes₀ ends bytes heads chain n (Ok u) q e = record { names = e.names; is = sym q ∙ e.is; held = e.held }
+entered_as ends₀ bytes₀ ends bytes heads chain n (Err r) q e = record { names = e.names; is = sym q ∙ e.is; was = e.was; held = e.held }
 
 -- a name that has no place, after those that the outputs hold
 pub short_held : {o : Outcome (List (List ℕ))} {names : List (List ℕ)} {ends₀ bytes₀ ends bytes heads chain : List ℕ} {n used : ℕ}
@@ -243,3 +288,11 @@ short_held {o} {names} q h = record {
   was = ap (λ (k : ℕ). record { number = 2; section = 0; address = k }) h.counted;
   held = rw (← h.counted, ← h.sum) h;
 }
+
+-- ---- the table itself
+
+pub same_table : (t : NumberedNames) → SameTable t t
+same_table t = record { ends = refl; bytes = refl; room = refl }
+
+pub same_then : {t u v : NumberedNames} → SameTable u v → SameTable t u → SameTable t v
+same_then a b = record { ends = a.ends ∙ b.ends; bytes = a.bytes ∙ b.bytes; room = a.room ∙ b.room }

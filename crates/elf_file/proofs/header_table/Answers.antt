@@ -9,5 +9,5 @@ pub returns : goal.returns
 unfolding header_table
 returns c =
     c.bytes_in.ensures
-    ∙ ap (λ (n : ℕ). bytes_in c.args.file.now c.read_header-h.result.shoff (40 * n)) c.from.ensures
-    ∙ ap (λ (h : Header). bytes_in c.args.file.now h.shoff (40 * h.shnum)) c.read_header-h.ensures
+    ∙ ap (λ (n : ℕ). bytes_in c.args.file.now.bytes.now c.read_header-h.result.shoff (40 * n)) c.from.ensures
+    ∙ ap (λ (h : Header). bytes_in c.args.file.now.bytes.now h.shoff (40 * h.shnum)) c.read_header-h.ensures

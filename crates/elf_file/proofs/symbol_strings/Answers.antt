@@ -9,7 +9,7 @@ use Rattle.elf_file.proofs.symbol_strings.Goals as goal
 pub returns : goal.returns
 unfolding symbol_strings
 returns c =
-    let f = c.args.file.now in
+    let f = c.args.file.now.bytes.now in
     let t = c.symbol_table-t.ensures ∙ ap symbol_table c.header_table-headers.ensures in
     c.bytes_in.ensures
     ∙ ap (λ (h : SectionHeader). section_bytes f h)

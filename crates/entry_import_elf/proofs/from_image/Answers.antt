@@ -8,6 +8,7 @@ use Rattle.stage_names.specs.StageNames.{flat}
 use Rattle.stage_tables.specs.StageTables.{stage_sections}
 use Rattle.stage_tables.proofs.Laws.{taken_few, taken_places, taken-count, taken-held}
 use Rattle.number_names.specs.Numbers.{name_ends}
+use Rattle.number_names.specs.Tables.{listed}
 use Rattle.import.specs.Import.{tables_of}
 use Rattle.entry_import_elf.specs.Entry.{symbols_room}
 use Rattle.entry_import_elf.proofs.Laws.{names_are, given_as, image_said, image_stops, image_goes}
@@ -15,19 +16,22 @@ use Rattle.entry_import_elf.proofs.from_image.Goals as goal
 
 pub returns-in_err-take_image : goal.returns-in_err-take_image
 returns-in_err-take_image c =
-    λ names k q l s p.
+    λ q s p.
     let a = c.args in
-    let t = tables_of a.file.now names in
+    let file = a.file.now.bytes.now in
+    let names = listed a.names.now.known in
+    let t = tables_of file names in
     let r = err_from_is_err_and c.from_residual.result c.from_residual.ensures.1 in
-    let m = l ∙ ap (λ (x : List (List ℕ)). stage_lengths (name_ends x) (flat x)) (sym (names_are a.file.now names)) in
-    let said = image_said (length a.file.now) t c.in_err-take_image.ensures.said m p s in
-    rw (r.1, r.2) (sym (image_stops (length a.file.now) 64 (symbols_room (length a.symbols.now)) t said refl))
+    let k = a.names.now.known.known.laid in
+    let m = a.names.now.measured ∙ (λ z. stage_lengths (k.ends_are z) (k.bytes_are z)) ∙ ap (λ (x : List (List ℕ)). stage_lengths (name_ends x) (flat x)) (sym (names_are file names)) in
+    let said = image_said (length file) t c.in_err-take_image.ensures.said m p s in
+    rw (r.1, r.2) (sym (image_stops (length file) 64 (symbols_room (length a.symbols.now)) t said refl))
 
 pub slice_bounds-from_symbols-end : goal.slice_bounds-from_symbols-end
 slice_bounds-from_symbols-end c =
     let t = c.take_image in
     let n = taken_few 15 64 c.args.sections.now _ _ t.ensures (ap meaning c.in_ok-take_image.was) in
-    omega (arith, t.auto.places, c.requires.3.long)
+    omega (arith, t.auto.places, c.requires.1.long)
 
 pub slice_bounds-from_symbols-end-2 : goal.slice_bounds-from_symbols-end-2
 slice_bounds-from_symbols-end-2 c = sym (taken-count 15 64 c.args.sections.now _ _ c.take_image.ensures (ap meaning c.in_ok-take_image.was))
@@ -35,16 +39,19 @@ slice_bounds-from_symbols-end-2 c = sym (taken-count 15 64 c.args.sections.now _
 pub from_symbols-requires : goal.from_symbols-requires
 from_symbols-requires c =
     let held = taken-held 15 64 c.args.sections.now _ _ c.take_image.ensures (ap meaning c.in_ok-take_image.was) (omega arith) in
-    (c.requires.0, c.requires.1, c.requires.2, held, c.requires.4)
+    (c.requires.0, held, c.requires.2)
 
 pub returns : goal.returns
 returns c =
-    λ names k q l s p.
+    λ q s p.
     let a = c.args in
-    let t = tables_of a.file.now names in
+    let file = a.file.now.bytes.now in
+    let names = listed a.names.now.known in
+    let t = tables_of file names in
     let e = ap meaning c.in_ok-take_image.was in
-    let m = l ∙ ap (λ (x : List (List ℕ)). stage_lengths (name_ends x) (flat x)) (sym (names_are a.file.now names)) in
-    let said = image_said (length a.file.now) t c.take_image.ensures.said m p s in
+    let k = a.names.now.known.known.laid in
+    let m = a.names.now.measured ∙ (λ z. stage_lengths (k.ends_are z) (k.bytes_are z)) ∙ ap (λ (x : List (List ℕ)). stage_lengths (name_ends x) (flat x)) (sym (names_are file names)) in
+    let said = image_said (length file) t c.take_image.ensures.said m p s in
     let heads = ap (sections_in a.sections.now) (taken_places 15 64 a.sections.now _ _ c.take_image.ensures e) ∙ ap stage_sections s in
-    given_as t a.symbols.now c.from_symbols.new.symbols c.from_symbols.result (image_goes (length a.file.now) 64 (symbols_room (length a.symbols.now)) t said e)
-    (c.from_symbols.ensures names k q heads)
+    given_as t a.symbols.now c.from_symbols.new.symbols c.from_symbols.result (image_goes (length file) 64 (symbols_room (length a.symbols.now)) t said e)
+    (c.from_symbols.ensures q heads)

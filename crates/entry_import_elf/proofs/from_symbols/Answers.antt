@@ -6,6 +6,7 @@ use Rattle.lists.specs.Outcome.{refused}
 use Rattle.elf.specs.declared.SectionHeader.{SectionHeader}
 use Rattle.elf_file.specs.File.{section_bytes, symbol_table}
 use Rattle.number_names.specs.Numbers.{name_ends}
+use Rattle.number_names.specs.Tables.{listed}
 use Rattle.import.specs.Import.{tables_of}
 use Rattle.import.proofs.Sections.{symbols_count}
 use Rattle.import_rows.specs.Rows.{symbols_table}
@@ -16,46 +17,54 @@ use Rattle.entry_import_elf.proofs.from_symbols.Goals as goal
 
 pub returns-then-room-n : goal.returns-then-room-n
 returns-then-room-n c =
-    λ names k q s.
+    λ q s.
     let a = c.args in
-    let table = c.bytes_in-table.ensures ∙ ap (λ (h : SectionHeader). section_bytes a.file.now h) (c.symbol_table-t.ensures ∙ ap symbol_table c.header_table.ensures) in
-    let n = c.entry_count-n.ensures.1 ∙ ap (λ (l : List ℕ). length l / 16 - 1) table ∙ sym (symbols_count a.file.now names) in
-    let many = symbols_many (symbols_room (length a.symbols.now)) (tables_of a.file.now names) n (omega (arith, c.if-room-n.true, c.smaller-room.ensures.0)) in
+    let file = a.file.now.bytes.now in
+    let names = listed a.names.now in
+    let table = c.bytes_in-table.ensures ∙ ap (λ (h : SectionHeader). section_bytes file h) (c.symbol_table-t.ensures ∙ ap symbol_table c.header_table.ensures) in
+    let n = c.entry_count-n.ensures.1 ∙ ap (λ (l : List ℕ). length l / 16 - 1) table ∙ sym (symbols_count file names) in
+    let many = symbols_many (symbols_room (length a.symbols.now)) (tables_of file names) n (omega (arith, c.if-room-n.true, c.smaller-room.ensures.0)) in
     rw c.refuse.ensures (sym (ap (λ (m : ℕ). refused 2 0 m) c.smaller-room.ensures.0 ∙ many))
 
 pub put_symbols-requires : goal.put_symbols-requires
-put_symbols-requires c = (c.requires.2, c.requires.1, omega (arith, c.if-room-n.false, c.smaller-room.ensures.2, c.entry_count-n.ensures.1))
+put_symbols-requires c = (c.requires.0, omega (arith, c.if-room-n.false, c.smaller-room.ensures.2, c.entry_count-n.ensures.1))
 
 pub slice_bounds-take_symbols-end-2 : goal.slice_bounds-take_symbols-end-2
 slice_bounds-take_symbols-end-2 c = sym (length-take-le _ _ (omega (arith, c.if-room-n.false, c.smaller-room.ensures.2, c.put_symbols.auto.out)))
 
 pub take_symbols-requires : goal.take_symbols-requires
-take_symbols-requires c = (c.requires.3, c.requires.4)
+take_symbols-requires c = (c.requires.1, c.requires.2)
 
 pub returns-in_err-take_symbols : goal.returns-in_err-take_symbols
 returns-in_err-take_symbols c =
-    λ names k q s.
+    λ q s.
     let a = c.args in
+    let file = a.file.now.bytes.now in
+    let names = listed a.names.now in
+    let t = tables_of file names in
     let p = err_from_is_err_and c.from_residual.result c.from_residual.ensures.1 in
-    let table = c.bytes_in-table.ensures ∙ ap (λ (h : SectionHeader). section_bytes a.file.now h) (c.symbol_table-t.ensures ∙ ap symbol_table c.header_table.ensures) in
-    let n = c.entry_count-n.ensures.1 ∙ ap (λ (l : List ℕ). length l / 16 - 1) table ∙ sym (symbols_count a.file.now names) in
-    let w = c.put_symbols.ensures names k ∙ ap (sets a.symbols.now 0) (symbols_written a.file.now names table c.symbol_strings-strings.ensures q) in
-    let whole = front a.symbols.now (symbols_table (tables_of a.file.now names).symbols) w (omega (arith, n, long_symbols (tables_of a.file.now names).symbols)) (omega (arith, c.if-room-n.false, c.smaller-room.ensures.2)) in
-    let ends = k.laid.ends_are ∙ ap (λ (l : List (List ℕ)). name_ends l) (sym (names_are a.file.now names)) in
+    let table = c.bytes_in-table.ensures ∙ ap (λ (h : SectionHeader). section_bytes file h) (c.symbol_table-t.ensures ∙ ap symbol_table c.header_table.ensures) in
+    let n = c.entry_count-n.ensures.1 ∙ ap (λ (l : List ℕ). length l / 16 - 1) table ∙ sym (symbols_count file names) in
+    let w = c.put_symbols.ensures ∙ ap (sets a.symbols.now 0) (symbols_written file names table c.symbol_strings.ensures q) in
+    let whole = front a.symbols.now (symbols_table t.symbols) w (omega (arith, n, long_symbols t.symbols)) (omega (arith, c.if-room-n.false, c.smaller-room.ensures.2)) in
+    let ends = a.names.now.known.laid.ends_are ∙ ap (λ (l : List (List ℕ)). name_ends l) (sym (names_are file names)) in
     let few : c.entry_count-n.result ≤ symbols_room (length a.symbols.now) = omega (arith, c.if-room-n.false, c.smaller-room.ensures.0) in
-    rw (p.1, p.2) (sym (symbols_asked (symbols_room (length a.symbols.now)) (tables_of a.file.now names) n few c.in_err-take_symbols.ensures.said ends s whole))
+    rw (p.1, p.2) (sym (symbols_asked (symbols_room (length a.symbols.now)) t n few c.in_err-take_symbols.ensures.said ends s whole))
 
 pub returns : goal.returns
 returns c =
-    λ names k q s.
+    λ q s.
     let a = c.args in
-    let table = c.bytes_in-table.ensures ∙ ap (λ (h : SectionHeader). section_bytes a.file.now h) (c.symbol_table-t.ensures ∙ ap symbol_table c.header_table.ensures) in
-    let n = c.entry_count-n.ensures.1 ∙ ap (λ (l : List ℕ). length l / 16 - 1) table ∙ sym (symbols_count a.file.now names) in
-    let w = c.put_symbols.ensures names k ∙ ap (sets a.symbols.now 0) (symbols_written a.file.now names table c.symbol_strings-strings.ensures q) in
-    let whole = front a.symbols.now (symbols_table (tables_of a.file.now names).symbols) w (omega (arith, n, long_symbols (tables_of a.file.now names).symbols)) (omega (arith, c.if-room-n.false, c.smaller-room.ensures.2)) in
-    let ends = k.laid.ends_are ∙ ap (λ (l : List (List ℕ)). name_ends l) (sym (names_are a.file.now names)) in
+    let file = a.file.now.bytes.now in
+    let names = listed a.names.now in
+    let t = tables_of file names in
+    let table = c.bytes_in-table.ensures ∙ ap (λ (h : SectionHeader). section_bytes file h) (c.symbol_table-t.ensures ∙ ap symbol_table c.header_table.ensures) in
+    let n = c.entry_count-n.ensures.1 ∙ ap (λ (l : List ℕ). length l / 16 - 1) table ∙ sym (symbols_count file names) in
+    let w = c.put_symbols.ensures ∙ ap (sets a.symbols.now 0) (symbols_written file names table c.symbol_strings.ensures q) in
+    let whole = front a.symbols.now (symbols_table t.symbols) w (omega (arith, n, long_symbols t.symbols)) (omega (arith, c.if-room-n.false, c.smaller-room.ensures.2)) in
+    let ends = a.names.now.known.laid.ends_are ∙ ap (λ (l : List (List ℕ)). name_ends l) (sym (names_are file names)) in
     record {
-      said = sym (symbols_asked (symbols_room (length a.symbols.now)) (tables_of a.file.now names) n (omega (arith, c.if-room-n.false, c.smaller-room.ensures.0)) c.in_ok-take_symbols.ensures.said ends s whole);
+      said = sym (symbols_asked (symbols_room (length a.symbols.now)) t n (omega (arith, c.if-room-n.false, c.smaller-room.ensures.0)) c.in_ok-take_symbols.ensures.said ends s whole);
       written = w;
       counted = n;
       few = omega (arith, c.if-room-n.false, c.smaller-room.ensures.1);

@@ -14,8 +14,8 @@ returns-in_err-check_file c =
     let p = err_from_is_err_and c.from_residual.result c.from_residual.ensures.1 in
     rw (p.1, p.2) (file_stops a.file.now rooms c.in_err-check_file.ensures refl)
 
-pub number_all-requires : goal.number_all-requires
-number_all-requires c = (file_passed c.args.file.now (sym c.in_ok-check_file.ensures)).long
+pub invariant_of-elf : goal.invariant_of-elf
+invariant_of-elf c = record { headed = (file_passed c.args.file.now (sym c.in_ok-check_file.ensures)).long }
 
 pub returns-in_err-count : goal.returns-in_err-count
 returns-in_err-count c =
@@ -38,9 +38,7 @@ pub slice_bounds-with_names-end-4 : goal.slice_bounds-with_names-end-4
 slice_bounds-with_names-end-4 c = let n = c.in_ok-count.ensures in sym (length-take-le _ _ (omega (arith, n.bytes_fit, numbered_bytes n)))
 
 pub with_names-requires : goal.with_names-requires
-with_names-requires c =
-    let n = c.in_ok-count.ensures in
-    ((file_passed c.args.file.now (sym c.in_ok-check_file.ensures)).long, record { names = n.names; laid = numbered-laid n })
+with_names-requires c = let n = c.in_ok-count.ensures in record { names = n.names; laid = numbered-laid n }
 
 pub returns-in_err-r : goal.returns-in_err-r
 returns-in_err-r c =

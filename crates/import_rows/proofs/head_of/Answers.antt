@@ -4,7 +4,4 @@ use Rattle.import_rows.proofs.head_of.Goals as goal
 
 pub returns : goal.returns
 unfolding head_of
-returns c =
-    λ names k.
-    let n = c.name_number.ensures names k in
-    (cc)
+returns c = cc

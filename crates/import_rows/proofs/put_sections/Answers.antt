@@ -6,6 +6,7 @@ use lib.ListN.{get_or}
 use lib.Seq.{sets}
 use Rattle.obj.specs.declared.Section.{Section}
 use Rattle.elf_file.specs.File.{header_of}
+use Rattle.number_names.specs.Tables.{listed}
 use Rattle.import_rows.specs.Rows.{head_of, section_record}
 use Rattle.import_rows.proofs.Laws.{write_turn, write_done, rows_turn, rows_done, length_section}
 use Rattle.import_rows.proofs.put_sections.Goals as goal
@@ -14,11 +15,11 @@ pub loop-i-preserved : goal.loop-i-preserved
 loop-i-preserved c =
     let a = c.args in
     let i = c.loop-i.i in
-    λ names k.
-    write_turn (c.loop-i.invariant names k) (rows_turn section_record (λ j. head_of names a.strings.now (header_of a.headers.now j)) a.taken.now i c.loop-i-test.true)
+    let names = listed a.names.now in
+    write_turn c.loop-i.invariant (rows_turn section_record (λ j. head_of names a.strings.now (header_of a.headers.now j)) a.taken.now i c.loop-i-test.true)
     (c.put_section.ensures
-    ∙ ap (λ (s : Section). sets c.loop-i.out (15 * i) (section_record s)) (c.head_of.ensures names k ∙ ap (head_of names a.strings.now) c.header_of-h.ensures))
+    ∙ ap (λ (s : Section). sets c.loop-i.out (15 * i) (section_record s)) (c.head_of.ensures ∙ ap (head_of names a.strings.now) c.header_of-h.ensures))
     (omega (arith, length_section (head_of names a.strings.now (header_of a.headers.now (get_or a.taken.now i 0)))))
 
 pub returns : goal.returns
-returns c = λ names k. write_done (c.loop-i.invariant names k) (rows_done _ _ _ _ c.loop-i-test.false)
+returns c = write_done c.loop-i.invariant (rows_done _ _ _ _ c.loop-i-test.false)

@@ -6,23 +6,24 @@ use lib.Seq.{sets}
 use Rattle.obj.specs.declared.Symbol.{Symbol}
 use Rattle.elf.specs.Elf.{symbol_entry_at}
 use Rattle.elf_file.specs.File.{entries_of}
+use Rattle.number_names.specs.Tables.{listed}
 use Rattle.import_rows.specs.Rows.{symbol_of, symbol_record}
 use Rattle.import_rows.proofs.Laws.{write_start, write_turn, write_done, table_turn, table_done, length_symbol}
 use Rattle.import_rows.proofs.put_symbols.Goals as goal
 
 pub loop-i-init : goal.loop-i-init
 unfolding entries_of
-loop-i-init c = λ names k. write_start _ _ refl
+loop-i-init c = write_start _ _ refl
 
 pub loop-i-preserved : goal.loop-i-preserved
 loop-i-preserved c =
     let a = c.args in
     let i = c.loop-i.i in
-    λ names k.
-    write_turn (c.loop-i.invariant names k) (table_turn symbol_record (symbol_of names a.strings.now a.taken.now) (λ j. symbol_entry_at a.table.now (16 * j)) _ i c.loop-i-test.true)
+    let symbol = symbol_of (listed a.names.now) a.strings.now a.taken.now in
+    write_turn c.loop-i.invariant (table_turn symbol_record symbol (λ j. symbol_entry_at a.table.now (16 * j)) _ i c.loop-i-test.true)
     (c.put_symbol.ensures
-    ∙ ap (λ (s : Symbol). sets c.loop-i.out (20 * (i - 1)) (symbol_record s)) (c.symbol_of.ensures names k ∙ ap (symbol_of names a.strings.now a.taken.now) c.read_symbol_entry-s.ensures))
-    (omega (arith, c.loop-i.auto.i, length_symbol (symbol_of names a.strings.now a.taken.now (symbol_entry_at a.table.now (16 * i)))))
+    ∙ ap (λ (s : Symbol). sets c.loop-i.out (20 * (i - 1)) (symbol_record s)) (c.symbol_of.ensures ∙ ap symbol c.read_symbol_entry-s.ensures))
+    (omega (arith, c.loop-i.auto.i, length_symbol (symbol (symbol_entry_at a.table.now (16 * i)))))
 
 pub returns : goal.returns
-returns c = λ names k. write_done (c.loop-i.invariant names k) (table_done _ _ _ _ _ c.loop-i-test.false)
+returns c = write_done c.loop-i.invariant (table_done _ _ _ _ _ c.loop-i-test.false)

@@ -11,10 +11,9 @@ as_one false = refl
 pub returns : goal.returns
 unfolding symbol_of
 returns c =
-    λ names k.
     let s = c.args.s in
     λ z. record {
-      name = c.name_number.ensures names k z;
+      name = c.name_number.ensures z;
       section = c.home_of.ensures z;
       address = s.value;
       size = s.size;

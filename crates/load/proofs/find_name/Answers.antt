@@ -4,11 +4,7 @@ use Rattle.load.proofs.Deciding.{lent-named, lent_indexed, lent_found}
 use Rattle.load.proofs.find_name.Goals as goal
 
 pub find-requires : goal.find-requires
-find-requires c =
-    let a = c.args in
-    (lent-named a.file.now a.n a.places.now a.lengths.now a.index.now.heads.now a.index.now.chain.now c.requires.1, lent_indexed a.file.now a.n a.places.now a.lengths.now a.index.now.heads.now a.index.now.chain.now c.requires.1)
+find-requires c = let ready = c.args.payload.now.before.readable in (lent-named ready, lent_indexed ready)
 
 pub returns : goal.returns
-returns c =
-    let a = c.args in
-    lent_found a.file.now a.n a.places.now a.lengths.now a.index.now.heads.now a.index.now.chain.now c.requires.1 a.at a.len _ c.find.ensures
+returns c = let p = c.args.payload.now in lent_found p.before.readable p.at p.len _ c.find.ensures

@@ -10,10 +10,10 @@ use Rattle.load.proofs.home_of.Goals as goal
 
 pub section_or_none-requires : goal.section_or_none-requires
 section_or_none-requires c =
-    let a = c.args in
-    rw (part-lent 0 a.n a.places.now) c.requires.1
+    let b = c.args.before.now in
+    rw (part-lent 0 b.counts.sections b.places.now) b.readable.sections
 
 pub returns : goal.returns
 returns c =
-    let a = c.args in
-    c.section_or_none.ensures ∙ ap (λ (l : List ℕ). get_or (sections_in a.file.now l) a.k no_section) (part-lent 0 a.n a.places.now)
+    let b = c.args.before.now in
+    c.section_or_none.ensures ∙ ap (λ (l : List ℕ). get_or (sections_in b.file.now l) c.args.k no_section) (part-lent 0 b.counts.sections b.places.now)

@@ -1,6 +1,6 @@
 -- `load::keep_kind` meets its contract: a name, a relocation, or a place alone.
 -- Assumes nothing.
-use mathlib.Core.Path.{◌∙◌}
+use mathlib.Core.Path.{refl, ◌∙◌}
 use native.Mathlib.Omega.{arith}
 use Rattle.load.specs.Columns.{tables_in}
 use Rattle.load.proofs.Numbers.{reloc_of}
@@ -11,18 +11,20 @@ use Rattle.load.proofs.keep_kind.Goals as goal
 pub keep_name-requires : goal.keep_name-requires
 keep_name-requires c =
     let a = c.args in
-    (c.requires.0, c.requires.1, kind_name a.c a.file.now a.at a.len (tables_in a.n a.places.now a.lengths.now) a.kind c.if-kind-eq1.true ∙ c.requires.2)
+    (c.requires.0, c.requires.1, kind_name a.c a.file.now a.at a.len (tables_in a.n a.columns.now.places.now a.columns.now.lengths.now) a.kind c.if-kind-eq1.true ∙ c.requires.2)
 
 pub keep_reloc-requires : goal.keep_reloc-requires
 keep_reloc-requires c =
     let a = c.args in
-    (counted c.requires.1.tabled.allowed c.requires.1.tabled.few, omega (arith, c.requires.0, c.requires.1.tabled.small), reloc_fits a.c a.file.now a.at a.len a.n a.places.now a.lengths.now a.heads.now a.chain.now c.requires.1 c.requires.0 (reloc_of a.c a.file.now a.at a.len (tables_in a.n a.places.now a.lengths.now) a.kind c.if-kind-eq4.true c.requires.2))
+    (counted c.requires.1.tabled.allowed c.requires.1.tabled.few, omega (arith, c.requires.0, c.requires.1.tabled.small), reloc_fits a.c a.file.now a.at a.len a.n a.columns.now.places.now a.columns.now.lengths.now a.columns.now.heads.now a.columns.now.chain.now c.requires.1 c.requires.0 (reloc_of a.c a.file.now a.at a.len (tables_in a.n a.columns.now.places.now a.columns.now.lengths.now) a.kind c.if-kind-eq4.true c.requires.2))
 
 pub returns-then-kind-eq4 : goal.returns-then-kind-eq4
 returns-then-kind-eq4 c =
-    let a = c.args in
-    kept_reloc a.c a.file.now a.at a.len a.n a.places.now a.lengths.now a.heads.now a.chain.now c.requires.1 c.requires.0 (reloc_of a.c a.file.now a.at a.len (tables_in a.n a.places.now a.lengths.now) a.kind c.if-kind-eq4.true c.requires.2) c.if-kind-eq4.true c.keep_reloc.ensures.0
-    c.keep_reloc.ensures.1
+    let a = c.args in (
+      record { places = refl; lengths = refl; heads = refl; chain = refl },
+      kept_reloc a.c a.file.now a.at a.len a.n a.columns.now.places.now a.columns.now.lengths.now a.columns.now.heads.now a.columns.now.chain.now c.requires.1 c.requires.0 (reloc_of a.c a.file.now a.at a.len (tables_in a.n a.columns.now.places.now a.columns.now.lengths.now) a.kind c.if-kind-eq4.true c.requires.2) c.if-kind-eq4.true c.keep_reloc.ensures.0
+          c.keep_reloc.ensures.1,
+    )
 
 pub keep_place-requires : goal.keep_place-requires
 keep_place-requires c =
@@ -32,6 +34,8 @@ keep_place-requires c =
 
 pub returns : goal.returns
 returns c =
-    let a = c.args in
-    kept-place a.c a.file.now a.at a.len a.n a.places.now a.lengths.now a.heads.now a.chain.now c.requires.1 c.requires.0 a.kind c.requires.2 c.if-kind-eq1.false c.if-kind-eq4.false c.keep_place.ensures.0
-    c.keep_place.ensures.1
+    let a = c.args in (
+      record { places = refl; lengths = refl; heads = refl; chain = refl },
+      kept-place a.c a.file.now a.at a.len a.n a.columns.now.places.now a.columns.now.lengths.now a.columns.now.heads.now a.columns.now.chain.now c.requires.1 c.requires.0 a.kind c.requires.2 c.if-kind-eq1.false c.if-kind-eq4.false c.keep_place.ensures.0
+          c.keep_place.ensures.1,
+    )

@@ -9,42 +9,49 @@ use Rattle.load.proofs.kind_number.Goals as goal
 
 pub returns-then-kind-eq1 : goal.returns-then-kind-eq1
 returns-then-kind-eq1 c =
-    let a = c.args in
+    let p = c.args.payload.now in
+    let b = p.before in
     c.name_number.ensures ∙ ap fault_as
-    (kind_name a.c a.file.now a.at a.len (tables_in a.n a.places.now a.lengths.now) a.kind c.if-kind-eq1.true)
+    (kind_name b.most b.file.now p.at p.len (tables_in b.counts b.places.now b.lengths.now) c.args.kind c.if-kind-eq1.true)
 
 pub returns-then-kind-eq2 : goal.returns-then-kind-eq2
 returns-then-kind-eq2 c =
-    let a = c.args in
+    let p = c.args.payload.now in
+    let b = p.before in
     c.section_number.ensures ∙ ap fault_as
-    (kind_section a.c a.file.now a.at a.len (tables_in a.n a.places.now a.lengths.now) a.kind c.if-kind-eq1.false c.if-kind-eq2.true)
+    (kind_section b.most b.file.now p.at p.len (tables_in b.counts b.places.now b.lengths.now) c.args.kind c.if-kind-eq1.false c.if-kind-eq2.true)
 
 pub returns-then-kind-eq3 : goal.returns-then-kind-eq3
 returns-then-kind-eq3 c =
-    let a = c.args in
+    let p = c.args.payload.now in
+    let b = p.before in
     c.symbol_number.ensures ∙ ap fault_as
-    (kind_symbol a.c a.file.now a.at a.len (tables_in a.n a.places.now a.lengths.now) a.kind c.if-kind-eq1.false c.if-kind-eq2.false c.if-kind-eq3.true)
+    (kind_symbol b.most b.file.now p.at p.len (tables_in b.counts b.places.now b.lengths.now) c.args.kind c.if-kind-eq1.false c.if-kind-eq2.false c.if-kind-eq3.true)
 
 pub returns-then-kind-eq4 : goal.returns-then-kind-eq4
 returns-then-kind-eq4 c =
-    let a = c.args in
+    let p = c.args.payload.now in
+    let b = p.before in
     c.reloc_number.ensures ∙ ap fault_as
-    (kind_reloc a.c a.file.now a.at a.len (tables_in a.n a.places.now a.lengths.now) a.kind c.if-kind-eq1.false c.if-kind-eq2.false c.if-kind-eq3.false c.if-kind-eq4.true)
+    (kind_reloc b.most b.file.now p.at p.len (tables_in b.counts b.places.now b.lengths.now) c.args.kind c.if-kind-eq1.false c.if-kind-eq2.false c.if-kind-eq3.false c.if-kind-eq4.true)
 
 pub returns-then-kind-eq5 : goal.returns-then-kind-eq5
 returns-then-kind-eq5 c =
-    let a = c.args in
+    let p = c.args.payload.now in
+    let b = p.before in
     c.split_number.ensures ∙ ap fault_as
-    (kind_split a.c a.file.now a.at a.len (tables_in a.n a.places.now a.lengths.now) a.kind c.if-kind-eq1.false c.if-kind-eq2.false c.if-kind-eq3.false c.if-kind-eq4.false c.if-kind-eq5.true)
+    (kind_split b.most b.file.now p.at p.len (tables_in b.counts b.places.now b.lengths.now) c.args.kind c.if-kind-eq1.false c.if-kind-eq2.false c.if-kind-eq3.false c.if-kind-eq4.false c.if-kind-eq5.true)
 
 pub returns-then-kind-eq6 : goal.returns-then-kind-eq6
 returns-then-kind-eq6 c =
-    let a = c.args in
+    let p = c.args.payload.now in
+    let b = p.before in
     c.unit_number.ensures ∙ ap fault_as
-    (kind_unit a.c a.file.now a.at a.len (tables_in a.n a.places.now a.lengths.now) a.kind c.if-kind-eq1.false c.if-kind-eq2.false c.if-kind-eq3.false c.if-kind-eq4.false c.if-kind-eq5.false c.if-kind-eq6.true)
+    (kind_unit b.most b.file.now p.at p.len (tables_in b.counts b.places.now b.lengths.now) c.args.kind c.if-kind-eq1.false c.if-kind-eq2.false c.if-kind-eq3.false c.if-kind-eq4.false c.if-kind-eq5.false c.if-kind-eq6.true)
 
 pub returns : goal.returns
 returns c =
-    let a = c.args in
+    let p = c.args.payload.now in
+    let b = p.before in
     ap fault_as
-    (kind_unknown a.c a.file.now a.at a.len (tables_in a.n a.places.now a.lengths.now) a.kind c.if-kind-eq1.false c.if-kind-eq2.false c.if-kind-eq3.false c.if-kind-eq4.false c.if-kind-eq5.false c.if-kind-eq6.false)
+    (kind_unknown b.most b.file.now p.at p.len (tables_in b.counts b.places.now b.lengths.now) c.args.kind c.if-kind-eq1.false c.if-kind-eq2.false c.if-kind-eq3.false c.if-kind-eq4.false c.if-kind-eq5.false c.if-kind-eq6.false)

@@ -1,6 +1,7 @@
 -- `load::load_file` meets its contract: a file that is too long is refused; else the cleared columns hold nothing, and the records are loaded.
 -- Assumes nothing.
-use Rattle.load.proofs.Turns.{loads_refused, loads_small, too_long, ready_none}
+use Rattle.std.proofs.Common.{rules, sym}
+use Rattle.load.proofs.Turns.{loads_refused, loads_small, loads_in, too_long, ready_none}
 use Rattle.load.proofs.load_file.Goals as goal
 
 pub returns-then-file-gt65536 : goal.returns-then-file-gt65536
@@ -17,4 +18,5 @@ load_records-requires c =
 pub returns : goal.returns
 returns c =
     let a = c.args in
-    loads_small a.c a.file.now _ _ _ _ c.if-file-gt65536.false c.load_records.ensures
+    let s = c.load_records.ensures.0 in
+    loads_in (search (rules, sym s.places)) (search (rules, sym s.lengths)) (search (rules, sym s.heads)) (search (rules, sym s.chain)) (loads_small a.c a.file.now _ _ _ _ c.if-file-gt65536.false c.load_records.ensures.1)

@@ -1,13 +1,14 @@
 -- The loop of `load::load_records`: the columns are ready for the next record, and loading what is left from here, into what they mean, is loading the whole file.
 use Rattle.std.proofs.Common.{◌-◌, length}
-use Rattle.load.specs.Columns.{tables_in, Ready}
+use Rattle.load.specs.Reading.{loaded_in, SameColumns, ReadyIn}
 use Rattle.load.proofs.Turns.{Going}
 use Rattle.load.proofs.load_records.Given as goal
 
 abbrev pub invariant-loop-at : goal.invariant-loop-at
 invariant-loop-at l = record {
-  ready : Ready l.c l.file l.n l.places l.lengths l.heads l.chain;
-  going : Going l.c l.file l.at l.r (tables_in l.n l.places l.lengths);
+  same : SameColumns l.initial.columns l.columns;
+  ready : ReadyIn l.c l.file l.n l.columns;
+  going : Going l.c l.file l.at l.r (loaded_in l.n l.columns);
 }
 
 abbrev pub decreases-loop-at : goal.decreases-loop-at

@@ -9,26 +9,30 @@ use Rattle.load.proofs.name_number.Goals as goal
 
 pub returns-then-is_some : goal.returns-then-is_some
 returns-then-is_some c =
-    let a = c.args in
+    let p = c.args.payload.now in
+    let b = p.before in
     ap fault_as
-    (name_again _ a.file.now a.at a.len a.n a.places.now a.lengths.now a.index.now.heads.now a.index.now.chain.now c.requires.1 c.requires.0 _ c.find_name.ensures (sym c.is_some.ensures ∙ c.if-is_some.true))
+    (name_again _ b.file.now p.at p.len b.counts b.places.now b.lengths.now b.index.heads.now b.index.chain.now b.readable _ c.find_name.ensures (sym c.is_some.ensures ∙ c.if-is_some.true))
 
-pub returns-then-c-n : goal.returns-then-c-n
-returns-then-c-n c =
-    let a = c.args in
+pub returns-then-before : goal.returns-then-before
+returns-then-before c =
+    let p = c.args.payload.now in
+    let b = p.before in
     ap fault_as
-    (name_over _ a.file.now a.at a.len a.n a.places.now a.lengths.now a.index.now.heads.now a.index.now.chain.now c.requires.1 c.requires.0 _ c.find_name.ensures (sym c.is_some.ensures ∙ c.if-is_some.false) c.if-c-n.true)
+    (name_over _ b.file.now p.at p.len b.counts b.places.now b.lengths.now b.index.heads.now b.index.chain.now b.readable _ c.find_name.ensures (sym c.is_some.ensures ∙ c.if-is_some.false) c.if-before.true)
 
 pub returns-then-bad_name : goal.returns-then-bad_name
 returns-then-bad_name c =
-    let a = c.args in
+    let p = c.args.payload.now in
+    let b = p.before in
     ap fault_as
-    (name_faulty _ a.file.now a.at a.len a.n a.places.now a.lengths.now a.index.now.heads.now a.index.now.chain.now c.requires.1 c.requires.0 _ c.find_name.ensures (sym c.is_some.ensures ∙ c.if-is_some.false) c.if-c-n.false
-    (c.bad_name.ensures ∙ ap name_bad (part_is a.file.now {a = a.at} {b = a.len} a.at a.len refl refl)) c.if-bad_name.true)
+    (name_faulty _ b.file.now p.at p.len b.counts b.places.now b.lengths.now b.index.heads.now b.index.chain.now b.readable _ c.find_name.ensures (sym c.is_some.ensures ∙ c.if-is_some.false) c.if-before.false
+    (c.bad_name.ensures ∙ ap name_bad (part_is b.file.now {a = p.at} {b = p.len} p.at p.len refl refl)) c.if-bad_name.true)
 
 pub returns : goal.returns
 returns c =
-    let a = c.args in
+    let p = c.args.payload.now in
+    let b = p.before in
     ap fault_as
-    (name_passes _ a.file.now a.at a.len a.n a.places.now a.lengths.now a.index.now.heads.now a.index.now.chain.now c.requires.1 c.requires.0 _ c.find_name.ensures (sym c.is_some.ensures ∙ c.if-is_some.false) c.if-c-n.false
-    (c.bad_name.ensures ∙ ap name_bad (part_is a.file.now {a = a.at} {b = a.len} a.at a.len refl refl)) c.if-bad_name.false)
+    (name_passes _ b.file.now p.at p.len b.counts b.places.now b.lengths.now b.index.heads.now b.index.chain.now b.readable _ c.find_name.ensures (sym c.is_some.ensures ∙ c.if-is_some.false) c.if-before.false
+    (c.bad_name.ensures ∙ ap name_bad (part_is b.file.now {a = p.at} {b = p.len} p.at p.len refl refl)) c.if-bad_name.false)

@@ -9,18 +9,18 @@ use Rattle.load.proofs.record_number.Goals as goal
 
 pub returns-then-file-start : goal.returns-then-file-start
 returns-then-file-start c =
-    let a = c.args in
+    let b = c.args.before.now in
     ap fault_as
-    (head_cut a.c a.file.now a.at (tables_in a.n a.places.now a.lengths.now) c.if-file-start.true)
+    (head_cut b.most b.file.now c.args.at (tables_in b.counts b.places.now b.lengths.now) c.if-file-start.true)
 
 pub returns-then-file-start-2 : goal.returns-then-file-start-2
 returns-then-file-start-2 c =
-    let a = c.args in
+    let b = c.args.before.now in
     ap fault_as
-    (payload_cut a.c a.file.now a.at (tables_in a.n a.places.now a.lengths.now) c.if-file-start.false c.get32-len.ensures c.if-file-start-2.true)
+    (payload_cut b.most b.file.now c.args.at (tables_in b.counts b.places.now b.lengths.now) c.if-file-start.false c.get32-len.ensures c.if-file-start-2.true)
 
 pub returns : goal.returns
 returns c =
-    let a = c.args in
+    let b = c.args.before.now in
     c.kind_number.ensures ∙ ap fault_as
-    (payload_whole a.c a.file.now a.at (tables_in a.n a.places.now a.lengths.now) c.if-file-start.false c.get32-len.ensures c.get16.ensures c.if-file-start-2.false)
+    (payload_whole b.most b.file.now c.args.at (tables_in b.counts b.places.now b.lengths.now) c.if-file-start.false c.get32-len.ensures c.get16.ensures c.if-file-start-2.false)

@@ -10,31 +10,35 @@ use Rattle.load.proofs.section_number.Goals as goal
 
 pub returns-then-section_length_wrong : goal.returns-then-section_length_wrong
 returns-then-section_length_wrong c =
-    let a = c.args in
+    let p = c.args.payload.now in
+    let b = p.before in
     ap fault_as
-    (section_cut _ a.file.now a.at a.len a.n a.places.now a.lengths.now c.requires.1 (sym c.section_length_wrong.ensures ∙ c.if-section_length_wrong.true))
+    (section_cut _ b.file.now p.at p.len b.counts b.places.now b.lengths.now b.index.heads.now b.index.chain.now b.readable (sym c.section_length_wrong.ensures ∙ c.if-section_length_wrong.true))
 
-pub returns-then-c-n : goal.returns-then-c-n
-returns-then-c-n c =
-    let a = c.args in
+pub returns-then-before : goal.returns-then-before
+returns-then-before c =
+    let p = c.args.payload.now in
+    let b = p.before in
     ap fault_as
-    (section_over _ a.file.now a.at a.len a.n a.places.now a.lengths.now c.requires.1 (sym c.section_length_wrong.ensures ∙ c.if-section_length_wrong.false) c.if-c-n.true)
+    (section_over _ b.file.now p.at p.len b.counts b.places.now b.lengths.now b.index.heads.now b.index.chain.now b.readable (sym c.section_length_wrong.ensures ∙ c.if-section_length_wrong.false) c.if-before.true)
 
 pub read_section-s-requires : goal.read_section-s-requires
 read_section-s-requires c =
     let long = section_long _ _ _ (sym c.section_length_wrong.ensures ∙ c.if-section_length_wrong.false) in
-    omega (arith, c.requires.0)
+    omega (arith, c.args.payload.now.inside)
 
 pub returns-then-section_bad : goal.returns-then-section_bad
 returns-then-section_bad c =
-    let a = c.args in
+    let p = c.args.payload.now in
+    let b = p.before in
     ap fault_as
-    (section_faulty _ a.file.now a.at a.len a.n a.places.now a.lengths.now c.requires.1 (sym c.section_length_wrong.ensures ∙ c.if-section_length_wrong.false) c.if-c-n.false c.read_section-s.ensures
+    (section_faulty _ b.file.now p.at p.len b.counts b.places.now b.lengths.now b.index.heads.now b.index.chain.now b.readable (sym c.section_length_wrong.ensures ∙ c.if-section_length_wrong.false) c.if-before.false c.read_section-s.ensures
     c.name_length.ensures c.section_bad.ensures c.if-section_bad.true)
 
 pub returns : goal.returns
 returns c =
-    let a = c.args in
+    let p = c.args.payload.now in
+    let b = p.before in
     ap fault_as
-    (section_passes _ a.file.now a.at a.len a.n a.places.now a.lengths.now c.requires.1 (sym c.section_length_wrong.ensures ∙ c.if-section_length_wrong.false) c.if-c-n.false c.read_section-s.ensures
+    (section_passes _ b.file.now p.at p.len b.counts b.places.now b.lengths.now b.index.heads.now b.index.chain.now b.readable (sym c.section_length_wrong.ensures ∙ c.if-section_length_wrong.false) c.if-before.false c.read_section-s.ensures
     c.name_length.ensures c.section_bad.ensures c.if-section_bad.false)

@@ -1,56 +1,62 @@
--- What the index finds is the name's number among the names that stand there.
-use Rattle.std.proofs.Common.{◌≤◌, ◌∙◌, [], ◌∷◌, ◌++◌, true, false, sym, arith, length, length-take-le}
+-- What the index finds is the name's number among the names that stand there. A name more is stored behind them, and then counted: until then they stand as before.
+use Rattle.std.proofs.Common.{◌≤◌, [], ◌∷◌, ◌++◌, true, false, refl, arith, length}
 use borrow.Author.Tests.{ltb-true, ltb-false}
 use Rattle.lists.specs.Rows.{any_of}
 use Rattle.names.specs.Names.{number_of}
-use Rattle.names.proofs.Indexes.{sought_asked}
-use Rattle.number_names.proofs.Laws.{held_ends, held_bytes, held_known, enter_there, enter_full, enter_new, place_asked, place_free, short_held}
+use Rattle.number_names.proofs.Laws.{held_asked, held_more, held_standing, standing_held, standing_bytes, enter_there, enter_full, enter_new, place_asked, place_free, within_as, short_held}
 use Rattle.number_names.proofs.enter_name.Goals as goal
 
-pub slice_bounds-find_name-end : goal.slice_bounds-find_name-end
-slice_bounds-find_name-end c = let h = c.requires.0.held in omega (arith, h.ends_fit, held_ends h)
-
-pub slice_bounds-find_name-end-2 : goal.slice_bounds-find_name-end-2
-slice_bounds-find_name-end-2 c = let h = c.requires.0.held in sym (length-take-le _ _ (omega (arith, h.ends_fit, held_ends h)))
-
-pub slice_bounds-find_name-end-3 : goal.slice_bounds-find_name-end-3
-slice_bounds-find_name-end-3 c = let h = c.requires.0.held in omega (arith, h.bytes_fit, held_bytes h)
-
-pub slice_bounds-find_name-end-4 : goal.slice_bounds-find_name-end-4
-slice_bounds-find_name-end-4 c = let h = c.requires.0.held in sym (length-take-le _ _ (omega (arith, h.bytes_fit, held_bytes h)))
-
-pub find_name-requires : goal.find_name-requires
-find_name-requires c = record { names = c.requires.0.names; known = held_known c.requires.0.held }
-
 pub returns-then-is_some : goal.returns-then-is_some
-returns-then-is_some c =
-    λ names ends₀ bytes₀ h.
-    let there = sym (sought_asked names _ _ (c.find_name.ensures names (held_known h))) ∙ sym c.is_some.ensures ∙ c.if-is_some.true in
-    record { names = names; is = enter_there _ names _ (ltb-true _ _ there); held = h }
+returns-then-is_some c = (
+  record { ends = refl; bytes = refl; room = refl },
+  λ names ends₀ bytes₀ h.
+      record { names = names; is = enter_there _ names _ (ltb-true _ _ (held_asked h c.args.x.now c.find_name.result c.known.ensures.0 c.known.ensures.1 c.find_name.ensures c.is_some.ensures true c.if-is_some.true)); held = h },
+)
 
 pub overflow_cast-n : goal.overflow_cast-n
-overflow_cast-n c = let h = c.requires.0.held in omega (arith, h.counted, h.index.few)
+overflow_cast-n c = let h = standing_held c.args.names.now.standing in omega (arith, h.counted, h.index.few)
 
-pub returns-then-most-n : goal.returns-then-most-n
+pub returns-then-names-n : goal.returns-then-names-n
 unfolding any_of
-returns-then-most-n c =
-    λ names ends₀ bytes₀ h.
-    let new = sym (sought_asked names _ _ (c.find_name.ensures names (held_known h))) ∙ sym c.is_some.ensures ∙ c.if-is_some.false in
-    let full = enter_full _ names _ (ltb-false _ _ new) (place_asked _ _ _ true h c.if-most-n.true) in
-    rw c.refuse.ensures (short_held full h)
+returns-then-names-n c = (
+  record { ends = refl; bytes = refl; room = refl },
+  λ names ends₀ bytes₀ h.
+      let full = enter_full _ names _ (ltb-false _ _ (held_asked h c.args.x.now c.find_name.result c.known.ensures.0 c.known.ensures.1 c.find_name.ensures c.is_some.ensures false c.if-is_some.false)) (place_asked _ _ _ true h c.if-names-n.true) in
+      rw c.refuse.ensures (short_held full h),
+)
 
-pub add_name-requires : goal.add_name-requires
+pub invariant_of-names : goal.invariant_of-names
 unfolding any_of
-add_name-requires c = (c.requires.0, place_free _ _ _ _ _ _ _ c.requires.1 c.if-most-n.false)
+invariant_of-names c =
+    let t = c.args.names.now in
+    let fits = place_free c.args.x.now t.ends.now t.bytes.now t.count.names t.count.used t.most t.most_bytes t.room c.if-names-n.false in
+    record {
+      standing = rw c.put_bytes.ensures (standing_bytes t.standing c.args.x.now fits.bytes_fit);
+      room = within_as refl c.put_bytes.auto.out t.room;
+    }
+
+pub invariant_of-names-3 : goal.invariant_of-names-3
+unfolding any_of
+invariant_of-names-3 c =
+    let t = c.args.names.now in
+    let fits = place_free c.args.x.now t.ends.now t.bytes.now t.count.names t.count.used t.most t.most_bytes t.room c.if-names-n.false in
+    let h = standing_held t.standing in
+    record {
+      standing = held_standing (held_more h fits (ltb-false _ _ (held_asked h c.args.x.now c.find_name.result c.known.ensures.0 c.known.ensures.1 c.find_name.ensures c.is_some.ensures false c.if-is_some.false)) c.put_bytes.ensures c.put16.ensures c.bucket_of.ensures c.enter.ensures.0 c.enter.ensures.1);
+      room = within_as c.put16.auto.b c.put_bytes.auto.out t.room;
+    }
 
 pub returns : goal.returns
 unfolding any_of
-returns c =
-    λ names ends₀ bytes₀ h.
-    let asked = sym (sought_asked names _ _ (c.find_name.ensures names (held_known h))) ∙ sym c.is_some.ensures ∙ c.if-is_some.false in
-    let new : length names ≤ number_of names c.args.x.now = ltb-false _ _ asked in
-    record {
-      names = names ++ (c.args.x.now ∷ []);
-      is = enter_new _ names _ new (place_asked _ _ _ false h c.if-most-n.false);
-      held = c.add_name.ensures names ends₀ bytes₀ h new;
-    }
+returns c = (
+  record { ends = refl; bytes = refl; room = refl },
+  λ names ends₀ bytes₀ h.
+      let t = c.args.names.now in
+      let fits = place_free c.args.x.now t.ends.now t.bytes.now t.count.names t.count.used t.most t.most_bytes t.room c.if-names-n.false in
+      let new : length names ≤ number_of names c.args.x.now = ltb-false _ _ (held_asked h c.args.x.now c.find_name.result c.known.ensures.0 c.known.ensures.1 c.find_name.ensures c.is_some.ensures false c.if-is_some.false) in
+      record {
+        names = names ++ (c.args.x.now ∷ []);
+        is = enter_new _ names _ new (place_asked _ _ _ false h c.if-names-n.false);
+        held = held_more h fits new c.put_bytes.ensures c.put16.ensures c.bucket_of.ensures c.enter.ensures.0 c.enter.ensures.1;
+      },
+)
