@@ -15,7 +15,7 @@ use name_table::check_names;
 use names::{Names, name_at};
 use obj::{Refusal, SPLIT_BYTES, Table, refuse, section_at, split_at, word_of};
 use outputs::clear_from;
-use sections::{Alignment, Obj, alignment_of, default_alignment, section_bytes};
+use sections::{Obj, alignment_of, default_alignment, section_bytes};
 use stage_symbols::{take_image_places, take_symbol_order};
 use stage_tables::{take_image, take_splits};
 use tables::main_ceilings;
@@ -70,11 +70,7 @@ fn alignment(obj: &Obj, splits: &Table, which: u16) -> Result<u32, Refusal>
     let Ok(chosen) = found else {
         return refuse(11, s.section, s.start);
     };
-    match chosen {
-        Alignment::Given(a) => Ok(a),
-        Alignment::FromSymbol(a) => Ok(a),
-        Alignment::Default(a) => Ok(a),
-    }
+    Ok(chosen.value())
 }
 
 // The question, of tables that passed.

@@ -46,20 +46,6 @@ pub store_more : {b : List ℕ} (l : List ℕ) (at : ℕ) (vs : List ℕ) (k x :
 store_more l at vs k x e q =
     ap (λ (m : List ℕ). set m (at + k) x) e ∙ sets-sets l at vs (at + k) (x ∷ []) (ap (λ (m : ℕ). at + m) q)
 
--- nine bytes stored side by side
-pub put_nine : (out : List ℕ) (at a b c d e f g h i : ℕ) → at + 9 ≤ length out
-    → Put out (set (set (set (set (set (set (set (set (set out at a) (at + 1) b) (at + 2) c) (at + 3) d) (at + 4) e) (at + 5) f) (at + 6) g) (at + 7) h) (at + 8) i) at
-    (a ∷ b ∷ c ∷ d ∷ e ∷ f ∷ g ∷ h ∷ i ∷ []) (at + 9)
-put_nine out at a b c d e f g h i q =
-    let p₁ = store_more out at (a ∷ []) 1 b refl refl in
-    let p₂ = store_more out at (a ∷ b ∷ []) 2 c p₁ refl in
-    let p₃ = store_more out at (a ∷ b ∷ c ∷ []) 3 d p₂ refl in
-    let p₄ = store_more out at (a ∷ b ∷ c ∷ d ∷ []) 4 e p₃ refl in
-    let p₅ = store_more out at (a ∷ b ∷ c ∷ d ∷ e ∷ []) 5 f p₄ refl in
-    let p₆ = store_more out at (a ∷ b ∷ c ∷ d ∷ e ∷ f ∷ []) 6 g p₅ refl in
-    let p₇ = store_more out at (a ∷ b ∷ c ∷ d ∷ e ∷ f ∷ g ∷ []) 7 h p₆ refl in
-    put_sets at (a ∷ b ∷ c ∷ d ∷ e ∷ f ∷ g ∷ h ∷ i ∷ []) (store_more out at (a ∷ b ∷ c ∷ d ∷ e ∷ f ∷ g ∷ h ∷ []) 8 i p₇ refl) q refl
-
 -- a field and its end, and what follows
 pub put_more : {a b c : List ℕ} {i j k : ℕ} (text : List ℕ) (byte : ℕ) {rest : List ℕ} → Put a b i (text ++ (byte ∷ [])) j → Put b c j rest k
     → Put a c i (text ++ (byte ∷ rest)) k

@@ -3,9 +3,10 @@ ghost use Rattle.std.specs.Prelude.{◌≡◌, ◌+◌, ◌≤◌, ◌<◌, ◌+
 ghost use Rattle.names.specs.GapName.{hex8};
 ghost use Rattle.lines.specs.Lines.{decimal, signed_decimal, Put, Digits, magnitude_of};
 
-use names::{digit_of, put_bytes};
+use names::{digit_of, put_bytes, put_hexes};
 
-// The decimal digits of a number stand at the end of `column`, from the place that is answered on: the last digit comes first.
+// The decimal digits of a number stand at the end of `column`, from the place that is answered on: the last digit comes first. By hand, as std has no writer
+// over lent bytes.
 fn digits_of(column: &mut [u8], n: u64) -> usize
     requires { length column.old ≡ 20 }
     ensures { Digits column.new n result }
@@ -64,15 +65,7 @@ pub fn put_hex8(out: &mut [u8], at: usize, v: u32, after: u8) -> usize
     requires { at + 9 ≤ length out.old }
     ensures { Put out.old out.new at (hex8 v ++ (after ∷ [])) result }
 {
-    let a = v as u64;
-    out[at] = digit_of(a / 268435456 % 16);
-    out[at + 1] = digit_of(a / 16777216 % 16);
-    out[at + 2] = digit_of(a / 1048576 % 16);
-    out[at + 3] = digit_of(a / 65536 % 16);
-    out[at + 4] = digit_of(a / 4096 % 16);
-    out[at + 5] = digit_of(a / 256 % 16);
-    out[at + 6] = digit_of(a / 16 % 16);
-    out[at + 7] = digit_of(a % 16);
+    put_hexes(out, at, &v.to_be_bytes());
     out[at + 8] = after;
     at + 9
 }

@@ -81,9 +81,6 @@ module _ {A : Type 0} (k : A → ℕ) (d : A) (s : List A) (p : Sorted k s) wher
       pub part-some : take (to - from) (drop from s) ≡ keep_if (between k low high) s
       part-some = rw (ef, et) (part-between k low high s p)
 
-      pub part_later : low ≤ high → from ≤ to
-      part_later h = rw (ef, et) (first_later h)
-
   pub part_none : (low high : ℕ) → high ≤ low → [] ≡ keep_if (between k low high) s
   part_none low high h =
       let f = first_in (at_least k low) s in

@@ -1,17 +1,13 @@
--- Where an element that passes a test stands among those that pass, and lists cut in two by a test; `flat_map`: its length, its parts, what is left of it from a place on.
--- Assumes nothing.
+-- Where an element that passes a test stands among those that pass, and lists cut in two by a test; `flat_map`: its length and its parts. Assumes nothing.
 use mathlib.Core.Path.{◌≡◌, refl, sym, ap, ap₂, ◌∙◌}
 use mathlib.Core.List.{List, [], ◌∷◌, ◌++◌, map, flat_map, append_assoc}
 use mathlib.Core.Bool.{Bool, true, false, cond, not}
-use Prim.Native.Nat.{ℕ, zero, suc, ◌+◌, ◌*◌, ◌-◌, ◌≤◌, ◌<◌}
+use Prim.Native.Nat.{ℕ, zero, suc, ◌+◌, ◌*◌, ◌≤◌, ◌<◌}
 use native.Mathlib.Nat.{le_of_suc-le-suc, not-suc-le-zero}
-use native.Mathlib.Numerals.{add-one}
 use native.Mathlib.Omega.{arith}
-use lib.ListN.{length, get_or, take, drop, length-append, drop_of_length-le}
-use lib.Seq.{drop-cons}
-use Rattle.lists.specs.Rows.{tabulate, keep_if}
+use lib.ListN.{length, get_or, take, length-append}
+use Rattle.lists.specs.Rows.{keep_if}
 use Rattle.lists.specs.Sort.{All, none, each}
-use Rattle.lists.proofs.Rows.{rest-cons, rest-none}
 
 -- what holds of both arms of a test holds of it
 pub both_arms : {A : Type 0} (P : A → Type 0) (t : Bool) {x y : A} → P x → P y → P (cond t x y)
@@ -101,22 +97,3 @@ pub flat_map_append : {A B : Type 0} (f : A → List B) (l r : List A) → flat_
 unfolding flat_map
 flat_map_append f [] r = refl
 flat_map_append {A} {B} f (x ∷ l) r = ap (λ (t : List B). f x ++ t) (flat_map_append f l r) ∙ sym (append_assoc (f x) (flat_map f l) (flat_map f r))
-
--- ---- what is left of a list
-
-module _ {A : Type 0} (f : A → List ℕ) where
-  pub rest_next : (l : List A) (k : ℕ) (d : A) → k < length l → flat_map f (drop k l) ≡ f (get_or l k d) ++ flat_map f (drop (k + 1) l)
-  unfolding flat_map
-  rest_next l k d h = rw (add-one, drop-cons l k d h)
-
-  pub rest_end : (l : List A) (k : ℕ) → length l ≤ k → flat_map f (drop k l) ≡ []
-  unfolding flat_map
-  rest_end l k h = rw (drop_of_length-le l h)
-
-  pub rows_next : (g : ℕ → A) (k n : ℕ) → k < n → flat_map f (tabulate g k (n - k)) ≡ f (g k) ++ flat_map f (tabulate g (k + 1) (n - (k + 1)))
-  unfolding flat_map
-  rows_next g k n h = rw (rest-cons g k n h)
-
-  pub rows_end : (g : ℕ → A) (k n : ℕ) → n ≤ k → flat_map f (tabulate g k (n - k)) ≡ []
-  unfolding flat_map
-  rows_end g k n h = rw (rest-none g k n h)

@@ -14,6 +14,7 @@ use obj::{Refusal, refuse};
 use tables::table_size;
 
 // Where name k starts.
+#[tactic(auto, unfolding(crate::specs::NameTable::start_of))]
 pub fn start_of(ends: &[u8], k: usize) -> usize
     requires { 2 * k ≤ length ends.now }
     ensures { Number (start_of ends.now k) result }

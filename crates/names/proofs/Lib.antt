@@ -4,3 +4,4 @@ pub mod Indexes
 pub mod Gaps
 pub mod Appends
 pub mod Examples
+pub mod HexDigits

@@ -17,6 +17,11 @@ hex8 a =
     digit (a / 268435456 % 16) ∷ digit (a / 16777216 % 16) ∷ digit (a / 1048576 % 16) ∷ digit (a / 65536 % 16)
     ∷ digit (a / 4096 % 16) ∷ digit (a / 256 % 16) ∷ digit (a / 16 % 16) ∷ digit (a % 16) ∷ []
 
+-- the digits of bytes, two for each, upper case too; those of a number's four bytes are its eight (`hexes_eight` of proofs/HexDigits.antt)
+unfoldable pub hexes : List ℕ → List ℕ
+hexes [] = []
+hexes (b ∷ l) = digit (b / 16) ∷ digit (b % 16) ∷ hexes l
+
 -- "section name without leading dots": all of them go
 unfoldable pub without_dots : List ℕ → List ℕ
 without_dots [] = []

@@ -1,22 +1,12 @@
 // The name of a gap's unit: "`auto_`, two-digit decimal section number, `_`, eight upper-case hexadecimal digits of the address, `_`,
 // section name without leading dots".
-ghost use Rattle.std.specs.Prelude.{◌≡◌, ◌+◌, ◌≤◌, ◌<◌, ◌++◌, length};
+ghost use Rattle.std.specs.Prelude.{◌≡◌, ◌≤◌, ◌<◌, ◌++◌, length};
 ghost use Rattle.std.proofs.lemmas.List.Edits.{sets};
 ghost use Rattle.names.specs.Fixed.{codes};
-ghost use Rattle.names.specs.GapName.{digit, decimal2, hex8, Written, Dots};
+ghost use Rattle.names.specs.GapName.{decimal2, hex8, Written, Dots};
 
+use crate::hex::{digit_of, put_hexes};
 use crate::table::put_bytes;
-
-// A digit, 0 to 9 and A to F.
-pub fn digit_of(d: u64) -> u8
-    requires { d < 16 }
-    ensures { result ≡ digit d }
-{
-    if d < 10 {
-        return (48 + d) as u8;
-    }
-    (55 + d) as u8
-}
 
 // "`auto_`, two-digit decimal section number, `_`"
 fn put_section(out: &mut [u8], section: u16)
@@ -34,15 +24,7 @@ fn put_address(out: &mut [u8], address: u32)
     requires { 17 ≤ length out.old }
     ensures { out.new ≡ sets out.old 8 (hex8 address ++ codes "_") }
 {
-    let a = u64::from(address);
-    out[8] = digit_of(a / 268435456 % 16);
-    out[9] = digit_of(a / 16777216 % 16);
-    out[10] = digit_of(a / 1048576 % 16);
-    out[11] = digit_of(a / 65536 % 16);
-    out[12] = digit_of(a / 4096 % 16);
-    out[13] = digit_of(a / 256 % 16);
-    out[14] = digit_of(a / 16 % 16);
-    out[15] = digit_of(a % 16);
+    put_hexes(out, 8, &address.to_be_bytes());
     out[16] = b'_';
 }
 

@@ -3,6 +3,7 @@
 
 mod fixed;
 mod gap_name;
+mod hex;
 mod index;
 mod table;
 
@@ -13,7 +14,8 @@ pub use fixed::{
     is_bss, is_four_aligned, is_linker_generated_label, is_linker_generated_object,
     is_pointer_list, is_vector_table_end,
 };
-pub use gap_name::{digit_of, write_gap_name};
+pub use gap_name::write_gap_name;
+pub use hex::{digit_of, put_hexes};
 pub use index::{bucket_of, clear_heads, enter, find, number_at};
 pub use table::{append, put_bytes};
 

@@ -3,16 +3,13 @@ use Prim.Native.Nat.{ℕ, zero, suc, ◌+◌, ◌*◌, ◌-◌, ◌≤◌, ◌<�
 use mathlib.Core.Path.{◌≡◌, refl, sym, ap, ap₂, subst, ◌∙◌}
 use mathlib.Core.List.{List, [], ◌∷◌, map}
 use native.Mathlib.Omega.{arith}
-use native.Mathlib.Decide.{ℕ_discrete}
 use lib.Dec.{leb}
 use lib.ListN.{length, get_or}
-use lib.Seq.{sets, length-sets}
 use Rattle.lists.specs.Sort.{sort_by, All}
 use Rattle.lists.proofs.Parts.{tabulate_list, tabulate-map}
 use Rattle.lists.proofs.Rising.{numbers-below}
 use Rattle.lists.proofs.Sort.{map_sort, sort_alike}
-use Rattle.fields.specs.Fields.{le16, le32, enc16, enc32}
-use Rattle.fields.proofs.Laws.{le16_back, le32_back, le16-beside, le32-beside}
+use Rattle.fields.specs.Fields.{le16, le32}
 use Rattle.obj.specs.Records.{stage_places, symbol_at}
 use Rattle.obj.proofs.Laws.{length-stage_places, stage_place}
 use Rattle.symbol_order.specs.Order.{numbers, key, key_at, ReadableRecords}
@@ -64,42 +61,6 @@ starts_turn n i b at h = ap (λ (k : ℕ). starts_at k b at) (let z : n - i ≡ 
 pub starts_end : (n i : ℕ) (b : List ℕ) (at : ℕ) → n ≤ i → starts_at (n - i) b at ≡ []
 unfolding starts_at
 starts_end n i b at h = ap (λ (k : ℕ). starts_at k b at) (let z : n - i ≡ 0 = omega arith in z)
-
--- ---- a record more
-
-module _ (b starts table : List ℕ) (i : ℕ) (k : Keyed b starts i table) (room : 20 * i + 20 ≤ length table) where
-  abbrev after : (section address : ℕ) → List ℕ
-  after section address = sets (sets table (20 * i + 2) (enc16 section)) (20 * i + 4) (enc32 address)
-
-  pub keyed_more : {section address : ℕ} → section ≡ (part_in b starts i).section → address ≡ (part_in b starts i).address → section < 65536 → address < 4294967296
-      → Keyed b starts (i + 1) (after section address)
-  keyed_more {section} {address} e f small low = record { section = λ j h. section_at_lem j h (ℕ_discrete j i); address = λ j h. address_at j h (ℕ_discrete j i) }
-    where
-      long : length (sets table (20 * i + 2) (enc16 section)) ≡ length table
-      long = length-sets table (20 * i + 2) (enc16 section)
-
-      section_at_lem : (j : ℕ) → j < i + 1 → Dec (j ≡ i) → le16 (after section address) (20 * j + 2) ≡ (part_in b starts j).section
-      section_at_lem j h (yes q) =
-          le16-beside (sets table (20 * i + 2) (enc16 section)) (20 * i + 4) (enc32 address) (20 * j + 2) (λ x y p r z. omega arith)
-          ∙ ap (λ (m : ℕ). le16 (sets table (20 * i + 2) (enc16 section)) (20 * m + 2)) q
-          ∙ le16_back table (20 * i + 2) section small (omega arith)
-          ∙ e ∙ ap (λ (m : ℕ). (part_in b starts m).section) (sym q)
-      section_at_lem j h (no q) =
-          let l : j < i = omega arith in
-          le16-beside (sets table (20 * i + 2) (enc16 section)) (20 * i + 4) (enc32 address) (20 * j + 2) (λ x y p r z. omega arith)
-          ∙ le16-beside table (20 * i + 2) (enc16 section) (20 * j + 2) (λ x y p r z. omega arith)
-          ∙ k.section j l
-
-      address_at : (j : ℕ) → j < i + 1 → Dec (j ≡ i) → le32 (after section address) (20 * j + 4) ≡ (part_in b starts j).address
-      address_at j h (yes q) =
-          ap (λ (m : ℕ). le32 (after section address) (20 * m + 4)) q
-          ∙ le32_back (sets table (20 * i + 2) (enc16 section)) (20 * i + 4) address low (let l = long in omega arith)
-          ∙ f ∙ ap (λ (m : ℕ). (part_in b starts m).address) (sym q)
-      address_at j h (no q) =
-          let l : j < i = omega arith in
-          le32-beside (sets table (20 * i + 2) (enc16 section)) (20 * i + 4) (enc32 address) (20 * j + 4) (λ x y p r z. omega arith)
-          ∙ le32-beside table (20 * i + 2) (enc16 section) (20 * j + 4) (λ x y p r z. omega arith)
-          ∙ k.address j l
 
 -- ---- sorted
 

@@ -1,18 +1,17 @@
--- A section's relocations: they can be read, and stand by address where the table has none that falls; the part between two places that a binary search
--- gave; and a section has a relocation exactly if its list has one. Assumes nothing.
+-- A section's relocations: they can be read, and stand by address where the table has none that falls; and a section has a relocation exactly if its list
+-- has one. Assumes nothing.
 use mathlib.Core.Path.{◌≡◌, sym, subst, ◌∙◌}
 use mathlib.Core.List.{List, [], ◌∷◌}
 use mathlib.Core.Bool.{Bool, not}
-use Prim.Native.Nat.{ℕ, ◌-◌, ◌≤◌, ◌<◌}
+use Prim.Native.Nat.{ℕ, ◌<◌}
 use lib.Dec.{eqb}
-use lib.ListN.{length, get_or, take, drop}
+use lib.ListN.{length, get_or}
 use borrow.Author.Tests.{eqb-true}
-use Rattle.lists.specs.Rows.{keep_if, first_in}
-use Rattle.lists.specs.Sort.{All, each, Sorted, Rising as RisingBy, between, at_least}
+use Rattle.lists.specs.Rows.{keep_if}
+use Rattle.lists.specs.Sort.{All, each, Sorted, Rising as RisingBy}
 use Rattle.lists.proofs.All.{all_at, all_map, all_keep, all_both}
 use Rattle.lists.proofs.Filter.{keep_passes, keep_some}
 use Rattle.lists.proofs.Rising.{numbers_rise, numbers-below, rising_keep}
-use Rattle.lists.proofs.Between as parts
 use Rattle.obj.specs.Records.{Held}
 use Rattle.obj.specs.declared.Reloc.{Reloc}
 use Rattle.symbol_order.specs.Order.{numbers}
@@ -60,23 +59,3 @@ section_ordered b places part n w rising e = record {
 -- a part of it can be read too
 pub readable_part : (b places part : List ℕ) (p : ℕ → Bool) {r : List ℕ} → Readable b places part → r ≡ keep_if p part → Readable b places r
 readable_part b places part p h e = record { whole = h.whole; inside = subst (λ (l : List ℕ). All (λ i. i < length places) l) (sym e) (all_keep p h.inside) }
-
--- ---- the first place of an address, and of a later one
-module _ (b places part : List ℕ) (o : Ordered b places part) where
-  module _ (low high : ℕ) where
-    abbrev first : ℕ → ℕ
-    first k = first_in (at_least (address_of b places) k) part
-
-    pub first_later : low ≤ high → first low ≤ first high
-    first_later = parts.first_later (address_of b places) 0 part o.sorted low high
-
-    -- the part between two places that the searches gave
-    module _ (from to : ℕ) (ef : from ≡ first low) (et : to ≡ first high) where
-      pub part-some : take (to - from) (drop from part) ≡ keep_if (between (address_of b places) low high) part
-      part-some = parts.part-some (address_of b places) 0 part o.sorted low high from to ef et
-
-      pub part_later : low ≤ high → from ≤ to
-      part_later = parts.part_later (address_of b places) 0 part o.sorted low high from to ef et
-
-  pub part_none : (low high : ℕ) → high ≤ low → [] ≡ keep_if (between (address_of b places) low high) part
-  part_none = parts.part_none (address_of b places) 0 part o.sorted

@@ -59,8 +59,3 @@ pub record Ordered (b places part : List ℕ) : Type 0 where
 pub record Leads (column list places : List ℕ) (r : ℕ) : Type 0 where
   pub small : r ≤ length places
   pub is : take r column ≡ list
-
--- r is x, and at most n
-pub record Within (x n r : ℕ) : Type 0 where
-  pub is : r ≡ x
-  pub small : r ≤ n

@@ -37,6 +37,19 @@ pub enum Alignment {
     Default(u32),
 }
 
+impl Alignment {
+    // The alignment, for whatever reason.
+    pub fn value(self) -> u32
+        ensures { result ≡ (chosen self).value }
+    {
+        match self {
+            Alignment::Given(value) => value,
+            Alignment::FromSymbol(value) => value,
+            Alignment::Default(value) => value,
+        }
+    }
+}
+
 // The bytes of section n: a part of the image, none for kind 3.
 pub fn section_bytes<'a>(image: &'a [u8], places: &[u32], n: usize, head: Section) -> &'a [u8]
     requires { Lies image.now places.now n head }
@@ -51,6 +64,7 @@ pub fn section_bytes<'a>(image: &'a [u8], places: &[u32], n: usize, head: Sectio
 }
 
 // Whether all of these bytes are zero.
+#[tactic(auto, using(std::proofs::lemmas::Bool::Decides::same_from_decides, crate::proofs::Zero::all_zero_decides))]
 pub fn is_zero(bytes: &[u8]) -> bool
     ensures { result ≡ all_zero bytes.now }
 {

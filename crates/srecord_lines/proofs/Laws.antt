@@ -11,13 +11,14 @@ use lib.ListN.{length, get_or, drop, length-append}
 use lib.Seq.{sets, drop-cons}
 use native.Mathlib.Numerals.{add-one}
 use borrow.Author.Tests.{eqb-false, ne_eqb, ltb-true, leb-true, lt-ltb, not-true}
+use Rattle.std.specs.Int.{w32, to_be_bytes}
 use Rattle.lists.proofs.Both.{both}
-use Rattle.lists.proofs.Stores.{sets-sets, sets_then}
+use Rattle.lists.proofs.Stores.{sets_then}
 use Rattle.fields.specs.Fields.{big, bytes_of}
-use Rattle.names.specs.GapName.{digit}
+use Rattle.names.specs.GapName.{digit, hexes}
 use Rattle.obj.specs.declared.Section.{Section}
 use Rattle.lists.proofs.Among.{same_test, and_true, some_by, some_member, range_member}
-use Rattle.srecords.specs.Lines.{hexes, sum, checksum, counted, line_of, has_address, share_address}
+use Rattle.srecords.specs.Lines.{sum, checksum, counted, line_of, has_address, share_address}
 use Rattle.srecords.specs.Reader.{Has}
 use Rattle.srecords.proofs.Digits.{length-hexes}
 use Rattle.srecords.proofs.Theorem.{has_address_lem}
@@ -29,18 +30,6 @@ pub hexes-append : (s t : List ℕ) → hexes (s ++ t) ≡ hexes s ++ hexes t
 unfolding hexes
 hexes-append [] t = refl
 hexes-append (b ∷ s) t = ap (λ (l : List ℕ). digit (b / 16) ∷ digit (b % 16) ∷ l) (hexes-append s t)
-
--- a turn of the loop that writes them
-pub hexes_turn : (out bytes : List ℕ) (at i : ℕ) → i < length bytes
-    → sets (sets out (at + 2 * i) (hexes (get_or bytes i 0 ∷ []))) (at + 2 * (i + 1)) (hexes (drop (i + 1) bytes)) ≡ sets out (at + 2 * i) (hexes (drop i bytes))
-unfolding hexes
-hexes_turn out bytes at i h =
-    sets-sets out (at + 2 * i) (hexes (get_or bytes i 0 ∷ [])) (at + 2 * (i + 1)) (hexes (drop (i + 1) bytes)) (omega arith)
-    ∙ ap (λ (l : List ℕ). sets out (at + 2 * i) (hexes l)) (ap (λ (k : ℕ). get_or bytes i 0 ∷ drop k bytes) (add-one i) ∙ sym (drop-cons bytes i 0 h))
-
-pub hexes-none : hexes [] ≡ []
-unfolding hexes
-hexes-none = refl
 
 -- ---- sums
 
@@ -57,7 +46,7 @@ pub sum-none : (l : List ℕ) → l ≡ [] → sum l ≡ 0
 unfolding sum
 sum-none l e = ap sum e
 
-pub sum_address_is : (a : ℕ) → a / 16777216 % 256 + a / 65536 % 256 + a / 256 % 256 + a % 256 ≡ sum (bytes_of big 4 a)
+pub sum_address_is : (a : ℕ) → sum (to_be_bytes w32 a) ≡ sum (bytes_of big 4 a)
 unfolding sum bytes_of
 sum_address_is a = omega arith
 
@@ -67,10 +56,10 @@ sum-counted address bytes = ap (λ (k : ℕ). length bytes + 5 + k) (sum-append 
 
 -- ---- a line in parts
 
-pub head_is : (type count a : ℕ) → 83 ∷ type ∷ hexes (count ∷ a / 16777216 % 256 ∷ a / 65536 % 256 ∷ a / 256 % 256 ∷ a % 256 ∷ []) ≡ line_head type count a
-unfolding line_head bytes_of
+pub head_is : (type count a : ℕ) → (83 ∷ type ∷ hexes (count ∷ [])) ++ hexes (to_be_bytes w32 a) ≡ line_head type count a
+unfolding line_head bytes_of hexes
 head_is type count a =
-    ap (λ (k : ℕ). 83 ∷ type ∷ hexes (count ∷ a / 16777216 % 256 ∷ a / 65536 % 256 ∷ a / 256 % 256 ∷ k ∷ [])) (let e : a % 256 ≡ a / 1 % 256 = omega arith in e)
+    ap (λ (k : ℕ). (83 ∷ type ∷ hexes (count ∷ [])) ++ hexes (a / 16777216 % 256 ∷ a / 65536 % 256 ∷ a / 256 % 256 ∷ k ∷ [])) (let e : a % 256 ≡ a / 1 % 256 = omega arith in e)
 
 pub head_length : (type count a : ℕ) → length (line_head type count a) ≡ 12
 unfolding line_head bytes_of hexes

@@ -4,30 +4,12 @@
 ghost use Rattle.std.specs.Prelude.{◌≡◌, [], ◌∷◌, ◌+◌, ◌*◌, ◌≤◌, ◌<◌, length};
 ghost use Rattle.std.proofs.lemmas.List.Edits.{sets};
 ghost use Rattle.fields.specs.Fields.{big, bytes_of};
-ghost use Rattle.srecords.specs.Lines.{hexes, checksum, counted, line_of, share_address};
+ghost use Rattle.names.specs.GapName.{hexes};
+ghost use Rattle.srecords.specs.Lines.{checksum, counted, line_of, share_address};
 ghost use Rattle.srecord_lines.specs.Leaves.{line_head, line_tail, Sum};
 
-use names::digit_of;
+use names::put_hexes;
 use obj::Section;
-
-// A byte's two digits.
-fn put_hex(out: &mut [u8], at: usize, b: u8)
-    requires { at + 2 ≤ length out.old }
-    ensures { out.new ≡ sets out.old at (hexes (b ∷ [])) }
-{
-    out[at] = digit_of((b / 16) as u64);
-    out[at + 1] = digit_of((b % 16) as u64);
-}
-
-// The digits of all bytes.
-fn put_hexes(out: &mut [u8], at: usize, bytes: &[u8])
-    requires { at + 2 * length bytes.now ≤ length out.old }
-    ensures { out.new ≡ sets out.old at (hexes bytes.now) }
-{
-    for (i, byte) in bytes.iter().enumerate() {
-        put_hex(out, at + 2 * i, *byte);
-    }
-}
 
 // The sum of the bytes.
 fn sum_of(bytes: &[u8]) -> u32
@@ -41,28 +23,15 @@ fn sum_of(bytes: &[u8]) -> u32
     total
 }
 
-// The four bytes of an address, the highest first, as one sum.
-fn sum_address(address: u32) -> u32
-    ensures { Sum (bytes_of big 4 address) 1024 result }
-{
-    address / 16777216 % 256 + address / 65536 % 256 + address / 256 % 256 + address % 256
-}
-
 // `S`, the type, how many bytes follow, and the address.
 fn put_head(out: &mut [u8], at: usize, kind: u8, count: u8, address: u32)
     requires { at + 12 ≤ length out.old }
     ensures { out.new ≡ sets out.old at (line_head kind count address) }
 {
-    let bytes = [
-        count,
-        (address / 16777216 % 256) as u8,
-        (address / 65536 % 256) as u8,
-        (address / 256 % 256) as u8,
-        (address % 256) as u8,
-    ];
     out[at] = 83;
     out[at + 1] = kind;
-    put_hexes(out, at + 2, &bytes);
+    put_hexes(out, at + 2, &[count]);
+    put_hexes(out, at + 4, &address.to_be_bytes());
 }
 
 // The checksum and the line feed.
@@ -70,7 +39,7 @@ fn put_tail(out: &mut [u8], at: usize, check: u8)
     requires { at + 3 ≤ length out.old }
     ensures { out.new ≡ sets out.old at (line_tail check) }
 {
-    put_hex(out, at, check);
+    put_hexes(out, at, &[check]);
     out[at + 2] = 10;
 }
 
@@ -79,7 +48,7 @@ fn check_of(address: u32, bytes: &[u8]) -> u8
     requires { length bytes.now ≤ 250 }
     ensures { result ≡ checksum (counted address bytes.now) }
 {
-    let total = (bytes.len() as u32) + 5 + sum_address(address) + sum_of(bytes);
+    let total = (bytes.len() as u32) + 5 + sum_of(&address.to_be_bytes()) + sum_of(bytes);
     255 - ((total % 256) as u8)
 }
 

@@ -11,7 +11,8 @@ use Rattle.lists.proofs.Rows.{tabulate_ext}
 use Rattle.lists.proofs.Stores.{sets-sets, drop-take, drop-sets}
 use Rattle.fields.specs.Fields.{big, bytes_of}
 use Rattle.fields.proofs.Laws.{length-bytes_of}
-use Rattle.srecords.specs.Lines.{hexes, checksum, counted, line_of, S3, concat, data_line, section_lines}
+use Rattle.names.specs.GapName.{hexes}
+use Rattle.srecords.specs.Lines.{checksum, counted, line_of, S3, concat, data_line, section_lines}
 use Rattle.srecords.proofs.Digits.{length-hexes}
 use Rattle.srecord_text.specs.Room.{lines_size, Fits}
 

@@ -1,20 +1,20 @@
 -- A line is read back: its type, its address and its data. Assumes nothing.
 use mathlib.Core.Path.{◌≡◌, refl, sym, ap, ap₂, ◌∙◌}
-use mathlib.Core.List.{List, [], ◌∷◌, ◌++◌, append_assoc}
-use mathlib.Core.Bool.{Bool, true, false, cond, ◌&&◌, ◌||◌}
-use Prim.Native.Nat.{ℕ, zero, suc, ◌+◌, ◌*◌, ◌-◌, ◌/◌, ◌%◌, ◌^◌, ◌≤◌, ◌<◌}
+use mathlib.Core.List.{List, [], ◌∷◌, ◌++◌}
+use mathlib.Core.Bool.{Bool, true, cond}
+use Prim.Native.Nat.{ℕ, zero, suc, ◌+◌, ◌-◌, ◌/◌, ◌%◌, ◌^◌, ◌≤◌, ◌<◌}
 use native.Mathlib.Omega.{arith}
-use lib.Dec.{eqb, ltb, leb}
 use lib.ListN.{length, get_or, take, drop, length-append, get_or-append}
-use lib.Seq.{take_at, drop_at, get_or_at, take-append-le, drop-append-le}
+use lib.Seq.{take_at, drop_at, get_or_at, drop-append-le}
 use borrow.Author.Tests.{eq-eqb, le-leb}
 use Rattle.lists.specs.Sort.{All, none, each}
 use Rattle.lists.proofs.All.{all_append}
-use Rattle.fields.specs.Fields.{Order, big, number_at, bytes_of}
+use Rattle.fields.specs.Fields.{big, number_at, bytes_of}
 use Rattle.fields.proofs.Laws.{number_at_same, length-bytes_of, number_of_bytes}
 use Rattle.lists.proofs.Among.{and_true}
-use Rattle.srecords.specs.Lines.{hexes, sum, checksum, counted, line_of}
-use Rattle.srecords.specs.Reader.{Reading, read, bad, pairs, Line, width_of, counts, line_in, read_line}
+use Rattle.names.specs.GapName.{hexes}
+use Rattle.srecords.specs.Lines.{checksum, counted}
+use Rattle.srecords.specs.Reader.{read, bad, pairs, width_of, counts, line_in, read_line}
 use Rattle.srecords.proofs.Digits.{pairs-hexes}
 
 -- ---- the bytes of a line

@@ -1,18 +1,18 @@
 -- What a section's lines put where: each of its bytes once at its address, and nothing else. Assumes nothing.
-use mathlib.Core.Path.{◌≡◌, refl, sym, ap, ap₂, ◌∙◌}
+use mathlib.Core.Path.{◌≡◌, refl, ap, ap₂, ◌∙◌}
 use mathlib.Core.List.{List, [], ◌∷◌, ◌++◌}
 use mathlib.Core.Bool.{Bool, true, false, cond, ◌&&◌}
 use Prim.Native.Nat.{ℕ, zero, suc, ◌+◌, ◌*◌, ◌-◌, ◌/◌, ◌≤◌, ◌<◌, min}
 use native.Mathlib.Omega.{arith}
 use native.Mathlib.Decide.{dec_lt}
-use lib.Dec.{eqb, ltb, leb}
-use lib.ListN.{length, get_or, take, drop, length-take, length-drop}
+use lib.Dec.{ltb, leb}
+use lib.ListN.{length, get_or, drop, length-take, length-drop}
 use lib.Seq.{get_or-take, get_or-drop}
 use borrow.Author.Tests.{le-leb, lt-leb, lt-ltb, le-ltb}
 use Rattle.lists.specs.Rows.{tabulate}
 use Rattle.lists.proofs.Compare.{and_fails}
 use Rattle.lists.proofs.Among.{and_true}
-use Rattle.srecords.specs.Lines.{S3, S7}
+use Rattle.srecords.specs.Lines.{S3}
 use Rattle.srecords.specs.Reader.{Line, is_data, puts, bytes_put}
 use Rattle.srecords.proofs.Text.{chunk, chunks}
 

@@ -1,30 +1,26 @@
 -- The theorem of (n): "A reader by the public definition gives back each section's joined bytes at its addresses", each once, and nothing else. Assumes nothing.
 use mathlib.Core.Path.{◌≡◌, refl, sym, ap, ap₂, subst, ◌∙◌}
 use mathlib.Core.List.{List, [], ◌∷◌, ◌++◌, append_assoc, append-nil, Memᴰ}
-use mathlib.Core.Logic.{◌≢◌, ◌⊎◌, inl, inr}
-use mathlib.Core.Bool.{Bool, true, false, cond, not, ◌&&◌}
-use Prim.Native.Nat.{ℕ, zero, suc, ◌+◌, ◌*◌, ◌-◌, ◌≤◌, ◌<◌}
+use mathlib.Core.Bool.{true, false, not}
+use Prim.Native.Nat.{ℕ, zero, suc, ◌+◌, ◌-◌, ◌≤◌, ◌<◌}
 use native.Mathlib.Omega.{arith}
-use native.Mathlib.Decide.{ℕ_discrete, dec_lt, dec_le}
-use lib.Dec.{eqb, ltb, leb}
+use native.Mathlib.Decide.{ℕ_discrete, dec_lt}
 use lib.ListN.{length, get_or}
-use borrow.Author.Tests.{ne_eqb, le-leb, lt-ltb, eqb-false, leb-true, ltb-true, not-true}
-use Rattle.lists.specs.Rows.{tabulate, some}
+use borrow.Author.Tests.{ne_eqb, le-leb, lt-ltb}
+use Rattle.lists.specs.Rows.{some}
 use Rattle.lists.specs.Sort.{All, none, each}
-use Rattle.lists.proofs.Both.{both}
 use Rattle.lists.proofs.Compare.{never}
 use Rattle.lists.proofs.Each.{all_placed}
 use Rattle.lists.proofs.Tests.{or_false}
 use Rattle.obj.specs.declared.Section.{Section}
-use Rattle.join.specs.Join.{Part, nowhere, byte_of, joined_at, joined_section, held_by}
+use Rattle.join.specs.Join.{Part, nowhere, joined_at, joined_section, held_by}
 use Rattle.lists.proofs.Among.{and_true, some_by, none_member, range_member, at_member}
 use Rattle.join.proofs.Members.{Byte, of, empty, joined_byte}
 use Rattle.join.proofs.Sizes.{joined_section-held, section_reads, held_by_is, held_by-none, listed}
 use Rattle.srecords.specs.Lines.{S7, section_lines, lines_from, lines_of, line_of, has_address, share_address, some_share}
 use Rattle.srecords.specs.Reader.{read, Line, puts, bytes_put, read_text, text_lines, read_lines, Has, ReadsBack}
-use Rattle.srecords.proofs.Line.{Fits}
 use Rattle.srecords.proofs.Text.{text_line, wide_7, chunks, section_read}
-use Rattle.srecords.proofs.Put.{put_append, put_not, put_own, put_below, put_past}
+use Rattle.srecords.proofs.Put.{put_append, put_own, put_below, put_past}
 
 -- ---- what is asked of the input: what the table checks give, and bytes that are bytes
 

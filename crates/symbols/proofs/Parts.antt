@@ -1,12 +1,12 @@
 -- The parts of the symbol order, told by section and address: between two keys of one section lie those of the section's symbols whose
 -- addresses pass the range's test. Assumes nothing.
 use mathlib.Core.Path.{◌≡◌, refl, sym, ap, subst, ◌∙◌}
-use mathlib.Core.List.{List, []}
+use mathlib.Core.List.{List}
 use mathlib.Core.Bool.{Bool, true, not, ◌&&◌}
-use Prim.Native.Nat.{ℕ, suc, ◌+◌, ◌-◌, ◌≤◌, ◌<◌, zero-le}
+use Prim.Native.Nat.{ℕ, suc, ◌+◌, ◌≤◌, ◌<◌, zero-le}
 use native.Mathlib.Omega.{arith}
 use lib.Dec.{leb, ltb, eqb}
-use lib.ListN.{length, get_or, take, drop}
+use lib.ListN.{length, get_or}
 use borrow.Author.Tests.{le-leb, lt-ltb}
 use Rattle.lists.specs.Rows.{keep_if, first_in}
 use Rattle.lists.specs.Sort.{All, between, at_least}
@@ -15,7 +15,6 @@ use Rattle.lists.proofs.All.{all_any, all_keep, all_sort}
 use Rattle.lists.proofs.Filter.{keep_all, keep_some}
 use Rattle.lists.proofs.Sort.{length_sort}
 use Rattle.lists.proofs.Rising.{numbers-below}
-use Rattle.lists.proofs.Between as parts
 use Rattle.lists.proofs.Between.{place_above, place-below}
 use Rattle.obj.specs.declared.Symbol.{Symbol}
 use Rattle.symbol_order.specs.Order.{symbol_of, key, key_at, numbers, in_section, symbols_of, Readable, Order}
@@ -24,25 +23,6 @@ use Rattle.symbol_order.proofs.Sections.{section_part, small_address}
 use Rattle.symbols.specs.Ranges.{symbols_between, symbols_through, symbols_below, has_symbols}
 
 module _ (b places order : List ℕ) (o : Order b places order) where
-  -- the first place of a key, and of a later one
-  module _ (low high : ℕ) where
-    abbrev first : ℕ → ℕ
-    first k = first_in (at_least (key_at b places) k) order
-
-    pub first_later : low ≤ high → first low ≤ first high
-    first_later = parts.first_later (key_at b places) 0 order (order_sorted b places order o) low high
-
-    -- the part between two places that the searches gave
-    module _ (from to : ℕ) (ef : from ≡ first low) (et : to ≡ first high) where
-      pub part-some : take (to - from) (drop from order) ≡ keep_if (between (key_at b places) low high) order
-      part-some = parts.part-some (key_at b places) 0 order (order_sorted b places order o) low high from to ef et
-
-      pub part_later : low ≤ high → from ≤ to
-      part_later = parts.part_later (key_at b places) 0 order (order_sorted b places order o) low high from to ef et
-
-  pub part_none : (low high : ℕ) → high ≤ low → [] ≡ keep_if (between (key_at b places) low high) order
-  part_none = parts.part_none (key_at b places) 0 order (order_sorted b places order o)
-
   module _ (bytes : (j : ℕ) → get_or b j 0 < 256) (n : ℕ) where
     abbrev symbol : ℕ → Symbol
     symbol = symbol_of b places

@@ -1,77 +1,28 @@
-// The questions asked of a section's symbols: each is a part of the symbol order, found by a binary search, and a short pass over it.
+// The questions asked of a section's symbols: each is a part of the symbol order, found by a binary search (`symbol_order::part`), and a short pass over it.
 // "Its first" and "its next" symbol are the first and the next number of such a part.
 #![tactic(auto)]
 
-ghost use Rattle.std.specs.Prelude.{◌≡◌, ◌<◌, ◌≤◌, length, None};
-ghost use Rattle.lists.specs.Rows.{keep_if, first_in as firstPlace};
-ghost use Rattle.lists.specs.Sort.{between, at_least};
+ghost use Rattle.std.specs.Prelude.{◌≡◌, length, None};
+ghost use Rattle.lists.specs.Rows.{keep_if};
+ghost use Rattle.lists.specs.Sort.{between};
 ghost use Rattle.symbol_order.specs.Order.{symbol_of, key_at, symbols_of, Readable, Order};
 ghost use Rattle.symbols.specs.Ranges.{sized, sized_unstripped, last_or, highest_of, symbols_between, symbols_through, has_symbols};
-ghost use Rattle.symbols.specs.Ranges.{backwards, last_below, last_in, highest_in, found_meaning, highest_meaning, Within, raise};
+ghost use Rattle.symbols.specs.Ranges.{backwards, last_below, last_in, highest_in, found_meaning, highest_meaning, raise};
 
 use obj::{Symbol, Table, symbol_at};
-use symbol_order::{key_in, key_of, number};
+use symbol_order::{first_at, key_in, key_of, number, part};
 
 // 11: a range that ends before it starts, asked of a section that has symbols.
 #[derive(Clone, Copy, Debug, PartialEq, Eq)]
 pub struct Backwards;
 
-// The first place of `order` whose symbol's key is at least `key`, if it lies in from..=to.
-fn search(table: &Table, order: &[u16], from: usize, to: usize, key: u64) -> usize
-    requires { Order table.now.bytes.now table.now.places.now order.now × (from ≤ firstPlace (at_least (key_at table.now.bytes.now table.now.places.now) key) order.now) × (firstPlace (at_least (key_at table.now.bytes.now table.now.places.now) key) order.now ≤ to) × (to ≤ length order.now) }
-    ensures { Within (firstPlace (at_least (key_at table.now.bytes.now table.now.places.now) key) order.now) (length order.now) result }
-{
-    // halves, so it is no count
-    let mut lo = from;
-    let mut hi = to;
-    while lo < hi {
-        let mid = lo + (hi - lo) / 2;
-        if key_in(table, order, mid) < key {
-            lo = mid + 1;
-        } else {
-            hi = mid;
-        }
-    }
-    lo
-}
-
-// The first place of `order` whose symbol's key is at least `key`.
-fn first_at(table: &Table, order: &[u16], key: u64) -> usize
-    requires { Order table.now.bytes.now table.now.places.now order.now }
-    ensures { Within (firstPlace (at_least (key_at table.now.bytes.now table.now.places.now) key) order.now) (length order.now) result }
-{
-    search(table, order, 0, order.len(), key)
-}
-
-// The same place, if it is not before `from`. Most ranges hold few symbols, so it looks close to `from` first, then twice as far each time:
-// at from, from + 2, from + 6, from + 14.
-fn first_from(table: &Table, order: &[u16], from: usize, key: u64) -> usize
-    requires { Order table.now.bytes.now table.now.places.now order.now × (from ≤ firstPlace (at_least (key_at table.now.bytes.now table.now.places.now) key) order.now) }
-    ensures { Within (firstPlace (at_least (key_at table.now.bytes.now table.now.places.now) key) order.now) (length order.now) result }
-{
-    // goes twice as far each time, so it is no count
-    let mut lo = from;
-    while lo - from < order.len() - lo {
-        let ahead = lo + (lo - from);
-        if key <= key_in(table, order, ahead) {
-            return search(table, order, lo, ahead, key);
-        }
-        lo = ahead + 1;
-    }
-    search(table, order, lo, order.len(), key)
-}
-
 // The numbers of the symbols whose keys are from `low` to before `high`: a part of `order`.
+#[tactic(auto, using(symbol_order::proofs::Parts::order_sorted, symbol_order::proofs::Parts::order_readable))]
 fn part_of<'a>(table: &Table, order: &'a [u16], low: u64, high: u64) -> &'a [u16]
     requires { Order table.now.bytes.now table.now.places.now order.now }
     ensures { result.now ≡ keep_if (between (key_at table.now.bytes.now table.now.places.now) low high) order.now }
 {
-    if high <= low {
-        return &order[..0];
-    }
-    let from = first_at(table, order, low);
-    let to = first_from(table, order, from, high);
-    &order[from..to]
+    part(order, low, high, &|i| key_in(table, order, i))
 }
 
 // The section's symbols.
@@ -167,6 +118,7 @@ pub fn last_of(table: &Table, part: &[u16], objects: bool) -> Option<usize>
 
 // "the last sized unstripped symbol below" an address of a section, or only of its Objects.
 // It goes down from the address's place and ends at a symbol of an earlier section, so the section's first place is not searched for.
+#[tactic(auto, using(symbol_order::proofs::Parts::order_readable))]
 pub fn last_below(
     b: &[u8],
     places: &[u32],
@@ -179,7 +131,11 @@ pub fn last_below(
     ensures { result ≡ last_below (symbol_of b.now places.now) (length places.now) section objects address }
 {
     let symbols = Table { bytes: b, places };
-    let end = first_at(&symbols, order, key_of(section, address));
+    let end = first_at(
+        order,
+        key_of(section, address),
+        &|i| key_in(&symbols, order, i),
+    );
     for j in (0..end).rev() {
         let i = number(order, j);
         let y = symbol_at(&symbols, i);

@@ -10,7 +10,6 @@ ghost use Rattle.symbols.specs.Ranges.{Within};
 ghost use Rattle.symbols.specs.Sound.{Sound};
 ghost use Rattle.sections.specs.Image.{image_in, TablesIn};
 ghost use Rattle.sections.specs.Bytes.{bytes_of};
-ghost use Rattle.sections.specs.Alignment.{chosen};
 ghost use Rattle.sections.specs.Ends.{splitting_end, end_meaning};
 ghost use Rattle.splits.specs.Columns.{row_at};
 ghost use Rattle.splits.specs.Table.{columns_of, rows_of, columns_in, rows_in, OnlyEnds};
@@ -20,22 +19,11 @@ ghost use Rattle.trim.specs.Lent.{head_in, sections_in, AsksIn, KeptIn, PlacedIn
 
 use align::align_up;
 use obj::{Refusal, Section, Split, Table, refuse, section_at, symbol_at};
-use sections::{Alignment, Obj, Short, end_for_section, section_bytes, split_alignment};
+use sections::{Obj, Short, end_for_section, section_bytes, split_alignment};
 use splits::{SplitColumns, SplitTable, row, set_end};
 use symbols::{Backwards, last_in};
 
 // ---- trim_split_alignment: the falls
-
-// The alignment of a split, for whatever reason.
-fn value_of(a: Alignment) -> u32
-    ensures { result ≡ (chosen a).value }
-{
-    match a {
-        Alignment::Given(value) => value,
-        Alignment::FromSymbol(value) => value,
-        Alignment::Default(value) => value,
-    }
-}
 
 // "the alignment of the section's next split is still asked, from this split's start", and may be 11. The next split is that at place j.
 fn ask_next(obj: &Obj, splits: &SplitColumns, s: Split, j: usize) -> Result<(), Backwards>
@@ -78,7 +66,7 @@ fn aligned_end(obj: &Obj, s: Split) -> Result<u32, Backwards>
     let found = last_in(&obj.symbols, obj.order, s.section, s.start, s.end)?;
     let end = end_of(&obj.symbols, found, s.end);
     let a = split_alignment(obj, s, s.start)?;
-    Ok(align_up(end, value_of(a)))
+    Ok(align_up(end, a.value()))
 }
 
 // Where the end of s falls to, 0 if it does not fall; the split after it is that at place j.

@@ -3,7 +3,6 @@ ghost use Rattle.std.specs.Prelude.{◌≡◌, false, ◌&&◌, leb, ltb, ◌+�
 ghost use Rattle.align.specs.Align.{bad_align};
 ghost use Rattle.obj.specs.Answers.{meaning};
 ghost use Rattle.sections.specs.Image.{image_in};
-ghost use Rattle.sections.specs.Alignment.{chosen};
 ghost use Rattle.sections.specs.Sections.{sections_of, head_of};
 ghost use Rattle.units.specs.Units.{unit_names, Numbered};
 ghost use Rattle.walk.specs.Walk.{alignment_in};
@@ -13,7 +12,7 @@ use crate::{Step, refuse_at};
 use names::name_at;
 use obj::{Refusal, Section, Split, Table, section_at};
 use pieces::piece_bytes;
-use sections::{Alignment, Obj, alignment_of, default_alignment, is_zero, section_bytes};
+use sections::{Obj, alignment_of, default_alignment, is_zero, section_bytes};
 use symbol_order::number;
 use symbols::Backwards;
 
@@ -48,16 +47,6 @@ fn between(heads: &Table, image: &Table, n: usize, from: u32, to: u32) -> Option
     None
 }
 
-fn value_of(a: Alignment) -> u32
-    ensures { result ≡ (chosen a).value }
-{
-    match a {
-        Alignment::Given(value) => value,
-        Alignment::FromSymbol(value) => value,
-        Alignment::Default(value) => value,
-    }
-}
-
 // "Alignment of a split" in section n, asked from `start` on; its range may be asked backwards (11).
 fn alignment_at(obj: &Obj, n: usize, s: Split, start: u32) -> Result<u32, Backwards>
     requires { Asked obj.now.symbols.bytes.now obj.now.symbols.places.now obj.now.order.now obj.now.names.bytes.now obj.now.names.places.now obj.now.names.lengths.now
@@ -79,7 +68,7 @@ fn alignment_at(obj: &Obj, n: usize, s: Split, start: u32) -> Result<u32, Backwa
         start,
         s.end,
     )?;
-    Ok(value_of(alignment))
+    Ok(alignment.value())
 }
 
 // What the split s at `current` asks for, where the next one, or the splitting end, is at `next`.

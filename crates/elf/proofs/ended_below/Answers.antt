@@ -1,3 +1,5 @@
+-- `elf::ended_below`: no byte past the place that std's search answers is a NUL, and that one is. The check finds both facts only where they stand alone,
+-- as what `none_from` asks, and not the answer in one step.
 use Rattle.std.proofs.Common.{◌≡◌, ◌+◌, ◌-◌, rules, arith}
 use Rattle.std.proofs.Common.{get_or}
 use Rattle.elf.proofs.Strings.{none_from, last_nul, no_nul}

@@ -7,7 +7,6 @@ use Rattle.std.specs.Prelude.{Result}
 use Rattle.obj.specs.declared.Refusal.{Refusal}
 use Rattle.obj.specs.Answers.{meaning}
 use Rattle.lists.specs.Outcome.{accepted}
-use Rattle.sections.specs.declared.Alignment.{Alignment}
 use Rattle.sections.specs.Alignment.{chosen}
 use Rattle.sections.specs.Image.{image_in}
 use Rattle.sections.specs.Sections.{head_of}
@@ -34,32 +33,12 @@ returns-in_default c =
     ap (λ (x : Result ℕ Refusal). meaning x) c.refuse-in_default.ensures
     ∙ alignment_refused g head count split a.which c.if-splits-k.false c.split_at-s.ensures c.section_at-head.ensures c.name_at-name.ensures c.default_alignment-least.ensures c.in_default.ensures
 
-pub returns-in-Given : goal.returns-in-Given
-returns-in-Given c =
+pub returns : goal.returns
+returns c =
     let a = c.args in
     let g = image_in a.obj.now in
     let head = head_of a.obj.now.heads.bytes.now a.obj.now.heads.places.now in
     let count = length a.splits.now.places.now in
     let split = split_of a.splits.now.bytes.now a.splits.now.places.now in
-    ap (λ (x : Alignment). accepted (chosen x).value) (sym c.in-Given.is)
-    ∙ alignment_given g head count split a.which c.if-splits-k.false c.split_at-s.ensures c.section_at-head.ensures c.name_at-name.ensures c.default_alignment-least.ensures (chosen c.in-Ok.chosen) c.in-Ok.ensures
-
-pub returns-in-FromSymbol : goal.returns-in-FromSymbol
-returns-in-FromSymbol c =
-    let a = c.args in
-    let g = image_in a.obj.now in
-    let head = head_of a.obj.now.heads.bytes.now a.obj.now.heads.places.now in
-    let count = length a.splits.now.places.now in
-    let split = split_of a.splits.now.bytes.now a.splits.now.places.now in
-    ap (λ (x : Alignment). accepted (chosen x).value) (sym c.in-FromSymbol.is)
-    ∙ alignment_given g head count split a.which c.if-splits-k.false c.split_at-s.ensures c.section_at-head.ensures c.name_at-name.ensures c.default_alignment-least.ensures (chosen c.in-Ok.chosen) c.in-Ok.ensures
-
-pub returns-in-Default : goal.returns-in-Default
-returns-in-Default c =
-    let a = c.args in
-    let g = image_in a.obj.now in
-    let head = head_of a.obj.now.heads.bytes.now a.obj.now.heads.places.now in
-    let count = length a.splits.now.places.now in
-    let split = split_of a.splits.now.bytes.now a.splits.now.places.now in
-    ap (λ (x : Alignment). accepted (chosen x).value) (sym c.in-Default.is)
+    ap accepted c.value.ensures
     ∙ alignment_given g head count split a.which c.if-splits-k.false c.split_at-s.ensures c.section_at-head.ensures c.name_at-name.ensures c.default_alignment-least.ensures (chosen c.in-Ok.chosen) c.in-Ok.ensures

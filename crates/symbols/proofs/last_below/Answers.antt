@@ -1,21 +1,28 @@
 -- `symbols::last_below`: what is kept to before j is the symbol at j - 1, if it passes, and else what is kept to before that.
-use Rattle.std.proofs.Common.{◌≡◌, ℕ, ◌-◌, cond, length, None, Some, get_or, refl, sym, ap, ◌∙◌, arith}
+use Rattle.std.proofs.Common.{rules, ◌≡◌, ℕ, ◌-◌, cond, length, None, Some, get_or, refl, sym, ap, ◌∙◌, arith}
 use mathlib.Core.List.{List}
 use Rattle.lists.specs.Rows.{keep_if, first_in}
 use Rattle.lists.specs.Sort.{at_least}
+use Rattle.lists.proofs.Between.{part-some}
 use Rattle.symbol_order.specs.Order.{symbol_of, key, key_at}
-use Rattle.symbol_order.proofs.Parts.{held_at, order_readable}
+use Rattle.symbol_order.proofs.Parts.{held_at, order_sorted, order_readable}
 use Rattle.symbols.specs.Ranges.{sized_unstripped, last_or, last_below}
 use Rattle.symbols.proofs.Laws.{last_from, last_none, last_from_lem}
-use Rattle.symbols.proofs.Parts.{part-some, below-part, section_later, section_begun}
+use Rattle.symbols.proofs.Parts.{below-part, section_later, section_begun}
 use Rattle.symbols.proofs.last_below.Goals as goal
-use Rattle.symbols.proofs.last_below.Goals.{After-symbol_at-y, After-is_sized_unstripped}
+use Rattle.symbols.proofs.last_below.Goals.{After-first_at-end, After-symbol_at-y, After-is_sized_unstripped}
+
+-- the search ends at the first place of the address
+ends : (c : After-first_at-end)
+    → let a = c.args in
+    c.first_at-end.result ≡ first_in (at_least (key_at a.b.now a.places.now) c.key_of.result) a.order.now
+ends c = c.first_at-end.ensures.first _ (record { sorted = order_sorted _ _ _ c.requires; gives = λ i r h e. search (rules, e) })
 
 pub loop-j-init : goal.loop-j-init
 loop-j-init c =
     let a = c.args in
     ap (λ (l : List ℕ). last_or None (keep_if (λ i. sized_unstripped a.objects (symbol_of a.b.now a.places.now i)) l))
-    (part-some _ _ _ c.requires (key a.section 0) _ _ _ refl c.first_at-end.ensures.is
+    (part-some (key_at a.b.now a.places.now) 0 a.order.now (order_sorted _ _ _ c.requires) (key a.section 0) _ _ _ refl (ends c)
     ∙ below-part _ _ _ c.requires (λ j. (c.type_inv.b j).fits) a.section _ _ a.address (omega arith) c.key_of.ensures.is refl)
 
 pub symbol_at-y-requires : goal.symbol_at-y-requires

@@ -56,7 +56,7 @@ align_up-requires c =
     let head = head_in a.obj.now in
     let y = a.s in (
       c.end_of-end.ensures.small,
-      rw c.value_of.ensures
+      rw c.value.ensures
           (from_good g head y.start y c.requires.0.sound c.requires.2 (chosen c.in_ok-a.a) (sym c.split_alignment.ensures ∙ ap (alignment_meaning y.section y.start) c.in_ok-a.was)),
     )
 
@@ -69,6 +69,6 @@ returns c =
     let y = a.s in
     let end = end_of g.symbol y.end c.in_ok-found.found in
     ap accepted c.align_up.ensures.is
-    ∙ ap₂ (λ (x v : ℕ). accepted (align_up x v)) c.end_of-end.ensures.is c.value_of.ensures
+    ∙ ap₂ (λ (x v : ℕ). accepted (align_up x v)) c.end_of-end.ensures.is c.value.ensures
     ∙ ap (up_by end) (sym (ap (alignment_meaning y.section y.start) c.in_ok-a.was) ∙ c.split_alignment.ensures)
     ∙ sym (aligned_found g head y c.in_ok-found.found (sym c.last_in.ensures ∙ ap (found_meaning y.section y.start) c.in_ok-found.was))

@@ -1,4 +1,5 @@
--- `units::number_units`: the name that was read is that of unit k, and has a place in the column.
+-- `units::number_units`: the name that was read is that of unit k, and has a place in the column. That the filled column has the length at each place
+-- is found only where the goal says so alone.
 use Rattle.std.proofs.Common.{◌≡◌, ℕ, length, get_or, sym, ap, ◌∙◌, arith, rules}
 use lib.ListN.{length-map}
 use Rattle.lists.proofs.Rows.{get_d_map}

@@ -1,11 +1,15 @@
--- `lines::numbers::put_hex8` meets its contract. Nine stores side by side are the put that the contract names.
--- Assumes nothing.
+-- `lines::numbers::put_hex8`: the digits of the number's bytes are its eight, and the byte that ends the field is stored behind them.
+use Rattle.std.proofs.Common.{refl, ap, ◌∙◌, List, ℕ}
+use mathlib.Core.List.{[], ◌∷◌, ◌++◌}
+use lib.Seq.{sets}
 use Rattle.names.specs.GapName.{hex8}
-use Rattle.lines.proofs.Puts.{put_nine}
+use Rattle.names.proofs.HexDigits.{hexes_eight}
+use Rattle.lines.proofs.Puts.{put_sets, store_more}
 use Rattle.lines.proofs.numbers.put_hex8.Goals as goal
 
 pub returns : goal.returns
 unfolding hex8
 returns c =
-    rw (c.digit_of.ensures, c.digit_of-2.ensures, c.digit_of-3.ensures, c.digit_of-4.ensures, c.digit_of-5.ensures, c.digit_of-6.ensures, c.digit_of-7.ensures, c.digit_of-8.ensures)
-    (put_nine c.args.out.now c.args.at _ _ _ _ _ _ _ _ _ c.requires)
+    let a = c.args in
+    let digits = rw c.to_be_bytes.ensures at c.put_hexes.ensures ∙ ap (λ (l : List ℕ). sets a.out.now a.at l) (hexes_eight a.v) in
+    put_sets a.at (hex8 a.v ++ (a.after ∷ [])) (store_more a.out.now a.at (hex8 a.v) 8 a.after digits refl) c.requires refl

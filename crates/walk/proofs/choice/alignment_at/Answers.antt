@@ -36,7 +36,7 @@ returns c =
     let name = c.name_at.ensures ∙ ap (λ (x : Section). g.name x.name) same in
     let least = c.default_alignment-least.ensures ∙ ap₂ (λ (x : Section) (l : List ℕ). default_alignment x l) same name in
     let wanted = alignment_in g head a.n a.start a.s in
-    subst (λ (r : ℕ). Valued wanted r) (sym c.value_of.ensures)
+    subst (λ (r : ℕ). Valued wanted r) (sym c.value.ensures)
     (aligned_value wanted a.n a.start
     (λ (x : Chosen) e. chosen_good (symbol_of a.obj.now.symbols.bytes.now a.obj.now.symbols.places.now) (length a.obj.now.symbols.places.now) a.n (default_alignment head (g.name head.name)) a.s.alignment a.start a.s.end c.requires.0.sound (default_good head (g.name head.name)) c.requires.2 x e)
     c.in_ok-alignment.alignment

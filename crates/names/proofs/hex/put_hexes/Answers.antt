@@ -1,13 +1,13 @@
--- `srecord_lines::put_hexes` meets its contract. Invariant: writing the digits of the bytes that are left is writing all.
+-- `names::hex::put_hexes` meets its contract. Invariant: writing the digits of the bytes that are left is writing all.
 -- Assumes nothing.
 use mathlib.Core.Path.{sym, ap, ◌∙◌}
 use Prim.Native.Nat.{ℕ, ◌+◌, ◌*◌}
 use mathlib.Core.List.{List}
 use lib.ListN.{drop, drop_of_length-le}
 use lib.Seq.{sets}
-use Rattle.srecords.specs.Lines.{hexes}
-use Rattle.srecord_lines.proofs.Laws.{hexes_turn, hexes-none}
-use Rattle.srecord_lines.proofs.put_hexes.Goals as goal
+use Rattle.names.specs.GapName.{hexes}
+use Rattle.names.proofs.HexDigits.{hexes_turn, hexes-none}
+use Rattle.names.proofs.hex.put_hexes.Goals as goal
 
 pub loop-i-preserved : goal.loop-i-preserved
 loop-i-preserved c =
