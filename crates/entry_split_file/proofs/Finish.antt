@@ -10,7 +10,7 @@ use Rattle.lists.specs.Rows.{tabulate}
 use Rattle.obj.specs.Records.{stage_places, split_width}
 use Rattle.names.specs.Names.{names_of}
 use Rattle.names.specs.Append.{Columns as Beside}
-use Rattle.splits.specs.Columns.{Columns, Long}
+use Rattle.splits.specs.Columns.{Columns}
 use Rattle.order.specs.Bytes.{units_bytes}
 use Rattle.gap_splits.specs.Entering.{bytes_of}
 use Rattle.pieces.specs.Pieces.{pieces_in, symbols_in, relocs_in, piece_width}
@@ -65,11 +65,8 @@ output_fits pieces symbols relocs made w = record {
 }
 
 -- ---- what is kept
-module _ (c : Beside) (table : Columns) (units : List ℕ) (sizes : Sizes) (cap : ℕ) (long : Long table cap) (few : cap ≤ 1024) (fit : split_width * cap ≤ sizes.splits) where
-  long_less : (n : ℕ) → n ≤ cap → Long table n
-  long_less n h = record { starts = omega (arith, h, long.starts); ends = omega (arith, h, long.ends); units = omega (arith, h, long.units); rest = omega (arith, h, long.rest) }
-
-  pub kept-fits : (r : std.Result Ran Unlinked) → Holds (sizes.ends / 2) sizes.bytes cap (room_in sizes.pieces sizes.symbols sizes.relocs) c units r → Fits c table units sizes (kept_by r)
+module _ (c : Beside) (units : List ℕ) (sizes : Sizes) (cap : ℕ) (few : cap ≤ 1024) (fit : split_width * cap ≤ sizes.splits) where
+  pub kept-fits : (r : std.Result Ran Unlinked) → Holds (sizes.ends / 2) sizes.bytes cap (room_in sizes.pieces sizes.symbols sizes.relocs) c units r → Fits c units sizes (kept_by r)
   kept-fits (Ok r) h = record {
     names = record {
       packed = h.0.packed;
@@ -80,7 +77,6 @@ module _ (c : Beside) (table : Columns) (units : List ℕ) (sizes : Sizes) (cap 
       low = h.0.low;
     };
     ends = omega (arith, h.0.few, mul-div-le sizes.ends 2);
-    long = long_less r.splits h.1;
     splits = omega (arith, h.1, fit);
     few_splits = omega (arith, h.1, few);
     units_there = h.2;
@@ -89,7 +85,6 @@ module _ (c : Beside) (table : Columns) (units : List ℕ) (sizes : Sizes) (cap 
   kept-fits (Err (Cycle count)) h = record {
     names = no_names c sizes.ends sizes.bytes;
     ends = omega arith;
-    long = long_less 0 (omega arith);
     splits = omega arith;
     few_splits = omega arith;
     units_there = h;
@@ -98,12 +93,17 @@ module _ (c : Beside) (table : Columns) (units : List ℕ) (sizes : Sizes) (cap 
   kept-fits (Err (Refused r)) h = record {
     names = no_names c sizes.ends sizes.bytes;
     ends = omega arith;
-    long = long_less 0 (omega arith);
     splits = omega arith;
     few_splits = omega arith;
     units_there = no_units units;
     output = no_output sizes.pieces sizes.symbols sizes.relocs;
   }
+
+  -- the rows that are kept have room
+  pub kept_few : (r : std.Result Ran Unlinked) → Holds (sizes.ends / 2) sizes.bytes cap (room_in sizes.pieces sizes.symbols sizes.relocs) c units r → (kept_by r).splits ≤ cap
+  kept_few (Ok r) h = h.1
+  kept_few (Err (Cycle count)) h = omega arith
+  kept_few (Err (Refused r)) h = omega arith
 
 -- ---- what is left
 module _ (c : Beside) (table : Columns) (units pieces entries offsets : List ℕ) where
@@ -136,6 +136,6 @@ pub same_sizes : (ends bytes splits counts : ℕ) {units pieces symbols relocs u
     (record { ends = ends; bytes = bytes; splits = splits; units = units; pieces = pieces; symbols = symbols; relocs = relocs; counts = counts })
 same_sizes ends bytes splits counts a b e f = λ d. record { ends = ends; bytes = bytes; splits = splits; units = a d; pieces = b d; symbols = e d; relocs = f d; counts = counts }
 
-pub fits_as : {c : Beside} {table : Columns} {units : List ℕ} {sizes sizes' : Sizes} {k k' : Kept} → Fits c table units sizes k → k' ≡ k → sizes' ≡ sizes → Fits c table units sizes' k'
-fits_as {c} {table} {units} {sizes} {sizes'} {k} {k'} q e z =
-    subst (λ (x : Kept). Fits c table units sizes' x) (sym e) (subst (λ (y : Sizes). Fits c table units y k) (sym z) q)
+pub fits_as : {c : Beside} {units : List ℕ} {sizes sizes' : Sizes} {k k' : Kept} → Fits c units sizes k → k' ≡ k → sizes' ≡ sizes → Fits c units sizes' k'
+fits_as {c} {units} {sizes} {sizes'} {k} {k'} q e z =
+    subst (λ (x : Kept). Fits c units sizes' x) (sym e) (subst (λ (y : Sizes). Fits c units y k) (sym z) q)

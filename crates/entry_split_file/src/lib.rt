@@ -1,14 +1,16 @@
 // The entry `split_file` behind its C name: the run of a record file over columns of its own, and what is left in the lent outputs.
 #![tactic(auto)]
 
+ghost use Rattle.std.specs.Prelude.{◌≡◌, length};
 ghost use Rattle.run_outputs.specs.Kept.{sizes_of};
+ghost use Rattle.stage_splits.specs.StageSplits.{room_of};
 ghost use Rattle.run_file.specs.RunFile.{Lent, Loader};
 ghost use Rattle.entry_split_file.specs.Entry.{split_file_of, Leaves};
 
-use names::Names;
+use gap_splits::AddedNames;
 use run_file::run_file;
 use run_outputs::{kept_of, lay, word_for};
-use splits::SplitColumns;
+use splits::SplitTable;
 use stage_splits::room_of;
 
 // The run in lent columns, and its outputs.
@@ -20,13 +22,8 @@ fn in_columns(
     chain: &mut [u16],
     images: &mut [u32],
     order: &mut [u16],
-    starts: &mut [u32],
-    ends: &mut [u32],
-    units: &mut [u16],
-    rest: &mut [u64],
-    added_bytes: &mut [u8],
-    added_places: &mut [u32],
-    added_lengths: &mut [u8],
+    table: &mut SplitTable,
+    added: &mut AddedNames,
     out_ends: &mut [u8],
     out_bytes: &mut [u8],
     out_splits: &mut [u8],
@@ -37,52 +34,27 @@ fn in_columns(
     counts: &mut [u8],
 ) -> u64
     requires { Loader places.old lengths.old heads.old chain.old images.old order.old
-        × Lent starts.old ends.old units.old rest.old added_bytes.old added_places.old added_lengths.old }
+        × Lent table.old added.old
+        × (table.old.room ≡ room_of (length out_splits.old)) }
     ensures { Leaves
         (split_file_of file.now (sizes_of out_ends.old out_bytes.old out_splits.old out_units.old pieces.old entries.old offsets.old counts.old))
         (sizes_of out_ends.old out_bytes.old out_splits.old out_units.old pieces.old entries.old offsets.old counts.old)
         result out_ends.new out_bytes.new out_splits.new out_units.new pieces.new entries.new offsets.new counts.new }
 {
-    let cap = room_of(out_splits.len());
     let most = out_ends.len() / 2;
     let most_bytes = out_bytes.len();
     let r = run_file(
-        file,
-        places,
-        lengths,
-        heads,
-        chain,
-        images,
-        order,
-        starts,
-        ends,
-        units,
-        rest,
-        cap,
-        added_bytes,
-        added_places,
-        added_lengths,
-        most,
-        most_bytes,
-        out_units,
-        pieces,
-        entries,
-        offsets,
+        file, places, lengths, heads, chain, images, order, table, added, most, most_bytes, out_units,
+        pieces, entries, offsets,
     );
     let ran = r.ran;
+    let kept = kept_of(ran);
+    // none after a refusal
+    table.count = kept.splits;
     lay(
-        kept_of(ran),
-        &Names {
-            bytes: &*added_bytes,
-            places: &*added_places,
-            lengths: &*added_lengths,
-        },
-        &SplitColumns {
-            starts: &*starts,
-            ends: &*ends,
-            units: &*units,
-            rest: &*rest,
-        },
+        kept,
+        &added.names(),
+        &table.columns(),
         out_ends,
         out_bytes,
         out_splits,
@@ -125,6 +97,23 @@ pub fn split_file(
     let mut added_bytes = [0u8; 65535];
     let mut added_places = [0u32; 4096];
     let mut added_lengths = [0u8; 4096];
+    let mut table = SplitTable {
+        starts: &mut starts,
+        ends: &mut ends,
+        units: &mut units,
+        rest: &mut rest,
+        count: 0,
+        room: room_of(out_splits.len()),
+    };
+    let mut added = AddedNames {
+        bytes: &mut added_bytes,
+        places: &mut added_places,
+        lengths: &mut added_lengths,
+        count: 0,
+        used: 0,
+        most: 4096,
+        most_bytes: 65535,
+    };
     in_columns(
         file,
         &mut places,
@@ -133,13 +122,8 @@ pub fn split_file(
         &mut chain,
         &mut images,
         &mut order,
-        &mut starts,
-        &mut ends,
-        &mut units,
-        &mut rest,
-        &mut added_bytes,
-        &mut added_places,
-        &mut added_lengths,
+        &mut table,
+        &mut added,
         out_ends,
         out_bytes,
         out_splits,

@@ -1,18 +1,18 @@
 -- The loader's columns by their parts: each table is a part of the column of places, and what was loaded is what the stages are given. Assumes nothing.
-use Prim.Native.Nat.{ℕ, ◌+◌, ◌-◌, ◌≤◌, ◌<◌}
+use Prim.Native.Nat.{ℕ, ◌+◌, ◌-◌, ◌≤◌}
 use mathlib.Core.Path.{◌≡◌, refl, sym, ap, subst, ◌∙◌}
 use mathlib.Core.List.{List}
 use native.Mathlib.Omega.{arith}
 use lib.ListN.{length, take, drop}
 use lib.Seq.{length-take-le}
-use Rattle.lists.specs.Outcome.{Outcome, accepted, refused, ◌>>=◌}
+use Rattle.lists.specs.Outcome.{Outcome, accepted, refused}
 use Rattle.lists.proofs.Binds.{bind_goes, bind_stops}
 use Rattle.tables.specs.Tables.{main_ceilings}
 use Rattle.load.specs.Load.{Loaded, load_of, names_in}
 use Rattle.load.specs.Columns.{part, tables_in}
 use Rattle.load.specs.declared.Counts.{Counts}
 use Rattle.load.proofs.Parts.{part-lent}
-use Rattle.loaded.specs.Tables.{byte_places, tables_with, Usable}
+use Rattle.loaded.specs.Tables.{tables_with}
 use Rattle.loaded.proofs.Bytes.{loaded_usable}
 use Rattle.std.specs.Prelude.{Result, Ok, Err}
 use Rattle.obj.specs.declared.Refusal.{Refusal}

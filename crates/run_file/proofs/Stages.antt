@@ -18,7 +18,6 @@ use Rattle.names.proofs.Laws.{length-names}
 use Rattle.load.specs.Load.{Loaded, names_in}
 use Rattle.loaded.specs.Tables.{tables_with, Usable}
 use Rattle.loaded.proofs.Laws.{all_named, measured}
-use Rattle.splits.specs.Columns.{columns, Long}
 use Rattle.gap_splits.specs.Entering.{Filled, bytes_of}
 use Rattle.gap_splits.specs.Added.{added, Room, Stand}
 use Rattle.gap_splits.specs.Answers.{ceilings}

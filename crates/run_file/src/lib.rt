@@ -109,7 +109,7 @@ fn run_tables(
 ) -> Result<Ran, Unlinked>
     requires { Ready loaded.now.file.now loaded.now.names.now loaded.now.lengths.now index.now.heads.now index.now.chain.now loaded.now.sections.now loaded.now.images.now loaded.now.symbols.now loaded.now.order.now loaded.now.relocs.now loaded.now.partials.now loaded.now.units.now
         × Lent table.old added.old }
-    ensures { (ran_in (beside_in added.new)
+    ensures run { (ran_in (beside_in added.new)
         (columns_in table.new) out_units.new pieces.new entries.new offsets.new result
         ≡ stages loaded.now.file.now
         (tables_with loaded.now.names.now loaded.now.lengths.now loaded.now.sections.now loaded.now.symbols.now loaded.now.relocs.now loaded.now.partials.now loaded.now.units.now)
@@ -117,6 +117,7 @@ fn run_tables(
         (tables_with loaded.now.names.now loaded.now.lengths.now loaded.now.sections.now loaded.now.symbols.now loaded.now.relocs.now loaded.now.partials.now loaded.now.units.now)))
         × Holds most most_bytes table.old.room (room_in (length pieces.old) (length entries.old) (length offsets.old))
         (beside_in added.new) out_units.new result }
+    ensures room { table.new.room ≡ table.old.room }
 {
     added.count = 0;
     added.used = 0;
@@ -157,13 +158,14 @@ fn run_loaded<'a>(
 ) -> Result<Ran, Unlinked>
     requires { Stored file.now counts ordered places.now lengths.now index.now.heads.now index.now.chain.now images.now order.now
         × Lent table.old added.old }
-    ensures { (ran_in (beside_in added.new)
+    ensures run { (ran_in (beside_in added.new)
         (columns_in table.new) out_units.new pieces.new entries.new offsets.new result
         ≡ stages file.now (tables_in counts places.now lengths.now)
         (rooms_in file.now most most_bytes table.old.room (length out_units.old / 8) (room_in (length pieces.old) (length entries.old) (length offsets.old))
         (tables_in counts places.now lengths.now)))
         × Holds most most_bytes table.old.room (room_in (length pieces.old) (length entries.old) (length offsets.old))
         (beside_in added.new) out_units.new result }
+    ensures room { table.new.room ≡ table.old.room }
 {
     let names = counts.names;
     let sections = counts.sections;
@@ -217,9 +219,10 @@ pub fn run_file(
 ) -> RanFile
     requires { Loader places.old lengths.old heads.old chain.old images.old order.old
         × Lent table.old added.old }
-    ensures { Runs file.now most most_bytes table.old.room (length out_units.old / 8) (room_in (length pieces.old) (length entries.old) (length offsets.old)) result
+    ensures run { Runs file.now most most_bytes table.old.room (length out_units.old / 8) (room_in (length pieces.old) (length entries.old) (length offsets.old)) result
         places.new lengths.new (beside_in added.new)
         (columns_in table.new) out_units.new pieces.new entries.new offsets.new }
+    ensures room { table.new.room ≡ table.old.room }
 {
     let prepared = match prepare_file(file, places, lengths, heads, chain, images, order) {
         Ok(prepared) => prepared,

@@ -18,7 +18,7 @@ use Rattle.obj.proofs.Laws.{length-stage_places}
 use Rattle.names.specs.Append.{Columns as Beside}
 use Rattle.names.proofs.Laws.{length-names}
 use Rattle.splits.specs.Columns.{Columns, row_at, rows}
-use Rattle.gap_splits.specs.Answers.{added}
+use Rattle.gap_splits.specs.Added.{added}
 use Rattle.stage_gaps.proofs.Laws.{flat_bytes}
 use Rattle.pieces.specs.Pieces.{pieces_in, symbols_in, relocs_in}
 use Rattle.pieces.proofs.Laws.{length-pieces_in, length-symbols_in, length-relocs_in}

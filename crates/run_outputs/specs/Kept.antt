@@ -3,8 +3,8 @@ use Rattle.std.specs.Prelude.{ℕ, ◌*◌, ◌≤◌, ◌≡◌, List, [], ◌�
 use Rattle.lists.specs.Tables.{laid}
 use Rattle.obj.specs.Answers.{refusal_word}
 use Rattle.names.specs.Append.{Columns as Beside}
-use Rattle.splits.specs.Columns.{Columns, rows, Long}
-use Rattle.gap_splits.specs.Answers.{added}
+use Rattle.splits.specs.Columns.{Columns, rows}
+use Rattle.gap_splits.specs.Added.{added}
 use Rattle.pieces.specs.declared.Counts.{Counts}
 use Rattle.pieces.specs.Pieces.{piece_bytes, symbol_bytes, reloc_bytes, packed, piece_width}
 use Rattle.walk.specs.Walk.{Output}
@@ -73,10 +73,9 @@ abbrev pub listed : Kept → List ℕ
 listed k = k.names ∷ k.used ∷ k.splits ∷ k.units ∷ k.made.pieces ∷ k.made.symbols ∷ k.made.relocs ∷ []
 
 -- what is kept is there, and fits into the outputs
-pub record Fits (c : Beside) (table : Columns) (units : List ℕ) (sizes : Sizes) (k : Kept) : Type 0 where
+pub record Fits (c : Beside) (units : List ℕ) (sizes : Sizes) (k : Kept) : Type 0 where
   pub names : Names c k.names k.used sizes.ends sizes.bytes
   pub ends : 2 * k.names ≤ sizes.ends
-  pub long : Long table k.splits
   pub splits : split_width * k.splits ≤ sizes.splits
   pub few_splits : k.splits ≤ 1024
   pub units_there : Units units k.units

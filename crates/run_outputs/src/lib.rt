@@ -6,7 +6,7 @@ ghost use Rattle.lists.specs.Tables.{laid};
 ghost use Rattle.outputs.specs.Outputs.{halves, counts_of};
 ghost use Rattle.stage_names.specs.StageNames.{ends_from, flat};
 ghost use Rattle.splits.specs.Table.{columns_of};
-ghost use Rattle.gap_splits.specs.Answers as entering;
+ghost use Rattle.gap_splits.specs.Added as entering;
 ghost use Rattle.walk.specs.Giving.{output_in};
 ghost use Rattle.run.specs.Answers.{Names as NamesRead};
 ghost use Rattle.run_outputs.specs.Laid.{Laid};
@@ -126,8 +126,9 @@ pub fn lay(
     offsets: &mut [u8],
     counts: &mut [u8],
 )
-    requires { Fits (entering.beside added.now.bytes.now added.now.places.now added.now.lengths.now) (columns_of splits.now) out_units.old
-        (sizes_of out_ends.old out_bytes.old out_splits.old out_units.old pieces.old entries.old offsets.old counts.old) k }
+    requires { Fits (entering.beside added.now.bytes.now added.now.places.now added.now.lengths.now) out_units.old
+        (sizes_of out_ends.old out_bytes.old out_splits.old out_units.old pieces.old entries.old offsets.old counts.old) k
+        × (k.splits ≤ splits.now.count) }
     ensures { Laid
         (left_in (entering.beside added.now.bytes.now added.now.places.now added.now.lengths.now)
         (columns_of splits.now) out_units.old pieces.old entries.old offsets.old k)
@@ -135,7 +136,7 @@ pub fn lay(
         out_ends.new out_bytes.new out_splits.new out_units.new pieces.new entries.new offsets.new counts.new }
 {
     lay_names(added, k.names, k.used, out_ends, out_bytes);
-    put_splits(splits, k.splits, out_splits);
+    put_splits(&splits.first(k.splits), out_splits);
     clear_from(out_units, 8 * k.units);
     lay_output(k.made, pieces, entries, offsets);
     put_counts(counts, k);

@@ -53,9 +53,9 @@ order_and_walk-requires c =
       }),
     )
 
-pub returns : goal.returns
+pub returns-clause-run : goal.returns-clause-run
 unfolding rooms_in names_in
-returns c =
+returns-clause-run c =
     let a = c.args in
     let q = c.requires in
     let l = a.loaded.now in

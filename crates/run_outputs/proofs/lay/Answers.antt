@@ -5,7 +5,7 @@ use Prim.Native.Nat.{◌*◌}
 use lib.ListN.{length}
 use Rattle.outputs.specs.Outputs.{counts_of}
 use Rattle.splits.specs.Table.{columns_of}
-use Rattle.gap_splits.specs.Answers.{beside}
+use Rattle.gap_splits.specs.Added.{beside}
 use Rattle.stage_walk.proofs.Room.{cleared}
 use Rattle.run_outputs.proofs.Laws.{kept-listed}
 use Rattle.run_outputs.proofs.lay.Goals as goal
@@ -13,16 +13,17 @@ use Rattle.run_outputs.proofs.lay.Goals as goal
 pub returns : goal.returns
 returns c =
     let a = c.args in
-    let q = c.requires in
+    let q = c.requires.0 in
     let k = a.k in
     let beside' = beside a.added.now.bytes.now a.added.now.places.now a.added.now.lengths.now in
     let table = columns_of a.splits.now in
     let names = c.lay_names.ensures in
     let output = c.lay_output.ensures in
+    let s = c.first.ensures in
     record {
       ends_are = names.0;
       bytes_are = names.1;
-      splits_are = c.put_splits.ensures;
+      splits_are = rw (s.columns.starts, s.columns.ends, s.columns.units, s.columns.rest, s.count) at c.put_splits.ensures;
       units_are = c.clear_from.ensures ∙ cleared a.out_units.now _ (8 * k.units) (sym q.units_there.written) q.units_there.fit;
       pieces_are = output.pieces_are;
       symbols_are = output.symbols_are;

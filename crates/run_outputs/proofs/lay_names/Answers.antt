@@ -2,7 +2,7 @@
 -- Assumes nothing.
 use mathlib.Core.Path.{sym}
 use native.Mathlib.Omega.{arith}
-use Rattle.gap_splits.specs.Answers.{added, beside}
+use Rattle.gap_splits.specs.Added.{added, beside}
 use Rattle.names.proofs.Laws.{length-names}
 use Rattle.stage_gaps.proofs.Laws.{flat_bytes}
 use Rattle.run_outputs.proofs.Laws.{ends_laid, bytes_laid}
