@@ -1,4 +1,4 @@
--- From a line of the entry's definition to the next, and the ends of the entry. Assumes nothing.
+-- The ends of the entry: what was accepted is laid out, and a refusal leaves zeros. Assumes nothing.
 use mathlib.Core.Path.{◌≡◌, refl, sym, ap, ◌∙◌}
 use mathlib.Core.List.{List, [], ◌∷◌}
 use Prim.Native.Nat.{ℕ, zero, suc, ◌-◌, ◌/◌, ◌≤◌}
@@ -6,50 +6,20 @@ use native.Mathlib.Omega.{arith}
 use lib.ListN.{length, take, replicate}
 use Rattle.lists.specs.Rows.{clear_from}
 use Rattle.lists.specs.Tables.{laid}
-use Rattle.lists.specs.Outcome.{Outcome, accepted, refused, ◌>>◌}
+use Rattle.lists.specs.Outcome.{Outcome, accepted, refused}
 use Rattle.lists.proofs.Clear.{clear_all}
-use Rattle.lists.proofs.Outcomes.{not_both, same_accepted}
-use Rattle.lists.proofs.Binds.{after_goes, after-stops}
+use Rattle.lists.proofs.Outcomes.{not_both}
 use Rattle.obj.specs.Answers.{meaning, word, outcome_word}
 use Rattle.obj.specs.Answers.{Answer}
 use Rattle.std.specs.Prelude.{Ok, Err, true, false}
 use Rattle.std.specs.Result.{is_err}
-use Rattle.outputs.specs.Outputs.{halves, counts_of, store_count, store_counts}
-use Rattle.outputs.proofs.Laws.{counts_stored}
+use Rattle.outputs.specs.Outputs.{halves, counts_of}
 use Rattle.splits.specs.Bytes.{table_bytes}
 use Rattle.stage_names.specs.StageNames.{ends_from, flat}
 use Rattle.stage_splits.specs.StageSplits.{said}
 use Rattle.gap_splits.specs.Entering.{Filled}
 use Rattle.stage_gaps.specs.StageGaps.{Laid, Gives}
 use Rattle.entry_create_gap_splits.specs.Entry.{Leaves}
-
--- ---- the counts
-pub stored : (counts : List ℕ) (names bytes splits : ℕ) {c₀ c₁ c₂ c₃ : List ℕ} → c₀ ≡ clear_from 0 0 counts → c₁ ≡ store_count 0 names c₀ → c₂ ≡ store_count 1 bytes c₁ → c₃ ≡ store_count 2 splits c₂
-    → c₃ ≡ counts_of (length counts) (names ∷ bytes ∷ splits ∷ [])
-unfolding store_counts
-stored counts names bytes splits e₀ e₁ e₂ e₃ = let all = counts_stored (length counts) (names ∷ bytes ∷ splits ∷ []) in rw (e₃, e₂, e₁, e₀, clear_all 0 counts) all
-
--- ---- from a line to the next
-module _ {a : Answer} {es bs size cs : ℕ} {ends bytes out counts : List ℕ} where
-  pub gives_refused : {o : Outcome Filled} {number section address : ℕ} → o ≡ refused number section address → meaning a ≡ refused number section address → Gives o a es bs size cs ends bytes out counts
-  gives_refused e f = record { answered = f ∙ sym (ap said e); given_back = λ t g. absurd (not_both (sym e ∙ g)) }
-
-  pub gives_laid : {o : Outcome Filled} {t : Filled} → o ≡ accepted t → meaning a ≡ accepted tt → Laid t es bs size cs ends bytes out counts → Gives o a es bs size cs ends bytes out counts
-  gives_laid e f l = record { answered = f ∙ sym (ap said e); given_back = λ u g. laid_as (same_accepted (sym e ∙ g)) l }
-    where
-      laid_as : {t u : Filled} → t ≡ u → Laid t es bs size cs ends bytes out counts → Laid u es bs size cs ends bytes out counts
-      laid_as z l = rw (sym z) l
-
-  pub gives_as : {o p : Outcome Filled} → o ≡ p → Gives o a es bs size cs ends bytes out counts → Gives p a es bs size cs ends bytes out counts
-  gives_as e g = rw (sym e) g
-
-  -- a table's refusal is the answer
-  pub gives_stops : {m : Outcome (Unit {0})} (n : Outcome Filled) {number section address : ℕ} → meaning a ≡ m → meaning a ≡ refused number section address → Gives (m >> n) a es bs size cs ends bytes out counts
-  gives_stops {m} n {number} {section} {address} e f = gives_refused (after-stops m n number section address (sym e ∙ f)) f
-
-  -- it was accepted: the next line decides
-  pub gives_goes : {m : Outcome (Unit {0})} {n : Outcome Filled} → m ≡ accepted tt → Gives n a es bs size cs ends bytes out counts → Gives (m >> n) a es bs size cs ends bytes out counts
-  gives_goes {m} {n} e g = gives_as (sym (after_goes m n e)) g
 
 -- ---- at the end
 

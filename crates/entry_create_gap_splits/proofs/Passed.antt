@@ -45,7 +45,7 @@ use Rattle.gap_splits.specs.Entering.{Filled, Ceilings, bytes_of, filled}
 use Rattle.gap_splits.specs.Answers.{ceilings}
 use Rattle.create_gap_splits.specs.Create as create
 use Rattle.create_gap_splits.specs.Create.{gaps_filled, Short}
-use Rattle.stage_gaps.specs.StageGaps.{from_splits, Names, Space}
+use Rattle.stage_gaps.specs.StageGaps.{from_splits, NamesRead, Space}
 use Rattle.stage_gaps.proofs.Laws.{flat_bytes}
 use Rattle.entry_create_gap_splits.specs.Entry.{from_symbols, from_sections}
 
@@ -218,7 +218,7 @@ module _ (ends bytes places lengths buckets chain : List ℕ) (stored : Stored e
   unfolding stage_names
   front_count = ap length front_is ∙ length-tabulate (name_in ends bytes) 0 (length ends / 2)
 
-  pub names-taken : Names bytes (take (length ends / 2) places) (take (length ends / 2) lengths) buckets chain
+  pub names-taken : NamesRead bytes (take (length ends / 2) places) (take (length ends / 2) lengths) buckets chain
   names-taken =
       record {
         named = record {

@@ -2,26 +2,15 @@
 // fill are local; each function lends them on whole.
 #![tactic(auto)]
 
-ghost use Rattle.std.specs.Prelude.{◌≡◌, [], ◌∷◌, ◌++◌, ◌+◌, ◌*◌, ◌/◌, ◌≤◌, ◌<◌, length};
+ghost use Rattle.std.specs.Prelude.{◌≡◌, ◌+◌, ◌*◌, ◌/◌, ◌≤◌, ◌<◌, length};
 ghost use Rattle.lists.specs.Outcome.{Outcome};
-ghost use Rattle.outputs.specs.Outputs.{counts_of};
-ghost use Rattle.names.specs.Names.{names_of, Named};
-ghost use Rattle.tables.specs.Records.{sections_in};
 ghost use Rattle.name_table.specs.NameTable.{start_of};
 ghost use Rattle.name_table.specs.Stored as stored;
-ghost use Rattle.symbol_order.specs.Order.{symbol_of};
-ghost use Rattle.symbols.specs.Sound.{Sound};
-ghost use Rattle.sections.specs.Image.{image_of, Tables};
-ghost use Rattle.sections.specs.Sections.{sections_of};
-ghost use Rattle.splits.specs.Columns.{columns, rows, Long};
 ghost use Rattle.stage_symbols.specs.StageSymbols as symbol_columns;
-ghost use Rattle.stage_splits.specs.StageSplits.{room_of};
-ghost use Rattle.merge.specs.Merge.{given};
 ghost use Rattle.gap_splits.specs.Entering.{Filled};
-ghost use Rattle.gap_splits.specs.Answers.{beside, added, ceilings, meant, names, used, splits, Stand};
-ghost use Rattle.create_gap_splits.specs.Create.{gaps_filled};
-ghost use Rattle.entry_create_gap_splits.specs.Entry.{gap_splits_of, from_symbols, from_sections, Leaves};
-ghost use Rattle.stage_gaps.specs.StageGaps.{from_splits, Gives, Names as NamesRead, Headed, Space};
+ghost use Rattle.gap_splits.specs.Answers.{names_in, ceilings};
+ghost use Rattle.stage_gaps.specs.StageGaps.{NamesIn, HeadedIn, SpaceIn, GivesIn, SameLent};
+ghost use Rattle.entry_create_gap_splits.specs.Entry.{gap_splits_of, tables_outcome, symbols_outcome, sections_outcome, Leaves, LeavesIn};
 
 use fields::get16;
 use lent_tables::StageTables;
@@ -30,7 +19,7 @@ use names::{NameIndex, Names};
 use obj::{Refusal, Table, word_of};
 use outputs::clear_from;
 use sections::Obj;
-use stage_gaps::with_splits;
+use stage_gaps::{GapOutputs, with_splits};
 use stage_names::{bytes_room, fit_names, names_room};
 use stage_symbols::{take_image_places, take_symbol_order};
 use stage_tables::take_image;
@@ -47,18 +36,16 @@ fn from_symbols(
     scratch: &mut [u16],
     most: usize,
     most_bytes: usize,
-    out_ends: &mut [u8],
-    out_bytes: &mut [u8],
-    out: &mut [u8],
-    counts: &mut [u8],
+    outputs: &mut GapOutputs,
 ) -> Result<(), Refusal>
-    requires { NamesRead names.now.bytes.now names.now.places.now names.now.lengths.now index.now.heads.now index.now.chain.now
-        × Headed heads.now.bytes.now heads.now.places.now image.now.bytes.now image.now.places.now names.now.bytes.now names.now.places.now names.now.lengths.now
-        × Space (names_of names.now.bytes.now names.now.places.now names.now.lengths.now (length names.now.places.now)) most most_bytes (length out_ends.old) (length out_bytes.old)
+    requires { NamesIn names.now index.now
+        × HeadedIn heads.now image.now names.now
+        × SpaceIn names.now most most_bytes outputs.old
         × symbol_columns.Room 4096 places.old order.old scratch.old }
-    ensures { Gives
-        (from_symbols names.now.bytes.now names.now.places.now names.now.lengths.now (sections_in heads.now.bytes.now heads.now.places.now) (sections_of heads.now.bytes.now heads.now.places.now image.now.bytes.now image.now.places.now) (ceilings (names_of names.now.bytes.now names.now.places.now names.now.lengths.now (length names.now.places.now)) most most_bytes) lent.now.symbols.now lent.now.splits.now (length out.old))
-        result (length out_ends.old) (length out_bytes.old) (length out.old) (length counts.old) out_ends.new out_bytes.new out.new counts.new }
+    ensures gives { GivesIn
+        (symbols_outcome names.now heads.now image.now lent.now (ceilings (names_in names.now) most most_bytes) (length outputs.old.splits.now))
+        result outputs.old outputs.new }
+    ensures lent { SameLent outputs.old outputs.new }
 {
     let ordered = take_symbol_order(
         names.lengths.len(),
@@ -85,10 +72,7 @@ fn from_symbols(
         lent.splits,
         most,
         most_bytes,
-        out_ends,
-        out_bytes,
-        out,
-        counts,
+        outputs,
     )
 }
 
@@ -101,17 +85,15 @@ fn with_symbols(
     lent: &StageTables,
     most: usize,
     most_bytes: usize,
-    out_ends: &mut [u8],
-    out_bytes: &mut [u8],
-    out: &mut [u8],
-    counts: &mut [u8],
+    outputs: &mut GapOutputs,
 ) -> Result<(), Refusal>
-    requires { NamesRead names.now.bytes.now names.now.places.now names.now.lengths.now index.now.heads.now index.now.chain.now
-        × Headed heads.now.bytes.now heads.now.places.now image.now.bytes.now image.now.places.now names.now.bytes.now names.now.places.now names.now.lengths.now
-        × Space (names_of names.now.bytes.now names.now.places.now names.now.lengths.now (length names.now.places.now)) most most_bytes (length out_ends.old) (length out_bytes.old) }
-    ensures { Gives
-        (from_symbols names.now.bytes.now names.now.places.now names.now.lengths.now (sections_in heads.now.bytes.now heads.now.places.now) (sections_of heads.now.bytes.now heads.now.places.now image.now.bytes.now image.now.places.now) (ceilings (names_of names.now.bytes.now names.now.places.now names.now.lengths.now (length names.now.places.now)) most most_bytes) lent.now.symbols.now lent.now.splits.now (length out.old))
-        result (length out_ends.old) (length out_bytes.old) (length out.old) (length counts.old) out_ends.new out_bytes.new out.new counts.new }
+    requires { NamesIn names.now index.now
+        × HeadedIn heads.now image.now names.now
+        × SpaceIn names.now most most_bytes outputs.old }
+    ensures gives { GivesIn
+        (symbols_outcome names.now heads.now image.now lent.now (ceilings (names_in names.now) most most_bytes) (length outputs.old.splits.now))
+        result outputs.old outputs.new }
+    ensures lent { SameLent outputs.old outputs.new }
 {
     let mut places = [0u32; 4096];
     let mut order = [0u16; 4096];
@@ -127,10 +109,7 @@ fn with_symbols(
         &mut scratch,
         most,
         most_bytes,
-        out_ends,
-        out_bytes,
-        out,
-        counts,
+        outputs,
     )
 }
 
@@ -143,18 +122,16 @@ fn from_sections(
     images: &mut [u32],
     most: usize,
     most_bytes: usize,
-    out_ends: &mut [u8],
-    out_bytes: &mut [u8],
-    out: &mut [u8],
-    counts: &mut [u8],
+    outputs: &mut GapOutputs,
 ) -> Result<(), Refusal>
-    requires { NamesRead names.now.bytes.now names.now.places.now names.now.lengths.now index.now.heads.now index.now.chain.now
-        × Space (names_of names.now.bytes.now names.now.places.now names.now.lengths.now (length names.now.places.now)) most most_bytes (length out_ends.old) (length out_bytes.old)
+    requires { NamesIn names.now index.now
+        × SpaceIn names.now most most_bytes outputs.old
         × (length heads.old ≡ 64)
         × (length images.old ≡ 64) }
-    ensures { Gives
-        (from_sections names.now.bytes.now names.now.places.now names.now.lengths.now lent.now.sections.now lent.now.section_places.now lent.now.image.now lent.now.symbols.now lent.now.splits.now (ceilings (names_of names.now.bytes.now names.now.places.now names.now.lengths.now (length names.now.places.now)) most most_bytes) (length out.old))
-        result (length out_ends.old) (length out_bytes.old) (length out.old) (length counts.old) out_ends.new out_bytes.new out.new counts.new }
+    ensures gives { GivesIn
+        (sections_outcome names.now lent.now (ceilings (names_in names.now) most most_bytes) (length outputs.old.splits.now))
+        result outputs.old outputs.new }
+    ensures lent { SameLent outputs.old outputs.new }
 {
     take_image(
         names.lengths,
@@ -180,10 +157,7 @@ fn from_sections(
         lent,
         most,
         most_bytes,
-        out_ends,
-        out_bytes,
-        out,
-        counts,
+        outputs,
     )
 }
 
@@ -194,16 +168,14 @@ fn with_sections(
     lent: &StageTables,
     most: usize,
     most_bytes: usize,
-    out_ends: &mut [u8],
-    out_bytes: &mut [u8],
-    out: &mut [u8],
-    counts: &mut [u8],
+    outputs: &mut GapOutputs,
 ) -> Result<(), Refusal>
-    requires { NamesRead names.now.bytes.now names.now.places.now names.now.lengths.now index.now.heads.now index.now.chain.now
-        × Space (names_of names.now.bytes.now names.now.places.now names.now.lengths.now (length names.now.places.now)) most most_bytes (length out_ends.old) (length out_bytes.old) }
-    ensures { Gives
-        (from_sections names.now.bytes.now names.now.places.now names.now.lengths.now lent.now.sections.now lent.now.section_places.now lent.now.image.now lent.now.symbols.now lent.now.splits.now (ceilings (names_of names.now.bytes.now names.now.places.now names.now.lengths.now (length names.now.places.now)) most most_bytes) (length out.old))
-        result (length out_ends.old) (length out_bytes.old) (length out.old) (length counts.old) out_ends.new out_bytes.new out.new counts.new }
+    requires { NamesIn names.now index.now
+        × SpaceIn names.now most most_bytes outputs.old }
+    ensures gives { GivesIn
+        (sections_outcome names.now lent.now (ceilings (names_in names.now) most most_bytes) (length outputs.old.splits.now))
+        result outputs.old outputs.new }
+    ensures lent { SameLent outputs.old outputs.new }
 {
     let mut heads = [0u32; 64];
     let mut images = [0u32; 64];
@@ -215,10 +187,7 @@ fn with_sections(
         &mut images,
         most,
         most_bytes,
-        out_ends,
-        out_bytes,
-        out,
-        counts,
+        outputs,
     )
 }
 
@@ -240,18 +209,14 @@ fn from_names(
     lengths: &mut [u8],
     buckets: &mut [u16],
     chain: &mut [u16],
-    out_ends: &mut [u8],
-    out_bytes: &mut [u8],
-    out: &mut [u8],
-    counts: &mut [u8],
+    outputs: &mut GapOutputs,
 ) -> Result<(), Refusal>
     requires { stored.Room 4096 places.old lengths.old buckets.old chain.old }
-    ensures { Gives
-        (gap_splits_of lent.now.name_ends.now lent.now.name_bytes.now lent.now.sections.now lent.now.section_places.now lent.now.image.now lent.now.symbols.now lent.now.splits.now (length out_ends.old) (length out_bytes.old) (length out.old))
-        result (length out_ends.old) (length out_bytes.old) (length out.old) (length counts.old) out_ends.new out_bytes.new out.new counts.new }
+    ensures gives { GivesIn (tables_outcome lent.now outputs.old) result outputs.old outputs.new }
+    ensures lent { SameLent outputs.old outputs.new }
 {
-    let most = names_room(out_ends.len());
-    let most_bytes = bytes_room(out_bytes.len());
+    let most = names_room(outputs.ends.len());
+    let most_bytes = bytes_room(outputs.bytes.len());
     fit_names(lent.name_ends, most, most_bytes)?;
     check_names(
         lent.name_ends,
@@ -277,24 +242,14 @@ fn from_names(
         lent,
         most - n,
         most_bytes - end,
-        out_ends,
-        out_bytes,
-        out,
-        counts,
+        outputs,
     )
 }
 
 // All tables, with columns of its own for the names: their places and lengths, and the index.
-fn checked(
-    lent: &StageTables,
-    out_ends: &mut [u8],
-    out_bytes: &mut [u8],
-    out: &mut [u8],
-    counts: &mut [u8],
-) -> Result<(), Refusal>
-    ensures { Gives
-        (gap_splits_of lent.now.name_ends.now lent.now.name_bytes.now lent.now.sections.now lent.now.section_places.now lent.now.image.now lent.now.symbols.now lent.now.splits.now (length out_ends.old) (length out_bytes.old) (length out.old))
-        result (length out_ends.old) (length out_bytes.old) (length out.old) (length counts.old) out_ends.new out_bytes.new out.new counts.new }
+fn checked(lent: &StageTables, outputs: &mut GapOutputs) -> Result<(), Refusal>
+    ensures gives { GivesIn (tables_outcome lent.now outputs.old) result outputs.old outputs.new }
+    ensures lent { SameLent outputs.old outputs.new }
 {
     let mut places = [0u32; 4096];
     let mut lengths = [0u8; 4096];
@@ -306,29 +261,20 @@ fn checked(
         &mut lengths,
         &mut buckets,
         &mut chain,
-        out_ends,
-        out_bytes,
-        out,
-        counts,
+        outputs,
     )
 }
 
 // The end of the entry: its answer as a word, and all outputs zero after a refusal.
-fn finish(
-    a: Result<(), Refusal>,
-    out_ends: &mut [u8],
-    out_bytes: &mut [u8],
-    out: &mut [u8],
-    counts: &mut [u8],
-) -> u64
-    ensures { (o : Outcome Filled) → Gives o a (length out_ends.old) (length out_bytes.old) (length out.old) (length counts.old) out_ends.old out_bytes.old out.old counts.old
-        → Leaves o (length out_ends.old) (length out_bytes.old) (length out.old) (length counts.old) result out_ends.new out_bytes.new out.new counts.new }
+fn finish(a: Result<(), Refusal>, outputs: &mut GapOutputs) -> u64
+    ensures leaves { (o : Outcome Filled) → GivesIn o a outputs.old outputs.old → LeavesIn o result outputs.old outputs.new }
+    ensures lent { SameLent outputs.old outputs.new }
 {
     if a.is_err() {
-        clear_from(out_ends, 0);
-        clear_from(out_bytes, 0);
-        clear_from(out, 0);
-        clear_from(counts, 0);
+        clear_from(outputs.ends, 0);
+        clear_from(outputs.bytes, 0);
+        clear_from(outputs.splits, 0);
+        clear_from(outputs.counts, 0);
     }
     word_of(a)
 }
@@ -351,6 +297,12 @@ pub fn create_gap_splits(
         (gap_splits_of name_ends.now name_bytes.now sections.now section_places.now image.now symbols.now splits.now (length out_ends.old) (length out_bytes.old) (length out.old))
         (length out_ends.old) (length out_bytes.old) (length out.old) (length counts.old) result out_ends.new out_bytes.new out.new counts.new }
 {
+    let mut outputs = GapOutputs {
+        ends: out_ends,
+        bytes: out_bytes,
+        splits: out,
+        counts,
+    };
     let a = checked(
         &StageTables {
             name_ends,
@@ -364,10 +316,7 @@ pub fn create_gap_splits(
             splits,
             units: &[],
         },
-        out_ends,
-        out_bytes,
-        out,
-        counts,
+        &mut outputs,
     );
-    finish(a, out_ends, out_bytes, out, counts)
+    finish(a, &mut outputs)
 }

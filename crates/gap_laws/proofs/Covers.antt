@@ -8,9 +8,9 @@ use mathlib.Core.Bool.{Bool, true, false, cond}
 use Prim.Native.Nat.{ℕ, ◌<◌}
 use native.Mathlib.Omega.{arith}
 use borrow.Author.Tests.{ne_eqb, le-ltb}
-use lib.Dec.{eqb, ltb}
+use lib.Dec.{eqb}
 use lib.ListN.{length, length-map, get_or, get_or-eq_default}
-use Rattle.lists.specs.Outcome.{accepted, refuse, ◌>>◌}
+use Rattle.lists.specs.Outcome.{accepted}
 use Rattle.lists.specs.Rows.{keep_if}
 use Rattle.lists.specs.InsertBy.{insert_by}
 use Rattle.lists.proofs.Compare.{and_fails}

@@ -52,12 +52,16 @@ LaidIn t before after =
     Laid t (length before.ends.now) (length before.bytes.now) (length before.splits.now) (length before.counts.now)
     after.ends.now after.bytes.now after.splits.now after.counts.now
 
--- each output keeps its length
-pub record SameLengths (before after : GapOutputs) : Type 0 where
-  pub ends : length after.ends.now ≡ length before.ends.now
-  pub bytes : length after.bytes.now ≡ length before.bytes.now
-  pub splits : length after.splits.now ≡ length before.splits.now
-  pub counts : length after.counts.now ≡ length before.counts.now
+-- the outputs are still those that were lent, of the same lengths
+pub record SameLent (before after : GapOutputs) : Type 0 where
+  pub ends : after.ends.ghost_name ≡ before.ends.ghost_name
+  pub bytes : after.bytes.ghost_name ≡ before.bytes.ghost_name
+  pub splits : after.splits.ghost_name ≡ before.splits.ghost_name
+  pub counts : after.counts.ghost_name ≡ before.counts.ghost_name
+  pub ends_size : length after.ends.now ≡ length before.ends.now
+  pub bytes_size : length after.bytes.now ≡ length before.bytes.now
+  pub size : length after.splits.now ≡ length before.splits.now
+  pub counts_size : length after.counts.now ≡ length before.counts.now
 
 -- ---- inside the entry
 

@@ -9,7 +9,7 @@ ghost use Rattle.splits.specs.Table.{rows_of, rows_in};
 ghost use Rattle.gap_splits.specs.Answers.{names_in, added_in, ceilings, ceilings_in};
 ghost use Rattle.stage_splits.specs.StageSplits.{room_of};
 ghost use Rattle.obj.specs.Records.{split_width};
-ghost use Rattle.stage_gaps.specs.StageGaps.{stage_of, filling_of, GivesIn, LaidIn, SameLengths, SpaceIn, Passed, Scratch};
+ghost use Rattle.stage_gaps.specs.StageGaps.{stage_of, filling_of, GivesIn, LaidIn, SameLent, SpaceIn, Passed, Scratch};
 
 use create_gap_splits::create_gap_splits;
 use gap_columns::GapTable;
@@ -51,7 +51,7 @@ fn give_filled(names: &Names, added: &AddedNames, splits: &SplitColumns, outputs
         × (split_width * splits.now.count ≤ length outputs.old.splits.now)
         × (splits.now.count ≤ 1024) }
     ensures laid { LaidIn (record { names = names_in names.now ++ added_in added.now; rows = rows_of splits.now }) outputs.old outputs.new }
-    ensures lengths { SameLengths outputs.old outputs.new }
+    ensures lent { SameLent outputs.old outputs.new }
 {
     let bytes = give_names(
         names,
@@ -86,7 +86,7 @@ fn fill_rows(
     ensures gives { GivesIn
         (filling_of obj.now image.now table.old.room (ceilings_in obj.now.names added.old) (rows_in table.old))
         result outputs.old outputs.new }
-    ensures lengths { SameLengths outputs.old outputs.new }
+    ensures lent { SameLent outputs.old outputs.new }
 {
     create_gap_splits(obj, index, image, table, added, marks, found)?;
     give_filled(&obj.names, added, &table.columns(), outputs);
@@ -110,7 +110,7 @@ fn with_added(
     ensures gives { GivesIn
         (filling_of obj.now image.now table.old.room (ceilings (names_in obj.now.names) most most_bytes) (rows_in table.old))
         result outputs.old outputs.new }
-    ensures lengths { SameLengths outputs.old outputs.new }
+    ensures lent { SameLent outputs.old outputs.new }
 {
     let mut bytes = [0u8; 65535];
     let mut places = [0u32; 4096];
@@ -157,7 +157,7 @@ fn from_splits(
     ensures gives { GivesIn
         (stage_of obj.now image.now (ceilings (names_in obj.now.names) most most_bytes) splits.now (length outputs.old.splits.now))
         result outputs.old outputs.new }
-    ensures lengths { SameLengths outputs.old outputs.new }
+    ensures lent { SameLent outputs.old outputs.new }
 {
     take_split_columns(obj.names.lengths, &obj.heads, splits, places, table)?;
     with_added(obj, index, image, table, most, most_bytes, outputs)
@@ -177,7 +177,7 @@ pub fn with_splits(
     ensures gives { GivesIn
         (stage_of obj.now image.now (ceilings (names_in obj.now.names) most most_bytes) splits.now (length outputs.old.splits.now))
         result outputs.old outputs.new }
-    ensures lengths { SameLengths outputs.old outputs.new }
+    ensures lent { SameLent outputs.old outputs.new }
 {
     let mut places = [0u32; 1024];
     let mut starts = [0u32; 1024];

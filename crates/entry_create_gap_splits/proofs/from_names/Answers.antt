@@ -7,22 +7,22 @@ use Rattle.obj.specs.Answers.{meaning}
 use Rattle.obj.proofs.Errors.{same_err}
 use Rattle.stage_names.specs.StageNames.{fit_check}
 use Rattle.entry_create_gap_splits.specs.Entry.{gap_splits_of}
-use Rattle.entry_create_gap_splits.proofs.Laws.{gives_as, gives_stops, gives_goes}
+use Rattle.stage_gaps.proofs.Laws.{gives_as, gives_stops, gives_goes}
 use Rattle.entry_create_gap_splits.proofs.Passed.{names_room_lem, fit_few, fit_end, names-taken, space, names_as}
 use Rattle.entry_create_gap_splits.proofs.from_names.Goals as goal
 
 pub fit_names-requires : goal.fit_names-requires
-fit_names-requires c = omega (arith, c.names_room-most.ensures, (names_room_lem (length c.args.out_ends.now)).0)
+fit_names-requires c = omega (arith, c.names_room-most.ensures, (names_room_lem (length c.args.outputs.now.ends.now)).0)
 
-pub returns-in_err-fit_names : goal.returns-in_err-fit_names
+pub returns-in_err-fit_names-clause-gives : goal.returns-in_err-fit_names-clause-gives
 unfolding gap_splits_of
-returns-in_err-fit_names c =
+returns-in_err-fit_names-clause-gives c =
     rw (same_err c.from_residual.result c.fit_names.result c.from_residual.ensures.1 c.in_err-fit_names.was)
     (gives_stops _ (c.fit_names.ensures ∙ ap₂ (λ (m b : ℕ). fit_check m b c.args.lent.now.name_ends.now) c.names_room-most.ensures c.bytes_room-most_bytes.ensures) (ap meaning c.in_err-fit_names.was))
 
-pub returns-in_err-check_names : goal.returns-in_err-check_names
+pub returns-in_err-check_names-clause-gives : goal.returns-in_err-check_names-clause-gives
 unfolding gap_splits_of
-returns-in_err-check_names c =
+returns-in_err-check_names-clause-gives c =
     rw (same_err c.from_residual-in_err-check_names.result c.check_names.result c.from_residual-in_err-check_names.ensures.1 c.in_err-check_names.was)
     (gives_goes
     (ap₂ (λ (m b : ℕ). fit_check m b c.args.lent.now.name_ends.now) (sym c.names_room-most.ensures) (sym c.bytes_room-most_bytes.ensures) ∙ sym c.fit_names.ensures ∙ ap meaning c.in_ok-fit_names.was)
@@ -64,11 +64,11 @@ with_sections-requires c =
     let fit = sym c.fit_names.ensures ∙ ap meaning c.in_ok-fit_names.was in
     let passed = sym c.check_names.ensures.said ∙ ap meaning c.in_ok-check_names.was in
     let stored = c.check_names.ensures.stored passed in
-    (names-taken _ _ _ _ _ _ stored, space _ _ _ _ _ _ stored (length a.out_ends.now) (length a.out_bytes.now) _ _ _ c.names_room-most.ensures c.bytes_room-most_bytes.ensures c.last_end-end.ensures fit passed)
+    (names-taken _ _ _ _ _ _ stored, space _ _ _ _ _ _ stored (length a.outputs.now.ends.now) (length a.outputs.now.bytes.now) _ _ _ c.names_room-most.ensures c.bytes_room-most_bytes.ensures c.last_end-end.ensures fit passed)
 
-pub returns : goal.returns
+pub returns-clause-gives : goal.returns-clause-gives
 unfolding gap_splits_of
-returns c =
+returns-clause-gives c =
     let a = c.args in
     let fit = sym c.fit_names.ensures ∙ ap meaning c.in_ok-fit_names.was in
     let passed = sym c.check_names.ensures.said ∙ ap meaning c.in_ok-check_names.was in
@@ -77,6 +77,6 @@ returns c =
     (ap₂ (λ (m b : ℕ). fit_check m b a.lent.now.name_ends.now) (sym c.names_room-most.ensures) (sym c.bytes_room-most_bytes.ensures) ∙ fit)
     (gives_goes passed
     (gives_as
-    (names_as _ _ _ _ _ _ stored (length a.out_ends.now) (length a.out_bytes.now) _ _ _ c.names_room-most.ensures c.bytes_room-most_bytes.ensures c.last_end-end.ensures fit passed
-    a.lent.now.sections.now a.lent.now.section_places.now a.lent.now.image.now a.lent.now.symbols.now a.lent.now.splits.now (length a.out.now))
-    c.with_sections.ensures))
+    (names_as _ _ _ _ _ _ stored (length a.outputs.now.ends.now) (length a.outputs.now.bytes.now) _ _ _ c.names_room-most.ensures c.bytes_room-most_bytes.ensures c.last_end-end.ensures fit passed
+    a.lent.now.sections.now a.lent.now.section_places.now a.lent.now.image.now a.lent.now.symbols.now a.lent.now.splits.now (length a.outputs.now.splits.now))
+    c.with_sections.ensures.gives))

@@ -3,18 +3,17 @@ use Rattle.std.proofs.Common.{sym, ap, ◌∙◌, arith, length}
 use lib.Seq.{length-take-le}
 use Rattle.obj.specs.Answers.{meaning}
 use Rattle.obj.proofs.Errors.{same_err}
-use Rattle.names.specs.Names.{names_of}
 use Rattle.stage_tables.proofs.Laws.{taken_few, taken_places, taken-count, taken-held}
 use Rattle.stage_symbols.proofs.Laws.{sections_kept, place_is}
-use Rattle.gap_splits.specs.Answers.{ceilings}
+use Rattle.gap_splits.specs.Answers.{names_in, ceilings}
 use Rattle.entry_create_gap_splits.specs.Entry.{from_sections}
-use Rattle.entry_create_gap_splits.proofs.Laws.{gives_as, gives_stops, gives_goes}
+use Rattle.stage_gaps.proofs.Laws.{gives_as, gives_stops, gives_goes}
 use Rattle.entry_create_gap_splits.proofs.Passed.{sections_as, sections_short}
 use Rattle.entry_create_gap_splits.proofs.from_sections.Goals as goal
 
-pub returns-in_err-take_image : goal.returns-in_err-take_image
+pub returns-in_err-take_image-clause-gives : goal.returns-in_err-take_image-clause-gives
 unfolding from_sections
-returns-in_err-take_image c =
+returns-in_err-take_image-clause-gives c =
     rw (same_err c.from_residual.result c.take_image.result c.from_residual.ensures.1 c.in_err-take_image.was)
     (gives_stops _ c.take_image.ensures.said (ap meaning c.in_err-take_image.was))
 
@@ -51,9 +50,9 @@ with_symbols-requires c =
       q.1,
     )
 
-pub returns : goal.returns
+pub returns-clause-gives : goal.returns-clause-gives
 unfolding from_sections
-returns c =
+returns-clause-gives c =
     let a = c.args in
     let q = c.requires in
     let t = c.take_image in
@@ -63,9 +62,9 @@ returns c =
     gives_goes passed
     (gives_as
     (sections_as a.names.now.bytes.now a.names.now.places.now a.names.now.lengths.now a.lent.now.sections.now a.lent.now.image.now _ _ a.lent.now.section_places.now a.lent.now.symbols.now a.lent.now.splits.now
-    (ceilings (names_of a.names.now.bytes.now a.names.now.places.now a.names.now.lengths.now (length a.names.now.places.now)) a.most a.most_bytes) (length a.out.now)
+    (ceilings (names_in a.names.now) a.most a.most_bytes) (length a.outputs.now.splits.now)
     (taken_places 15 64 a.lent.now.sections.now _ _ t.ensures e)
     (λ n h.
     place_is 64 a.names.now.lengths.now a.lent.now.section_places.now a.lent.now.image.now a.lent.now.sections.now passed _ _ p.ensures n
     (omega (arith, h, taken_few 15 64 a.lent.now.sections.now _ _ t.ensures e, p.auto.column, q.3))))
-    c.with_symbols.ensures)
+    c.with_symbols.ensures.gives)

@@ -7,22 +7,21 @@ use Rattle.obj.specs.Answers.{meaning}
 use Rattle.obj.specs.Records.{stage_places}
 use Rattle.obj.specs.declared.Refusal.{Refusal}
 use Rattle.obj.proofs.Laws.{length-stage_places}
-use Rattle.names.specs.Names.{names_of}
 use Rattle.stage_tables.proofs.Laws.{table_passed}
 use Rattle.sections.specs.Image.{image_of}
 use Rattle.sections.specs.Sections.{sections_of}
 use Rattle.tables.specs.Records.{sections_in}
-use Rattle.gap_splits.specs.Answers.{ceilings}
+use Rattle.gap_splits.specs.Answers.{names_in, ceilings}
 use Rattle.stage_symbols.specs.StageSymbols.{answered, ordered}
 use Rattle.stage_symbols.proofs.Laws.{tables-taken, symbols_sound}
 use Rattle.stage_gaps.specs.StageGaps.{from_splits}
 use Rattle.entry_create_gap_splits.specs.Entry.{from_symbols}
-use Rattle.entry_create_gap_splits.proofs.Laws.{gives_as, gives_stops, gives_goes}
+use Rattle.stage_gaps.proofs.Laws.{gives_as, gives_stops, gives_goes}
 use Rattle.entry_create_gap_splits.proofs.from_symbols.Goals as goal
 
-pub returns-in_err-ordered : goal.returns-in_err-ordered
+pub returns-in_err-ordered-clause-gives : goal.returns-in_err-ordered-clause-gives
 unfolding from_symbols
-returns-in_err-ordered c =
+returns-in_err-ordered-clause-gives c =
     let p = err_from_is_err_and c.from_residual.result c.from_residual.ensures.1 in
     let said = rw c.in_err-ordered.was at c.take_symbol_order.ensures.said in
     rw (p.1, p.2) (gives_stops _ said refl)
@@ -72,22 +71,24 @@ with_splits-requires c =
     let q = c.requires in
     let count = length a.names.now.lengths.now in
     let placed : take (length a.lent.now.symbols.now / 20) t.new.places ≡ stage_places 20 (length a.lent.now.symbols.now / 20) = t.ensures.placed passed in (
-      tables-taken 4096 count (sections_in a.heads.now.bytes.now a.heads.now.places.now) a.lent.now.symbols.now passed (omega arith) _ _ _ _ _ (Ok _) (rw c.in_ok-ordered.was at t.ensures) (sym q.0.paired) q.0.named,
-      rw (placed, length-stage_places) (symbols_sound 4096 count (sections_in a.heads.now.bytes.now a.heads.now.places.now) a.lent.now.symbols.now passed),
-      q.0,
-      q.1,
+      record {
+        tables = tables-taken 4096 count (sections_in a.heads.now.bytes.now a.heads.now.places.now) a.lent.now.symbols.now passed (omega arith) _ _ _ _ _ (Ok _) (rw c.in_ok-ordered.was at t.ensures) (sym q.0.paired) q.0.named;
+        sound = rw (placed, length-stage_places) (symbols_sound 4096 count (sections_in a.heads.now.bytes.now a.heads.now.places.now) a.lent.now.symbols.now passed);
+        few = omega (arith, few, length-take-le (length a.lent.now.symbols.now / 20) t.new.places inside);
+        names = q.0;
+        headed = q.1;
+      },
       q.2,
-      omega (arith, few, length-take-le (length a.lent.now.symbols.now / 20) t.new.places inside),
     )
 
-pub returns : goal.returns
+pub returns-clause-gives : goal.returns-clause-gives
 unfolding from_symbols
-returns c =
+returns-clause-gives c =
     let a = c.args in
     let t = c.take_symbol_order in
     let passed = sym c.take_symbol_order.ensures.said ∙ ap (λ (r : Result ℕ Refusal). meaning (answered r)) c.in_ok-ordered.was in
     let few = (table_passed 20 4096 a.lent.now.symbols.now _ passed).1 in
-    let names = names_of a.names.now.bytes.now a.names.now.places.now a.names.now.lengths.now (length a.names.now.places.now) in
+    let names = names_in a.names.now in
     gives_goes passed
-    (gives_as (ap (λ (l : List ℕ). from_splits a.names.now.lengths.now (sections_in a.heads.now.bytes.now a.heads.now.places.now) (image_of a.lent.now.symbols.now l a.names.now.bytes.now a.names.now.places.now a.names.now.lengths.now) (sections_of a.heads.now.bytes.now a.heads.now.places.now a.image.now.bytes.now a.image.now.places.now) (ceilings names a.most a.most_bytes) names a.lent.now.splits.now (length a.out.now)) (t.ensures.placed passed))
-    c.with_splits.ensures)
+    (gives_as (ap (λ (l : List ℕ). from_splits a.names.now.lengths.now (sections_in a.heads.now.bytes.now a.heads.now.places.now) (image_of a.lent.now.symbols.now l a.names.now.bytes.now a.names.now.places.now a.names.now.lengths.now) (sections_of a.heads.now.bytes.now a.heads.now.places.now a.image.now.bytes.now a.image.now.places.now) (ceilings names a.most a.most_bytes) names a.lent.now.splits.now (length a.outputs.now.splits.now)) (t.ensures.placed passed))
+    c.with_splits.ensures.gives)
