@@ -44,8 +44,8 @@ fn in_columns(
     let most = out_ends.len() / 2;
     let most_bytes = out_bytes.len();
     let r = run_file(
-        file, places, lengths, heads, chain, images, order, table, added, most, most_bytes, out_units,
-        pieces, entries, offsets,
+        file, places, lengths, heads, chain, images, order, table, added, most, most_bytes,
+        out_units, pieces, entries, offsets,
     );
     let ran = r.ran;
     let kept = kept_of(ran);

@@ -4,7 +4,7 @@
 
 ghost use Rattle.std.specs.Prelude.{◌≤◌, ◌≡◌, ◌/◌, length, OnOk};
 ghost use Rattle.std.specs.Io.KnownBytes.{Appends};
-ghost use Rattle.gap_splits.specs.Answers.{beside};
+ghost use Rattle.gap_splits.specs.Added.{beside};
 ghost use Rattle.lines.specs.Lines.{refused_line};
 ghost use Rattle.listing.specs.Listing.{listing};
 ghost use Rattle.listing.specs.Tables.{Readable, run_of};
@@ -12,6 +12,7 @@ ghost use Rattle.stage_walk.specs.Room.{room_in};
 ghost use Rattle.run_file.specs.RunFile.{Lent, Loader};
 ghost use Rattle.print_run.specs.Printed.{tables_of, done_text, text_of, Printable, PrintableIf, main_room, Prints};
 
+use gap_splits::AddedNames;
 use lines::write_refused;
 use listing::{Cursor, next_line};
 use load::{Counts, NAMES, RELOCATIONS, SYMBOLS};
@@ -21,6 +22,7 @@ use order::Unlinked;
 use pieces::Counts as Made;
 use run::Ran;
 use run_file::run_file;
+use splits::SplitTable;
 use std::io;
 use std::io::Write;
 use tables::fill_places;
@@ -233,45 +235,22 @@ fn print_in<'a, W: Write>(
     chain: &mut [u16],
     images: &mut [u32],
     order: &mut [u16],
-    starts: &mut [u32],
-    ends: &mut [u32],
-    units: &mut [u16],
-    rest: &mut [u64],
-    added_bytes: &'a mut [u8],
-    added_places: &mut [u32],
-    added_lengths: &mut [u8],
+    table: &mut SplitTable,
+    added: &'a mut AddedNames,
     out_units: &mut [u8],
     pieces: &mut [u8],
     entries: &mut [u8],
     offsets: &mut [u8],
 ) -> io::Result<()>
     requires { Loader places.old lengths.old heads.old chain.old images.old order.old
-        × Lent starts.old ends.old units.old rest.old added_bytes.old added_places.old added_lengths.old }
+        × Lent table.old added.old
+        × (table.old.room ≡ 1024) }
     ensures { OnOk result (Prints file.now (length out_units.old / 8) (room_in (length pieces.old) (length entries.old) (length offsets.old))
         (W.contents out.old) (W.contents out.new)) }
 {
     let r = run_file(
-        file,
-        places,
-        lengths,
-        heads,
-        chain,
-        images,
-        order,
-        starts,
-        ends,
-        units,
-        rest,
-        1024,
-        added_bytes,
-        added_places,
-        added_lengths,
-        4096,
-        65535,
-        out_units,
-        pieces,
-        entries,
-        offsets,
+        file, places, lengths, heads, chain, images, order, table, added, 4096, 65535, out_units,
+        pieces, entries, offsets,
     );
     let ran = r.ran;
     let counts = r.counts;
@@ -282,11 +261,7 @@ fn print_in<'a, W: Write>(
         counts,
         places,
         lengths,
-        &Names {
-            bytes: added_bytes,
-            places: &*added_places,
-            lengths: &*added_lengths,
-        },
+        &added.names(),
         out_units,
         pieces,
         entries,
@@ -316,6 +291,23 @@ pub fn print_run<W: Write>(out: &mut W, file: &[u8]) -> io::Result<()>
     let mut pieces = [0u8; 30720];
     let mut entries = [0u8; 49152];
     let mut offsets = [0u8; 32768];
+    let mut table = SplitTable {
+        starts: &mut starts,
+        ends: &mut ends,
+        units: &mut units,
+        rest: &mut rest,
+        count: 0,
+        room: 1024,
+    };
+    let mut added = AddedNames {
+        bytes: &mut added_bytes,
+        places: &mut added_places,
+        lengths: &mut added_lengths,
+        count: 0,
+        used: 0,
+        most: 4096,
+        most_bytes: 65535,
+    };
     print_in(
         out,
         file,
@@ -325,13 +317,8 @@ pub fn print_run<W: Write>(out: &mut W, file: &[u8]) -> io::Result<()>
         &mut chain,
         &mut images,
         &mut order,
-        &mut starts,
-        &mut ends,
-        &mut units,
-        &mut rest,
-        &mut added_bytes,
-        &mut added_places,
-        &mut added_lengths,
+        &mut table,
+        &mut added,
         &mut out_units,
         &mut pieces,
         &mut entries,

@@ -1,3 +1,4 @@
 pub mod Laws
 pub mod Stages
 pub mod Parts
+pub mod Columns

@@ -26,7 +26,7 @@ use Rattle.merge.specs.Merge.{Given}
 use Rattle.gap_columns.specs.Columns.{Gap}
 use Rattle.gaps.proofs.Inside.{found_lies}
 use Rattle.gap_splits.specs.Entering.{Filled, Ceilings, Named, full, named, unit_name, entered, filled}
-use Rattle.gap_splits.specs.Answers.{added}
+use Rattle.gap_splits.specs.Added.{added}
 use Rattle.create_gap_splits.specs.Create.{gaps_filled}
 use Rattle.run_splits.specs.Table.{with_gaps, split_table}
 use Rattle.run_splits.proofs.Needs.{section_short}

@@ -3,7 +3,7 @@
 use Rattle.std.proofs.Common.{◌≡◌, length}
 use Rattle.listing.specs.Cursor.{rest, Valid}
 use Rattle.listing.specs.Tables.{run_of}
-use Rattle.gap_splits.specs.Answers.{beside}
+use Rattle.gap_splits.specs.Added.{beside}
 use Rattle.print_run.specs.Printed.{tables_of}
 use Rattle.print_run.proofs.Lines.{Listed}
 use Rattle.print_run.proofs.print_lines.Given as goal

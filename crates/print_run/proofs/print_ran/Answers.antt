@@ -1,6 +1,6 @@
 -- Each answer of a run has its own printing.
 use Rattle.std.proofs.Common.{subst}
-use Rattle.gap_splits.specs.Answers.{beside}
+use Rattle.gap_splits.specs.Added.{beside}
 use Rattle.print_run.specs.Printed.{PrintableIf}
 use Rattle.print_run.proofs.print_ran.Goals as goal
 

@@ -2,7 +2,7 @@
 use Rattle.std.specs.Prelude.{OnOk}
 use Rattle.std.specs.Io.KnownBytes.{Appends}
 use Rattle.std.proofs.Common.{ℕ, List, subst}
-use Rattle.gap_splits.specs.Answers.{beside}
+use Rattle.gap_splits.specs.Added.{beside}
 use Rattle.print_run.proofs.Lent.{readable_lent, listed_lent}
 use Rattle.print_run.proofs.print_tables.Goals as goal
 
