@@ -1,7 +1,7 @@
 -- The columns beside the walk's output. `counts` has, for each unit, how many pieces it has. `heads` has, for each symbol, one more than the place of its
 -- last entry among the piece symbols, and `prevs`, for each entry, the same of the entry before it of the same symbol; 0 ends a chain. What they answer
 -- is what looking through the output answers: `count_of` and `has` of pieces.
-use Rattle.std.specs.Prelude.{ℕ, zero, suc, ◌+◌, ◌*◌, ◌≤◌, ◌<◌, ◌≡◌, List, cond, eqb, length, get_or, take, drop}
+use Rattle.std.specs.Prelude.{ℕ, zero, suc, ◌*◌, ◌≤◌, ◌<◌, ◌≡◌, List, cond, eqb, length, get_or, take, drop}
 use Rattle.pieces.specs.declared.Piece.{Piece}
 use Rattle.pieces.specs.declared.PieceSymbol.{PieceSymbol}
 use Rattle.pieces.specs.declared.lent.PieceTables.{PieceTables}

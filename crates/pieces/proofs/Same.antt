@@ -1,7 +1,5 @@
 -- Tables whose bytes and number of records stay hold the same records, also over two steps. Assumes nothing.
 use mathlib.Core.Path.{◌≡◌, refl, ap₂, ◌∙◌}
-use mathlib.Core.List.{List}
-use Prim.Native.Nat.{ℕ}
 use Rattle.pieces.specs.declared.lent.PieceTables.{PieceTables}
 use Rattle.pieces.specs.Pieces.{pieces_in, symbols_in, relocs_in}
 use Rattle.pieces.specs.Tables.{pieces_of, symbols_of, relocs_of, SamePieces, SameSymbols, SameRelocs, SameLent}

@@ -1,5 +1,5 @@
 -- What an answer of the run keeps in each table, and the tables before they are cleared behind it.
-use Rattle.std.specs.Prelude.{ℕ, ◌*◌, ◌≤◌, ◌≡◌, List, [], ◌∷◌, length, take}
+use Rattle.std.specs.Prelude.{ℕ, ◌*◌, ◌≤◌, ◌≡◌, List, [], ◌∷◌, length}
 use Rattle.lists.specs.Tables.{laid}
 use Rattle.obj.specs.Answers.{refusal_word}
 use Rattle.names.specs.Append.{Columns as Beside}

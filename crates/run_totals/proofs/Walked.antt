@@ -24,7 +24,7 @@ use Rattle.pieces.specs.declared.PieceSymbol.{PieceSymbol}
 use Rattle.pieces.specs.Questions.{count_of, has}
 use Rattle.walk.specs.Walk.{Input, Output, passed_over, entry_of, add_symbol, add_symbols, split_symbols, piece_of, given, over, on_kept, on_split, walk, nothing}
 use Rattle.pieces.specs.declared.Counts.{Counts}
-use Rattle.restore.proofs.Steps.{Reached, From, split_inv, kept_inv}
+use Rattle.restore.proofs.Steps.{From, split_inv, kept_inv}
 use Rattle.restore.proofs.Walked.{sections_keep, pieces_from}
 use Rattle.splits.specs.Questions.{is_common, is_skipped}
 use Rattle.lists.proofs.Among.{all_find}

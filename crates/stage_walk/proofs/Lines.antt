@@ -1,6 +1,6 @@
 -- The way of an outcome: a refused line of a definition is the answer, one that passed is passed over. Assumes nothing.
 use Prim.Native.Nat.{ℕ, ◌/◌}
-use mathlib.Core.Path.{◌≡◌, sym, ap, subst, ◌∙◌}
+use mathlib.Core.Path.{◌≡◌, ap, subst, ◌∙◌}
 use mathlib.Core.List.{List}
 use lib.ListN.{length}
 use Rattle.lists.specs.Outcome.{Outcome, accepted, refused, ◌>>◌}

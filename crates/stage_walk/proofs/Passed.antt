@@ -18,7 +18,7 @@ use Rattle.tables.proofs.Laws as tables
 use Rattle.tables.proofs.Lookups.{held, stage_held}
 use Rattle.stage_tables.specs.StageTables.{stage_splits, stage_units, splits_check, units_check}
 use Rattle.stage_tables.proofs.Laws.{table_passed}
-use Rattle.splits.specs.Columns.{Columns, row_at, rows, Long}
+use Rattle.splits.specs.Columns.{Columns, row_at, rows}
 use Rattle.units.specs.Units.{Listed}
 use Rattle.stage_walk.specs.Lines.{Rowed}
 

@@ -11,7 +11,7 @@ use Rattle.tables.specs.Tables.{main_ceilings, AllHeld}
 use Rattle.stage_tables.specs.StageTables.{stage_splits, splits_check, units_check}
 use Rattle.sections.specs.Image.{Image}
 use Rattle.sections.specs.Sections.{Sections, Kept}
-use Rattle.splits.specs.Columns.{Columns, row_at, Long}
+use Rattle.splits.specs.Columns.{Columns, row_at}
 use Rattle.relocs.specs.Relocs.{reloc_of, Whole, Rising}
 use Rattle.units.specs.Units.{unit_names}
 use Rattle.pieces.specs.declared.Counts.{Counts}

@@ -28,7 +28,7 @@ use Rattle.relocs.specs.Relocs.{relocs_of, has_relocs}
 use Rattle.relocs.proofs.Laws.{relocs_some}
 use Rattle.splits.specs.Questions.{is_common}
 use Rattle.pieces.specs.declared.Counts.{Counts}
-use Rattle.walk.specs.Walk.{Input, Output, fits, add_symbols, add_relocs, split_symbols, split_relocs, piece_of, given, over, on_aligned}
+use Rattle.walk.specs.Walk.{Input, Output, fits, add_symbols, split_symbols, piece_of, given, over, on_aligned}
 use Rattle.walk.specs.Giving.{input_of, pieces_with, relocs_with}
 
 -- ---- tests

@@ -1,6 +1,6 @@
 -- `entry_split_obj::split_obj` meets its contract. The tables are still those that were lent; what was made is whole in them, and the rest of them is zeros.
 -- Assumes nothing.
-use mathlib.Core.Path.{◌≡◌, refl, sym, ap, subst, ◌∙◌}
+use mathlib.Core.Path.{refl, sym, ap, subst, ◌∙◌}
 use mathlib.Core.List.{List}
 use Prim.Native.Nat.{ℕ}
 use lib.ListN.{length}

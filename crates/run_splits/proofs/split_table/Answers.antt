@@ -1,5 +1,5 @@
 -- The loaded tables meet what each stage asks, each stage leaves rows that the next can take, and the stages one after another are the definition.
-use Rattle.std.proofs.Common.{◌≡◌, ◌∙◌, refl, sym, ap, arith, List, [], length}
+use Rattle.std.proofs.Common.{◌∙◌, refl, sym, ap, arith, List, [], length}
 use Rattle.std.proofs.lemmas.Result.{err_from_is_err_and}
 use Rattle.std.specs.Prelude.{ℕ}
 use Rattle.obj.specs.Answers.{Answer}

@@ -3,20 +3,16 @@
 use Rattle.std.specs.Prelude.{Err}
 use Rattle.std.proofs.lemmas.Result.{err_from_is_err_and}
 use Rattle.obj.specs.declared.Refusal.{Refusal}
-use Prim.Native.Nat.{◌/◌}
 use mathlib.Core.Path.{sym, ap, ◌∙◌}
-use native.Mathlib.Omega.{arith}
 use lib.ListN.{length}
 use Rattle.pieces.proofs.Same.{lent_same}
 use Rattle.obj.specs.Answers.{meaning}
-use Rattle.stage_tables.proofs.Laws.{table_passed}
 use Rattle.sections.specs.Image.{image_in}
 use Rattle.sections.specs.Sections.{sections_of}
 use Rattle.relocs.specs.Relocs.{reloc_of}
 use Rattle.splits.specs.Table.{columns_of, rows_of}
 use Rattle.tables.specs.Records.{sections_in}
 use Rattle.stage_walk.specs.Lines.{from_splits}
-use Rattle.obj.specs.Records.{split_width}
 use Rattle.stage_walk.proofs.Passed.{rows_named}
 use Rattle.stage_walk.proofs.Lines.{gives_stops, splits_go}
 use Rattle.stage_walk.proofs.from_splits.Goals as goal

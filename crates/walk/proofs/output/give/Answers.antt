@@ -1,5 +1,5 @@
 -- `walk::output::give` meets its contract: 11, no room for the symbols, a common split that has given, or what the piece and its relocations come to.
-use mathlib.Core.Path.{◌≡◌, refl, sym, ap, subst, ◌∙◌}
+use mathlib.Core.Path.{◌≡◌, sym, ap, subst, ◌∙◌}
 use mathlib.Core.List.{List, ◌++◌}
 use mathlib.Core.Bool.{not, ◌||◌}
 use Prim.Native.Nat.{ℕ, ◌-◌, ◌%◌, ◌≤◌, ◌<◌}
@@ -25,10 +25,10 @@ use Rattle.pieces.proofs.Same.{pieces_same, symbols_same, relocs_same, lent_same
 use Rattle.relocs.specs.Relocs.{reloc_of}
 use Rattle.piece_columns.proofs.Same.{counted_same, chained_same}
 use Rattle.piece_columns.specs.Columns.{CountedIn}
-use Rattle.walk.specs.Walk.{add_symbols, split_symbols}
-use Rattle.walk.specs.Adding.{Entries, AddsNow}
+use Rattle.walk.specs.Walk.{add_symbols}
+use Rattle.walk.specs.Adding.{Entries}
 use Rattle.walk.specs.Giving.{input_of, output_of, chains_in, counts_in, pieces_with, relocs_with}
-use Rattle.walk.proofs.Giving.{symbols_with, common_out, piece_out, aligned_backwards, symbols_full, common_made, piece_made, piece_full, kept_above, backwards_is, forwards_ends}
+use Rattle.walk.proofs.Giving.{symbols_with, piece_out, aligned_backwards, symbols_full, common_made, piece_made, piece_full, kept_above, backwards_is, forwards_ends}
 use Rattle.walk.proofs.Regions.{chains_front, counts_front, counts_whole, chains_behind, counts_behind}
 use Rattle.walk.proofs.output.give.Goals as goal
 
