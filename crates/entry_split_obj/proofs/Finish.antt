@@ -12,6 +12,7 @@ use Rattle.outputs.specs.Outputs.{counts_of, store_count, store_counts}
 use Rattle.outputs.proofs.Laws.{counts_stored}
 use Rattle.pieces.specs.declared.Counts.{Counts}
 use Rattle.pieces.specs.declared.lent.PieceTables.{PieceTables}
+use Rattle.pieces.specs.Room.{Ceilings}
 use Rattle.walk.specs.Walk.{Output}
 use Rattle.walk.specs.Giving.{output_in, gave_meaning}
 use Rattle.std.specs.Prelude.{Result, Ok, Err}
@@ -28,18 +29,18 @@ three_counts size a b c before e =
     ap (λ (l : List ℕ). store_count 2 c (store_count 1 b (store_count 0 a l))) (clear_all 0 before ∙ ap (λ (k : ℕ). replicate k 0) e) ∙ counts_stored size (a ∷ b ∷ c ∷ [])
 
 -- ---- the entry's end
-pub made_fits : (t : PieceTables) (r : Result (Unit {0}) Refusal) → Fits (made_by r t.made) (length t.pieces.now) (length t.symbols.now) (length t.relocs.now)
-made_fits t (Ok u) =
+pub made_fits : (t : PieceTables) (r : Result (Unit {0}) Refusal) → Ceilings t.room → Fits (made_by r t.made) (length t.pieces.now) (length t.symbols.now) (length t.relocs.now)
+made_fits t (Ok u) m =
     let f = t.fits in
     record {
       pieces_fit = omega (arith, f.pieces_long, f.few_pieces);
       entries_fit = omega (arith, f.symbols_long, f.few_symbols);
       offsets_fit = omega (arith, f.relocs_long, f.few_relocs);
-      few_pieces = omega (arith, f.few_pieces, f.most_pieces);
-      few_symbols = omega (arith, f.few_symbols, f.most_symbols);
-      few_relocs = omega (arith, f.few_relocs, f.most_relocs);
+      few_pieces = omega (arith, f.few_pieces, m.pieces);
+      few_symbols = omega (arith, f.few_symbols, m.symbols);
+      few_relocs = omega (arith, f.few_relocs, m.relocs);
     }
-made_fits t (Err r) =
+made_fits t (Err r) m =
     record { pieces_fit = omega arith; entries_fit = omega arith; offsets_fit = omega arith; few_pieces = omega arith; few_symbols = omega arith; few_relocs = omega arith }
 
 pub left_is : (t : PieceTables) (r : Result (Unit {0}) Refusal) → output_in t.pieces.now t.symbols.now t.relocs.now (made_by r t.made) ≡ output_of (gave_meaning t r)

@@ -14,6 +14,7 @@ ghost use Rattle.stage_walk.specs.Room.{room_in};
 ghost use Rattle.stage_walk.specs.Lines.{Gives, Headed};
 ghost use Rattle.entry_split_obj.specs.Entry.{split_obj_of, Laid, Leaves};
 ghost use Rattle.entry_split_obj.specs.Lines.{from_relocs, from_symbols, from_sections, made_by, word_by, Fits, Names as NamesRead, sizes_of};
+ghost use Rattle.pieces.specs.Room.{Ceilings};
 
 use lent_tables::StageTables;
 use name_table::check_names;
@@ -40,7 +41,8 @@ fn from_relocs(
         × (length obj.now.names.lengths.now ≤ 4096)
         × (length obj.now.symbols.places.now ≤ 4096)
         × (length places.old ≡ 4096)
-        × (length floors.old ≡ 64) }
+        × (length floors.old ≡ 64)
+        × Ceilings tables.old.room }
     ensures { Gives
         (from_relocs obj.now.names.lengths.now (sections_in obj.now.heads.bytes.now obj.now.heads.places.now) (image_in obj.now) (sections_of obj.now.heads.bytes.now obj.now.heads.places.now image.now.bytes.now image.now.places.now) lent.now.relocs.now lent.now.splits.now lent.now.units.now tables.old.room)
         tables.old tables.new result }
@@ -77,7 +79,8 @@ fn with_relocs(
     requires { Asked obj.now.symbols.bytes.now obj.now.symbols.places.now obj.now.order.now obj.now.names.bytes.now obj.now.names.places.now obj.now.names.lengths.now
         × Headed obj.now.heads.bytes.now obj.now.heads.places.now image.now.bytes.now image.now.places.now obj.now.names.places.now
         × (length obj.now.names.lengths.now ≤ 4096)
-        × (length obj.now.symbols.places.now ≤ 4096) }
+        × (length obj.now.symbols.places.now ≤ 4096)
+        × Ceilings tables.old.room }
     ensures { Gives
         (from_relocs obj.now.names.lengths.now (sections_in obj.now.heads.bytes.now obj.now.heads.places.now) (image_in obj.now) (sections_of obj.now.heads.bytes.now obj.now.heads.places.now image.now.bytes.now image.now.places.now) lent.now.relocs.now lent.now.splits.now lent.now.units.now tables.old.room)
         tables.old tables.new result }
@@ -101,7 +104,8 @@ fn from_symbols(
     requires { NamesRead names.now.bytes.now names.now.places.now names.now.lengths.now
         × Headed heads.now.bytes.now heads.now.places.now image.now.bytes.now image.now.places.now names.now.places.now
         × (length names.now.lengths.now ≤ 4096)
-        × symbol_columns.Room 4096 places.old order.old scratch.old }
+        × symbol_columns.Room 4096 places.old order.old scratch.old
+        × Ceilings tables.old.room }
     ensures { Gives
         (from_symbols names.now.bytes.now names.now.places.now names.now.lengths.now (sections_in heads.now.bytes.now heads.now.places.now) (sections_of heads.now.bytes.now heads.now.places.now image.now.bytes.now image.now.places.now) lent.now.symbols.now lent.now.relocs.now lent.now.splits.now lent.now.units.now tables.old.room)
         tables.old tables.new result }
@@ -142,7 +146,8 @@ fn with_symbols(
 ) -> Result<(), Refusal>
     requires { NamesRead names.now.bytes.now names.now.places.now names.now.lengths.now
         × Headed heads.now.bytes.now heads.now.places.now image.now.bytes.now image.now.places.now names.now.places.now
-        × (length names.now.lengths.now ≤ 4096) }
+        × (length names.now.lengths.now ≤ 4096)
+        × Ceilings tables.old.room }
     ensures { Gives
         (from_symbols names.now.bytes.now names.now.places.now names.now.lengths.now (sections_in heads.now.bytes.now heads.now.places.now) (sections_of heads.now.bytes.now heads.now.places.now image.now.bytes.now image.now.places.now) lent.now.symbols.now lent.now.relocs.now lent.now.splits.now lent.now.units.now tables.old.room)
         tables.old tables.new result }
@@ -173,7 +178,8 @@ fn from_sections(
     requires { NamesRead names.now.bytes.now names.now.places.now names.now.lengths.now
         × (length names.now.lengths.now ≤ 4096)
         × (length heads.old ≡ 64)
-        × (length images.old ≡ 64) }
+        × (length images.old ≡ 64)
+        × Ceilings tables.old.room }
     ensures { Gives
         (from_sections names.now.bytes.now names.now.places.now names.now.lengths.now lent.now.sections.now lent.now.section_places.now lent.now.image.now lent.now.symbols.now lent.now.relocs.now lent.now.splits.now lent.now.units.now tables.old.room)
         tables.old tables.new result }
@@ -206,7 +212,8 @@ fn from_sections(
 // The same, with columns of its own for the sections.
 fn with_sections(names: &Names, lent: &StageTables, tables: &mut PieceTables) -> Result<(), Refusal>
     requires { NamesRead names.now.bytes.now names.now.places.now names.now.lengths.now
-        × (length names.now.lengths.now ≤ 4096) }
+        × (length names.now.lengths.now ≤ 4096)
+        × Ceilings tables.old.room }
     ensures { Gives
         (from_sections names.now.bytes.now names.now.places.now names.now.lengths.now lent.now.sections.now lent.now.section_places.now lent.now.image.now lent.now.symbols.now lent.now.relocs.now lent.now.splits.now lent.now.units.now tables.old.room)
         tables.old tables.new result }
@@ -225,7 +232,8 @@ fn from_names(
     chain: &mut [u16],
     tables: &mut PieceTables,
 ) -> Result<(), Refusal>
-    requires { stored.Room 4096 places.old lengths.old index.old chain.old }
+    requires { stored.Room 4096 places.old lengths.old index.old chain.old
+        × Ceilings tables.old.room }
     ensures { Gives
         (split_obj_of lent.now.name_ends.now lent.now.name_bytes.now lent.now.sections.now lent.now.section_places.now lent.now.image.now lent.now.symbols.now lent.now.relocs.now lent.now.splits.now lent.now.units.now tables.old.room)
         tables.old tables.new result }
@@ -253,6 +261,7 @@ fn from_names(
 
 // All tables, with columns of its own for the names: their places and lengths, and the index.
 fn with_names(lent: &StageTables, tables: &mut PieceTables) -> Result<(), Refusal>
+    requires { Ceilings tables.old.room }
     ensures { Gives
         (split_obj_of lent.now.name_ends.now lent.now.name_bytes.now lent.now.sections.now lent.now.section_places.now lent.now.image.now lent.now.symbols.now lent.now.relocs.now lent.now.splits.now lent.now.units.now tables.old.room)
         tables.old tables.new result }

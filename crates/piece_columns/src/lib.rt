@@ -21,7 +21,7 @@ pub fn count_of(counts: &[u16], tables: &PieceTables, unit: usize) -> u16
 
 // One piece more, behind those that are there.
 pub fn push_piece(counts: &mut [u16], tables: &mut PieceTables, p: Piece)
-    requires { (p.unit < length counts.old) × CountedIn counts.old tables.old × (tables.old.made.pieces < tables.old.room.pieces) }
+    requires { (p.unit < length counts.old) × CountedIn counts.old tables.old × (tables.old.made.pieces < tables.old.room.pieces) × (tables.old.made.pieces < 65535) }
     ensures { PushedPiece counts.new tables.old tables.new p }
 {
     counts[usize::from(p.unit)] += 1;
@@ -50,7 +50,8 @@ pub fn push_symbol(chains: &mut [u16], tables: &mut PieceTables, y: PieceSymbol)
     requires { (y.symbol < length (lasts_in chains.old))
         × ChainedIn chains.old tables.old
         × (tables.old.made.symbols < length (prevs_in chains.old))
-        × (tables.old.made.symbols < tables.old.room.symbols) }
+        × (tables.old.made.symbols < tables.old.room.symbols)
+        × (tables.old.made.symbols < 65535) }
     ensures { PushedSymbol chains.new tables.old tables.new y }
 {
     let i = usize::from(y.symbol);

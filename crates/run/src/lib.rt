@@ -14,6 +14,7 @@ ghost use Rattle.stage_walk.specs.Room.{room_in};
 ghost use Rattle.stage_walk.specs.Lines.{Gives, UnitScratch};
 ghost use Rattle.run.specs.Run.{walked, ordered_and_walked};
 ghost use Rattle.run.specs.Answers.{units_at, ran_in, Prepared, Tabled, Units, Keeps, WalkGives, walked_after};
+ghost use Rattle.pieces.specs.Room.{Ceilings};
 
 use link_graph::LinkTables;
 use loaded::Loaded;
@@ -51,7 +52,8 @@ fn walk_units(
         × Tabled (length loaded.now.sections.now) (columns_of splits.now) splits.now.count
         × Units unit_table.now k
         × All (λ (u : unit_records.Unit). u.name < 4096) (units_at unit_table.now k)
-        × UnitScratch places.old unit_numbers.old }
+        × UnitScratch places.old unit_numbers.old
+        × Ceilings tables.old.room }
     ensures { Gives
         (walked loaded.now.file.now (tables_with loaded.now.names.now loaded.now.lengths.now loaded.now.sections.now loaded.now.symbols.now loaded.now.relocs.now [] loaded.now.units.now)
         tables.old.room
@@ -107,7 +109,8 @@ fn walk_with_columns(
     requires { Prepared loaded.now.file.now loaded.now.names.now loaded.now.lengths.now loaded.now.sections.now loaded.now.images.now loaded.now.symbols.now loaded.now.order.now loaded.now.relocs.now loaded.now.units.now
         × Tabled (length loaded.now.sections.now) (columns_of splits.now) splits.now.count
         × Units unit_table.now k
-        × All (λ (u : unit_records.Unit). u.name < 4096) (units_at unit_table.now k) }
+        × All (λ (u : unit_records.Unit). u.name < 4096) (units_at unit_table.now k)
+        × Ceilings tables.old.room }
     ensures { Gives
         (walked loaded.now.file.now (tables_with loaded.now.names.now loaded.now.lengths.now loaded.now.sections.now loaded.now.symbols.now loaded.now.relocs.now [] loaded.now.units.now)
         tables.old.room

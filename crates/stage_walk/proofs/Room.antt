@@ -13,7 +13,7 @@ use Rattle.lists.specs.Rows.{clear_from}
 use Rattle.lists.specs.Tables.{laid}
 use Rattle.lists.proofs.Clear.{clear_is}
 use Rattle.pieces.specs.declared.Counts.{Counts}
-use Rattle.pieces.specs.Room.{Fits}
+use Rattle.pieces.specs.Room.{Fits, Ceilings}
 use Rattle.stage_walk.specs.Room.{room_for, room_in}
 use Rattle.stage_walk.specs.Lines.{none}
 use Rattle.pieces.specs.Pieces.{piece_width}
@@ -62,9 +62,6 @@ fits_none pieces symbols relocs room made e n =
       pieces_long = omega (arith, p, room_pieces 1024 (length pieces));
       symbols_long = omega (arith, s, room_12 4096 (length symbols));
       relocs_long = omega (arith, r, room_8 4096 (length relocs));
-      most_pieces = omega (arith, p, room_low 1024 (length pieces) piece_width);
-      most_symbols = omega (arith, s, room_low 4096 (length symbols) 12);
-      most_relocs = omega (arith, r, room_low 4096 (length relocs) 8);
       few_pieces = omega (arith, ap (λ (m : Counts). m.pieces) n);
       few_symbols = omega (arith, ap (λ (m : Counts). m.symbols) n);
       few_relocs = omega (arith, ap (λ (m : Counts). m.relocs) n);
@@ -75,3 +72,11 @@ pub cleared : (b records : List ℕ) (k : ℕ) → records ≡ take k b → k �
 cleared b records k e h =
     clear_is 0 k b ∙ (λ d. sym e d ++ replicate (length b - k) 0)
     ∙ ap (λ (n : ℕ). records ++ replicate (length b - n) 0) (sym (ap length e ∙ length-take-le k b h))
+
+-- that room is within the ceilings
+pub room_low_all : (pieces symbols relocs : List ℕ) (room : Counts) → room ≡ room_in (length pieces) (length symbols) (length relocs) → Ceilings room
+room_low_all pieces symbols relocs room e = record {
+  pieces = omega (arith, ap (λ (m : Counts). m.pieces) e, room_low 1024 (length pieces) piece_width);
+  symbols = omega (arith, ap (λ (m : Counts). m.symbols) e, room_low 4096 (length symbols) 12);
+  relocs = omega (arith, ap (λ (m : Counts). m.relocs) e, room_low 4096 (length relocs) 8);
+}

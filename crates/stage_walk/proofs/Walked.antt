@@ -1,6 +1,6 @@
 -- The walk of all sections: columns that hold nothing yet, and what it gives over them. Assumes nothing.
 use Prim.Native.Nat.{ℕ, ◌+◌, ◌-◌, ◌≤◌, ◌<◌}
-use mathlib.Core.Path.{◌≡◌, refl, sym, subst, ◌∙◌}
+use mathlib.Core.Path.{◌≡◌, refl, sym, ap, subst, ◌∙◌}
 use mathlib.Core.List.{List}
 use native.Mathlib.Nat.{sub-zero}
 use native.Mathlib.Omega.{arith}
@@ -13,6 +13,7 @@ use Rattle.pieces.specs.Questions.{count_of}
 use Rattle.piece_columns.specs.Columns.{Counted, Chained, last_of, lasts_in, prevs_in}
 use Rattle.piece_columns.proofs.Regions.{in_lasts, last_at}
 use Rattle.pieces.specs.declared.Counts.{Counts}
+use Rattle.pieces.specs.Room.{Ceilings}
 use Rattle.pieces.specs.declared.lent.PieceTables.{PieceTables}
 use Rattle.obj.specs.declared.Reloc.{Reloc}
 use Rattle.obj.specs.declared.Split.{Split}
@@ -51,17 +52,21 @@ module _ (scratch : List ℕ) (zeros : (i : ℕ) → get_or scratch i 0 ≡ 0) w
   }
 
   -- such columns beside the outputs
-  pub tabled_none : (symbols relocs units : ℕ) (part : List ℕ) (t : PieceTables) → t.made ≡ none → length scratch ≡ 9216
+  pub tabled_none : (symbols relocs units : ℕ) (part : List ℕ) (t : PieceTables) → t.made ≡ none → Ceilings t.room → length scratch ≡ 9216
       → units ≤ 1024 → relocs ≤ length part → symbols ≤ 4096 → Tabled symbols relocs units scratch part t
-  tabled_none symbols relocs units part t made long few_units part_long most =
+  tabled_none symbols relocs units part t made ceilings long few_units part_long most =
       record {
         beside = record {
           counted = subst (λ (m : Counts). Counted (counts_in scratch) t.pieces.now m.pieces) (sym made) (none-counted t.pieces.now);
           entered = record {
             chained = subst (λ (m : Counts). Chained (lasts_in (chains_in scratch)) (prevs_in (chains_in scratch)) t.symbols.now m.symbols) (sym made) (none-chained t.symbols.now);
-            long = omega (arith, length_chains (omega (arith, long)));
+            most = ceilings.symbols;
+            placed = omega (arith, ap (λ (m : Counts). m.pieces) made);
+            long = omega (arith, ceilings.symbols, length_chains (omega (arith, long)));
             most_symbols = most;
           };
+          most_pieces = ceilings.pieces;
+          most_relocs = ceilings.relocs;
           long = omega (arith, long);
         };
         counts_long = omega (arith, long, few_units);

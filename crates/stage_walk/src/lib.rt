@@ -13,6 +13,7 @@ ghost use Rattle.walk.specs.Steps.{Asked};
 ghost use Rattle.split_obj.specs.Loop.{Ready};
 ghost use Rattle.stage_walk.specs.Room.{room_for, room_in};
 ghost use Rattle.stage_walk.specs.Lines.{walk_of, from_units, from_splits, Gives, Headed, Relocated, Rowed, UnitScratch};
+ghost use Rattle.pieces.specs.Room.{Ceilings};
 
 use obj::{Refusal, Table};
 use pieces::{Counts, PIECE_BYTES, PieceTables};
@@ -57,7 +58,8 @@ pub fn walk_columns(
     tables: &mut PieceTables,
 ) -> Result<(), Refusal>
     requires { Ready obj.now.symbols.bytes.now obj.now.symbols.places.now obj.now.order.now obj.now.names.bytes.now obj.now.names.places.now obj.now.names.lengths.now obj.now.heads.bytes.now obj.now.heads.places.now image.now.bytes.now image.now.places.now relocs.now.bytes.now relocs.now.places.now unit_table.now.bytes.now unit_table.now.places.now unit_numbers.now (columns_of splits.now) splits.now.count (length obj.now.heads.places.now)
-        × (length obj.now.symbols.places.now ≤ 4096) }
+        × (length obj.now.symbols.places.now ≤ 4096)
+        × Ceilings tables.old.room }
     ensures { Gives
         (walk_of (image_in obj.now) (sections_of obj.now.heads.bytes.now obj.now.heads.places.now image.now.bytes.now image.now.places.now) (reloc_of relocs.now.bytes.now relocs.now.places.now) (length relocs.now.places.now) (rows_of splits.now) (unit_names unit_table.now.bytes.now unit_table.now.places.now) tables.old.room)
         tables.old tables.new result }
@@ -101,7 +103,8 @@ fn from_units(
         × Rowed (columns_of splits.now) splits.now.count (length obj.now.names.lengths.now)
         × (length obj.now.names.lengths.now ≤ 4096)
         × (length obj.now.symbols.places.now ≤ 4096)
-        × UnitScratch places.old unit_numbers.old }
+        × UnitScratch places.old unit_numbers.old
+        × Ceilings tables.old.room }
     ensures { Gives
         (from_units obj.now.names.lengths.now (image_in obj.now) (sections_of obj.now.heads.bytes.now obj.now.heads.places.now image.now.bytes.now image.now.places.now) (reloc_of relocs.now.bytes.now relocs.now.places.now) (length relocs.now.places.now) (rows_of splits.now) unit_table.now tables.old.room)
         tables.old tables.new result }
@@ -138,7 +141,8 @@ fn with_units(
         × Relocated relocs.now.bytes.now relocs.now.places.now
         × Rowed (columns_of splits.now) splits.now.count (length obj.now.names.lengths.now)
         × (length obj.now.names.lengths.now ≤ 4096)
-        × (length obj.now.symbols.places.now ≤ 4096) }
+        × (length obj.now.symbols.places.now ≤ 4096)
+        × Ceilings tables.old.room }
     ensures { Gives
         (from_units obj.now.names.lengths.now (image_in obj.now) (sections_of obj.now.heads.bytes.now obj.now.heads.places.now image.now.bytes.now image.now.places.now) (reloc_of relocs.now.bytes.now relocs.now.places.now) (length relocs.now.places.now) (rows_of splits.now) unit_table.now tables.old.room)
         tables.old tables.new result }
@@ -174,7 +178,8 @@ fn from_splits(
         × (length obj.now.names.lengths.now ≤ 4096)
         × (length obj.now.symbols.places.now ≤ 4096)
         × (length places.old ≡ 1024)
-        × (table.old.room ≡ 1024) }
+        × (table.old.room ≡ 1024)
+        × Ceilings tables.old.room }
     ensures { Gives
         (from_splits obj.now.names.lengths.now (sections_in obj.now.heads.bytes.now obj.now.heads.places.now) (image_in obj.now) (sections_of obj.now.heads.bytes.now obj.now.heads.places.now image.now.bytes.now image.now.places.now) (reloc_of relocs.now.bytes.now relocs.now.places.now) (length relocs.now.places.now) splits.now unit_table.now tables.old.room)
         tables.old tables.new result }
@@ -196,7 +201,8 @@ pub fn with_splits(
         × Headed obj.now.heads.bytes.now obj.now.heads.places.now image.now.bytes.now image.now.places.now obj.now.names.places.now
         × Relocated relocs.now.bytes.now relocs.now.places.now
         × (length obj.now.names.lengths.now ≤ 4096)
-        × (length obj.now.symbols.places.now ≤ 4096) }
+        × (length obj.now.symbols.places.now ≤ 4096)
+        × Ceilings tables.old.room }
     ensures { Gives
         (from_splits obj.now.names.lengths.now (sections_in obj.now.heads.bytes.now obj.now.heads.places.now) (image_in obj.now) (sections_of obj.now.heads.bytes.now obj.now.heads.places.now image.now.bytes.now image.now.places.now) (reloc_of relocs.now.bytes.now relocs.now.places.now) (length relocs.now.places.now) splits.now unit_table.now tables.old.room)
         tables.old tables.new result }

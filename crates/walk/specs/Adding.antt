@@ -13,7 +13,9 @@ use Rattle.piece_columns.specs.Columns.{ChainedIn}
 -- the chains of the entries of so many symbols
 pub record Entries (symbols : ℕ) (chains : List ℕ) (t : PieceTables) : Type 0 where
   pub chained : ChainedIn chains t
-  pub long : 8192 ≤ length chains
+  pub most : t.room.symbols ≤ 4096
+  pub placed : t.made.pieces < 65536
+  pub long : 4096 + t.room.symbols ≤ length chains
   pub most_symbols : symbols ≤ 4096
 
 -- numbers of symbols that can be read, none below `start`

@@ -76,6 +76,8 @@ counts_in scratch = drop 8192 scratch
 pub record Beside (symbols : ℕ) (scratch : List ℕ) (t : PieceTables) : Type 0 where
   pub counted : CountedIn (counts_in scratch) t
   pub entered : Entries symbols (chains_in scratch) t
+  pub most_pieces : t.room.pieces ≤ 1024
+  pub most_relocs : t.room.relocs ≤ 4096
   pub long : 8192 ≤ length scratch
 
 -- ---- what is given

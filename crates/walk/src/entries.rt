@@ -1,5 +1,5 @@
 // The symbols and relocations of a split, as entries behind those that are there.
-ghost use Rattle.std.specs.Prelude.{◌≡◌, cond, eqb, ◌+◌, ◌≤◌, length};
+ghost use Rattle.std.specs.Prelude.{◌≡◌, cond, eqb, ◌+◌, ◌<◌, ◌≤◌, length};
 ghost use Rattle.obj.specs.Records.{Held};
 ghost use Rattle.names.specs.Fixed.{is_vector_table_end};
 ghost use Rattle.symbol_order.specs.Order.{symbol_of};
@@ -117,7 +117,7 @@ pub fn add_symbols(
 
 // The relocations of the next piece, which starts at `start`; `part` are their numbers: "Relocation offsets in a piece are rounded down to fours."
 pub fn add_relocs(relocs: &Table, part: &[u16], start: u32, tables: &mut PieceTables)
-    requires { Above relocs.now.bytes.now relocs.now.places.now part.now start × (tables.old.made.relocs + length part.now ≤ tables.old.room.relocs) }
+    requires { Above relocs.now.bytes.now relocs.now.places.now part.now start × (tables.old.made.relocs + length part.now ≤ tables.old.room.relocs) × (tables.old.made.pieces < 65536) }
     ensures { AddsRelocs (add_relocs (reloc_of relocs.now.bytes.now relocs.now.places.now) tables.old.made.pieces start (relocs_of tables.old) part.now) (length part.now) tables.old tables.new }
 {
     let place = tables.made.pieces as u16;

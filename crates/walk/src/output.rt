@@ -74,7 +74,8 @@ fn give_piece(
     requires { CountedIn counts.old tables.old
         × SectionRelocs relocs.now.bytes.now relocs.now.places.now part.now n
         × Sided heads.now.bytes.now heads.now.places.now n s
-        × (unit < length counts.old) × (unit < 65536) × (s.start ≤ s.end) }
+        × (unit < length counts.old) × (unit < 65536) × (s.start ≤ s.end)
+        × (tables.old.room.pieces ≤ 1024) }
     ensures { PieceGives
         (pieces_with (head_of heads.now.bytes.now heads.now.places.now n) n unit alignment s (pieces_of tables.old))
         (relocs_with (reloc_of relocs.now.bytes.now relocs.now.places.now) (length relocs.now.places.now) n s tables.old.made.pieces (relocs_of tables.old))

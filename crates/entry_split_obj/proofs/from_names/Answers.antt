@@ -16,7 +16,7 @@ use Rattle.entry_split_obj.proofs.from_names.Goals as goal
 pub with_sections-requires : goal.with_sections-requires
 with_sections-requires c =
     let a = c.args in
-    (names-taken _ _ _ _ _ _ (let s = c.check_names.ensures in s.stored (sym s.said ∙ ap meaning c.in_ok-check_names.was)), omega (arith, lengths_count _ _ _ _ _ _ (let s = c.check_names.ensures in s.stored (sym s.said ∙ ap meaning c.in_ok-check_names.was)), names_few 4096 a.lent.now.name_ends.now a.lent.now.name_bytes.now (sym c.check_names.ensures.said ∙ (ap meaning c.in_ok-check_names.was))))
+    (names-taken _ _ _ _ _ _ (let s = c.check_names.ensures in s.stored (sym s.said ∙ ap meaning c.in_ok-check_names.was)), omega (arith, lengths_count _ _ _ _ _ _ (let s = c.check_names.ensures in s.stored (sym s.said ∙ ap meaning c.in_ok-check_names.was)), names_few 4096 a.lent.now.name_ends.now a.lent.now.name_bytes.now (sym c.check_names.ensures.said ∙ (ap meaning c.in_ok-check_names.was))), c.requires.1)
 
 pub returns : goal.returns
 unfolding split_obj_of

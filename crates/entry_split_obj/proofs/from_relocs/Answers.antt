@@ -36,6 +36,7 @@ with_splits-requires c =
       relocs_taken (sections_in a.obj.now.heads.bytes.now a.obj.now.heads.places.now) (length a.obj.now.symbols.places.now) a.lent.now.relocs.now (sym c.take_relocs.ensures.said ∙ (ap meaning c.in_ok-take_relocs.was)) _ (taken_places 23 4096 a.lent.now.relocs.now _ _ c.take_relocs.ensures (ap meaning c.in_ok-take_relocs.was)),
       c.requires.2,
       c.requires.3,
+      c.requires.6,
     )
 
 pub returns : goal.returns

@@ -34,6 +34,7 @@ with_symbols-requires c =
             (taken_places 15 64 a.lent.now.sections.now _ _ c.take_image.ensures e) c.requires.0.paired c.take_image_places-p.ensures (c.take_image_places-p.auto.column ∙ c.requires.3);
       },
       c.requires.1,
+      c.requires.4,
     )
 
 pub returns : goal.returns

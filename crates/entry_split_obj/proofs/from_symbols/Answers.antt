@@ -49,6 +49,7 @@ with_relocs-requires c =
       c.requires.1,
       c.requires.2,
       omega (arith, ((table_passed 20 4096 c.args.lent.now.symbols.now _ (sym c.in_ok-ordered.ensures.said)).1), length-take-le (length a.lent.now.symbols.now / 20) c.take_symbol_order.new.places inside),
+      c.requires.4,
     )
 
 pub returns : goal.returns

@@ -6,7 +6,7 @@ use Rattle.piece_columns.proofs.Counts.{counted_le, counted_more, counted_at}
 use Rattle.piece_columns.proofs.push_piece.Goals as goal
 
 pub overflow_add-counts : goal.overflow_add-counts
-overflow_add-counts c = rw c.from.ensures (omega (arith, counted_le _ _ _ c.requires.1 c.args.p.unit c.requires.0, c.requires.2, c.args.tables.now.fits.most_pieces))
+overflow_add-counts c = rw c.from.ensures (omega (arith, counted_le _ _ _ c.requires.1 c.args.p.unit c.requires.0, c.requires.3))
 
 pub returns : goal.returns
 returns c =

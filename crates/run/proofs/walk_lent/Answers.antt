@@ -9,7 +9,7 @@ use Rattle.loaded.specs.Tables.{tables_with}
 use Rattle.splits.specs.Columns.{rows}
 use Rattle.splits.specs.Table.{columns_of}
 use Rattle.walk.specs.Giving.{output_in}
-use Rattle.stage_walk.proofs.Room.{fits_none}
+use Rattle.stage_walk.proofs.Room.{fits_none, room_low_all}
 use Rattle.run.specs.Run.{walked}
 use Rattle.run.specs.Answers.{units_at}
 use Rattle.run.proofs.walk_lent.Goals as goal
@@ -49,3 +49,8 @@ returns c =
         relocs = omega (arith, t.fits.few_relocs, ap (λ (m : Counts). m.relocs) room);
       };
     }
+
+pub walk_with_columns-requires : goal.walk_with_columns-requires
+walk_with_columns-requires c =
+    let q = c.requires in
+    (q.0, q.1, q.2, q.3, room_low_all c.args.pieces.now c.args.entries.now c.args.offsets.now _ c.room_of.ensures)

@@ -21,6 +21,7 @@ walk_columns-requires c =
       ready q.0 a.unit_table.now (take a.k c.fill_places.new.places) n.new.column (columns_of a.splits.now) a.splits.now.count q.1 n.ensures
           (omega (arith, count, q.2.few)) (omega (arith, n.auto.column, q.4.numbers_long)),
       few_symbols q.0.usable,
+      q.5,
     )
 
 pub returns : goal.returns

@@ -29,6 +29,7 @@ with_units-requires c =
       rows_named a.table.now.room a.obj.now.names.lengths.now (sections_in a.obj.now.heads.bytes.now a.obj.now.heads.places.now) a.splits.now (columns_of s) s.count passed (c.columns.ensures.rows ∙ taken.taken passed),
       c.requires.3,
       c.requires.4,
+      c.requires.7,
     )
 
 pub returns : goal.returns

@@ -17,7 +17,7 @@ pub walk_sections-requires : goal.walk_sections-requires
 walk_sections-requires c =
     let a = c.args in (
       c.requires.0,
-      tabled_none (replicate 9216 0) (λ i. get_or_same 9216 i 0) (length a.obj.now.symbols.places.now) (length a.relocs.now.places.now) (length a.unit_table.now.places.now) (replicate 4096 0) _ refl
+      tabled_none (replicate 9216 0) (λ i. get_or_same 9216 i 0) (length a.obj.now.symbols.places.now) (length a.relocs.now.places.now) (length a.unit_table.now.places.now) (replicate 4096 0) _ refl c.requires.2
           (length-replicate {A = ℕ} 9216 0) c.requires.0.few_units (omega (arith, c.requires.0.few_relocs, length-replicate {A = ℕ} 4096 0)) c.requires.1,
       omega arith,
     )

@@ -56,8 +56,9 @@ push_symbol-requires c =
     let y = ap (λ (y : PieceSymbol). y.symbol) c.entry_of.ensures ∙ entry_symbol c.args.unit t.made.pieces c.args.s c.args.i c.symbol_at-y.result in (
       omega (arith, y, c.requires.0.there, e.most_symbols, length_lasts c.args.chains.now (omega (arith, e.long))),
       e.chained,
-      omega (arith, t.fits.few_symbols, t.fits.most_symbols, h, e.long, length_prevs c.args.chains.now),
+      omega (arith, t.fits.few_symbols, h, e.long, length_prevs c.args.chains.now),
       omega (arith, t.fits.few_symbols, h),
+      omega (arith, t.fits.few_symbols, e.most, h),
     )
 
 pub returns : goal.returns

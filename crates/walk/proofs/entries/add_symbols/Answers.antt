@@ -63,7 +63,9 @@ loop-i-preserved c =
       let h = c.loop-i-test.true in omega arith,
       record {
         chained = now.chained;
-        long = omega (arith, l.invariant.1.long, c.add_symbol.auto.chains);
+        most = omega (arith, l.invariant.1.most, ap (λ (m : Counts). m.symbols) now.lent.room);
+        placed = omega (arith, l.invariant.1.placed, now.pieces.made);
+        long = omega (arith, l.invariant.1.long, c.add_symbol.auto.chains, ap (λ (m : Counts). m.symbols) now.lent.room);
         most_symbols = l.invariant.1.most_symbols;
       },
       pieces_still l.invariant.2 now.pieces,

@@ -105,7 +105,13 @@ returns-then-s-eq1 c =
     let long : length between ≡ length a.scratch.now = length_front a.scratch.now more.new.chains 8192 more.auto.chains in
     let far : 8192 ≤ length between = omega (arith, c.requires.0.long, long) in
     let e = c.requires.0.entered in
-    let entered : Entries (length a.obj.now.symbols.places.now) more.new.chains mid = record { chained = now.chained; long = omega (arith, front); most_symbols = e.most_symbols } in
+    let entered : Entries (length a.obj.now.symbols.places.now) more.new.chains mid = record {
+      chained = now.chained;
+      most = omega (arith, e.most, ap (λ (m : Counts). m.symbols) now.lent.room);
+      placed = omega (arith, mid.fits.few_pieces, ap (λ (m : Counts). m.pieces) now.lent.room, c.requires.0.most_pieces);
+      long = omega (arith, front, e.most, ap (λ (m : Counts). m.symbols) now.lent.room);
+      most_symbols = e.most_symbols;
+    } in
     record {
       is = λ count bytes splits units.
           common_made g head reloc relocs a.n a.unit a.alignment a.s t.room (output_of t) count bytes splits units c.requires.6
@@ -115,6 +121,8 @@ returns-then-s-eq1 c =
       beside = record {
         counted = subst (λ (l : List ℕ). CountedIn l mid) (sym (counts_front more.new.chains a.scratch.now front)) (counted_same now.pieces c.requires.0.counted);
         entered = subst (λ (l : List ℕ). Entries (length a.obj.now.symbols.places.now) l mid) (sym (chains_front more.new.chains a.scratch.now front)) entered;
+        most_pieces = omega (arith, c.requires.0.most_pieces, ap (λ (m : Counts). m.pieces) now.lent.room);
+        most_relocs = omega (arith, c.requires.0.most_relocs, ap (λ (m : Counts). m.relocs) now.lent.room);
         long = omega (arith, c.requires.0.long, long);
       };
       lent = now.lent;
@@ -136,6 +144,7 @@ give_piece-given-requires c =
       subst (λ (l : List ℕ). a.unit < length l) (sym lent) c.requires.4,
       c.requires.5,
       forwards_ends (not (eqb (length a.part.now) 0) || has_symbols g.symbol g.count a.n) a.s (sym c.is_backwards.ensures ∙ c.if-is_backwards.false) (ne_eqb (a.s.flags % 2) 1 c.if-s-eq1.false),
+      omega (arith, c.requires.0.most_pieces, ap (λ (m : Counts). m.pieces) c.in-Some.ensures.lent.room),
     )
 
 pub returns-in_default-given : goal.returns-in_default-given
@@ -217,7 +226,15 @@ returns c =
       beside = record {
         counted = subst (λ (l : List ℕ). CountedIn l after) (sym (counts_behind between gp.new.counts far)) made.counted;
         entered = subst (λ (l : List ℕ). Entries (length a.obj.now.symbols.places.now) l after) (sym chains)
-            (record { chained = chained_same more.new.chains made.symbols now.chained; long = omega (arith, front); most_symbols = c.requires.0.entered.most_symbols });
+            (record {
+              chained = chained_same more.new.chains made.symbols now.chained;
+              most = omega (arith, c.requires.0.entered.most, ap (λ (m : Counts). m.symbols) lent.room);
+              placed = omega (arith, after.fits.few_pieces, ap (λ (m : Counts). m.pieces) lent.room, c.requires.0.most_pieces);
+              long = omega (arith, front, c.requires.0.entered.most, ap (λ (m : Counts). m.symbols) lent.room);
+              most_symbols = c.requires.0.entered.most_symbols;
+            });
+        most_pieces = omega (arith, c.requires.0.most_pieces, ap (λ (m : Counts). m.pieces) lent.room);
+        most_relocs = omega (arith, c.requires.0.most_relocs, ap (λ (m : Counts). m.relocs) lent.room);
         long = omega (arith, c.requires.0.long, behind);
       };
       lent = lent;

@@ -48,6 +48,7 @@ add_relocs-requires c =
         few = omega (arith, c.requires.1.few);
       },
       (room_left t.room t.made _ c.if-tables-most.false).0,
+      omega (arith, t.fits.few_pieces, c.requires.6),
     )
 
 pub push_piece-requires : goal.push_piece-requires
@@ -59,4 +60,5 @@ push_piece-requires c =
       omega (arith, unit, c.requires.3),
       counted_same added.pieces c.requires.0,
       omega (arith, (room_left t.room t.made _ c.if-tables-most.false).1, added.pieces.made, ap (λ (m : Counts). m.pieces) added.lent.room),
+      omega (arith, t.fits.few_pieces, c.requires.6, added.pieces.made),
     )
