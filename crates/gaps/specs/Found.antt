@@ -2,7 +2,7 @@
 -- before and after, which says whether the name already occurred in the gap.
 -- How many gaps there can be: each starts at a section's start, at a start or end of a split, or at a symbol, and no two at one address
 -- (DECISIONS.md, 52a). So a table with room for so many never overflows, and the search has no refusal of its own for that.
-use Rattle.std.specs.Prelude.{ℕ, ◌+◌, ◌*◌, ◌≤◌, ◌<◌, ◌≡◌, List, [], ◌++◌, map, true, false, cond, not, ◌||◌, length, get_or, take, drop, eqb, leb, Result, Ok, Err}
+use Rattle.std.specs.Prelude.{ℕ, ◌+◌, ◌≤◌, ◌<◌, ◌≡◌, List, [], ◌++◌, map, true, false, cond, not, ◌||◌, length, get_or, take, drop, eqb, leb, Result, Ok, Err}
 use Rattle.lists.specs.Outcome.{Outcome, accepted, refused, refuse, ◌>>◌, ◌>>=◌}
 use Rattle.lists.specs.Rows.{some}
 use Rattle.lists.specs.Sort.{All, Rising}
@@ -49,11 +49,6 @@ starts g sections rows =
     ++ map (λ s. key s.section s.start) rows
     ++ map (λ s. key s.section s.end) rows
     ++ map (λ i. key (g.symbol i).section (g.symbol i).address) (numbers g.count)
-
--- both columns have a place for each of them
-pub record Roomy (keys ends : List ℕ) (sections splits symbols : ℕ) : Type 0 where
-  pub long_keys : sections + 2 * splits + symbols ≤ length keys
-  pub long_ends : sections + 2 * splits + symbols ≤ length ends
 
 -- gaps by section and address, no two at one, each starting at one of `room`
 pub record Gathered (room : List ℕ) (gaps : List Gap) : Type 0 where

@@ -20,7 +20,7 @@ use align::align_up;
 use gap_columns::{GapTable, place_gap};
 use names::name_at;
 use obj::{Refusal, Section, Split, Symbol, Table, refuse, section_at, symbol_at};
-use sections::{Alignment, Obj, alignment_of, default_alignment, end_for_section, section_bytes};
+use sections::{Obj, alignment_of, default_alignment, end_for_section, section_bytes};
 use splits::{SplitColumns, row};
 use symbol_order::{key_of, number};
 use symbols::{Backwards, for_section_range};
@@ -190,11 +190,7 @@ fn next_alignment(
     ensures { next_meaning section s.start result ≡ alignment_of_next (symbol_of table.now.bytes.now table.now.places.now) (length table.now.places.now) section least s }
 {
     let chosen = alignment_of(table, order, section, least, s.alignment, s.start, s.end)?;
-    match chosen {
-        Alignment::Given(a) => Ok(a),
-        Alignment::FromSymbol(a) => Ok(a),
-        Alignment::Default(a) => Ok(a),
-    }
+    Ok(chosen.value())
 }
 
 // The gaps before the split s: 11 where its alignment is asked, then "40 next start below current".

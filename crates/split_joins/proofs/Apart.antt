@@ -1,15 +1,11 @@
 -- Units that no row around has, or that are the one name that may stay: what two searches for a unit tell. Assumes nothing.
-use mathlib.Core.Path.{◌≡◌, refl, ◌∙◌}
-use mathlib.Core.List.{[]}
-use mathlib.Core.Bool.{Bool, false}
+use mathlib.Core.Path.{◌≡◌}
+use mathlib.Core.Bool.{false}
 use Prim.Native.Nat.{ℕ, ◌-◌, ◌≤◌}
 use native.Mathlib.Omega.{arith}
-use borrow.Author.Tests.{eqb-false, le-ltb}
+use borrow.Author.Tests.{eqb-false}
 use lib.Dec.{eqb}
-use Rattle.lists.specs.Rows.{tabulate, keep_if, some}
-use Rattle.obj.specs.declared.Split.{Split}
-use Rattle.splits.specs.Columns.{Columns, row_at}
-use Rattle.splits.specs.Questions.{Hit}
+use Rattle.lists.specs.Rows.{tabulate, some}
 use Rattle.splits.proofs.Blocks.{none_of}
 use Rattle.split_joins.specs.Joins.{Alone}
 
@@ -25,7 +21,3 @@ module _ (u : ℕ → ℕ) (n first stop unit v : ℕ) where
     before = λ k h e. absurd (eqb-false (u k) v (none_of (λ (x : ℕ). eqb x v) u 0 (first - 0) p k (omega arith) (omega arith)) e);
     behind = λ k h l e. absurd (eqb-false (u k) v (none_of (λ (x : ℕ). eqb x v) u stop (n - stop) q k h (omega arith)) e);
   }
-
--- a search for a row that ended without one
-pub no_hit : (p : Split → Bool) (c : Columns) (n from r : ℕ) → Hit p c n from r → n ≤ r → keep_if p (tabulate (row_at c) from (n - from)) ≡ []
-no_hit p c n from r h l = h.is ∙ rw (le-ltb r n l) refl
