@@ -5,6 +5,8 @@ use Rattle.obj.specs.Records.{section_at}
 use Rattle.tables.specs.Tables.{main_ceilings}
 use Rattle.load.specs.Load.{Loaded}
 use Rattle.load.specs.Good.{AllGood, Good}
+use Rattle.loaded.specs.declared.Loaded.{Loaded as Lent}
+use Rattle.names.specs.Names.{names_of}
 use Rattle.sections.specs.Image.{Image, image_of}
 use Rattle.sections.specs.Sections.{Sections, sections_of}
 
@@ -19,6 +21,13 @@ tables_with names lengths sections symbols relocations splits units = record {
   splits = splits;
   units = units;
 }
+
+-- .. all that a loaded file's columns say, and its names
+abbrev pub tables_of : Lent → Loaded
+tables_of l = tables_with l.names.now l.lengths.now l.sections.now l.symbols.now l.relocs.now l.partials.now l.units.now
+
+abbrev pub file_names : Lent → List (List ℕ)
+file_names l = names_of l.file.now l.names.now l.lengths.now (length l.names.now)
 
 abbrev pub image_from : (file : List ℕ) → Loaded → Image
 image_from file t = image_of file t.symbols file t.names t.lengths

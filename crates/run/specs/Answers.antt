@@ -7,6 +7,7 @@ use Rattle.obj.specs.declared.Unit as unit_records
 use Rattle.tables.specs.Records.{units_in}
 use Rattle.load.specs.Load.{Loaded}
 use Rattle.loaded.specs.Tables.{byte_places, tables_with, Usable}
+use Rattle.loaded.specs.declared.Loaded.{Loaded as Lent}
 use Rattle.names.specs.Append.{Packed, Columns as Beside}
 use Rattle.symbol_order.specs.Order.{symbol_of, order_of}
 use Rattle.splits.specs.Columns.{Columns, rows}
@@ -34,11 +35,18 @@ ran_in c table units pieces entries offsets (Ok r) =
 ran_in c table units pieces entries offsets (Err (Cycle n)) = accepted (cycle (units_at units n))
 ran_in c table units pieces entries offsets (Err (Refused r)) = refused r.number r.section r.address
 
+-- the tables that the link order and the walk read: no partial splits
+abbrev pub walked_tables : Lent → Loaded
+walked_tables l = tables_with l.names.now l.lengths.now l.sections.now l.symbols.now l.relocs.now [] l.units.now
+
 -- the tables of a file that was accepted, with the places of the sections' bytes and the symbol order
 pub record Prepared (file names lengths sections images symbols order relocs units : List ℕ) : Type 0 where
   pub usable : Usable file (tables_with names lengths sections symbols relocs [] units)
   pub images_are : images ≡ byte_places sections
   pub order_is : order ≡ order_of (symbol_of file symbols) (length symbols)
+
+abbrev pub PreparedIn : Lent → Type 0
+PreparedIn l = Prepared l.file.now l.names.now l.lengths.now l.sections.now l.images.now l.symbols.now l.order.now l.relocs.now l.units.now
 
 -- n rows of a split table that was made of it: their sections are there, and their units are names
 pub record Tabled (sections : ℕ) (table : Columns) (n : ℕ) : Type 0 where

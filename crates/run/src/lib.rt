@@ -2,18 +2,17 @@
 // split table that was made of it, so that no table is checked again.
 #![tactic(auto)]
 
-ghost use Rattle.std.specs.Prelude.{◌≡◌, List, [], map, ℕ, ◌/◌, ◌≤◌, ◌<◌, length, Ok};
+ghost use Rattle.std.specs.Prelude.{◌≡◌, List, ℕ, ◌/◌, ◌<◌, length, Ok};
 ghost use Rattle.lists.specs.Sort.{All};
 ghost use Rattle.obj.specs.declared.Unit as unit_records;
 ghost use Rattle.names.specs.Append.{Columns as Beside};
-ghost use Rattle.loaded.specs.Tables.{tables_with, image_from, sections_from};
 ghost use Rattle.splits.specs.Table.{columns_of, rows_of};
 ghost use Rattle.gap_splits.specs.Added.{added};
 ghost use Rattle.gap_splits.specs.Answers as entering;
 ghost use Rattle.stage_walk.specs.Room.{room_in};
 ghost use Rattle.stage_walk.specs.Lines.{Gives, UnitScratch};
-ghost use Rattle.run.specs.Run.{walked, ordered_and_walked};
-ghost use Rattle.run.specs.Answers.{units_at, ran_in, Prepared, Tabled, Units, Keeps, WalkGives, walked_after};
+ghost use Rattle.run.specs.Run.{walked};
+ghost use Rattle.run.specs.Answers.{units_at, ran_in, PreparedIn, Tabled, Units, Keeps, WalkGives, walked_tables, walked_after};
 ghost use Rattle.pieces.specs.Room.{Ceilings};
 
 use link_graph::LinkTables;
@@ -48,14 +47,14 @@ fn walk_units(
     unit_numbers: &mut [u16],
     tables: &mut PieceTables,
 ) -> Result<(), Refusal>
-    requires { Prepared loaded.now.file.now loaded.now.names.now loaded.now.lengths.now loaded.now.sections.now loaded.now.images.now loaded.now.symbols.now loaded.now.order.now loaded.now.relocs.now loaded.now.units.now
+    requires { PreparedIn loaded.now
         × Tabled (length loaded.now.sections.now) (columns_of splits.now) splits.now.count
         × Units unit_table.now k
         × All (λ (u : unit_records.Unit). u.name < 4096) (units_at unit_table.now k)
         × UnitScratch places.old unit_numbers.old
         × Ceilings tables.old.room }
     ensures { Gives
-        (walked loaded.now.file.now (tables_with loaded.now.names.now loaded.now.lengths.now loaded.now.sections.now loaded.now.symbols.now loaded.now.relocs.now [] loaded.now.units.now)
+        (walked loaded.now.file.now (walked_tables loaded.now)
         tables.old.room
         (rows_of splits.now) (units_at unit_table.now k))
         tables.old tables.new result }
@@ -106,13 +105,13 @@ fn walk_with_columns(
     k: usize,
     tables: &mut PieceTables,
 ) -> Result<(), Refusal>
-    requires { Prepared loaded.now.file.now loaded.now.names.now loaded.now.lengths.now loaded.now.sections.now loaded.now.images.now loaded.now.symbols.now loaded.now.order.now loaded.now.relocs.now loaded.now.units.now
+    requires { PreparedIn loaded.now
         × Tabled (length loaded.now.sections.now) (columns_of splits.now) splits.now.count
         × Units unit_table.now k
         × All (λ (u : unit_records.Unit). u.name < 4096) (units_at unit_table.now k)
         × Ceilings tables.old.room }
     ensures { Gives
-        (walked loaded.now.file.now (tables_with loaded.now.names.now loaded.now.lengths.now loaded.now.sections.now loaded.now.symbols.now loaded.now.relocs.now [] loaded.now.units.now)
+        (walked loaded.now.file.now (walked_tables loaded.now)
         tables.old.room
         (rows_of splits.now) (units_at unit_table.now k))
         tables.old tables.new result }
@@ -140,12 +139,12 @@ fn walk_lent(
     entries: &mut [u8],
     offsets: &mut [u8],
 ) -> Result<Counts, Refusal>
-    requires { Prepared loaded.now.file.now loaded.now.names.now loaded.now.lengths.now loaded.now.sections.now loaded.now.images.now loaded.now.symbols.now loaded.now.order.now loaded.now.relocs.now loaded.now.units.now
+    requires { PreparedIn loaded.now
         × Tabled (length loaded.now.sections.now) (columns_of splits.now) splits.now.count
         × Units unit_table.now k
         × All (λ (u : unit_records.Unit). u.name < 4096) (units_at unit_table.now k) }
     ensures { WalkGives
-        (walked loaded.now.file.now (tables_with loaded.now.names.now loaded.now.lengths.now loaded.now.sections.now loaded.now.symbols.now loaded.now.relocs.now [] loaded.now.units.now)
+        (walked loaded.now.file.now (walked_tables loaded.now)
         (room_in (length pieces.old) (length entries.old) (length offsets.old))
         (rows_of splits.now) (units_at unit_table.now k))
         (room_in (length pieces.old) (length entries.old) (length offsets.old)) result pieces.new entries.new offsets.new }
@@ -177,12 +176,12 @@ pub fn order_and_walk(
     entries: &mut [u8],
     offsets: &mut [u8],
 ) -> Result<Ran, Unlinked>
-    requires { Prepared loaded.now.file.now loaded.now.names.now loaded.now.lengths.now loaded.now.sections.now loaded.now.images.now loaded.now.symbols.now loaded.now.order.now loaded.now.relocs.now loaded.now.units.now
+    requires { PreparedIn loaded.now
         × (filled ≡ Ok tt → Tabled (length loaded.now.sections.now) (columns_of splits.now) splits.now.count) }
     ensures { ((base : List (List ℕ)) → (c : Beside)
         → ran_in c (columns_of splits.now) out_units.new pieces.new entries.new offsets.new result
         ≡ walked_after loaded.now.file.now
-        (tables_with loaded.now.names.now loaded.now.lengths.now loaded.now.sections.now loaded.now.symbols.now loaded.now.relocs.now [] loaded.now.units.now)
+        (walked_tables loaded.now)
         (length out_units.old / 8) (room_in (length pieces.old) (length entries.old) (length offsets.old)) (length base)
         (entering.meant base (added c names) (rows_of splits.now) filled))
         × Keeps names used splits.now.count (room_in (length pieces.old) (length entries.old) (length offsets.old)) out_units.new result }

@@ -11,6 +11,8 @@ use Rattle.load.specs.Columns.{tables_in}
 use Rattle.load.specs.declared.Counts as load
 use Rattle.run_load.specs.Prepared.{Ordered}
 use Rattle.loaded.specs.Tables.{byte_places, tables_with, Usable}
+use Rattle.loaded.specs.declared.Loaded as loaded
+use Rattle.names.specs.declared.NameIndex.{NameIndex}
 use Rattle.symbol_order.specs.Order.{symbol_of, order_of}
 use Rattle.splits.specs.Columns.{Columns}
 use Rattle.gap_splits.specs.Entering.{bytes_of}
@@ -48,6 +50,11 @@ pub record Ready (file names lengths buckets chain sections images symbols order
   pub indexed : Indexed (names_of file names lengths (length names)) buckets chain
   pub images_are : images ≡ byte_places sections
   pub order_is : order ≡ order_of (symbol_of file symbols) (length symbols)
+
+abbrev pub ReadyIn : loaded.Loaded → NameIndex → Type 0
+ReadyIn l index =
+    Ready l.file.now l.names.now l.lengths.now index.heads.now index.chain.now l.sections.now l.images.now l.symbols.now l.order.now l.relocs.now l.partials.now
+    l.units.now
 
 -- a split table of no more rows than document 01 allows, and room for all names that may be added
 pub record Lent (t : SplitTable) (a : AddedNames) : Type 0 where

@@ -6,16 +6,15 @@ ghost use Rattle.std.specs.Prelude.{◌≡◌, ◌/◌, ◌-◌, ◌≤◌, leng
 ghost use Rattle.load.specs.Columns.{tables_in};
 ghost use Rattle.tables.specs.Tables.{main_ceilings};
 ghost use Rattle.load.specs.Load.{load_of};
-ghost use Rattle.names.specs.Names.{names_of};
-ghost use Rattle.loaded.specs.Tables.{tables_with};
+ghost use Rattle.loaded.specs.Tables.{tables_of, file_names};
 ghost use Rattle.splits.specs.Table.{rows_in, columns_in};
 ghost use Rattle.gap_splits.specs.Answers as entering;
 ghost use Rattle.run_load.specs.Prepared.{Prepares};
 ghost use Rattle.run_splits.specs.Table.{split_table};
 ghost use Rattle.stage_walk.specs.Room.{room_in};
-ghost use Rattle.run.specs.Run.{stages, run_of};
+ghost use Rattle.run.specs.Run.{stages};
 ghost use Rattle.run.specs.Answers.{ran_in};
-ghost use Rattle.run_file.specs.RunFile.{rooms_in, beside_in, Ready, Lent, Loader, Stored, Holds, Runs};
+ghost use Rattle.run_file.specs.RunFile.{rooms_in, beside_in, ReadyIn, Lent, Loader, Stored, Holds, Runs};
 
 use gap_columns::GapTable;
 use gap_splits::AddedNames;
@@ -70,12 +69,12 @@ fn split_rows(
     table: &mut SplitTable,
     added: &mut AddedNames,
 ) -> Result<(), Refusal>
-    requires { Ready loaded.now.file.now loaded.now.names.now loaded.now.lengths.now index.now.heads.now index.now.chain.now loaded.now.sections.now loaded.now.images.now loaded.now.symbols.now loaded.now.order.now loaded.now.relocs.now loaded.now.partials.now loaded.now.units.now
+    requires { ReadyIn loaded.now index.now
         × (table.old.room ≤ 1024) }
-    ensures tables { entering.meant (names_of loaded.now.file.now loaded.now.names.now loaded.now.lengths.now (length loaded.now.names.now))
+    ensures tables { entering.meant (file_names loaded.now)
         (entering.added_in added.new) (rows_in table.new) result
-        ≡ split_table loaded.now.file.now (tables_with loaded.now.names.now loaded.now.lengths.now loaded.now.sections.now loaded.now.symbols.now loaded.now.relocs.now loaded.now.partials.now loaded.now.units.now) table.old.room
-        (entering.ceilings (names_of loaded.now.file.now loaded.now.names.now loaded.now.lengths.now (length loaded.now.names.now)) added.old.most added.old.most_bytes) }
+        ≡ split_table loaded.now.file.now (tables_of loaded.now) table.old.room
+        (entering.ceilings (file_names loaded.now) added.old.most added.old.most_bytes) }
     ensures ceilings { entering.SameCeilings added.old added.new }
     ensures room { table.new.room ≡ table.old.room }
 {
@@ -107,14 +106,14 @@ fn run_tables(
     entries: &mut [u8],
     offsets: &mut [u8],
 ) -> Result<Ran, Unlinked>
-    requires { Ready loaded.now.file.now loaded.now.names.now loaded.now.lengths.now index.now.heads.now index.now.chain.now loaded.now.sections.now loaded.now.images.now loaded.now.symbols.now loaded.now.order.now loaded.now.relocs.now loaded.now.partials.now loaded.now.units.now
+    requires { ReadyIn loaded.now index.now
         × Lent table.old added.old }
     ensures run { (ran_in (beside_in added.new)
         (columns_in table.new) out_units.new pieces.new entries.new offsets.new result
         ≡ stages loaded.now.file.now
-        (tables_with loaded.now.names.now loaded.now.lengths.now loaded.now.sections.now loaded.now.symbols.now loaded.now.relocs.now loaded.now.partials.now loaded.now.units.now)
+        (tables_of loaded.now)
         (rooms_in loaded.now.file.now most most_bytes table.old.room (length out_units.old / 8) (room_in (length pieces.old) (length entries.old) (length offsets.old))
-        (tables_with loaded.now.names.now loaded.now.lengths.now loaded.now.sections.now loaded.now.symbols.now loaded.now.relocs.now loaded.now.partials.now loaded.now.units.now)))
+        (tables_of loaded.now)))
         × Holds most most_bytes table.old.room (room_in (length pieces.old) (length entries.old) (length offsets.old))
         (beside_in added.new) out_units.new result }
     ensures room { table.new.room ≡ table.old.room }

@@ -6,7 +6,8 @@ use Rattle.lists.specs.Outcome.{Outcome, accepted, ◌>>◌, ◌>>=◌}
 use Rattle.obj.specs.declared.Split.{Split}
 use Rattle.tables.specs.Records.{sections_in, partials_in}
 use Rattle.load.specs.Load.{Loaded, names_in}
-use Rattle.loaded.specs.Tables.{image_from, sections_from}
+use Rattle.loaded.specs.Tables.{image_from, sections_from, tables_with}
+use Rattle.loaded.specs.declared.Loaded.{Loaded as Lent}
 use Rattle.merge.specs.Merge.{given, merge_all}
 use Rattle.common.specs.Common.{common_of}
 use Rattle.common.specs.Sections.{bss_in}
@@ -43,6 +44,10 @@ module _ (file : List ℕ) (t : Loaded) (room : ℕ) (names : Ceilings) where
     full ← with_gaps common
     rows ← checked full.rows
     accepted (record { names = full.names; rows = rows })
+
+-- the tables of a loaded file that this reads: no relocations, and no unit records
+abbrev pub split_tables : Lent → Loaded
+split_tables l = tables_with l.names.now l.lengths.now l.sections.now l.symbols.now [] l.partials.now []
 
 -- ---- the rows
 

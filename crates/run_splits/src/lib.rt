@@ -2,23 +2,14 @@
 // (`create_gap_splits`), checks (`validate_splits`), trims (..)". All tables are those of a file that was accepted, so that none is checked again.
 #![tactic(auto)]
 
-ghost use Rattle.std.specs.Prelude.{◌≡◌, List, [], ℕ, ◌≤◌, length};
-ghost use Rattle.names.specs.Names.{names_of};
+ghost use Rattle.std.specs.Prelude.{◌≡◌, ◌≤◌, length};
 ghost use Rattle.names.specs.Index.{Indexed};
-ghost use Rattle.tables.specs.Records.{sections_in};
-ghost use Rattle.loaded.specs.Tables.{tables_with, byte_places, Usable};
+ghost use Rattle.loaded.specs.Tables.{byte_places, file_names, Usable};
 ghost use Rattle.symbol_order.specs.Order.{symbol_of, order_of};
-ghost use Rattle.symbols.specs.Sound.{Sound};
-ghost use Rattle.sections.specs.Image.{image_of, Tables};
-ghost use Rattle.sections.specs.Sections.{sections_of, Kept};
 ghost use Rattle.splits.specs.Table.{rows_in};
-ghost use Rattle.merge.specs.Merge.{given};
 ghost use Rattle.gaps.specs.Found.{Clean};
 ghost use Rattle.gap_splits.specs.Answers as entering;
-ghost use Rattle.create_gap_splits.specs.Create.{Short};
-ghost use Rattle.trim.specs.Steps.{AllPlaced};
-ghost use Rattle.run_trim.specs.Checking.{checked_table};
-ghost use Rattle.run_splits.specs.Table.{split_table};
+ghost use Rattle.run_splits.specs.Table.{split_table, split_tables};
 
 use create_gap_splits::create_gap_splits;
 use gap_columns::GapTable;
@@ -41,18 +32,18 @@ pub fn split_table(
     found: &mut GapTable,
     falls: &mut [u32],
 ) -> Result<(), Refusal>
-    requires { Usable loaded.now.file.now (tables_with loaded.now.names.now loaded.now.lengths.now loaded.now.sections.now loaded.now.symbols.now [] loaded.now.partials.now [])
+    requires { Usable loaded.now.file.now (split_tables loaded.now)
         × (loaded.now.images.now ≡ byte_places loaded.now.sections.now)
         × (loaded.now.order.now ≡ order_of (symbol_of loaded.now.file.now loaded.now.symbols.now) (length loaded.now.symbols.now))
-        × Indexed (names_of loaded.now.file.now loaded.now.names.now loaded.now.lengths.now (length loaded.now.names.now)) index.now.heads.now index.now.chain.now
+        × Indexed (file_names loaded.now) index.now.heads.now index.now.chain.now
         × (table.old.room ≤ 1024)
         × Clean marks.old × (length loaded.now.names.now ≤ length marks.old)
         × (6208 ≤ found.old.room)
         × (table.old.room ≤ length falls.old) }
-    ensures tables { entering.meant (names_of loaded.now.file.now loaded.now.names.now loaded.now.lengths.now (length loaded.now.names.now))
+    ensures tables { entering.meant (file_names loaded.now)
         (entering.added_in added.new) (rows_in table.new) result
-        ≡ split_table loaded.now.file.now (tables_with loaded.now.names.now loaded.now.lengths.now loaded.now.sections.now loaded.now.symbols.now [] loaded.now.partials.now []) table.old.room
-        (entering.ceilings (names_of loaded.now.file.now loaded.now.names.now loaded.now.lengths.now (length loaded.now.names.now)) added.old.most added.old.most_bytes) }
+        ≡ split_table loaded.now.file.now (split_tables loaded.now) table.old.room
+        (entering.ceilings (file_names loaded.now) added.old.most added.old.most_bytes) }
     ensures ceilings { entering.SameCeilings added.old added.new }
     ensures room { table.new.room ≡ table.old.room }
 {
