@@ -3,15 +3,12 @@
 #![tactic(auto)]
 
 ghost use Rattle.std.specs.Prelude.{◌≡◌, ◌*◌, ◌≤◌, ◌<◌, length};
-ghost use Rattle.tables.specs.Records.{sections_in};
 ghost use Rattle.name_table.specs.Stored as stored;
 ghost use Rattle.sections.specs.Image.{image_in};
-ghost use Rattle.sections.specs.Sections.{sections_of};
 ghost use Rattle.stage_symbols.specs.StageSymbols as symbol_columns;
-ghost use Rattle.walk.specs.Steps.{Asked};
 ghost use Rattle.walk.specs.Giving.{output_in};
 ghost use Rattle.stage_walk.specs.Room.{room_in};
-ghost use Rattle.stage_walk.specs.Lines.{Gives, Headed};
+ghost use Rattle.stage_walk.specs.Lines.{Gives, AskedIn, HeadedIn, heads_in, sections_lent};
 ghost use Rattle.entry_split_obj.specs.Entry.{split_obj_of, Laid, Leaves};
 ghost use Rattle.entry_split_obj.specs.Lines.{from_relocs, from_symbols, from_sections, made_by, word_by, Fits, Names as NamesRead, sizes_of};
 ghost use Rattle.pieces.specs.Room.{Ceilings};
@@ -36,15 +33,15 @@ fn from_relocs(
     floors: &mut [u32],
     tables: &mut PieceTables,
 ) -> Result<(), Refusal>
-    requires { Asked obj.now.symbols.bytes.now obj.now.symbols.places.now obj.now.order.now obj.now.names.bytes.now obj.now.names.places.now obj.now.names.lengths.now
-        × Headed obj.now.heads.bytes.now obj.now.heads.places.now image.now.bytes.now image.now.places.now obj.now.names.places.now
+    requires { AskedIn obj.now
+        × HeadedIn obj.now.heads image.now obj.now.names.places.now
         × (length obj.now.names.lengths.now ≤ 4096)
         × (length obj.now.symbols.places.now ≤ 4096)
         × (length places.old ≡ 4096)
         × (length floors.old ≡ 64)
         × Ceilings tables.old.room }
     ensures { Gives
-        (from_relocs obj.now.names.lengths.now (sections_in obj.now.heads.bytes.now obj.now.heads.places.now) (image_in obj.now) (sections_of obj.now.heads.bytes.now obj.now.heads.places.now image.now.bytes.now image.now.places.now) lent.now.relocs.now lent.now.splits.now lent.now.units.now tables.old.room)
+        (from_relocs obj.now.names.lengths.now (heads_in obj.now.heads) (image_in obj.now) (sections_lent obj.now.heads image.now) lent.now.relocs.now lent.now.splits.now lent.now.units.now tables.old.room)
         tables.old tables.new result }
 {
     take_relocs(
@@ -76,13 +73,13 @@ fn with_relocs(
     lent: &StageTables,
     tables: &mut PieceTables,
 ) -> Result<(), Refusal>
-    requires { Asked obj.now.symbols.bytes.now obj.now.symbols.places.now obj.now.order.now obj.now.names.bytes.now obj.now.names.places.now obj.now.names.lengths.now
-        × Headed obj.now.heads.bytes.now obj.now.heads.places.now image.now.bytes.now image.now.places.now obj.now.names.places.now
+    requires { AskedIn obj.now
+        × HeadedIn obj.now.heads image.now obj.now.names.places.now
         × (length obj.now.names.lengths.now ≤ 4096)
         × (length obj.now.symbols.places.now ≤ 4096)
         × Ceilings tables.old.room }
     ensures { Gives
-        (from_relocs obj.now.names.lengths.now (sections_in obj.now.heads.bytes.now obj.now.heads.places.now) (image_in obj.now) (sections_of obj.now.heads.bytes.now obj.now.heads.places.now image.now.bytes.now image.now.places.now) lent.now.relocs.now lent.now.splits.now lent.now.units.now tables.old.room)
+        (from_relocs obj.now.names.lengths.now (heads_in obj.now.heads) (image_in obj.now) (sections_lent obj.now.heads image.now) lent.now.relocs.now lent.now.splits.now lent.now.units.now tables.old.room)
         tables.old tables.new result }
 {
     let mut places = [0u32; 4096];
@@ -102,12 +99,12 @@ fn from_symbols(
     tables: &mut PieceTables,
 ) -> Result<(), Refusal>
     requires { NamesRead names.now.bytes.now names.now.places.now names.now.lengths.now
-        × Headed heads.now.bytes.now heads.now.places.now image.now.bytes.now image.now.places.now names.now.places.now
+        × HeadedIn heads.now image.now names.now.places.now
         × (length names.now.lengths.now ≤ 4096)
         × symbol_columns.Room 4096 places.old order.old scratch.old
         × Ceilings tables.old.room }
     ensures { Gives
-        (from_symbols names.now.bytes.now names.now.places.now names.now.lengths.now (sections_in heads.now.bytes.now heads.now.places.now) (sections_of heads.now.bytes.now heads.now.places.now image.now.bytes.now image.now.places.now) lent.now.symbols.now lent.now.relocs.now lent.now.splits.now lent.now.units.now tables.old.room)
+        (from_symbols names.now.bytes.now names.now.places.now names.now.lengths.now (heads_in heads.now) (sections_lent heads.now image.now) lent.now.symbols.now lent.now.relocs.now lent.now.splits.now lent.now.units.now tables.old.room)
         tables.old tables.new result }
 {
     let ordered = take_symbol_order(
@@ -145,11 +142,11 @@ fn with_symbols(
     tables: &mut PieceTables,
 ) -> Result<(), Refusal>
     requires { NamesRead names.now.bytes.now names.now.places.now names.now.lengths.now
-        × Headed heads.now.bytes.now heads.now.places.now image.now.bytes.now image.now.places.now names.now.places.now
+        × HeadedIn heads.now image.now names.now.places.now
         × (length names.now.lengths.now ≤ 4096)
         × Ceilings tables.old.room }
     ensures { Gives
-        (from_symbols names.now.bytes.now names.now.places.now names.now.lengths.now (sections_in heads.now.bytes.now heads.now.places.now) (sections_of heads.now.bytes.now heads.now.places.now image.now.bytes.now image.now.places.now) lent.now.symbols.now lent.now.relocs.now lent.now.splits.now lent.now.units.now tables.old.room)
+        (from_symbols names.now.bytes.now names.now.places.now names.now.lengths.now (heads_in heads.now) (sections_lent heads.now image.now) lent.now.symbols.now lent.now.relocs.now lent.now.splits.now lent.now.units.now tables.old.room)
         tables.old tables.new result }
 {
     let mut places = [0u32; 4096];

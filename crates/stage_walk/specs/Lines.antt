@@ -7,10 +7,13 @@ use Rattle.obj.specs.declared.Refusal.{Refusal}
 use Rattle.obj.specs.declared.Section.{Section}
 use Rattle.obj.specs.declared.Reloc.{Reloc}
 use Rattle.obj.specs.declared.Split.{Split}
+use Rattle.obj.specs.declared.Table.{Table}
+use Rattle.tables.specs.Records.{sections_in}
+use Rattle.sections.specs.declared.Obj.{Obj}
 use Rattle.tables.specs.Tables.{main_ceilings, AllHeld}
 use Rattle.stage_tables.specs.StageTables.{stage_splits, splits_check, units_check}
 use Rattle.sections.specs.Image.{Image}
-use Rattle.sections.specs.Sections.{Sections, Kept}
+use Rattle.sections.specs.Sections.{Sections, sections_of, Kept}
 use Rattle.splits.specs.Columns.{Columns, row_at}
 use Rattle.relocs.specs.Relocs.{reloc_of, Whole, Rising}
 use Rattle.units.specs.Units.{unit_names}
@@ -19,6 +22,7 @@ use Rattle.pieces.specs.declared.lent.PieceTables.{PieceTables}
 use Rattle.pieces.specs.Tables.{SameLent}
 use Rattle.walk.specs.Walk.{Output, walk}
 use Rattle.walk.specs.Giving.{input_of, gave_meaning}
+use Rattle.walk.specs.Steps.{Asked}
 
 -- ---- the definition, from one table on
 
@@ -53,6 +57,20 @@ pub record Gives (o : Outcome Output) (before after : PieceTables) (r : Result (
 pub record Headed (heads head_places image image_places name_places : List ℕ) : Type 0 where
   pub all : AllHeld 15 heads head_places
   pub kept : Kept heads head_places image image_places name_places
+
+-- .. by the tables that hold them: symbols in order with their names, sections with their names and bytes
+abbrev pub AskedIn : Obj → Type 0
+AskedIn o = Asked o.symbols.bytes.now o.symbols.places.now o.order.now o.names.bytes.now o.names.places.now o.names.lengths.now
+
+abbrev pub HeadedIn : (heads image : Table) → (name_places : List ℕ) → Type 0
+HeadedIn heads image name_places = Headed heads.bytes.now heads.places.now image.bytes.now image.places.now name_places
+
+-- the sections' records, and the sections with their bytes
+abbrev pub heads_in : (heads : Table) → List Section
+heads_in heads = sections_in heads.bytes.now heads.places.now
+
+abbrev pub sections_lent : (heads image : Table) → Sections
+sections_lent heads image = sections_of heads.bytes.now heads.places.now image.bytes.now image.places.now
 
 -- the relocations that passed
 pub record Relocated (relocs reloc_places : List ℕ) : Type 0 where

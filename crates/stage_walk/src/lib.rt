@@ -3,16 +3,13 @@
 #![tactic(auto)]
 
 ghost use Rattle.std.specs.Prelude.{◌≡◌, ◌≤◌, ◌<◌, length};
-ghost use Rattle.tables.specs.Records.{sections_in};
 ghost use Rattle.sections.specs.Image.{image_in};
-ghost use Rattle.sections.specs.Sections.{sections_of};
 ghost use Rattle.splits.specs.Table.{columns_of, rows_of};
 ghost use Rattle.relocs.specs.Relocs.{reloc_of};
 ghost use Rattle.units.specs.Units.{unit_names};
-ghost use Rattle.walk.specs.Steps.{Asked};
 ghost use Rattle.split_obj.specs.Loop.{Ready};
 ghost use Rattle.stage_walk.specs.Room.{room_for, room_in};
-ghost use Rattle.stage_walk.specs.Lines.{walk_of, from_units, from_splits, Gives, Headed, Relocated, Rowed, UnitScratch};
+ghost use Rattle.stage_walk.specs.Lines.{walk_of, from_units, from_splits, Gives, AskedIn, HeadedIn, Relocated, heads_in, sections_lent, Rowed, UnitScratch};
 ghost use Rattle.pieces.specs.Room.{Ceilings};
 
 use obj::{Refusal, Table};
@@ -61,7 +58,7 @@ pub fn walk_columns(
         × (length obj.now.symbols.places.now ≤ 4096)
         × Ceilings tables.old.room }
     ensures { Gives
-        (walk_of (image_in obj.now) (sections_of obj.now.heads.bytes.now obj.now.heads.places.now image.now.bytes.now image.now.places.now) (reloc_of relocs.now.bytes.now relocs.now.places.now) (length relocs.now.places.now) (rows_of splits.now) (unit_names unit_table.now.bytes.now unit_table.now.places.now) tables.old.room)
+        (walk_of (image_in obj.now) (sections_lent obj.now.heads image.now) (reloc_of relocs.now.bytes.now relocs.now.places.now) (length relocs.now.places.now) (rows_of splits.now) (unit_names unit_table.now.bytes.now unit_table.now.places.now) tables.old.room)
         tables.old tables.new result }
 {
     let mut scratch = [0u16; 9216];
@@ -97,8 +94,8 @@ fn from_units(
     unit_numbers: &mut [u16],
     tables: &mut PieceTables,
 ) -> Result<(), Refusal>
-    requires { Asked obj.now.symbols.bytes.now obj.now.symbols.places.now obj.now.order.now obj.now.names.bytes.now obj.now.names.places.now obj.now.names.lengths.now
-        × Headed obj.now.heads.bytes.now obj.now.heads.places.now image.now.bytes.now image.now.places.now obj.now.names.places.now
+    requires { AskedIn obj.now
+        × HeadedIn obj.now.heads image.now obj.now.names.places.now
         × Relocated relocs.now.bytes.now relocs.now.places.now
         × Rowed (columns_of splits.now) splits.now.count (length obj.now.names.lengths.now)
         × (length obj.now.names.lengths.now ≤ 4096)
@@ -106,7 +103,7 @@ fn from_units(
         × UnitScratch places.old unit_numbers.old
         × Ceilings tables.old.room }
     ensures { Gives
-        (from_units obj.now.names.lengths.now (image_in obj.now) (sections_of obj.now.heads.bytes.now obj.now.heads.places.now image.now.bytes.now image.now.places.now) (reloc_of relocs.now.bytes.now relocs.now.places.now) (length relocs.now.places.now) (rows_of splits.now) unit_table.now tables.old.room)
+        (from_units obj.now.names.lengths.now (image_in obj.now) (sections_lent obj.now.heads image.now) (reloc_of relocs.now.bytes.now relocs.now.places.now) (length relocs.now.places.now) (rows_of splits.now) unit_table.now tables.old.room)
         tables.old tables.new result }
 {
     take_units(obj.names.lengths, unit_table, 1024, places)?;
@@ -136,15 +133,15 @@ fn with_units(
     unit_table: &[u8],
     tables: &mut PieceTables,
 ) -> Result<(), Refusal>
-    requires { Asked obj.now.symbols.bytes.now obj.now.symbols.places.now obj.now.order.now obj.now.names.bytes.now obj.now.names.places.now obj.now.names.lengths.now
-        × Headed obj.now.heads.bytes.now obj.now.heads.places.now image.now.bytes.now image.now.places.now obj.now.names.places.now
+    requires { AskedIn obj.now
+        × HeadedIn obj.now.heads image.now obj.now.names.places.now
         × Relocated relocs.now.bytes.now relocs.now.places.now
         × Rowed (columns_of splits.now) splits.now.count (length obj.now.names.lengths.now)
         × (length obj.now.names.lengths.now ≤ 4096)
         × (length obj.now.symbols.places.now ≤ 4096)
         × Ceilings tables.old.room }
     ensures { Gives
-        (from_units obj.now.names.lengths.now (image_in obj.now) (sections_of obj.now.heads.bytes.now obj.now.heads.places.now image.now.bytes.now image.now.places.now) (reloc_of relocs.now.bytes.now relocs.now.places.now) (length relocs.now.places.now) (rows_of splits.now) unit_table.now tables.old.room)
+        (from_units obj.now.names.lengths.now (image_in obj.now) (sections_lent obj.now.heads image.now) (reloc_of relocs.now.bytes.now relocs.now.places.now) (length relocs.now.places.now) (rows_of splits.now) unit_table.now tables.old.room)
         tables.old tables.new result }
 {
     let mut places = [0u32; 1024];
@@ -172,8 +169,8 @@ fn from_splits(
     table: &mut SplitTable,
     tables: &mut PieceTables,
 ) -> Result<(), Refusal>
-    requires { Asked obj.now.symbols.bytes.now obj.now.symbols.places.now obj.now.order.now obj.now.names.bytes.now obj.now.names.places.now obj.now.names.lengths.now
-        × Headed obj.now.heads.bytes.now obj.now.heads.places.now image.now.bytes.now image.now.places.now obj.now.names.places.now
+    requires { AskedIn obj.now
+        × HeadedIn obj.now.heads image.now obj.now.names.places.now
         × Relocated relocs.now.bytes.now relocs.now.places.now
         × (length obj.now.names.lengths.now ≤ 4096)
         × (length obj.now.symbols.places.now ≤ 4096)
@@ -181,7 +178,7 @@ fn from_splits(
         × (table.old.room ≡ 1024)
         × Ceilings tables.old.room }
     ensures { Gives
-        (from_splits obj.now.names.lengths.now (sections_in obj.now.heads.bytes.now obj.now.heads.places.now) (image_in obj.now) (sections_of obj.now.heads.bytes.now obj.now.heads.places.now image.now.bytes.now image.now.places.now) (reloc_of relocs.now.bytes.now relocs.now.places.now) (length relocs.now.places.now) splits.now unit_table.now tables.old.room)
+        (from_splits obj.now.names.lengths.now (heads_in obj.now.heads) (image_in obj.now) (sections_lent obj.now.heads image.now) (reloc_of relocs.now.bytes.now relocs.now.places.now) (length relocs.now.places.now) splits.now unit_table.now tables.old.room)
         tables.old tables.new result }
 {
     take_split_columns(obj.names.lengths, &obj.heads, splits, places, table)?;
@@ -197,14 +194,14 @@ pub fn with_splits(
     unit_table: &[u8],
     tables: &mut PieceTables,
 ) -> Result<(), Refusal>
-    requires { Asked obj.now.symbols.bytes.now obj.now.symbols.places.now obj.now.order.now obj.now.names.bytes.now obj.now.names.places.now obj.now.names.lengths.now
-        × Headed obj.now.heads.bytes.now obj.now.heads.places.now image.now.bytes.now image.now.places.now obj.now.names.places.now
+    requires { AskedIn obj.now
+        × HeadedIn obj.now.heads image.now obj.now.names.places.now
         × Relocated relocs.now.bytes.now relocs.now.places.now
         × (length obj.now.names.lengths.now ≤ 4096)
         × (length obj.now.symbols.places.now ≤ 4096)
         × Ceilings tables.old.room }
     ensures { Gives
-        (from_splits obj.now.names.lengths.now (sections_in obj.now.heads.bytes.now obj.now.heads.places.now) (image_in obj.now) (sections_of obj.now.heads.bytes.now obj.now.heads.places.now image.now.bytes.now image.now.places.now) (reloc_of relocs.now.bytes.now relocs.now.places.now) (length relocs.now.places.now) splits.now unit_table.now tables.old.room)
+        (from_splits obj.now.names.lengths.now (heads_in obj.now.heads) (image_in obj.now) (sections_lent obj.now.heads image.now) (reloc_of relocs.now.bytes.now relocs.now.places.now) (length relocs.now.places.now) splits.now unit_table.now tables.old.room)
         tables.old tables.new result }
 {
     let mut places = [0u32; 1024];
