@@ -1,3 +1,5 @@
 pub mod Listing
 pub mod Cursor
 pub mod Tables
+pub mod Room
+pub mod Lent

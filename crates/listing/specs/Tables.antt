@@ -65,22 +65,18 @@ pub record Known (names more : Columns) (k : ℕ) : Type 0 where
   pub base : k < length names.places → Spelled names k
   pub added : length names.places ≤ k → Spelled more (k - length names.places)
 
--- each record can be read, and its name is known
+-- each record's number is one of the image, where its record can be read, and each name is known. That the walk's records lie in their tables is `Kept`
+-- (specs/Room.antt).
 pub record Readable (t : Tables) : Type 0 where
   pub few_units : length t.units.places ≤ 65535
-  pub few_pieces : t.pieces.count ≤ 1024
-  pub few_symbols : t.piece_symbols.count ≤ 4096
   pub units : (k : ℕ) → k < length t.units.places → Held 8 t.units.bytes t.units.places k
   pub unit_names : (k : ℕ) → k < length t.units.places → Known t.base t.added (unit_at t.units.bytes (get_or t.units.places k 0)).name
-  pub pieces : piece_width * t.pieces.count ≤ length t.pieces.bytes
   pub piece_names : (k : ℕ) → k < t.pieces.count → Known t.base t.added (piece_at t.pieces.bytes (piece_width * k)).name
-  pub piece_symbols : 12 * t.piece_symbols.count ≤ length t.piece_symbols.bytes
   pub symbols : (k : ℕ) → k < t.piece_symbols.count → Held 20 t.symbols.bytes t.symbols.places (symbol_at t.piece_symbols.bytes (12 * k)).symbol
   pub symbol_names :
       (k : ℕ)
       → k < t.piece_symbols.count
       → Known t.base t.added (symbol_of t.symbols.bytes t.symbols.places (symbol_at t.piece_symbols.bytes (12 * k)).symbol).name
-  pub piece_relocs : 8 * t.piece_relocs.count ≤ length t.piece_relocs.bytes
   pub relocs : (k : ℕ) → k < t.piece_relocs.count → Held 23 t.relocs.bytes t.relocs.places (reloc_at t.piece_relocs.bytes (8 * k)).relocation
 
 -- ---- what is read of them

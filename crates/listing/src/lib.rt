@@ -1,19 +1,22 @@
 // The listing of a run, a line at a time: each line goes into a small lent buffer, and a cursor says where the next begins. No buffer holds the whole listing.
 #![tactic(auto)]
 
+mod piece_lists;
 mod reading;
 mod seek;
 mod text;
 
-ghost use Rattle.std.specs.Prelude.{◌≡◌, ◌≤◌, length};
+ghost use Rattle.std.specs.Prelude.{◌≤◌, length};
 ghost use Rattle.listing.specs.Cursor.{Valid, NextLine};
 ghost use Rattle.listing.specs.Tables.{run_of, Readable};
+ghost use Rattle.listing.specs.Lent.{tables_of};
 
 use crate::seek::seek;
 use crate::text::{piece_line, reloc_line, symbol_line, unit_line};
 use lines::write_total;
 use names::Names;
 use obj::Table;
+pub use piece_lists::PieceLists;
 
 // Where the next line begins, and the sum of the figures so far.
 #[derive(Clone, Copy)]
@@ -40,97 +43,32 @@ pub fn next_line<'a>(
     symbols: &Table,
     relocs: &Table,
     unit_table: &Table,
-    pieces: &[u8],
-    piece_count: usize,
-    piece_symbols: &[u8],
-    piece_symbol_count: usize,
-    piece_relocs: &[u8],
-    piece_reloc_count: usize,
+    lists: &PieceLists,
     cursor: Cursor,
     out: &mut [u8],
 ) -> Option<Line>
-    requires { (208 ≤ length out.old)
-        × Valid (length unit_table.now.places.now) cursor
-        × Readable
-        (record {
-          base = record { bytes = base.now.bytes.now; places = base.now.places.now; lengths = base.now.lengths.now };
-          added = record { bytes = added.now.bytes.now; places = added.now.places.now; lengths = added.now.lengths.now };
-          symbols = record { bytes = symbols.now.bytes.now; places = symbols.now.places.now };
-          relocs = record { bytes = relocs.now.bytes.now; places = relocs.now.places.now };
-          units = record { bytes = unit_table.now.bytes.now; places = unit_table.now.places.now };
-          pieces = record { bytes = pieces.now; count = piece_count };
-          piece_symbols = record { bytes = piece_symbols.now; count = piece_symbol_count };
-          piece_relocs = record { bytes = piece_relocs.now; count = piece_reloc_count };
-        }) }
-    ensures { NextLine (run_of
-        (record {
-          base = record { bytes = base.now.bytes.now; places = base.now.places.now; lengths = base.now.lengths.now };
-          added = record { bytes = added.now.bytes.now; places = added.now.places.now; lengths = added.now.lengths.now };
-          symbols = record { bytes = symbols.now.bytes.now; places = symbols.now.places.now };
-          relocs = record { bytes = relocs.now.bytes.now; places = relocs.now.places.now };
-          units = record { bytes = unit_table.now.bytes.now; places = unit_table.now.places.now };
-          pieces = record { bytes = pieces.now; count = piece_count };
-          piece_symbols = record { bytes = piece_symbols.now; count = piece_symbol_count };
-          piece_relocs = record { bytes = piece_relocs.now; count = piece_reloc_count };
-        }))
-        cursor out.old out.new result }
+    requires { Valid (length unit_table.now.places.now) cursor
+        × Readable (tables_of base.now added.now symbols.now relocs.now unit_table.now lists.now)
+        × (208 ≤ length out.old) }
+    ensures { NextLine (run_of (tables_of base.now added.now symbols.now relocs.now unit_table.now lists.now)) cursor out.old out.new result }
 {
-    let ready = seek(
-        unit_table.places.len(),
-        pieces,
-        piece_count,
-        piece_symbols,
-        piece_symbol_count,
-        piece_relocs,
-        piece_reloc_count,
-        cursor,
-    );
+    let units = unit_table.places.len() as u16;
+    let ready = seek(units, lists, cursor);
     match ready {
         Cursor::Units { unit, bytes } => Some(unit_line(
-            base,
-            added,
-            symbols,
-            unit_table,
-            pieces,
-            piece_count,
-            piece_symbols,
-            piece_symbol_count,
-            unit,
-            bytes,
-            out,
+            base, added, symbols, unit_table, lists, unit, bytes, out,
         )),
         Cursor::Pieces { unit, at, bytes } => Some(piece_line(
-            base, added, pieces, unit, at, bytes, out,
+            base, added, lists, unit, at, bytes, out,
         )),
         Cursor::Symbols { unit, at, bytes } => Some(symbol_line(
-            base,
-            added,
-            symbols,
-            pieces,
-            piece_count,
-            piece_symbols,
-            unit,
-            at,
-            bytes,
-            out,
+            base, added, symbols, lists, unit, at, bytes, out,
         )),
-        Cursor::Relocs { unit, at, bytes } => Some(reloc_line(
-            relocs,
-            pieces,
-            piece_count,
-            piece_relocs,
-            unit,
-            at,
-            bytes,
-            out,
-        )),
+        Cursor::Relocs { unit, at, bytes } => {
+            Some(reloc_line(relocs, lists, unit, at, bytes, out))
+        }
         Cursor::Total { bytes } => {
-            let length = write_total(
-                out,
-                unit_table.places.len() as u16,
-                piece_count as u16,
-                bytes,
-            );
+            let length = write_total(out, units, lists.made.pieces as u16, bytes);
             Some(Line {
                 length,
                 next: Cursor::Done,

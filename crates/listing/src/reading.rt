@@ -1,12 +1,12 @@
 // What is read of the lent tables: a name, a piece, the owner of a symbol, a unit's figure.
-ghost use Rattle.std.specs.Prelude.{◌≡◌, ℕ, ◌+◌, ◌*◌, ◌≤◌, ◌<◌, length};
-ghost use Rattle.obj.specs.Records.{Held};
-ghost use Rattle.symbol_order.specs.Order.{symbol_of};
-ghost use Rattle.pieces.specs.Pieces.{piece_at, symbol_at, pieces_in, symbols_in, piece_width};
+ghost use Rattle.std.specs.Prelude.{◌≡◌, ◌<◌};
 ghost use Rattle.listing.specs.Listing.{sizes, pieces_of, common_size, commons, symbols_of};
 ghost use Rattle.listing.specs.Cursor.{piece_of, owner_at};
 ghost use Rattle.listing.specs.Tables.{Known, Name, Adds, Summed, Figure};
+ghost use Rattle.listing.specs.Lent.{listed_pieces, listed_symbols, piece_on, symbol_on, symbol_of, SymbolsHeld, columns_of};
+ghost use Rattle.obj.specs.Records.{Held};
 
+use crate::PieceLists;
 use lines::Owner;
 use names::{Names, name_at};
 use obj::{Table, symbol_at};
@@ -14,15 +14,8 @@ use pieces::{Piece, piece_at, piece_symbol_at};
 
 // A number below the base's count is a base name, else an added one.
 pub fn name_of<'a>(base: &Names<'a, '_, '_>, added: &Names<'a, '_, '_>, k: usize) -> &'a [u8]
-    requires { Known
-        (record { bytes = base.now.bytes.now; places = base.now.places.now; lengths = base.now.lengths.now })
-        (record { bytes = added.now.bytes.now; places = added.now.places.now; lengths = added.now.lengths.now })
-        k }
-    ensures { Name
-        (record { bytes = base.now.bytes.now; places = base.now.places.now; lengths = base.now.lengths.now })
-        (record { bytes = added.now.bytes.now; places = added.now.places.now; lengths = added.now.lengths.now })
-        k
-        result.now }
+    requires { Known (columns_of base.now) (columns_of added.now) k }
+    ensures { Name (columns_of base.now) (columns_of added.now) k result.now }
 {
     if k < base.places.len() {
         return name_at(base, k);
@@ -31,12 +24,11 @@ pub fn name_of<'a>(base: &Names<'a, '_, '_>, added: &Names<'a, '_, '_>, k: usize
 }
 
 // Piece k; all zeros where there is none.
-pub fn piece_of(pieces: &[u8], count: usize, k: usize) -> Piece
-    requires { piece_width * count ≤ length pieces.now }
-    ensures { result ≡ piece_of (pieces_in pieces.now count) k }
+pub fn piece_of(lists: &PieceLists, k: usize) -> Piece
+    ensures { result ≡ piece_of (listed_pieces lists.now) k }
 {
-    if k < count {
-        return piece_at(pieces, k);
+    if k < lists.made.pieces {
+        return piece_at(lists.pieces, k);
     }
     Piece {
         unit: 0,
@@ -52,23 +44,22 @@ pub fn piece_of(pieces: &[u8], count: usize, k: usize) -> Piece
 }
 
 // "piece or `common`"
-pub fn owner_of(pieces: &[u8], count: usize, place: u16) -> Owner
-    requires { piece_width * count ≤ length pieces.now }
-    ensures { result ≡ owner_at (pieces_in pieces.now count) place }
+pub fn owner_of(lists: &PieceLists, place: u16) -> Owner
+    ensures { result ≡ owner_at (listed_pieces lists.now) place }
 {
     if place == 65535 {
         return Owner::Common;
     }
-    let p = piece_of(pieces, count, place as usize);
+    let p = piece_of(lists, place as usize);
     Owner::Piece(p.number)
 }
 
 // What piece k adds to the figure of the unit.
-fn size_in(pieces: &[u8], k: usize, unit: u16) -> u64
-    requires { piece_width * k + piece_width ≤ length pieces.now }
-    ensures { Adds unit (piece_at pieces.now (piece_width * k)).unit (piece_at pieces.now (piece_width * k)).size result }
+fn size_in(lists: &PieceLists, k: usize, unit: u16) -> u64
+    requires { k < lists.now.made.pieces }
+    ensures { Adds unit (piece_on lists.now k).unit (piece_on lists.now k).size result }
 {
-    let p = piece_at(pieces, k);
+    let p = piece_at(lists.pieces, k);
     if p.unit == unit {
         return p.size as u64;
     }
@@ -76,25 +67,23 @@ fn size_in(pieces: &[u8], k: usize, unit: u16) -> u64
 }
 
 // "the pieces' sizes"
-fn pieces_size(pieces: &[u8], count: usize, unit: u16) -> u64
-    requires { (piece_width * count ≤ length pieces.now) × (count ≤ 1024) }
-    ensures { Summed count (sizes (pieces_of unit (pieces_in pieces.now count))) result }
+fn pieces_size(lists: &PieceLists, unit: u16) -> u64
+    ensures { Summed lists.now.made.pieces (sizes (pieces_of unit (listed_pieces lists.now))) result }
 {
     let mut sum: u64 = 0;
-    for k in 0..count {
-        sum += size_in(pieces, k, unit);
+    for k in 0..lists.made.pieces {
+        sum += size_in(lists, k, unit);
     }
     sum
 }
 
 // What piece symbol k adds to the figure of the unit: the size of the image's symbol, if it is listed as common and that size is known.
-fn common_in(symbols: &Table, piece_symbols: &[u8], k: usize, unit: u16) -> u64
-    requires { (12 * k + 12 ≤ length piece_symbols.now)
-        × Held 20 symbols.now.bytes.now symbols.now.places.now (symbol_at piece_symbols.now (12 * k)).symbol }
-    ensures { Adds unit (symbol_at piece_symbols.now (12 * k)).unit
-        (common_size (symbol_of symbols.now.bytes.now symbols.now.places.now) (symbol_at piece_symbols.now (12 * k))) result }
+fn common_in(symbols: &Table, lists: &PieceLists, k: usize, unit: u16) -> u64
+    requires { (k < lists.now.made.symbols)
+        × Held 20 symbols.now.bytes.now symbols.now.places.now (symbol_on lists.now k).symbol }
+    ensures { Adds unit (symbol_on lists.now k).unit (common_size (symbol_of symbols.now) (symbol_on lists.now k)) result }
 {
-    let y = piece_symbol_at(piece_symbols, k);
+    let y = piece_symbol_at(lists.symbols, k);
     if y.unit != unit {
         return 0;
     }
@@ -109,38 +98,23 @@ fn common_in(symbols: &Table, piece_symbols: &[u8], k: usize, unit: u16) -> u64
 }
 
 // "the sizes of the unit's symbols of known size that are listed as `common`, each once"
-fn commons_size(symbols: &Table, piece_symbols: &[u8], count: usize, unit: u16) -> u64
-    requires { (12 * count ≤ length piece_symbols.now)
-        × (count ≤ 4096)
-        × ((k : ℕ) → k < count → Held 20 symbols.now.bytes.now symbols.now.places.now (symbol_at piece_symbols.now (12 * k)).symbol) }
-    ensures { Summed count
-        (commons (symbol_of symbols.now.bytes.now symbols.now.places.now) (symbols_of unit (symbols_in piece_symbols.now count))) result }
+fn commons_size(symbols: &Table, lists: &PieceLists, unit: u16) -> u64
+    requires { SymbolsHeld symbols.now lists.now }
+    ensures { Summed lists.now.made.symbols (commons (symbol_of symbols.now) (symbols_of unit (listed_symbols lists.now))) result }
 {
     let mut sum: u64 = 0;
-    for k in 0..count {
-        sum += common_in(symbols, piece_symbols, k, unit);
+    for k in 0..lists.made.symbols {
+        sum += common_in(symbols, lists, k, unit);
     }
     sum
 }
 
 // "the unit figure is the pieces' sizes plus ..", in 64 bits
-pub fn figure_of(
-    symbols: &Table,
-    pieces: &[u8],
-    piece_count: usize,
-    piece_symbols: &[u8],
-    piece_symbol_count: usize,
-    unit: u16,
-) -> u64
-    requires { (piece_width * piece_count ≤ length pieces.now)
-        × (piece_count ≤ 1024)
-        × (12 * piece_symbol_count ≤ length piece_symbols.now)
-        × (piece_symbol_count ≤ 4096)
-        × ((k : ℕ) → k < piece_symbol_count → Held 20 symbols.now.bytes.now symbols.now.places.now (symbol_at piece_symbols.now (12 * k)).symbol) }
-    ensures { Figure (symbol_of symbols.now.bytes.now symbols.now.places.now) (pieces_in pieces.now piece_count)
-        (symbols_in piece_symbols.now piece_symbol_count) unit result }
+pub fn figure_of(symbols: &Table, lists: &PieceLists, unit: u16) -> u64
+    requires { SymbolsHeld symbols.now lists.now }
+    ensures { Figure (symbol_of symbols.now) (listed_pieces lists.now) (listed_symbols lists.now) unit result }
 {
-    let of_pieces = pieces_size(pieces, piece_count, unit);
-    let of_commons = commons_size(symbols, piece_symbols, piece_symbol_count, unit);
+    let of_pieces = pieces_size(lists, unit);
+    let of_commons = commons_size(symbols, lists, unit);
     of_pieces + of_commons
 }

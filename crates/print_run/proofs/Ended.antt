@@ -60,19 +60,26 @@ module _ (file places lengths : List ℕ) (counts : load.Counts) (c : Beside) (t
   run_printable (Ok r) e h loaded long lengths_long pieces_long entries-long offsets_long =
       let l = loaded _ refl in
       let u = loaded_usable file (tables_in counts places lengths) l in
-      let w = h.3 in
-      record {
-        places_long = long;
-        lengths_long = lengths_long;
-        names = part_few 10304 counts.names 4096 places (omega arith) u.good.within.names;
-        symbols = part_few 64 counts.symbols 4096 places (omega arith) u.good.within.symbols;
-        relocations = part_few 4160 counts.relocations 4096 places (omega arith) u.good.within.relocations;
-        few = h.2.few;
-        readable =
-            run_readable u (rooms_in file 4096 65535 1024 units-room (room_in a b d) (tables_in counts places lengths)) c table units pieces entries offsets r.names r.used r.splits r.units r.made
-            (e ∙ run_stages file _ _ l) h.0.packed h.2 (omega (arith, w.pieces, room_pieces 1024 a)) (omega (arith, w.pieces, room_low 1024 a piece_width))
-            (omega (arith, w.symbols, room_12 4096 b)) (omega (arith, w.symbols, room_low 4096 b 12)) (omega (arith, w.relocs, room_8 4096 d));
-      }
+      let w = h.3 in (
+        record {
+          pieces_long = omega (arith, w.pieces, room_pieces 1024 a);
+          symbols_long = omega (arith, w.symbols, room_12 4096 b);
+          relocs_long = omega (arith, w.relocs, room_8 4096 d);
+          few_pieces = omega (arith, w.pieces, room_low 1024 a piece_width);
+          few_symbols = omega (arith, w.symbols, room_low 4096 b 12);
+        },
+        record {
+          places_long = long;
+          lengths_long = lengths_long;
+          names = part_few 10304 counts.names 4096 places (omega arith) u.good.within.names;
+          symbols = part_few 64 counts.symbols 4096 places (omega arith) u.good.within.symbols;
+          relocations = part_few 4160 counts.relocations 4096 places (omega arith) u.good.within.relocations;
+          few = h.2.few;
+          readable =
+              run_readable u (rooms_in file 4096 65535 1024 units-room (room_in a b d) (tables_in counts places lengths)) c table units pieces entries offsets r.names r.used r.splits r.units r.made
+              (e ∙ run_stages file _ _ l) h.0.packed h.2;
+        },
+      )
   run_printable (Err (Cycle n)) e h loaded long lengths_long pieces_long entries-long offsets_long = tt
   run_printable (Err (Refused r)) e h loaded long lengths_long pieces_long entries-long offsets_long = tt
 

@@ -11,16 +11,27 @@ use Rattle.load.specs.Columns.{tables_in}
 use Rattle.load.proofs.Parts.{part-lent}
 use Rattle.pieces.specs.declared.Counts.{Counts}
 use Rattle.listing.specs.Listing.{listing}
-use Rattle.listing.specs.Tables.{Readable, run_of}
-use Rattle.print_run.specs.Printed.{tables_of, done_text, Printable}
+use Rattle.listing.specs.Tables.{Tables, Readable, run_of}
+use Rattle.print_run.specs.Printed.{done_text, Printable}
+
+-- the tables that are lent, of a column of the units' places
+abbrev lent_tables : (file places lengths : List ℕ) → load.Counts → Beside → (units column : List ℕ) → (n : ℕ) → (pieces entries offsets : List ℕ) → Counts → Tables
+lent_tables file places lengths counts added units column n pieces entries offsets made = record {
+  base = record { bytes = file; places = take (10304 + counts.names - 10304) (drop 10304 places); lengths = take counts.names lengths };
+  added = added;
+  symbols = record { bytes = file; places = take (64 + counts.symbols - 64) (drop 64 places) };
+  relocs = record { bytes = file; places = take (4160 + counts.relocations - 4160) (drop 4160 places) };
+  units = record { bytes = units; places = take n column };
+  pieces = record { bytes = pieces; count = made.pieces };
+  piece_symbols = record { bytes = entries; count = made.symbols };
+  piece_relocs = record { bytes = offsets; count = made.relocs };
+}
 
 pub readable_lent : {file places lengths units pieces entries offsets : List ℕ} {counts : load.Counts} {added : Beside} {n : ℕ} {made : Counts}
     → Printable file counts places lengths added units n pieces entries offsets made
     → (column : List ℕ)
     → take n column ≡ stage_places 8 n
-    → Readable
-    (tables_of file (take (10304 + counts.names - 10304) (drop 10304 places)) (take counts.names lengths) added (take (64 + counts.symbols - 64) (drop 64 places))
-    (take (4160 + counts.relocations - 4160) (drop 4160 places)) units (take n column) pieces entries offsets made)
+    → Readable (lent_tables file places lengths counts added units column n pieces entries offsets made)
 unfolding tables_in
 readable_lent {places = places} {counts = counts} p column e =
     rw (part-lent 10304 counts.names places, part-lent 64 counts.symbols places, part-lent 4160 counts.relocations places, e) p.readable
@@ -28,10 +39,7 @@ readable_lent {places = places} {counts = counts} p column e =
 -- .. and what is listed of them is what the run prints
 pub listed_lent : (file places lengths units pieces entries offsets : List ℕ) (counts : load.Counts) (added : Beside) (n : ℕ) (made : Counts) (column : List ℕ)
     → take n column ≡ stage_places 8 n
-    → listing
-    (run_of
-    (tables_of file (take (10304 + counts.names - 10304) (drop 10304 places)) (take counts.names lengths) added (take (64 + counts.symbols - 64) (drop 64 places))
-    (take (4160 + counts.relocations - 4160) (drop 4160 places)) units (take n column) pieces entries offsets made))
+    → listing (run_of (lent_tables file places lengths counts added units column n pieces entries offsets made))
     ≡ done_text file counts places lengths added units n pieces entries offsets made
 unfolding tables_in done_text
 listed_lent file places lengths units pieces entries offsets counts added n made column e =

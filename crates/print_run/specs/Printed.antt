@@ -16,21 +16,10 @@ use Rattle.run_file.specs.RunFile.{Runs}
 use Rattle.splits.specs.Columns.{Columns}
 use Rattle.lines.specs.Lines.{refused_line}
 use Rattle.listing.specs.Listing.{listing}
-use Rattle.listing.specs.Tables.{Tables, Readable, run_of}
+use Rattle.listing.specs.Tables.{Readable, run_of}
+use Rattle.listing.specs.Room.{Kept}
+use Rattle.listing.specs.declared.piece_lists.PieceLists.{PieceLists}
 use Rattle.run_listing.specs.Tables.{listed_tables}
-
--- the tables that the lines are read of: those of the image lie in the file
-abbrev pub tables_of : (file names lengths : List ℕ) → (added : Beside) → (symbols relocs units unit_places pieces entries offsets : List ℕ) → Counts → Tables
-tables_of file names lengths added symbols relocs units unit_places pieces entries offsets made = record {
-  base = record { bytes = file; places = names; lengths = lengths };
-  added = added;
-  symbols = record { bytes = file; places = symbols };
-  relocs = record { bytes = file; places = relocs };
-  units = record { bytes = units; places = unit_places };
-  pieces = record { bytes = pieces; count = made.pieces };
-  piece_symbols = record { bytes = entries; count = made.symbols };
-  piece_relocs = record { bytes = offsets; count = made.relocs };
-}
 
 -- a run that was done, in its tables: n units, and what the walk made. The loader's columns have a place for each record.
 pub record Printable (file : List ℕ) (counts : load.Counts) (places lengths : List ℕ) (added : Beside) (units : List ℕ) (n : ℕ) (pieces entries offsets : List ℕ) (made : Counts) : Type 0 where
@@ -42,9 +31,15 @@ pub record Printable (file : List ℕ) (counts : load.Counts) (places lengths : 
   pub few : n ≤ 1024
   pub readable : Readable (listed_tables file (tables_in counts places lengths) added units pieces entries offsets n made)
 
--- .. and a run that was not done asks nothing of them
+-- .. read of what the walk gave
+abbrev pub PrintableLists : (file : List ℕ) → load.Counts → (places lengths : List ℕ) → Beside → (units : List ℕ) → (n : ℕ) → PieceLists → Type 0
+PrintableLists file counts places lengths added units n l =
+    Printable file counts places lengths added units n l.pieces.now l.symbols.now l.relocs.now l.made
+
+-- .. where the records lie in their tables; and a run that was not done asks nothing of them
 abbrev pub PrintableIf : (file : List ℕ) → load.Counts → (places lengths : List ℕ) → Beside → (units pieces entries offsets : List ℕ) → Result Ran Unlinked → Type 0
-PrintableIf file counts places lengths added units pieces entries offsets (Ok r) = Printable file counts places lengths added units r.units pieces entries offsets r.made
+PrintableIf file counts places lengths added units pieces entries offsets (Ok r) =
+    Kept pieces entries offsets r.made × Printable file counts places lengths added units r.units pieces entries offsets r.made
 PrintableIf file counts places lengths added units pieces entries offsets (Err (Cycle n)) = Unit {0}
 PrintableIf file counts places lengths added units pieces entries offsets (Err (Refused r)) = Unit {0}
 
@@ -54,6 +49,10 @@ PrintableIf file counts places lengths added units pieces entries offsets (Err (
 unfoldable pub done_text : (file : List ℕ) → load.Counts → (places lengths : List ℕ) → Beside → (units : List ℕ) → (n : ℕ) → (pieces entries offsets : List ℕ) → Counts → List ℕ
 done_text file counts places lengths added units n pieces entries offsets made =
     listing (run_of (listed_tables file (tables_in counts places lengths) added units pieces entries offsets n made))
+
+abbrev pub lists_text : (file : List ℕ) → load.Counts → (places lengths : List ℕ) → Beside → (units : List ℕ) → (n : ℕ) → PieceLists → List ℕ
+lists_text file counts places lengths added units n l =
+    done_text file counts places lengths added units n l.pieces.now l.symbols.now l.relocs.now l.made
 
 -- of each answer of a run: "A refusal prints only `refused`, number, section, address", and "61 cycle" is a refusal here, at section and address 0
 abbrev pub text_of : (file : List ℕ) → load.Counts → (places lengths : List ℕ) → Beside → (units pieces entries offsets : List ℕ) → Result Ran Unlinked → List ℕ

@@ -2,24 +2,23 @@
 // buffer of 208 bytes. Writing that fails ends the printing.
 #![tactic(auto)]
 
-ghost use Rattle.std.specs.Prelude.{◌≤◌, ◌≡◌, ◌/◌, length, OnOk};
+ghost use Rattle.std.specs.Prelude.{◌≡◌, ◌/◌, length, OnOk};
 ghost use Rattle.std.specs.Io.KnownBytes.{Appends};
-ghost use Rattle.gap_splits.specs.Added.{beside};
 ghost use Rattle.lines.specs.Lines.{refused_line};
 ghost use Rattle.listing.specs.Listing.{listing};
 ghost use Rattle.listing.specs.Tables.{Readable, run_of};
+ghost use Rattle.listing.specs.Lent.{columns_of, tables_of};
 ghost use Rattle.stage_walk.specs.Room.{room_in};
 ghost use Rattle.run_file.specs.RunFile.{Lent, Loader};
-ghost use Rattle.print_run.specs.Printed.{tables_of, done_text, text_of, Printable, PrintableIf, main_room, Prints};
+ghost use Rattle.print_run.specs.Printed.{PrintableLists, lists_text, PrintableIf, text_of, main_room, Prints};
 
 use gap_splits::AddedNames;
 use lines::write_refused;
-use listing::{Cursor, next_line};
+use listing::{Cursor, PieceLists, next_line};
 use load::{Counts, NAMES, RELOCATIONS, SYMBOLS};
 use names::Names;
 use obj::Table;
 use order::Unlinked;
-use pieces::Counts as Made;
 use run::Ran;
 use run_file::run_file;
 use splits::SplitTable;
@@ -32,48 +31,20 @@ fn print_lines<'a, W: Write>(
     out: &mut W,
     base: &Names<'a, '_, '_>,
     added: &Names<'a, '_, '_>,
-    symbol_places: &[u32],
-    reloc_places: &[u32],
+    symbols: &Table,
+    relocs: &Table,
     unit_table: &Table,
-    pieces: &[u8],
-    entries: &[u8],
-    offsets: &[u8],
-    made: Made,
-    line: &mut [u8],
+    lists: &PieceLists,
+    line: &mut [u8; 208],
 ) -> io::Result<()>
-    requires { (208 ≤ length line.old)
-        × Readable
-        (tables_of base.now.bytes.now base.now.places.now base.now.lengths.now (beside added.now.bytes.now added.now.places.now added.now.lengths.now) symbol_places.now reloc_places.now
-        unit_table.now.bytes.now unit_table.now.places.now pieces.now entries.now offsets.now made) }
+    requires { Readable (tables_of base.now added.now symbols.now relocs.now unit_table.now lists.now) }
     ensures { OnOk result (Appends (W.contents out.old) (W.contents out.new)
-        (listing (run_of (tables_of base.now.bytes.now base.now.places.now base.now.lengths.now (beside added.now.bytes.now added.now.places.now added.now.lengths.now) symbol_places.now reloc_places.now
-        unit_table.now.bytes.now unit_table.now.places.now pieces.now entries.now offsets.now made)))) }
+        (listing (run_of (tables_of base.now added.now symbols.now relocs.now unit_table.now lists.now)))) }
 {
-    let piece_count = made.pieces;
-    let entry_count = made.symbols;
-    let offset_count = made.relocs;
     let mut cursor = Cursor::Units { unit: 0, bytes: 0 };
     loop {
         let Some(next) = next_line(
-            base,
-            added,
-            &Table {
-                bytes: base.bytes,
-                places: symbol_places,
-            },
-            &Table {
-                bytes: base.bytes,
-                places: reloc_places,
-            },
-            unit_table,
-            pieces,
-            piece_count,
-            entries,
-            entry_count,
-            offsets,
-            offset_count,
-            cursor,
-            line,
+            base, added, symbols, relocs, unit_table, lists, cursor, line,
         ) else {
             return Ok(());
         };
@@ -84,56 +55,6 @@ fn print_lines<'a, W: Write>(
 }
 
 // The listing of a run that was done, of n units: the parts of the column of places are the tables of names, symbols and relocations.
-fn print_tables<'a, W: Write>(
-    out: &mut W,
-    file: &'a [u8],
-    counts: Counts,
-    places: &[u32],
-    lengths: &[u8],
-    added: &Names<'a, '_, '_>,
-    units: &[u8],
-    n: usize,
-    pieces: &[u8],
-    entries: &[u8],
-    offsets: &[u8],
-    made: Made,
-    unit_places: &mut [u32],
-    line: &mut [u8],
-) -> io::Result<()>
-    requires { Printable file.now counts places.now lengths.now (beside added.now.bytes.now added.now.places.now added.now.lengths.now) units.now n pieces.now entries.now offsets.now made
-        × (length unit_places.old ≡ 1024)
-        × (208 ≤ length line.old) }
-    ensures { OnOk result (Appends (W.contents out.old) (W.contents out.new)
-        (done_text file.now counts places.now lengths.now (beside added.now.bytes.now added.now.places.now added.now.lengths.now) units.now n pieces.now entries.now offsets.now made)) }
-{
-    let names = counts.names;
-    let names_end = NAMES + names;
-    let symbols_end = SYMBOLS + counts.symbols;
-    let relocs_end = RELOCATIONS + counts.relocations;
-    fill_places(unit_places, 8, n);
-    print_lines(
-        out,
-        &Names {
-            bytes: file,
-            places: &places[NAMES..names_end],
-            lengths: &lengths[..names],
-        },
-        added,
-        &places[SYMBOLS..symbols_end],
-        &places[RELOCATIONS..relocs_end],
-        &Table {
-            bytes: units,
-            places: &unit_places[..n],
-        },
-        pieces,
-        entries,
-        offsets,
-        made,
-        line,
-    )
-}
-
-// The same, with columns of its own for the places of the units and a line.
 fn print_done<'a, W: Write>(
     out: &mut W,
     file: &'a [u8],
@@ -143,49 +64,42 @@ fn print_done<'a, W: Write>(
     added: &Names<'a, '_, '_>,
     units: &[u8],
     n: usize,
-    pieces: &[u8],
-    entries: &[u8],
-    offsets: &[u8],
-    made: Made,
+    lists: &PieceLists,
 ) -> io::Result<()>
-    requires { Printable file.now counts places.now lengths.now (beside added.now.bytes.now added.now.places.now added.now.lengths.now) units.now n pieces.now entries.now offsets.now made }
+    requires { PrintableLists file.now counts places.now lengths.now (columns_of added.now) units.now n lists.now }
     ensures { OnOk result (Appends (W.contents out.old) (W.contents out.new)
-        (done_text file.now counts places.now lengths.now (beside added.now.bytes.now added.now.places.now added.now.lengths.now) units.now n pieces.now entries.now offsets.now made)) }
+        (lists_text file.now counts places.now lengths.now (columns_of added.now) units.now n lists.now)) }
 {
+    let names = counts.names;
+    let names_end = NAMES + names;
+    let symbols_end = SYMBOLS + counts.symbols;
+    let relocs_end = RELOCATIONS + counts.relocations;
     let mut unit_places = [0u32; 1024];
     let mut line = [0u8; 208];
-    print_tables(
+    fill_places(&mut unit_places, 8, n);
+    print_lines(
         out,
-        file,
-        counts,
-        places,
-        lengths,
+        &Names {
+            bytes: file,
+            places: &places[NAMES..names_end],
+            lengths: &lengths[..names],
+        },
         added,
-        units,
-        n,
-        pieces,
-        entries,
-        offsets,
-        made,
-        &mut unit_places,
+        &Table {
+            bytes: file,
+            places: &places[SYMBOLS..symbols_end],
+        },
+        &Table {
+            bytes: file,
+            places: &places[RELOCATIONS..relocs_end],
+        },
+        &Table {
+            bytes: units,
+            places: &unit_places[..n],
+        },
+        lists,
         &mut line,
     )
-}
-
-// The line of a refusal, in a lent buffer.
-fn print_refused_in<W: Write>(
-    out: &mut W,
-    number: u16,
-    section: u16,
-    address: u32,
-    line: &mut [u8],
-) -> io::Result<()>
-    requires { 208 ≤ length line.old }
-    ensures { OnOk result (Appends (W.contents out.old) (W.contents out.new)
-        (refused_line number section address)) }
-{
-    let n = write_refused(line, number, section, address);
-    out.write_all(&line[..n])
 }
 
 // "A refusal prints only `refused`, number, section, address."
@@ -194,7 +108,8 @@ fn print_refused<W: Write>(out: &mut W, number: u16, section: u16, address: u32)
         (refused_line number section address)) }
 {
     let mut line = [0u8; 208];
-    print_refused_in(out, number, section, address, &mut line)
+    let n = write_refused(&mut line, number, section, address);
+    out.write_all(&line[..n])
 }
 
 // What a run prints. "61 cycle" is a refusal here, at section and address 0.
@@ -211,14 +126,26 @@ fn print_ran<'a, W: Write>(
     entries: &[u8],
     offsets: &[u8],
 ) -> io::Result<()>
-    requires { PrintableIf file.now counts places.now lengths.now (beside added.now.bytes.now added.now.places.now added.now.lengths.now) units.now pieces.now entries.now offsets.now ran }
+    requires { PrintableIf file.now counts places.now lengths.now (columns_of added.now) units.now pieces.now entries.now offsets.now ran }
     ensures { OnOk result (Appends (W.contents out.old) (W.contents out.new)
-        (text_of file.now counts places.now lengths.now (beside added.now.bytes.now added.now.places.now added.now.lengths.now) units.now pieces.now entries.now offsets.now ran)) }
+        (text_of file.now counts places.now lengths.now (columns_of added.now) units.now pieces.now entries.now offsets.now ran)) }
 {
     match ran {
         Ok(done) => print_done(
-            out, file, counts, places, lengths, added, units, done.units, pieces, entries, offsets,
-            done.made,
+            out,
+            file,
+            counts,
+            places,
+            lengths,
+            added,
+            units,
+            done.units,
+            &PieceLists {
+                pieces,
+                symbols: entries,
+                relocs: offsets,
+                made: done.made,
+            },
         ),
         Err(Unlinked::Cycle(_)) => print_refused(out, 61, 0, 0),
         Err(Unlinked::Refused(r)) => print_refused(out, r.number, r.section, r.address),

@@ -1,6 +1,6 @@
 -- What the listing asks of a run's tables: a run that was done has left them so. Its names are the file's and those added, and every record names what is there.
 -- Assumes nothing.
-use Prim.Native.Nat.{ℕ, ◌*◌, ◌<◌, ◌≤◌}
+use Prim.Native.Nat.{ℕ, ◌*◌, ◌<◌}
 use mathlib.Core.Path.{◌≡◌, sym, ap, subst, ◌∙◌}
 use mathlib.Core.List.{List}
 use native.Mathlib.Omega.{arith}
@@ -81,13 +81,8 @@ pub run_readable : {file : List ℕ} {t : Loaded} (u : Usable file t) (room : Ro
     → ran_in c table units pieces entries offsets (Ok (record { names = names; used = used; splits = splits; units = n; made = made })) ≡ stages file t room
     → Packed c.bytes c.places c.lengths names used
     → Units units n
-    → piece_width * made.pieces ≤ length pieces
-    → made.pieces ≤ 1024
-    → 12 * made.symbols ≤ length entries
-    → made.symbols ≤ 4096
-    → 8 * made.relocs ≤ length offsets
     → Readable (listed_tables file t c units pieces entries offsets n made)
-run_readable {file} {t} u room c table units pieces entries offsets names used splits n made e packed w long-pieces few_pieces long-entries few-entries long-offsets =
+run_readable {file} {t} u room c table units pieces entries offsets names used splits n made e packed w =
     let f = finished file t room _ (sym e) in
     let all = longer u room _ f in
     let known = name_known u f.full.names all c names used packed f.added in
@@ -95,17 +90,12 @@ run_readable {file} {t} u room c table units pieces entries offsets names used s
     let long = length-stage_places 8 n in
     record {
       few_units = omega (arith, w.few);
-      few_pieces = few_pieces;
-      few_symbols = few-entries;
       units = λ k h. record { there = h; inside = omega (arith, w.fit, stage_place 8 n k (omega arith)) };
       unit_names = λ k h. known _ (unit_at_lem units n k h (units_named u room _ f));
-      pieces = long-pieces;
       piece_names = λ k h. known _ (piece_at_lem pieces made.pieces k h below.pieces);
-      piece_symbols = long-entries;
       symbols = λ k h. let q = symbol_at_lem entries made.symbols k h below.symbols in record { there = q; inside = u.good.symbols.held _ q };
       symbol_names = λ k h.
           let q = symbol_at_lem entries made.symbols k h below.symbols in
           known _ (omega (arith, (u.good.symbols.each _ q).name, names_more u all));
-      piece_relocs = long-offsets;
       relocs = λ k h. let q = reloc_at_lem offsets made.relocs k h below.relocs in record { there = q; inside = u.good.relocations.held _ q };
     }

@@ -1,9 +1,9 @@
 -- The test asks what the definition asks.
 use borrow.Author.Rules.{rules}
-use Rattle.std.proofs.Common.{ℕ, ◌*◌}
-use Rattle.pieces.specs.Pieces.{piece_at, piece_width}
+use Rattle.std.proofs.Common.{ℕ}
 use Rattle.listing.specs.Cursor.{piece_is}
+use Rattle.listing.specs.Lent.{piece_on}
 use Rattle.listing.proofs.seek.next_piece.Goals as goal
 
 pub returns : goal.returns
-returns c = let a = c.args in c.first_from.ensures (λ (k : ℕ). piece_is a.unit (piece_at a.pieces.now (piece_width * k))) (λ k r h e. search (rules, e))
+returns c = let a = c.args in c.first_from.ensures (λ (k : ℕ). piece_is a.unit (piece_on a.lists.now k)) (λ k r h e. search (rules, e))

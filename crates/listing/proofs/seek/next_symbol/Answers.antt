@@ -1,9 +1,9 @@
 -- The test asks what the definition asks.
 use borrow.Author.Rules.{rules}
-use Rattle.std.proofs.Common.{ℕ, ◌*◌}
-use Rattle.pieces.specs.Pieces.{symbol_at}
+use Rattle.std.proofs.Common.{ℕ}
 use Rattle.listing.specs.Cursor.{symbol_is}
+use Rattle.listing.specs.Lent.{symbol_on}
 use Rattle.listing.proofs.seek.next_symbol.Goals as goal
 
 pub returns : goal.returns
-returns c = let a = c.args in c.first_from.ensures (λ (k : ℕ). symbol_is a.unit (symbol_at a.piece_symbols.now (12 * k))) (λ k r h e. search (rules, e))
+returns c = let a = c.args in c.first_from.ensures (λ (k : ℕ). symbol_is a.unit (symbol_on a.lists.now k)) (λ k r h e. search (rules, e))
