@@ -11,7 +11,7 @@ use native.Mathlib.Omega.{arith}
 use borrow.Author.Tests.{ltb-false, eqb-true, eqb-false}
 use lib.Dec.{eqb, ltb}
 use lib.ListN.{length, get_or, take, drop, set, length-set, length-take, length-drop}
-use lib.Seq.{take-suc-set, get_or-set_same, get_or-set_other}
+use lib.Seq.{take-suc-set, get_or-set_same, get_or-set_other, get_or-take, length-take-le}
 use Rattle.lists.specs.Outcome.{Outcome, accepted, refused}
 use Rattle.lists.specs.Rows.{tabulate, any_of}
 use Rattle.lists.proofs.Outcomes.{not_both, then_both}
@@ -25,7 +25,7 @@ use Rattle.names.proofs.Indexes.{indexed_entered}
 use Rattle.tables.specs.Tables.{records_check}
 use Rattle.tables.proofs.Laws.{size_passed, records_passed}
 use Rattle.name_table.specs.NameTable.{start_of, end_of, name_in, stage_names, name_cut, name_wrong, name_fault, names_check}
-use Rattle.name_table.specs.Stored.{name_starts, name_lengths, Room, Stored, Stores, Passed}
+use Rattle.name_table.specs.Stored.{name_starts, name_lengths, Stored, Stores, Readable, Passed}
 
 -- ---- a name without a fault
 pub record Sound (ends bytes : List ℕ) (k : ℕ) : Type 0 where
@@ -201,23 +201,6 @@ short_sound {ends} {bytes} {k} o = omega (arith, length_name ends bytes k o.with
 
 -- ---- answers
 
--- the columns are as long as they were, so they have the same room
-pub record Same (places₀ lengths₀ heads₀ chain₀ places lengths heads chain : List ℕ) : Type 0 where
-  pub of_places : length places ≡ length places₀
-  pub of_lengths : length lengths ≡ length lengths₀
-  pub of_heads : length heads ≡ length heads₀
-  pub of_chain : length chain ≡ length chain₀
-
-pub same_room : {n : ℕ} {places₀ lengths₀ heads₀ chain₀ places lengths heads chain : List ℕ} (k : ℕ)
-    → Same places₀ lengths₀ heads₀ chain₀ places lengths heads chain → Room n places₀ lengths₀ heads₀ chain₀ → k ≤ n → Room k places lengths heads chain
-same_room k e r h = record {
-  few = omega (arith, r.few);
-  places_long = omega (arith, r.places_long, e.of_places);
-  lengths_long = omega (arith, r.lengths_long, e.of_lengths);
-  heads_long = e.of_heads ∙ r.heads_long;
-  chain_long = omega (arith, r.chain_long, e.of_chain);
-}
-
 -- no name has a fault: the columns hold all
 pub stores_all : {answer want : Outcome (Unit {0})} {ends bytes places lengths heads chain : List ℕ} {i n : ℕ}
     → answer ≡ want → i ≡ n → Stored ends bytes places lengths heads chain i → Stores answer want ends bytes places lengths heads chain n
@@ -267,3 +250,22 @@ module _ (ceiling : ℕ) (ends bytes : List ℕ) (passed : names_check ceiling e
     good = good_bytes;
     different = no_two;
   }
+
+-- ---- the fronts of columns that hold n names are names to read
+pub readable : (ends bytes places lengths heads chain : List ℕ) (n : ℕ) → Stored ends bytes places lengths heads chain n
+    → Readable bytes (take n places) (take n lengths)
+readable ends bytes places lengths heads chain n s =
+    record {
+      named = record {
+        placed = omega arith;
+        measured = rw (placed, measured) (omega arith);
+        inside = λ k h. let q : k < n = rw placed at h in rw (get_or-take _ places k 0 q, get_or-take _ lengths k 0 q) (s.named.inside k q);
+      };
+      paired = measured ∙ sym placed;
+    }
+  where
+    placed : length (take n places) ≡ n
+    placed = length-take-le _ _ s.named.placed
+
+    measured : length (take n lengths) ≡ n
+    measured = length-take-le _ _ s.named.measured

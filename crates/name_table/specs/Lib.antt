@@ -1,2 +1,3 @@
 pub mod NameTable
 pub mod Stored
+pub mod Columns

@@ -35,6 +35,11 @@ pub record Stored (ends bytes places lengths heads chain : List ℕ) (n : ℕ) :
   pub names : names_of bytes places lengths n ≡ stage_names ends bytes n
   pub index : Indexed (stage_names ends bytes n) heads chain
 
+-- names to read, in columns of one length
+pub record Readable (bytes places lengths : List ℕ) : Type 0 where
+  pub named : Named bytes places lengths (length places)
+  pub paired : length lengths ≡ length places
+
 -- what was answered, and the columns if it was accepted
 pub record Stores (answer want : Outcome (Unit {0})) (ends bytes places lengths heads chain : List ℕ) (n : ℕ) : Type 0 where
   pub said : answer ≡ want

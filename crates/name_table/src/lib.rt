@@ -2,12 +2,18 @@
 // and the names as columns: "each for 1, 2, then its kind's number", "Two equal names in stage tables: 3".
 #![tactic(auto)]
 
+mod arrays;
+mod columns;
+
 ghost use Rattle.std.specs.Prelude.{◌≡◌, ◌+◌, ◌*◌, ◌/◌, ◌≤◌, ◌<◌, length};
 ghost use Rattle.obj.specs.Answers.{meaning};
 ghost use Rattle.tables.specs.Tables.{record_check, records_check};
 ghost use Rattle.name_table.specs.NameTable.{start_of, end_of, name_fault, names_check};
-ghost use Rattle.name_table.specs.Stored.{Room, Stored, Stores, Number};
+ghost use Rattle.name_table.specs.Stored.{Stored, Number};
+ghost use Rattle.name_table.specs.Columns.{StoredIn, StoresIn, SameLent};
 
+pub use arrays::NameArrays;
+pub use columns::NameColumns;
 use fields::get16;
 use names::{NameIndex, Names, bad_name, bucket_of, clear_heads, enter, find};
 use obj::{Refusal, refuse};
@@ -51,59 +57,31 @@ fn name_fault(ends: &[u8], names: &Names, index: &NameIndex, k: usize) -> Result
 }
 
 // Name k has no fault: its place and length are stored, and it is entered into the index.
-fn add_name(
-    ends: &[u8],
-    bytes: &[u8],
-    places: &mut [u32],
-    lengths: &mut [u8],
-    heads: &mut [u16],
-    chain: &mut [u16],
-    k: usize,
-)
+fn add_name(ends: &[u8], bytes: &[u8], columns: &mut NameColumns, k: usize)
     requires { (2 * k + 2 ≤ length ends.now)
-        × Room (k + 1) places.old lengths.old heads.old chain.old
-        × Stored ends.now bytes.now places.old lengths.old heads.old chain.old k
+        × (k < 4096)
+        × StoredIn ends.now bytes.now columns.old k
         × (name_fault ends.now bytes.now k ≡ 0) }
-    ensures { Stored ends.now bytes.now places.new lengths.new heads.new chain.new (k + 1) }
+    ensures stored { StoredIn ends.now bytes.now columns.new (k + 1) }
+    ensures lent { SameLent columns.old columns.new }
 {
     let start = start_of(ends, k);
     let end = end_of(ends, k);
     let bucket = bucket_of(&bytes[start..end]);
-    places[k] = start as u32;
-    lengths[k] = (end - start) as u8;
-    enter(heads, chain, bucket, k);
+    columns.places[k] = start as u32;
+    columns.lengths[k] = (end - start) as u8;
+    enter(columns.heads, columns.chain, bucket, k);
 }
 
 // Names from the first on, each stored and entered, to the first that has a fault.
-fn take_names(
-    ends: &[u8],
-    bytes: &[u8],
-    n: usize,
-    places: &mut [u32],
-    lengths: &mut [u8],
-    heads: &mut [u16],
-    chain: &mut [u16],
-) -> Result<(), Refusal>
-    requires { (2 * n ≤ length ends.now)
-        × Room n places.old lengths.old heads.old chain.old
-        × Stored ends.now bytes.now places.old lengths.old heads.old chain.old 0 }
-    ensures { Stores (meaning result) (records_check (name_fault ends.now bytes.now) n) ends.now bytes.now places.new lengths.new heads.new chain.new n }
+fn take_names(ends: &[u8], bytes: &[u8], columns: &mut NameColumns) -> Result<(), Refusal>
+    requires { (length ends.now / 2 ≤ 4096) × StoredIn ends.now bytes.now columns.old 0 }
+    ensures stored { StoresIn (meaning result) (records_check (name_fault ends.now bytes.now) (length ends.now / 2)) ends.now bytes.now columns.new (length ends.now / 2) }
+    ensures lent { SameLent columns.old columns.new }
 {
-    for i in 0..n {
-        name_fault(
-            ends,
-            &Names {
-                bytes,
-                places: &*places,
-                lengths: &*lengths,
-            },
-            &NameIndex {
-                heads: &*heads,
-                chain: &*chain,
-            },
-            i,
-        )?;
-        add_name(ends, bytes, places, lengths, heads, chain, i);
+    for i in 0..ends.len() / 2 {
+        name_fault(ends, &columns.names(bytes), &columns.index(), i)?;
+        add_name(ends, bytes, columns, i);
     }
     Ok(())
 }
@@ -113,15 +91,13 @@ pub fn check_names(
     ends: &[u8],
     bytes: &[u8],
     ceiling: usize,
-    places: &mut [u32],
-    lengths: &mut [u8],
-    heads: &mut [u16],
-    chain: &mut [u16],
+    columns: &mut NameColumns,
 ) -> Result<(), Refusal>
-    requires { Room ceiling places.old lengths.old heads.old chain.old }
-    ensures { Stores (meaning result) (names_check ceiling ends.now bytes.now) ends.now bytes.now places.new lengths.new heads.new chain.new (length ends.now / 2) }
+    requires { ceiling ≤ 4096 }
+    ensures stored { StoresIn (meaning result) (names_check ceiling ends.now bytes.now) ends.now bytes.now columns.new (length ends.now / 2) }
+    ensures lent { SameLent columns.old columns.new }
 {
     table_size(ends.len(), 2, ceiling)?;
-    clear_heads(heads);
-    take_names(ends, bytes, ends.len() / 2, places, lengths, heads, chain)
+    clear_heads(columns.heads);
+    take_names(ends, bytes, columns)
 }

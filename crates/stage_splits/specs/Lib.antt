@@ -1,1 +1,2 @@
 pub mod StageSplits
+pub mod Output

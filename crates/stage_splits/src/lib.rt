@@ -2,6 +2,8 @@
 // outputs are zero. What the entries of merge, common, gap and trim have in common.
 #![tactic(auto)]
 
+mod output;
+
 ghost use Rattle.std.specs.Prelude.{◌≡◌, ◌*◌, ◌≤◌, List, length};
 ghost use Rattle.lists.specs.Outcome.{Outcome};
 ghost use Rattle.lists.specs.Tables.{laid};
@@ -13,9 +15,11 @@ ghost use Rattle.stage_tables.specs.StageTables.{splits_check, Room};
 ghost use Rattle.splits.specs.Table.{rows_of as table_of, rows_in};
 ghost use Rattle.splits.specs.Bytes.{table_bytes};
 ghost use Rattle.obj.specs.Records.{split_width};
-ghost use Rattle.stage_splits.specs.StageSplits.{room_of, Taken, Laid, Gives, Leaves};
+ghost use Rattle.stage_splits.specs.StageSplits.{room_of, Taken};
+ghost use Rattle.stage_splits.specs.Output.{LaidIn, GivesIn, LeavesIn, SameLent};
 
 use obj::{Refusal, SPLIT_BYTES, Table, word_of};
+pub use output::SplitOutput;
 use outputs::{clear_from, put_count};
 use splits::{SplitColumns, SplitTable, load, store};
 use stage_tables::take_splits;
@@ -67,23 +71,24 @@ pub fn put_splits(splits: &SplitColumns, out: &mut [u8])
 }
 
 // The same, and their number in the counts.
-pub fn give_splits(splits: &SplitColumns, out: &mut [u8], counts: &mut [u8])
-    requires { (split_width * splits.now.count ≤ length out.old) × (splits.now.count ≤ 1024) }
-    ensures { Laid (table_of splits.now) (length out.old) (length counts.old) out.new counts.new }
+pub fn give_splits(splits: &SplitColumns, output: &mut SplitOutput)
+    requires { (split_width * splits.now.count ≤ length output.old.splits.now) × (splits.now.count ≤ 1024) }
+    ensures laid { LaidIn (table_of splits.now) output.old output.new }
+    ensures lent { SameLent output.old output.new }
 {
-    put_splits(splits, out);
-    clear_from(counts, 0);
-    put_count(counts, 0, splits.count as u16);
+    put_splits(splits, output.splits);
+    clear_from(output.counts, 0);
+    put_count(output.counts, 0, splits.count as u16);
 }
 
 // The end of an entry: its answer as a word, and all outputs zero after a refusal.
-pub fn finish(a: Result<(), Refusal>, out: &mut [u8], counts: &mut [u8]) -> u64
-    ensures { (o : Outcome (List Split)) → Gives o a (length out.old) (length counts.old) out.old counts.old
-        → Leaves o (length out.old) (length counts.old) result out.new counts.new }
+pub fn finish(a: Result<(), Refusal>, output: &mut SplitOutput) -> u64
+    ensures left { (o : Outcome (List Split)) → GivesIn o a output.old output.old → LeavesIn o result output.old output.new }
+    ensures lent { SameLent output.old output.new }
 {
     if a.is_err() {
-        clear_from(out, 0);
-        clear_from(counts, 0);
+        clear_from(output.splits, 0);
+        clear_from(output.counts, 0);
     }
     word_of(a)
 }

@@ -13,15 +13,16 @@ slice_bounds-bucket_of-start c = omega (arith, (name_sound _ _ _ c.requires.3).r
 pub slice_bounds-bucket_of-end : goal.slice_bounds-bucket_of-end
 slice_bounds-bucket_of-end c = omega (arith, (name_sound _ _ _ c.requires.3).within)
 
-pub overflow_sub-lengths : goal.overflow_sub-lengths
-overflow_sub-lengths c = omega (arith, (name_sound _ _ _ c.requires.3).rising)
+pub overflow_sub-columns : goal.overflow_sub-columns
+overflow_sub-columns c = omega (arith, (name_sound _ _ _ c.requires.3).rising)
 
-pub overflow_cast-lengths : goal.overflow_cast-lengths
-overflow_cast-lengths c =
+pub overflow_cast-columns-2 : goal.overflow_cast-columns-2
+overflow_cast-columns-2 c =
     omega (arith, short_sound (name_sound _ _ _ c.requires.3))
 
-pub returns : goal.returns
-returns c =
-    stored_more _ _ _ _ _ _ _ c.requires.2 (name_sound _ _ _ c.requires.3) (omega (arith, c.requires.1.few, c.requires.1.places_long)) (omega (arith, c.requires.1.few, c.requires.1.lengths_long))
-    (omega (arith, c.requires.1.few)) c.start_of-start.ensures.is c.end_of-end.ensures.is c.bucket_of-bucket.ensures
+pub returns-clause-stored : goal.returns-clause-stored
+returns-clause-stored c =
+    let room = c.args.columns.now.room in
+    stored_more _ _ _ _ _ _ _ c.requires.2 (name_sound _ _ _ c.requires.3) (omega (arith, c.requires.1, room.places_long)) (omega (arith, c.requires.1, room.lengths_long))
+    (omega (arith, c.requires.1)) c.start_of-start.ensures.is c.end_of-end.ensures.is c.bucket_of-bucket.ensures
     c.enter.ensures.0 c.enter.ensures.1

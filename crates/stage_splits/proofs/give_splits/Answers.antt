@@ -10,8 +10,8 @@ use Rattle.splits.specs.Table.{columns_of}
 use Rattle.stage_splits.proofs.Laws.{one_count}
 use Rattle.stage_splits.proofs.give_splits.Goals as goal
 
-pub returns : goal.returns
-returns c =
+pub returns-clause-laid : goal.returns-clause-laid
+returns-clause-laid c =
     let a = c.args in
     let k = length-tabulate (row_at (columns_of a.splits.now)) 0 a.splits.now.count in
     record {
@@ -19,6 +19,6 @@ returns c =
       counted =
           c.put_count.ensures
           ∙ ap (store_count 0 a.splits.now.count) c.clear_from.ensures
-          ∙ one_count _ a.splits.now.count a.counts.now refl
-          ∙ ap (λ (n : ℕ). counts_of (length a.counts.now) (n ∷ [])) (sym k);
+          ∙ one_count _ a.splits.now.count a.output.now.counts.now refl
+          ∙ ap (λ (n : ℕ). counts_of (length a.output.now.counts.now) (n ∷ [])) (sym k);
     }
