@@ -82,6 +82,14 @@ pub record Relocated (relocs reloc_places : List ℕ) : Type 0 where
 pub record Rowed (c : Columns) (rows names : ℕ) : Type 0 where
   pub named : (i : ℕ) → i < rows → (row_at c i).unit < names
 
+-- the tables that passed, with no more names and symbols than any stage takes
+pub record Passed (obj : Obj) (image relocs : Table) : Type 0 where
+  pub asked : AskedIn obj
+  pub headed : HeadedIn obj.heads image obj.names.places.now
+  pub relocated : Relocated relocs.bytes.now relocs.places.now
+  pub few_names : length obj.names.lengths.now ≤ 4096
+  pub few_symbols : length obj.symbols.places.now ≤ 4096
+
 -- lent columns for the units, and for a number of each name
 pub record UnitScratch (places numbers : List ℕ) : Type 0 where
   pub places_long : length places ≡ 1024

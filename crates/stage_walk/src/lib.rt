@@ -9,7 +9,7 @@ ghost use Rattle.relocs.specs.Relocs.{reloc_of};
 ghost use Rattle.units.specs.Units.{unit_names};
 ghost use Rattle.split_obj.specs.Loop.{Ready};
 ghost use Rattle.stage_walk.specs.Room.{room_for, room_in};
-ghost use Rattle.stage_walk.specs.Lines.{walk_of, from_units, from_splits, Gives, AskedIn, HeadedIn, Relocated, heads_in, sections_lent, Rowed, UnitScratch};
+ghost use Rattle.stage_walk.specs.Lines.{walk_of, from_units, from_splits, Gives, Passed, heads_in, sections_lent, Rowed};
 ghost use Rattle.pieces.specs.Room.{Ceilings};
 
 use obj::{Refusal, Table};
@@ -83,48 +83,7 @@ pub fn walk_columns(
     )
 }
 
-// The units in lent columns, with the number of each name's unit, and the walk.
-fn from_units(
-    obj: &Obj,
-    image: &Table,
-    relocs: &Table,
-    splits: &SplitColumns,
-    unit_table: &[u8],
-    places: &mut [u32],
-    unit_numbers: &mut [u16],
-    tables: &mut PieceTables,
-) -> Result<(), Refusal>
-    requires { AskedIn obj.now
-        × HeadedIn obj.now.heads image.now obj.now.names.places.now
-        × Relocated relocs.now.bytes.now relocs.now.places.now
-        × Rowed (columns_of splits.now) splits.now.count (length obj.now.names.lengths.now)
-        × (length obj.now.names.lengths.now ≤ 4096)
-        × (length obj.now.symbols.places.now ≤ 4096)
-        × UnitScratch places.old unit_numbers.old
-        × Ceilings tables.old.room }
-    ensures { Gives
-        (from_units obj.now.names.lengths.now (image_in obj.now) (sections_lent obj.now.heads image.now) (reloc_of relocs.now.bytes.now relocs.now.places.now) (length relocs.now.places.now) (rows_of splits.now) unit_table.now tables.old.room)
-        tables.old tables.new result }
-{
-    take_units(obj.names.lengths, unit_table, 1024, places)?;
-    let n = unit_table.len() / 8;
-    let unit_records = Table {
-        bytes: unit_table,
-        places: &places[..n],
-    };
-    number_units(&unit_records, unit_numbers);
-    walk_columns(
-        obj,
-        image,
-        relocs,
-        splits,
-        &unit_records,
-        unit_numbers,
-        tables,
-    )
-}
-
-// The same, with columns of its own for the units.
+// The units, with the number of each name's unit, and the walk.
 fn with_units(
     obj: &Obj,
     image: &Table,
@@ -133,12 +92,8 @@ fn with_units(
     unit_table: &[u8],
     tables: &mut PieceTables,
 ) -> Result<(), Refusal>
-    requires { AskedIn obj.now
-        × HeadedIn obj.now.heads image.now obj.now.names.places.now
-        × Relocated relocs.now.bytes.now relocs.now.places.now
+    requires { Passed obj.now image.now relocs.now
         × Rowed (columns_of splits.now) splits.now.count (length obj.now.names.lengths.now)
-        × (length obj.now.names.lengths.now ≤ 4096)
-        × (length obj.now.symbols.places.now ≤ 4096)
         × Ceilings tables.old.room }
     ensures { Gives
         (from_units obj.now.names.lengths.now (image_in obj.now) (sections_lent obj.now.heads image.now) (reloc_of relocs.now.bytes.now relocs.now.places.now) (length relocs.now.places.now) (rows_of splits.now) unit_table.now tables.old.room)
@@ -146,46 +101,25 @@ fn with_units(
 {
     let mut places = [0u32; 1024];
     let mut unit_numbers = [0u16; 4096];
-    from_units(
+    take_units(obj.names.lengths, unit_table, 1024, &mut places)?;
+    let n = unit_table.len() / 8;
+    let unit_records = Table {
+        bytes: unit_table,
+        places: &places[..n],
+    };
+    number_units(&unit_records, &mut unit_numbers);
+    walk_columns(
         obj,
         image,
         relocs,
         splits,
-        unit_table,
-        &mut places,
-        &mut unit_numbers,
+        &unit_records,
+        &unit_numbers,
         tables,
     )
 }
 
-// The splits in lent columns, and the tables after them.
-fn from_splits(
-    obj: &Obj,
-    image: &Table,
-    relocs: &Table,
-    splits: &[u8],
-    unit_table: &[u8],
-    places: &mut [u32],
-    table: &mut SplitTable,
-    tables: &mut PieceTables,
-) -> Result<(), Refusal>
-    requires { AskedIn obj.now
-        × HeadedIn obj.now.heads image.now obj.now.names.places.now
-        × Relocated relocs.now.bytes.now relocs.now.places.now
-        × (length obj.now.names.lengths.now ≤ 4096)
-        × (length obj.now.symbols.places.now ≤ 4096)
-        × (length places.old ≡ 1024)
-        × (table.old.room ≡ 1024)
-        × Ceilings tables.old.room }
-    ensures { Gives
-        (from_splits obj.now.names.lengths.now (heads_in obj.now.heads) (image_in obj.now) (sections_lent obj.now.heads image.now) (reloc_of relocs.now.bytes.now relocs.now.places.now) (length relocs.now.places.now) splits.now unit_table.now tables.old.room)
-        tables.old tables.new result }
-{
-    take_split_columns(obj.names.lengths, &obj.heads, splits, places, table)?;
-    with_units(obj, image, relocs, &table.columns(), unit_table, tables)
-}
-
-// The same, with columns of its own for the splits.
+// The splits, and the tables after them.
 pub fn with_splits(
     obj: &Obj,
     image: &Table,
@@ -194,12 +128,7 @@ pub fn with_splits(
     unit_table: &[u8],
     tables: &mut PieceTables,
 ) -> Result<(), Refusal>
-    requires { AskedIn obj.now
-        × HeadedIn obj.now.heads image.now obj.now.names.places.now
-        × Relocated relocs.now.bytes.now relocs.now.places.now
-        × (length obj.now.names.lengths.now ≤ 4096)
-        × (length obj.now.symbols.places.now ≤ 4096)
-        × Ceilings tables.old.room }
+    requires { Passed obj.now image.now relocs.now × Ceilings tables.old.room }
     ensures { Gives
         (from_splits obj.now.names.lengths.now (heads_in obj.now.heads) (image_in obj.now) (sections_lent obj.now.heads image.now) (reloc_of relocs.now.bytes.now relocs.now.places.now) (length relocs.now.places.now) splits.now unit_table.now tables.old.room)
         tables.old tables.new result }
@@ -217,14 +146,6 @@ pub fn with_splits(
         count: 0,
         room: 1024,
     };
-    from_splits(
-        obj,
-        image,
-        relocs,
-        splits,
-        unit_table,
-        &mut places,
-        &mut table,
-        tables,
-    )
+    take_split_columns(obj.names.lengths, &obj.heads, splits, &mut places, &mut table)?;
+    with_units(obj, image, relocs, &table.columns(), unit_table, tables)
 }

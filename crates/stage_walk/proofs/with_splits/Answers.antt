@@ -1,4 +1,4 @@
--- `stage_walk::from_splits` meets its contract. Splits that are refused are the answer; else the columns hold them, and the units are asked with them.
+-- `stage_walk::with_splits` meets its contract. Splits that are refused are the answer; else the columns hold them, and the units are asked with them.
 -- Assumes nothing.
 use Rattle.std.specs.Prelude.{Err}
 use Rattle.std.proofs.lemmas.Result.{err_from_is_err_and}
@@ -15,7 +15,7 @@ use Rattle.tables.specs.Records.{sections_in}
 use Rattle.stage_walk.specs.Lines.{from_splits}
 use Rattle.stage_walk.proofs.Passed.{rows_named}
 use Rattle.stage_walk.proofs.Lines.{gives_stops, splits_go}
-use Rattle.stage_walk.proofs.from_splits.Goals as goal
+use Rattle.stage_walk.proofs.with_splits.Goals as goal
 
 pub with_units-requires : goal.with_units-requires
 with_units-requires c =
@@ -24,18 +24,14 @@ with_units-requires c =
     let passed = sym taken.said ∙ ap meaning c.in_ok-take_split_columns.was in
     let s = c.columns.result in (
       c.requires.0,
+      rows_named 1024 a.obj.now.names.lengths.now (sections_in a.obj.now.heads.bytes.now a.obj.now.heads.places.now) a.splits.now (columns_of s) s.count passed (c.columns.ensures.rows ∙ taken.taken passed),
       c.requires.1,
-      c.requires.2,
-      rows_named a.table.now.room a.obj.now.names.lengths.now (sections_in a.obj.now.heads.bytes.now a.obj.now.heads.places.now) a.splits.now (columns_of s) s.count passed (c.columns.ensures.rows ∙ taken.taken passed),
-      c.requires.3,
-      c.requires.4,
-      c.requires.7,
     )
 
 pub returns : goal.returns
 returns c =
     let a = c.args in
-    let taken = rw c.requires.6 at c.take_split_columns.ensures.taken in
+    let taken = c.take_split_columns.ensures.taken in
     let passed = sym taken.said ∙ ap meaning c.in_ok-take_split_columns.was in
     splits_go a.obj.now.names.lengths.now (sections_in a.obj.now.heads.bytes.now a.obj.now.heads.places.now) (image_in a.obj.now) (sections_of a.obj.now.heads.bytes.now a.obj.now.heads.places.now a.image.now.bytes.now a.image.now.places.now) (reloc_of a.relocs.now.bytes.now a.relocs.now.places.now) (length a.relocs.now.places.now) a.splits.now a.unit_table.now
     (rows_of c.columns.result) a.tables.now.room
@@ -45,4 +41,4 @@ pub returns-in_err-take_split_columns : goal.returns-in_err-take_split_columns
 unfolding from_splits
 returns-in_err-take_split_columns c =
     let p = err_from_is_err_and c.from_residual.result c.from_residual.ensures.1 in
-    gives_stops _ (p.1 ∙ ap (λ (x : Refusal). Err x) p.2) (rw c.requires.6 at c.in_err-take_split_columns.ensures.taken).said lent_same
+    gives_stops _ (p.1 ∙ ap (λ (x : Refusal). Err x) p.2) c.in_err-take_split_columns.ensures.taken.said lent_same

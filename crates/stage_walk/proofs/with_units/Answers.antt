@@ -1,4 +1,4 @@
--- `stage_walk::from_units` meets its contract. Units that are refused are the answer; else each name has the number of its unit, and the sections are walked.
+-- `stage_walk::with_units` meets its contract. Units that are refused are the answer; else each name has the number of its unit, and the sections are walked.
 -- Assumes nothing.
 use Rattle.std.specs.Prelude.{Err}
 use Rattle.std.proofs.lemmas.Result.{err_from_is_err_and}
@@ -18,21 +18,21 @@ use Rattle.splits.specs.Table.{rows_of}
 use Rattle.stage_walk.specs.Lines.{from_units}
 use Rattle.stage_walk.proofs.Passed.{units_listed}
 use Rattle.stage_walk.proofs.Lines.{gives_stops, units_go}
-use Rattle.stage_walk.proofs.from_units.Goals as goal
+use Rattle.stage_walk.proofs.with_units.Goals as goal
+
+pub slice_bounds-places-end : goal.slice_bounds-places-end
+slice_bounds-places-end c = omega (arith, taken_few 8 1024 c.args.unit_table.now _ _ c.take_units.ensures (ap meaning c.in_ok-take_units.was), c.take_units.auto.places)
 
 pub slice_bounds-unit_records-end : goal.slice_bounds-unit_records-end
-slice_bounds-unit_records-end c = omega (arith, taken_few 8 1024 c.args.unit_table.now _ _ c.take_units.ensures (ap meaning c.in_ok-take_units.was), c.take_units.auto.places, c.requires.6.places_long)
-
-pub slice_bounds-unit_records-end-2 : goal.slice_bounds-unit_records-end-2
-slice_bounds-unit_records-end-2 c =
-    let inside : length c.args.unit_table.now / 8 ≤ length c.take_units.new.places = omega (arith, taken_few 8 1024 c.args.unit_table.now _ _ c.take_units.ensures (ap meaning c.in_ok-take_units.was), c.take_units.auto.places, c.requires.6.places_long) in
+slice_bounds-unit_records-end c =
+    let inside : length c.args.unit_table.now / 8 ≤ length c.take_units.new.places = omega (arith, taken_few 8 1024 c.args.unit_table.now _ _ c.take_units.ensures (ap meaning c.in_ok-take_units.was), c.take_units.auto.places) in
     sym (length-take-le _ _ inside)
 
 pub number_units-requires : goal.number_units-requires
 number_units-requires c =
     let a = c.args in
     units_listed a.obj.now.names.lengths.now a.unit_table.now (sym c.take_units.ensures.said ∙ ap meaning c.in_ok-take_units.was) _ _ (taken_places 8 1024 c.args.unit_table.now _ _ c.take_units.ensures (ap meaning c.in_ok-take_units.was))
-    (omega (arith, c.requires.4, c.requires.6.numbers_long))
+    (omega (arith, c.requires.0.few_names))
 
 pub returns : goal.returns
 returns c =
