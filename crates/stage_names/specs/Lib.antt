@@ -1,1 +1,2 @@
 pub mod StageNames
+pub mod Output

@@ -1,15 +1,18 @@
 // The name table of a stage that gives one back: whether the names that it is given fit into the lent outputs, and names put there with their ends.
 #![tactic(auto)]
 
+mod output;
+
 ghost use Rattle.std.specs.Prelude.{◌≡◌, ◌||◌, ◌++◌, ◌+◌, ◌*◌, ◌/◌, ◌≤◌, ◌<◌, length, leb, ltb};
 ghost use Rattle.obj.specs.Answers.{meaning};
-ghost use Rattle.names.specs.Names.{names_of, Named};
 ghost use Rattle.name_table.specs.NameTable.{end_of};
-ghost use Rattle.stage_names.specs.StageNames.{names_room, bytes_room, beyond, fit_check, flat, Put, Fits, Given};
+ghost use Rattle.stage_names.specs.StageNames.{names_room, bytes_room, beyond, fit_check, flat};
+ghost use Rattle.stage_names.specs.Output.{names_in, NamedIn, FitsIn, PutIn, GivenIn, SameLent};
 
 use fields::{get16, put16};
 use names::{Names, name_at, put_bytes};
 use obj::{Refusal, place_of, refuse};
+pub use output::NameOutput;
 use outputs::clear_from;
 
 // How many names a stage may hold and give back in an output of `size` bytes.
@@ -55,48 +58,36 @@ pub fn fit_names(ends: &[u8], most: usize, most_bytes: usize) -> Result<(), Refu
 }
 
 // Names behind those that are there: `first` of them, which end at `at`. Gives where the last ends.
-pub fn put_names(
-    names: &Names,
-    n: usize,
-    first: usize,
-    at: usize,
-    out_ends: &mut [u8],
-    out_bytes: &mut [u8],
-) -> usize
-    requires { Named names.now.bytes.now names.now.places.now names.now.lengths.now n
-        × (2 * first + 2 * n ≤ length out_ends.old)
-        × (at + length (flat (names_of names.now.bytes.now names.now.places.now names.now.lengths.now n)) ≤ length out_bytes.old)
-        × (at + length (flat (names_of names.now.bytes.now names.now.places.now names.now.lengths.now n)) < 65536) }
-    ensures { Put (names_of names.now.bytes.now names.now.places.now names.now.lengths.now n) first at out_ends.old out_bytes.old out_ends.new out_bytes.new result }
+pub fn put_names(names: &Names, first: usize, at: usize, output: &mut NameOutput) -> usize
+    requires { NamedIn names.now
+        × (2 * first + 2 * length names.now.places.now ≤ length output.old.ends.now)
+        × (at + length (flat (names_in names.now)) ≤ length output.old.bytes.now)
+        × (at + length (flat (names_in names.now)) < 65536) }
+    ensures put { PutIn (names_in names.now) first at output.old output.new result }
+    ensures lent { SameLent output.old output.new }
 {
     let mut end = at;
-    for i in 0..n {
+    for i in 0..names.places.len() {
         let x = name_at(names, i);
-        put_bytes(out_bytes, end, x);
+        put_bytes(output.bytes, end, x);
         end += x.len();
-        put16(out_ends, 2 * (first + i), end as u16);
+        put16(output.ends, 2 * (first + i), end as u16);
     }
     end
 }
 
 // The names of the tables and those that were added, with their ends, and zeros after them. Gives how many bytes they have.
-pub fn give_names(
-    table_names: &Names,
-    added: &Names,
-    names: usize,
-    out_ends: &mut [u8],
-    out_bytes: &mut [u8],
-) -> usize
-    requires { Named table_names.now.bytes.now table_names.now.places.now table_names.now.lengths.now (length table_names.now.places.now)
-        × Named added.now.bytes.now added.now.places.now added.now.lengths.now names
-        × Fits (names_of table_names.now.bytes.now table_names.now.places.now table_names.now.lengths.now (length table_names.now.places.now)) (names_of added.now.bytes.now added.now.places.now added.now.lengths.now names) (length out_ends.old) (length out_bytes.old) }
-    ensures { Given (names_of table_names.now.bytes.now table_names.now.places.now table_names.now.lengths.now (length table_names.now.places.now) ++ names_of added.now.bytes.now added.now.places.now added.now.lengths.now names)
-        (length out_ends.old) (length out_bytes.old) out_ends.new out_bytes.new result }
+pub fn give_names(table_names: &Names, added: &Names, output: &mut NameOutput) -> usize
+    requires { NamedIn table_names.now
+        × NamedIn added.now
+        × FitsIn (names_in table_names.now) (names_in added.now) output.old }
+    ensures given { GivenIn (names_in table_names.now ++ names_in added.now) output.old output.new result }
+    ensures lent { SameLent output.old output.new }
 {
     let n = table_names.places.len();
-    let end = put_names(table_names, n, 0, 0, out_ends, out_bytes);
-    let last = put_names(added, names, n, end, out_ends, out_bytes);
-    clear_from(out_ends, 2 * (n + names));
-    clear_from(out_bytes, last);
+    let end = put_names(table_names, 0, 0, output);
+    let last = put_names(added, n, end, output);
+    clear_from(output.ends, 2 * (n + added.places.len()));
+    clear_from(output.bytes, last);
     last
 }
