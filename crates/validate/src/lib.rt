@@ -12,12 +12,23 @@ use obj::{Refusal, Split, Table, refuse, symbol_at};
 use splits::{SplitColumns, row};
 use symbols::last_below;
 
+mod checked_symbols;
+
+use checked_symbols::CheckedSymbols;
+
 // Where "the last sized unstripped symbol below" an address of a section ends, 0 if there is none.
-fn end_below(table: &Table, order: &[u16], section: u16, address: u32) -> u32
-    requires { Order table.now.bytes.now table.now.places.now order.now × Sound (symbol_of table.now.bytes.now table.now.places.now) (length table.now.places.now) }
-    ensures { result ≡ end_below (symbol_of table.now.bytes.now table.now.places.now) (length table.now.places.now) section address }
+fn end_below(symbols: &CheckedSymbols, section: u16, address: u32) -> u32
+    ensures { result ≡ end_below (symbol_of symbols.now.table.bytes.now symbols.now.table.places.now) (length symbols.now.table.places.now) section address }
 {
-    match last_below(table.bytes, table.places, order, false, section, address) {
+    let table = &symbols.table;
+    match last_below(
+        table.bytes,
+        table.places,
+        symbols.order,
+        false,
+        section,
+        address,
+    ) {
         Some(i) => {
             let y = symbol_at(table, i);
             y.address + y.size
@@ -27,15 +38,8 @@ fn end_below(table: &Table, order: &[u16], section: u16, address: u32) -> u32
 }
 
 // One split, after a split of section `before` that ends at `last`.
-fn validate_one(
-    table: &Table,
-    order: &[u16],
-    before: u16,
-    last: u32,
-    s: Split,
-) -> Result<(), Refusal>
-    requires { Order table.now.bytes.now table.now.places.now order.now × Sound (symbol_of table.now.bytes.now table.now.places.now) (length table.now.places.now) }
-    ensures { meaning result ≡ validateSplit (symbol_of table.now.bytes.now table.now.places.now) (length table.now.places.now) before last s }
+fn validate_one(symbols: &CheckedSymbols, before: u16, last: u32, s: Split) -> Result<(), Refusal>
+    ensures { meaning result ≡ validateSplit (symbol_of symbols.now.table.bytes.now symbols.now.table.places.now) (length symbols.now.table.places.now) before last s }
 {
     if (s.section == before) & (s.start < last) {
         return refuse(50, s.section, s.start);
@@ -43,10 +47,10 @@ fn validate_one(
     if (s.end == 0) | (s.end < s.start) {
         return refuse(51, s.section, s.start);
     }
-    if s.start < end_below(table, order, s.section, s.start) {
+    if s.start < end_below(symbols, s.section, s.start) {
         return refuse(52, s.section, s.start);
     }
-    if s.end < end_below(table, order, s.section, s.end) {
+    if s.end < end_below(symbols, s.section, s.end) {
         return refuse(53, s.section, s.start);
     }
     Ok(())
@@ -57,11 +61,15 @@ pub fn validate(table: &Table, order: &[u16], splits: &SplitColumns) -> Result<(
     requires { Order table.now.bytes.now table.now.places.now order.now × Sound (symbol_of table.now.bytes.now table.now.places.now) (length table.now.places.now) }
     ensures { meaning result ≡ validateTable (symbol_of table.now.bytes.now table.now.places.now) (length table.now.places.now) (rows_of splits.now) }
 {
+    let symbols = CheckedSymbols {
+        table: *table,
+        order,
+    };
     let mut before: u16 = 0;
     let mut last: u32 = 0;
     for i in 0..splits.count {
         let s = row(splits, i);
-        validate_one(table, order, before, last, s)?;
+        validate_one(&symbols, before, last, s)?;
         before = s.section;
         last = s.end;
     }

@@ -13,21 +13,21 @@ use Rattle.validate.proofs.end_below.Goals as goal
 pub symbol_at-y-requires : goal.symbol_at-y-requires
 symbol_at-y-requires c =
     let a = c.args in
-    held _ _ c.requires.0.whole _ (below-found (symbol_of a.table.now.bytes.now a.table.now.places.now) (length a.table.now.places.now) a.section false a.address c.in-Some.i (sym c.last_below.ensures ∙ c.in-Some.is))
+    held _ _ a.symbols.now.ordered.whole _ (below-found (symbol_of a.symbols.now.table.bytes.now a.symbols.now.table.places.now) (length a.symbols.now.table.places.now) a.section false a.address c.in-Some.i (sym c.last_below.ensures ∙ c.in-Some.is))
 
 pub overflow_add-result : goal.overflow_add-result
 overflow_add-result c =
     let a = c.args in
     let e = ap (λ (y : Symbol). y.address) c.symbol_at-y.ensures in
     let f = ap (λ (y : Symbol). y.size) c.symbol_at-y.ensures in
-    omega (arith, e, f, c.requires.1.ends _ (below-found (symbol_of a.table.now.bytes.now a.table.now.places.now) (length a.table.now.places.now) a.section false a.address c.in-Some.i (sym c.last_below.ensures ∙ c.in-Some.is)))
+    omega (arith, e, f, a.symbols.now.sound.ends _ (below-found (symbol_of a.symbols.now.table.bytes.now a.symbols.now.table.places.now) (length a.symbols.now.table.places.now) a.section false a.address c.in-Some.i (sym c.last_below.ensures ∙ c.in-Some.is)))
 
 pub returns-in-Some : goal.returns-in-Some
 returns-in-Some c =
     let a = c.args in
-    end_at (symbol_of a.table.now.bytes.now a.table.now.places.now) (length a.table.now.places.now) a.section a.address _ _ c.symbol_at-y.ensures (sym c.in-Some.is ∙ c.last_below.ensures)
+    end_at (symbol_of a.symbols.now.table.bytes.now a.symbols.now.table.places.now) (length a.symbols.now.table.places.now) a.section a.address _ _ c.symbol_at-y.ensures (sym c.in-Some.is ∙ c.last_below.ensures)
 
 pub returns-in-None : goal.returns-in-None
 returns-in-None c =
     let a = c.args in
-    end_none (symbol_of a.table.now.bytes.now a.table.now.places.now) (length a.table.now.places.now) a.section a.address (sym c.in-None.is ∙ c.last_below.ensures)
+    end_none (symbol_of a.symbols.now.table.bytes.now a.symbols.now.table.places.now) (length a.symbols.now.table.places.now) a.section a.address (sym c.in-None.is ∙ c.last_below.ensures)
