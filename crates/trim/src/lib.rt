@@ -15,7 +15,7 @@ ghost use Rattle.splits.specs.Columns.{row_at};
 ghost use Rattle.splits.specs.Table.{columns_of, rows_of, columns_in, rows_in, OnlyEnds};
 ghost use Rattle.trim.specs.Trim.{end_of, ask_next, aligned_end, fall_of, falls_of, carry_one, carry_from, cut_last, cut_section, cut_from, trimmed};
 ghost use Rattle.trim.specs.Steps.{asked_meaning, seen, Placed, AllPlaced, Past, LastOf};
-ghost use Rattle.trim.specs.Lent.{head_in, sections_in, AsksIn, KeptIn, PlacedIn};
+ghost use Rattle.trim.specs.Lent.{head_in, sections_in, KeptIn, PlacedIn};
 
 use align::align_up;
 use obj::{Refusal, Section, Split, Table, refuse, section_at, symbol_at};
@@ -23,13 +23,22 @@ use sections::{Obj, Short, end_for_section, section_bytes, split_alignment};
 use splits::{SplitColumns, SplitTable, row, set_end};
 use symbols::{Backwards, last_in};
 
+mod checked_tables;
+
+use checked_tables::CheckedTables;
+
 // ---- trim_split_alignment: the falls
 
 // "the alignment of the section's next split is still asked, from this split's start", and may be 11. The next split is that at place j.
-fn ask_next(obj: &Obj, splits: &SplitColumns, s: Split, j: usize) -> Result<(), Backwards>
-    requires { AsksIn obj.now × PlacedIn obj.now splits.now }
+fn ask_next(
+    tables: &CheckedTables,
+    splits: &SplitColumns,
+    s: Split,
+    j: usize,
+) -> Result<(), Backwards>
+    requires { s.section < length tables.now.obj.heads.places.now }
     ensures { asked_meaning s.section s.start result
-        ≡ ask_next (image_in obj.now) (head_in obj.now) s
+        ≡ ask_next (image_in tables.now.obj) (head_in tables.now.obj) s
         (tabulate (row_at (columns_of splits.now)) j (splits.now.count - j)) }
 {
     if splits.count <= j {
@@ -39,7 +48,7 @@ fn ask_next(obj: &Obj, splits: &SplitColumns, s: Split, j: usize) -> Result<(), 
     if next.section != s.section {
         return Ok(());
     }
-    split_alignment(obj, next, s.start)?;
+    split_alignment(&tables.obj, next, s.start)?;
     Ok(())
 }
 
@@ -59,41 +68,55 @@ fn end_of(table: &Table, found: Option<usize>, own: u32) -> u32
 }
 
 // "the end of the last such symbol in start..end, aligned up"
-fn aligned_end(obj: &Obj, s: Split) -> Result<u32, Backwards>
-    requires { AsksIn obj.now × Placed (length obj.now.heads.places.now) s × (bad_align s.alignment ≡ false) }
-    ensures { asked_meaning s.section s.start result ≡ aligned_end (image_in obj.now) (head_in obj.now) s }
+fn aligned_end(tables: &CheckedTables, s: Split) -> Result<u32, Backwards>
+    requires { Placed (length tables.now.obj.heads.places.now) s × (bad_align s.alignment ≡ false) }
+    ensures { asked_meaning s.section s.start result ≡ aligned_end (image_in tables.now.obj) (head_in tables.now.obj) s }
 {
-    let found = last_in(&obj.symbols, obj.order, s.section, s.start, s.end)?;
-    let end = end_of(&obj.symbols, found, s.end);
-    let a = split_alignment(obj, s, s.start)?;
+    let found = last_in(
+        &tables.obj.symbols,
+        tables.obj.order,
+        s.section,
+        s.start,
+        s.end,
+    )?;
+    let end = end_of(&tables.obj.symbols, found, s.end);
+    let a = split_alignment(&tables.obj, s, s.start)?;
     Ok(align_up(end, a.value()))
 }
 
 // Where the end of s falls to, 0 if it does not fall; the split after it is that at place j.
-fn fall_of(obj: &Obj, splits: &SplitColumns, s: Split, j: usize) -> Result<u32, Backwards>
-    requires { AsksIn obj.now × PlacedIn obj.now splits.now
-        × Placed (length obj.now.heads.places.now) s × (bad_align s.alignment ≡ false) }
+fn fall_of(
+    tables: &CheckedTables,
+    splits: &SplitColumns,
+    s: Split,
+    j: usize,
+) -> Result<u32, Backwards>
+    requires { Placed (length tables.now.obj.heads.places.now) s × (bad_align s.alignment ≡ false) }
     ensures { asked_meaning s.section s.start result
-        ≡ fall_of (image_in obj.now) (head_in obj.now) s
+        ≡ fall_of (image_in tables.now.obj) (head_in tables.now.obj) s
         (tabulate (row_at (columns_of splits.now)) j (splits.now.count - j)) }
 {
-    let low = aligned_end(obj, s)?;
+    let low = aligned_end(tables, s)?;
     if low < s.end {
-        ask_next(obj, splits, s, j)?;
+        ask_next(tables, splits, s, j)?;
         return Ok(low);
     }
     Ok(0)
 }
 
 // The falls of all splits, in the table's order; 11 is at the split whose fall is asked.
-fn find_falls(obj: &Obj, splits: &SplitColumns, falls: &mut [u32]) -> Result<(), Refusal>
-    requires { AsksIn obj.now × PlacedIn obj.now splits.now × (splits.now.count ≤ length falls.old) }
+fn find_falls(
+    tables: &CheckedTables,
+    splits: &SplitColumns,
+    falls: &mut [u32],
+) -> Result<(), Refusal>
+    requires { PlacedIn tables.now.obj splits.now × (splits.now.count ≤ length falls.old) }
     ensures { seen result (take splits.now.count falls.new)
-        ≡ falls_of (image_in obj.now) (head_in obj.now) (rows_of splits.now) }
+        ≡ falls_of (image_in tables.now.obj) (head_in tables.now.obj) (rows_of splits.now) }
 {
     for i in 0..splits.count {
         let s = row(splits, i);
-        let fall = fall_of(obj, splits, s, i + 1);
+        let fall = fall_of(tables, splits, s, i + 1);
         match fall {
             Ok(end) => falls[i] = end,
             Err(Backwards) => return refuse(11, s.section, s.start),
@@ -182,26 +205,26 @@ fn cut_last(table: &mut SplitTable, section: u16, end: u32)
 }
 
 // The splitting end of section k, which has this head.
-fn end_at(obj: &Obj, image: &Table, k: usize, head: Section) -> Result<u32, Short>
-    requires { TablesIn obj.now × KeptIn obj.now image.now
-        × (k < length obj.now.heads.places.now) × (head ≡ head_in obj.now k) }
+fn end_at(tables: &CheckedTables, k: usize, head: Section) -> Result<u32, Short>
+    requires { (k < length tables.now.obj.heads.places.now) × (head ≡ head_in tables.now.obj k) }
     ensures { end_meaning k head.address result
-        ≡ splitting_end (image_in obj.now) k (head_in obj.now k)
-        (bytes_of image.now.bytes.now image.now.places.now k (head_in obj.now k)) }
+        ≡ splitting_end (image_in tables.now.obj) k (head_in tables.now.obj k)
+        (bytes_of tables.now.image.bytes.now tables.now.image.places.now k (head_in tables.now.obj k)) }
 {
-    let bytes = section_bytes(image.bytes, image.places, k, head);
+    let obj = &tables.obj;
+    let bytes = section_bytes(tables.image.bytes, tables.image.places, k, head);
     end_for_section(&obj.symbols, obj.order, &obj.names, k as u16, head, bytes)
 }
 
 // Section k: "where the splitting end isn't the section's end", its last split.
-fn cut_section(obj: &Obj, image: &Table, table: &mut SplitTable, k: usize) -> Result<(), Refusal>
-    requires { TablesIn obj.now × KeptIn obj.now image.now × (k < length obj.now.heads.places.now) }
+fn cut_section(tables: &CheckedTables, table: &mut SplitTable, k: usize) -> Result<(), Refusal>
+    requires { k < length tables.now.obj.heads.places.now }
     ensures rows { seen result (rows_in table.new)
-        ≡ cut_section (image_in obj.now) (sections_in obj.now image.now) k (rows_in table.old) }
+        ≡ cut_section (image_in tables.now.obj) (sections_in tables.now.obj tables.now.image) k (rows_in table.old) }
     ensures others { OnlyEnds table.old table.new }
 {
-    let head = section_at(&obj.heads, k);
-    let end = end_at(obj, image, k, head);
+    let head = section_at(&tables.obj.heads, k);
+    let end = end_at(tables, k, head);
     match end {
         Ok(low) => {
             if head.address + head.size == low {
@@ -215,14 +238,13 @@ fn cut_section(obj: &Obj, image: &Table, table: &mut SplitTable, k: usize) -> Re
 }
 
 // All sections, in their order.
-fn cut_sections(obj: &Obj, image: &Table, table: &mut SplitTable) -> Result<(), Refusal>
-    requires { TablesIn obj.now × KeptIn obj.now image.now }
+fn cut_sections(tables: &CheckedTables, table: &mut SplitTable) -> Result<(), Refusal>
     ensures rows { seen result (rows_in table.new)
-        ≡ cut_from (image_in obj.now) (sections_in obj.now image.now) (length obj.now.heads.places.now) 0 (rows_in table.old) }
+        ≡ cut_from (image_in tables.now.obj) (sections_in tables.now.obj tables.now.image) (length tables.now.obj.heads.places.now) 0 (rows_in table.old) }
     ensures others { OnlyEnds table.old table.new }
 {
-    for k in 0..obj.heads.places.len() {
-        cut_section(obj, image, table, k)?;
+    for k in 0..tables.obj.heads.places.len() {
+        cut_section(tables, table, k)?;
     }
     Ok(())
 }
@@ -244,7 +266,11 @@ pub fn trim(
         ≡ trimmed (image_in obj.now) (sections_in obj.now image.now) (rows_in table.old) }
     ensures others { OnlyEnds table.old table.new }
 {
-    find_falls(obj, &table.columns(), falls)?;
+    let tables = CheckedTables {
+        obj: *obj,
+        image: *image,
+    };
+    find_falls(&tables, &table.columns(), falls)?;
     carry_out(table, falls)?;
-    cut_sections(obj, image, table)
+    cut_sections(&tables, table)
 }

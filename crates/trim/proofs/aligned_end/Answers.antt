@@ -18,8 +18,8 @@ use Rattle.trim.proofs.aligned_end.Goals as goal
 pub returns-in_err-found : goal.returns-in_err-found
 returns-in_err-found c =
     let a = c.args in
-    let g = image_in a.obj.now in
-    let head = head_in a.obj.now in
+    let g = image_in a.tables.now.obj in
+    let head = head_in a.tables.now.obj in
     let y = a.s in
     let p = err_from_is_err_and c.from_residual.result c.from_residual.ensures.1 in
     rw p.1 (sym (aligned_backwards g head y 11 y.section y.start (sym c.last_in.ensures ∙ ap (found_meaning y.section y.start) c.in_err-found.was)))
@@ -27,21 +27,21 @@ returns-in_err-found c =
 pub end_of-end-requires : goal.end_of-end-requires
 end_of-end-requires c =
     let a = c.args in
-    let g = image_in a.obj.now in
+    let g = image_in a.tables.now.obj in
     let y = a.s in
     let p = c.requires in
     let found = sym c.last_in.ensures ∙ ap (found_meaning y.section y.start) c.in_ok-found.was in
-    (p.0.tables.symbols.whole, p.0.sound, p.1.end, λ i e. (in_found g.symbol g.count y.section y.start y.end i (found ∙ ap accepted e)).there)
+    (a.tables.now.asks.tables.symbols.whole, a.tables.now.asks.sound, p.0.end, λ i e. (in_found g.symbol g.count y.section y.start y.end i (found ∙ ap accepted e)).there)
 
 pub split_alignment-requires : goal.split_alignment-requires
-split_alignment-requires c = let p = c.requires in (p.0.tables, p.0.headed, p.1.section)
+split_alignment-requires c = let t = c.args.tables.now in (t.asks.tables, t.asks.headed, c.requires.0.section)
 
 pub returns-in_err-a : goal.returns-in_err-a
 unfolding ◌>>=◌
 returns-in_err-a c =
     let a = c.args in
-    let g = image_in a.obj.now in
-    let head = head_in a.obj.now in
+    let g = image_in a.tables.now.obj in
+    let head = head_in a.tables.now.obj in
     let y = a.s in
     let end = end_of g.symbol y.end c.in_ok-found.found in
     let p = err_from_is_err_and c.from_residual-in_err-a.result c.from_residual-in_err-a.ensures.1 in
@@ -52,20 +52,20 @@ returns-in_err-a c =
 pub align_up-requires : goal.align_up-requires
 align_up-requires c =
     let a = c.args in
-    let g = image_in a.obj.now in
-    let head = head_in a.obj.now in
+    let g = image_in a.tables.now.obj in
+    let head = head_in a.tables.now.obj in
     let y = a.s in (
       c.end_of-end.ensures.small,
       rw c.value.ensures
-          (from_good g head y.start y c.requires.0.sound c.requires.2 (chosen c.in_ok-a.a) (sym c.split_alignment.ensures ∙ ap (alignment_meaning y.section y.start) c.in_ok-a.was)),
+          (from_good g head y.start y a.tables.now.asks.sound c.requires.1 (chosen c.in_ok-a.a) (sym c.split_alignment.ensures ∙ ap (alignment_meaning y.section y.start) c.in_ok-a.was)),
     )
 
 pub returns : goal.returns
 unfolding ◌>>=◌
 returns c =
     let a = c.args in
-    let g = image_in a.obj.now in
-    let head = head_in a.obj.now in
+    let g = image_in a.tables.now.obj in
+    let head = head_in a.tables.now.obj in
     let y = a.s in
     let end = end_of g.symbol y.end c.in_ok-found.found in
     ap accepted c.align_up.ensures.is

@@ -4,7 +4,6 @@ use Prim.Native.Nat.{ℕ}
 use native.Mathlib.Omega.{arith}
 use Rattle.std.proofs.lemmas.Result.{err_from_is_err_and}
 use Rattle.lists.specs.Outcome.{refused, ◌>>=◌}
-use Rattle.obj.specs.declared.Split.{Split}
 use Rattle.sections.specs.Image.{image_in}
 use Rattle.sections.specs.Alignment.{alignment_meaning}
 use Rattle.splits.specs.Columns.{row_at}
@@ -17,31 +16,30 @@ use Rattle.trim.proofs.ask_next.Goals as goal
 pub returns-then-splits-j : goal.returns-then-splits-j
 returns-then-splits-j c =
     let a = c.args in
-    let g = image_in a.obj.now in
-    let head = head_in a.obj.now in
+    let g = image_in a.tables.now.obj in
+    let head = head_in a.tables.now.obj in
     let row = row_at (columns_of a.splits.now) in
     next_none g head a.s row a.splits.now.count a.j c.if-splits-j.true
 
 pub returns-then-next-s : goal.returns-then-next-s
 returns-then-next-s c =
     let a = c.args in
-    let g = image_in a.obj.now in
-    let head = head_in a.obj.now in
+    let g = image_in a.tables.now.obj in
+    let head = head_in a.tables.now.obj in
     let row = row_at (columns_of a.splits.now) in
     next_other g head a.s row a.splits.now.count a.j c.if-splits-j.false _ c.row-next.ensures c.if-next-s.true
 
 pub split_alignment-requires : goal.split_alignment-requires
 split_alignment-requires c =
-    let s = c.requires in
-    let e = ap (λ (y : Split). y.section) c.row-next.ensures in
-    (s.0.tables, s.0.headed, omega (arith, e, (s.1.each c.args.j c.if-splits-j.false).section))
+    let t = c.args.tables.now in
+    (t.asks.tables, t.asks.headed, omega arith)
 
 pub returns-in_err-split_alignment : goal.returns-in_err-split_alignment
 unfolding ◌>>=◌
 returns-in_err-split_alignment c =
     let a = c.args in
-    let g = image_in a.obj.now in
-    let head = head_in a.obj.now in
+    let g = image_in a.tables.now.obj in
+    let head = head_in a.tables.now.obj in
     let row = row_at (columns_of a.splits.now) in
     let e = c.if-next-s.false in
     let p = err_from_is_err_and c.from_residual.result c.from_residual.ensures.1 in
@@ -54,8 +52,8 @@ pub returns : goal.returns
 unfolding ◌>>=◌
 returns c =
     let a = c.args in
-    let g = image_in a.obj.now in
-    let head = head_in a.obj.now in
+    let g = image_in a.tables.now.obj in
+    let head = head_in a.tables.now.obj in
     let row = row_at (columns_of a.splits.now) in
     ap unused (sym (ap (alignment_meaning c.row-next.result.section a.s.start) c.in_ok-split_alignment.was) ∙ c.split_alignment.ensures)
     ∙ next_asked g head a.s row a.splits.now.count a.j c.if-splits-j.false _ c.row-next.ensures c.if-next-s.false

@@ -15,24 +15,24 @@ use Rattle.trim.specs.Lent.{sections_in}
 use Rattle.trim.proofs.cut_section.Goals as goal
 
 pub section_at-head-requires : goal.section_at-head-requires
-section_at-head-requires c = kept-held _ _ _ _ _ c.requires.1 c.args.k c.requires.2
+section_at-head-requires c = kept-held _ _ _ _ _ c.args.tables.now.kept c.args.k c.requires
 
 pub overflow_add-head : goal.overflow_add-head
 overflow_add-head c =
     let e = ap (λ (h : Section). h.address + h.size) c.section_at-head.ensures in
-    omega (arith, e, c.requires.1.below c.args.k c.requires.2)
+    omega (arith, e, c.args.tables.now.kept.below c.args.k c.requires)
 
 pub overflow_cast-k : goal.overflow_cast-k
-overflow_cast-k c = omega (arith, c.requires.1.few, c.requires.2)
+overflow_cast-k c = omega (arith, c.args.tables.now.kept.few, c.requires)
 
 pub overflow_cast-k-in-Err : goal.overflow_cast-k-in-Err
-overflow_cast-k-in-Err c = omega (arith, c.requires.1.few, c.requires.2)
+overflow_cast-k-in-Err c = omega (arith, c.args.tables.now.kept.few, c.requires)
 
 pub returns-then-head-low-clause-rows : goal.returns-then-head-low-clause-rows
 returns-then-head-low-clause-rows c =
     let a = c.args in
-    let g = image_in a.obj.now in
-    let sections = sections_in a.obj.now a.image.now in
+    let g = image_in a.tables.now.obj in
+    let sections = sections_in a.tables.now.obj a.tables.now.image in
     let whole = ap (λ (h : Section). h.address + h.size) c.section_at-head.ensures in
     let is = sym c.end_at-end.ensures ∙ ap (end_meaning a.k c.section_at-head.result.address) c.in-Ok.is in
     sym (section_whole g sections a.k _ _ is (sym whole ∙ c.if-head-low.true))
@@ -40,8 +40,8 @@ returns-then-head-low-clause-rows c =
 pub returns-else-head-low-clause-rows : goal.returns-else-head-low-clause-rows
 returns-else-head-low-clause-rows c =
     let a = c.args in
-    let g = image_in a.obj.now in
-    let sections = sections_in a.obj.now a.image.now in
+    let g = image_in a.tables.now.obj in
+    let sections = sections_in a.tables.now.obj a.tables.now.image in
     let whole = ap (λ (h : Section). h.address + h.size) c.section_at-head.ensures in
     let is = sym c.end_at-end.ensures ∙ ap (end_meaning a.k c.section_at-head.result.address) c.in-Ok.is in
     ap accepted c.cut_last.ensures.rows ∙ sym (section_cut g sections a.k _ _ is (λ e. c.if-head-low.false (whole ∙ e)))
@@ -49,8 +49,8 @@ returns-else-head-low-clause-rows c =
 pub returns-in-Err-clause-rows : goal.returns-in-Err-clause-rows
 returns-in-Err-clause-rows c =
     let a = c.args in
-    let g = image_in a.obj.now in
-    let sections = sections_in a.obj.now a.image.now in
+    let g = image_in a.tables.now.obj in
+    let sections = sections_in a.tables.now.obj a.tables.now.image in
     let head = c.section_at-head.result in
     ap (λ (r : Answer). seen r (rows_in a.table.now)) c.refuse.ensures
     ∙ sym (section_short g sections a.k _ 10 a.k head.address (sym c.end_at-end.ensures ∙ ap (end_meaning a.k head.address) c.in-Err.is))

@@ -16,19 +16,19 @@ use Rattle.trim.proofs.cut_sections.Goals as goal
 pub loop-k-init : goal.loop-k-init
 loop-k-init c =
     let a = c.args in
-    let g = image_in a.obj.now in
-    let sections = sections_in a.obj.now a.image.now in
-    (ap (λ (m : ℕ). cut_from g sections m 0 (rows_in a.table.now)) (sub-zero (length a.obj.now.heads.places.now)), record { starts = refl; units = refl; rest = refl; held = refl; count = refl; room = refl })
+    let g = image_in a.tables.now.obj in
+    let sections = sections_in a.tables.now.obj a.tables.now.image in
+    (ap (λ (m : ℕ). cut_from g sections m 0 (rows_in a.table.now)) (sub-zero (length a.tables.now.obj.heads.places.now)), record { starts = refl; units = refl; rest = refl; held = refl; count = refl; room = refl })
 
 pub returns-in_err-cut_section-clause-rows : goal.returns-in_err-cut_section-clause-rows
 returns-in_err-cut_section-clause-rows c =
     let a = c.args in
-    let g = image_in a.obj.now in
-    let sections = sections_in a.obj.now a.image.now in
+    let g = image_in a.tables.now.obj in
+    let sections = sections_in a.tables.now.obj a.tables.now.image in
     let l = c.loop-k in
     rw (same_err c.from_residual.result c.cut_section.result c.from_residual.ensures.1 c.in_err-cut_section.was)
     (seen-stops _ _ _ _ c.cut_section.ensures.rows _ c.in_err-cut_section.was
-    ∙ sym (cut_turn g sections (length a.obj.now.heads.places.now) l.k (rows_in l.table) c.loop-k-test.true)
+    ∙ sym (cut_turn g sections (length a.tables.now.obj.heads.places.now) l.k (rows_in l.table) c.loop-k-test.true)
     ∙ l.invariant.0)
 
 pub returns-in_err-cut_section-clause-others : goal.returns-in_err-cut_section-clause-others
@@ -37,11 +37,11 @@ returns-in_err-cut_section-clause-others c = only_ends c.loop-k.invariant.1 c.cu
 pub loop-k-preserved : goal.loop-k-preserved
 loop-k-preserved c =
     let a = c.args in
-    let g = image_in a.obj.now in
-    let sections = sections_in a.obj.now a.image.now in
+    let g = image_in a.tables.now.obj in
+    let sections = sections_in a.tables.now.obj a.tables.now.image in
     let l = c.loop-k in (
-      sym (seen_goes _ _ _ (cut_from g sections (length a.obj.now.heads.places.now - (l.k + 1)) (l.k + 1)) c.cut_section.ensures.rows c.in_ok-cut_section.was)
-          ∙ sym (cut_turn g sections (length a.obj.now.heads.places.now) l.k (rows_in l.table) c.loop-k-test.true)
+      sym (seen_goes _ _ _ (cut_from g sections (length a.tables.now.obj.heads.places.now - (l.k + 1)) (l.k + 1)) c.cut_section.ensures.rows c.in_ok-cut_section.was)
+          ∙ sym (cut_turn g sections (length a.tables.now.obj.heads.places.now) l.k (rows_in l.table) c.loop-k-test.true)
           ∙ l.invariant.0,
       only_ends l.invariant.1 c.cut_section.ensures.others,
     )
@@ -49,7 +49,7 @@ loop-k-preserved c =
 pub returns-clause-rows : goal.returns-clause-rows
 returns-clause-rows c =
     let a = c.args in
-    let g = image_in a.obj.now in
-    let sections = sections_in a.obj.now a.image.now in
+    let g = image_in a.tables.now.obj in
+    let sections = sections_in a.tables.now.obj a.tables.now.image in
     let l = c.loop-k in
-    sym (cut_ended g sections (length a.obj.now.heads.places.now) l.k (rows_in l.table) c.loop-k-test.false) ∙ l.invariant.0
+    sym (cut_ended g sections (length a.tables.now.obj.heads.places.now) l.k (rows_in l.table) c.loop-k-test.false) ∙ l.invariant.0

@@ -11,6 +11,6 @@ use Rattle.trim.proofs.cut_sections.Given as goal
 
 abbrev pub invariant-loop-k : goal.invariant-loop-k
 invariant-loop-k l =
-    (cut_from (image_in l.obj) (sections_in l.obj l.image) (length l.obj.heads.places.now - l.k) l.k (rows_in l.table)
-    ≡ cut_from (image_in l.obj) (sections_in l.obj l.image) (length l.obj.heads.places.now) 0 (rows_in l.initial.table))
+    (cut_from (image_in l.tables.obj) (sections_in l.tables.obj l.tables.image) (length l.tables.obj.heads.places.now - l.k) l.k (rows_in l.table)
+    ≡ cut_from (image_in l.tables.obj) (sections_in l.tables.obj l.tables.image) (length l.tables.obj.heads.places.now) 0 (rows_in l.initial.table))
     × OnlyEnds l.initial.table l.table

@@ -12,8 +12,8 @@ use Rattle.trim.proofs.end_at.Goals as goal
 pub end_for_section-requires : goal.end_for_section-requires
 end_for_section-requires c =
     let s = c in
-    let whole = kept_whole _ _ _ _ _ s.requires.1 s.args.k s.requires.2 in (
-      s.requires.0,
-      subst (λ (h : Section). Whole h c.section_bytes-bytes.result.now s.args.obj.now.names.places.now) (sym s.requires.3)
-          (subst (λ (l : List ℕ). Whole (head_in s.args.obj.now s.args.k) l s.args.obj.now.names.places.now) (sym (c.section_bytes-bytes.ensures ∙ ap (bytes_of s.args.image.now.bytes.now s.args.image.now.places.now s.args.k) s.requires.3)) whole),
+    let whole = kept_whole _ _ _ _ _ s.args.tables.now.kept s.args.k s.requires.0 in (
+      s.args.tables.now.asks.tables,
+      subst (λ (h : Section). Whole h c.section_bytes-bytes.result.now s.args.tables.now.obj.names.places.now) (sym s.requires.1)
+          (subst (λ (l : List ℕ). Whole (head_in s.args.tables.now.obj s.args.k) l s.args.tables.now.obj.names.places.now) (sym (c.section_bytes-bytes.ensures ∙ ap (bytes_of s.args.tables.now.image.bytes.now s.args.tables.now.image.places.now s.args.k) s.requires.1)) whole),
     )

@@ -15,8 +15,8 @@ use Rattle.trim.proofs.fall_of.Goals as goal
 pub returns-in_err-low : goal.returns-in_err-low
 returns-in_err-low c =
     let a = c.args in
-    let g = image_in a.obj.now in
-    let head = head_in a.obj.now in
+    let g = image_in a.tables.now.obj in
+    let head = head_in a.tables.now.obj in
     let row = row_at (columns_of a.splits.now) in
     let y = a.s in
     let p = err_from_is_err_and c.from_residual.result c.from_residual.ensures.1 in
@@ -27,8 +27,8 @@ returns-in_err-low c =
 pub returns-in_err-ask_next : goal.returns-in_err-ask_next
 returns-in_err-ask_next c =
     let a = c.args in
-    let g = image_in a.obj.now in
-    let head = head_in a.obj.now in
+    let g = image_in a.tables.now.obj in
+    let head = head_in a.tables.now.obj in
     let row = row_at (columns_of a.splits.now) in
     let y = a.s in
     let p = err_from_is_err_and c.from_residual-in_err-ask_next.result c.from_residual-in_err-ask_next.ensures.1 in
@@ -39,8 +39,8 @@ returns-in_err-ask_next c =
 pub returns-then-low-s : goal.returns-then-low-s
 returns-then-low-s c =
     let a = c.args in
-    let g = image_in a.obj.now in
-    let head = head_in a.obj.now in
+    let g = image_in a.tables.now.obj in
+    let head = head_in a.tables.now.obj in
     let row = row_at (columns_of a.splits.now) in
     let y = a.s in
     sym (falls_to g head y (tabulate row a.j (a.splits.now.count - a.j)) _ (sym c.aligned_end.ensures ∙ ap (asked_meaning y.section y.start) c.in_ok-low.was) c.if-low-s.true
@@ -49,8 +49,8 @@ returns-then-low-s c =
 pub returns : goal.returns
 returns c =
     let a = c.args in
-    let g = image_in a.obj.now in
-    let head = head_in a.obj.now in
+    let g = image_in a.tables.now.obj in
+    let head = head_in a.tables.now.obj in
     let row = row_at (columns_of a.splits.now) in
     let y = a.s in
     sym (falls_not g head y (tabulate row a.j (a.splits.now.count - a.j)) _ (sym c.aligned_end.ensures ∙ ap (asked_meaning y.section y.start) c.in_ok-low.was) c.if-low-s.false)

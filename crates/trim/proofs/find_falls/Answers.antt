@@ -20,17 +20,15 @@ use Rattle.trim.proofs.find_falls.Goals as goal
 pub loop-i-init : goal.loop-i-init
 loop-i-init c =
     let a = c.args in
-    let g = image_in a.obj.now in
-    let head = head_in a.obj.now in
+    let g = image_in a.tables.now.obj in
+    let head = head_in a.tables.now.obj in
     let row = row_at (columns_of a.splits.now) in
     falls_start g head row a.splits.now.count
 
 pub fall_of-fall-requires : goal.fall_of-fall-requires
 fall_of-fall-requires c =
     let e = c.row-s.ensures in
-    let p = c.requires.1.each c.loop-i.i c.loop-i-test.true in (
-      c.requires.0,
-      c.requires.1,
+    let p = c.requires.0.each c.loop-i.i c.loop-i-test.true in (
       record { section = omega (arith, ap (λ (y : Split). y.section) e, p.section); end = omega (arith, ap (λ (y : Split). y.end) e, p.end) },
       ap (λ (y : Split). bad_align y.alignment) e ∙ alignment_good _ (good_row _ _ _ _),
     )
@@ -38,19 +36,19 @@ fall_of-fall-requires c =
 pub loop-i-preserved : goal.loop-i-preserved
 loop-i-preserved c =
     let a = c.args in
-    let g = image_in a.obj.now in
-    let head = head_in a.obj.now in
+    let g = image_in a.tables.now.obj in
+    let head = head_in a.tables.now.obj in
     let row = row_at (columns_of a.splits.now) in
     let l = c.loop-i in
     let y = c.row-s.result in
     let fall = sym c.fall_of-fall.ensures ∙ ap (asked_meaning y.section y.start) c.in-Ok.is in
-    fall_turn g head row a.splits.now.count l.i c.loop-i-test.true y c.row-s.ensures l.falls _ (omega (arith, c.requires.2, l.auto.falls, c.loop-i-test.true)) fall ∙ l.invariant
+    fall_turn g head row a.splits.now.count l.i c.loop-i-test.true y c.row-s.ensures l.falls _ (omega (arith, c.requires.1, l.auto.falls, c.loop-i-test.true)) fall ∙ l.invariant
 
 pub returns-in-Err : goal.returns-in-Err
 returns-in-Err c =
     let a = c.args in
-    let g = image_in a.obj.now in
-    let head = head_in a.obj.now in
+    let g = image_in a.tables.now.obj in
+    let head = head_in a.tables.now.obj in
     let row = row_at (columns_of a.splits.now) in
     let l = c.loop-i in
     let y = c.row-s.result in
@@ -62,8 +60,8 @@ returns-in-Err c =
 pub returns : goal.returns
 returns c =
     let a = c.args in
-    let g = image_in a.obj.now in
-    let head = head_in a.obj.now in
+    let g = image_in a.tables.now.obj in
+    let head = head_in a.tables.now.obj in
     let row = row_at (columns_of a.splits.now) in
     let l = c.loop-i in
     let z : ◌≡◌ a.splits.now.count l.i = omega (arith, l.auto.i-end, c.loop-i-test.false) in

@@ -11,5 +11,5 @@ use Rattle.trim.proofs.find_falls.Given as goal
 
 abbrev pub invariant-loop-i : goal.invariant-loop-i
 invariant-loop-i l =
-    falls_from (image_in l.obj) (head_in l.obj) (row_at (columns_of l.splits)) l.splits.count l.i (take l.i l.falls)
-    ≡ falls_of (image_in l.obj) (head_in l.obj) (rows_of l.splits)
+    falls_from (image_in l.tables.obj) (head_in l.tables.obj) (row_at (columns_of l.splits)) l.splits.count l.i (take l.i l.falls)
+    ≡ falls_of (image_in l.tables.obj) (head_in l.tables.obj) (rows_of l.splits)

@@ -15,12 +15,16 @@ use Rattle.trim.specs.Lent.{sections_in}
 use Rattle.trim.proofs.Only.{only_ends}
 use Rattle.trim.proofs.trim.Goals as goal
 
+pub invariant_of-tables-clause-asks : goal.invariant_of-tables-clause-asks
+invariant_of-tables-clause-asks c =
+    let p = c.requires in
+    record { tables = p.0; sound = p.1; headed = kept_heads _ _ _ _ _ p.2 }
+
 pub find_falls-requires : goal.find_falls-requires
 find_falls-requires c =
     let p = c.requires in
     let e = c.columns.ensures.columns in
-    rw (e.starts, e.ends, e.units, e.rest, e.count)
-    (record { tables = p.0; sound = p.1; headed = kept_heads _ _ _ _ _ p.2 }, p.3, p.4)
+    rw (e.starts, e.ends, e.units, e.rest, e.count) (p.3, p.4)
 
 pub returns-in_err-find_falls-clause-rows : goal.returns-in_err-find_falls-clause-rows
 unfolding trimmed
@@ -53,9 +57,6 @@ returns-in_err-carry_out-clause-rows c =
     rw (same_err c.from_residual-in_err-carry_out.result c.carry_out.result c.from_residual-in_err-carry_out.ensures.1 c.in_err-carry_out.was)
     (seen-stops _ _ _ (λ (fallen : List Split). cut_from g sections sections.count 0 fallen) c.carry_out.ensures.rows _ c.in_err-carry_out.was
     ∙ sym (seen_goes _ _ (falls_of g sections.head table) next found c.in_ok-find_falls.was))
-
-pub cut_sections-requires : goal.cut_sections-requires
-cut_sections-requires c = (c.requires.0, c.requires.2)
 
 pub returns-clause-rows : goal.returns-clause-rows
 unfolding trimmed
