@@ -22,8 +22,10 @@ use obj::{Refusal, Split, Table, refuse, section_at};
 use splits::SplitTable;
 
 mod added_names;
+mod named_tables;
 
 pub use added_names::AddedNames;
+use named_tables::NamedTables;
 
 impl AddedNames<'_, '_, '_> {
     // Their columns to read, of which the first `count` are names.
@@ -93,50 +95,20 @@ fn number_of_name(
     None
 }
 
-// The unit of the gap of a section that starts at `start`. `text` is room for its name.
-fn unit_in(
-    heads: &Table,
-    table_names: &Names,
-    index: &NameIndex,
-    added: &mut AddedNames,
-    section: u16,
-    start: u32,
-    text: &mut [u8],
-) -> Option<u16>
-    requires { TablesIn heads.now table_names.now index.now
-        × (section < length heads.now.places.now)
-        × Absent (added_in added.old) (gap_name section start (sections_named heads.now table_names.now section))
-        × (81 ≤ length text.old) }
-    ensures unit { Numbered (names_in table_names.now) (added_in added.old)
-        (gap_name section start (sections_named heads.now table_names.now section))
-        (ceilings_in table_names.now added.old) (added_in added.new) result }
-    ensures ceilings { SameCeilings added.old added.new }
-{
-    let head = section_at(heads, section as usize);
-    let name = name_at(table_names, head.name as usize);
-    let size = write_gap_name(text, section, start, name);
-    number_of_name(table_names, index, added, &text[..size])
-}
-
-// The same, with room of its own for the name.
-fn unit_of(
-    heads: &Table,
-    table_names: &Names,
-    index: &NameIndex,
-    added: &mut AddedNames,
-    section: u16,
-    start: u32,
-) -> Option<u16>
-    requires { TablesIn heads.now table_names.now index.now
-        × (section < length heads.now.places.now)
-        × Absent (added_in added.old) (gap_name section start (sections_named heads.now table_names.now section)) }
-    ensures unit { Numbered (names_in table_names.now) (added_in added.old)
-        (gap_name section start (sections_named heads.now table_names.now section))
-        (ceilings_in table_names.now added.old) (added_in added.new) result }
+// The unit of the gap of a section that starts at `start`.
+fn unit_of(tables: &NamedTables, added: &mut AddedNames, section: u16, start: u32) -> Option<u16>
+    requires { (section < length tables.now.heads.places.now)
+        × Absent (added_in added.old) (gap_name section start (sections_named tables.now.heads tables.now.names section)) }
+    ensures unit { Numbered (names_in tables.now.names) (added_in added.old)
+        (gap_name section start (sections_named tables.now.heads tables.now.names section))
+        (ceilings_in tables.now.names added.old) (added_in added.new) result }
     ensures ceilings { SameCeilings added.old added.new }
 {
     let mut text = [0u8; 81];
-    unit_in(heads, table_names, index, added, section, start, &mut text)
+    let head = section_at(&tables.heads, section as usize);
+    let name = name_at(&tables.names, head.name as usize);
+    let size = write_gap_name(&mut text, section, start, name);
+    number_of_name(&tables.names, &tables.index, added, &text[..size])
 }
 
 // ---- the split
@@ -160,33 +132,29 @@ fn gap_split(section: u16, start: u32, end: u32, unit: u16) -> Split
 // One gap: "name (28) before merge".
 fn enter_gap(
     table: &mut SplitTable,
-    heads: &Table,
-    table_names: &Names,
-    index: &NameIndex,
+    tables: &NamedTables,
     added: &mut AddedNames,
     section: u16,
     start: u32,
     end: u32,
 ) -> Result<(), Refusal>
-    requires { AllHeld 15 heads.now.bytes.now heads.now.places.now
-        × TablesIn heads.now table_names.now index.now
-        × (section < length heads.now.places.now)
-        × Absent (added_in added.old) (gap_name section start (sections_named heads.now table_names.now section)) }
+    requires { (section < length tables.now.heads.places.now)
+        × Absent (added_in added.old) (gap_name section start (sections_named tables.now.heads tables.now.names section)) }
     ensures tables { Enters
-        (entered (sections_named heads.now table_names.now)
-        (given (sections_in heads.now.bytes.now heads.now.places.now) table.old.room) (ceilings_in table_names.now added.old)
-        (record { names = names_in table_names.now ++ added_in added.old; rows = rows_in table.old })
+        (entered (sections_named tables.now.heads tables.now.names)
+        (given (sections_in tables.now.heads.bytes.now tables.now.heads.places.now) table.old.room) (ceilings_in tables.now.names added.old)
+        (record { names = names_in tables.now.names ++ added_in added.old; rows = rows_in table.old })
         (gap section start end))
-        (names_in table_names.now) (added_in added.old)
-        (gap_name section start (sections_named heads.now table_names.now section))
+        (names_in tables.now.names) (added_in added.old)
+        (gap_name section start (sections_named tables.now.heads tables.now.names section))
         (added_in added.new) (rows_in table.new) result }
     ensures ceilings { SameCeilings added.old added.new }
     ensures room { table.new.room ≡ table.old.room }
 {
-    let Some(unit) = unit_of(heads, table_names, index, added, section, start) else {
+    let Some(unit) = unit_of(tables, added, section, start) else {
         return refuse(28, section, start);
     };
-    add_split(table, heads, gap_split(section, start, end, unit))
+    add_split(table, &tables.heads, gap_split(section, start, end, unit))
 }
 
 // The section and the start of gap i: its key is section * 2 ^ 32 + start.
@@ -224,13 +192,18 @@ pub fn enter_gaps(
     ensures ceilings { SameCeilings added.old added.new }
     ensures room { table.new.room ≡ table.old.room }
 {
+    let tables = NamedTables {
+        heads: *heads,
+        names: *table_names,
+        index: *index,
+    };
     added.count = 0;
     added.used = 0;
     for i in 0..gaps.count {
         let section = section_of(gaps.keys, i);
         let start = start_of(gaps.keys, i);
         let end = gaps.ends[i];
-        enter_gap(table, heads, table_names, index, added, section, start, end)?;
+        enter_gap(table, &tables, added, section, start, end)?;
     }
     Ok(())
 }

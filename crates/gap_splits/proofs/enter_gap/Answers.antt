@@ -5,7 +5,7 @@ use Rattle.gap_splits.proofs.Entries.{enters_full, enters_merged, good_none}
 use Rattle.gap_splits.proofs.enter_gap.Goals as goal
 
 pub add_split-requires : goal.add_split-requires
-add_split-requires c = (c.requires.0, good_none {x = gap c.args.section c.args.start c.args.end} c.gap_split.ensures)
+add_split-requires c = (c.args.tables.now.held, good_none {x = gap c.args.section c.args.start c.args.end} c.gap_split.ensures)
 
 pub returns-in_default-clause-tables : goal.returns-in_default-clause-tables
 returns-in_default-clause-tables c =

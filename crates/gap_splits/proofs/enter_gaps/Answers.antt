@@ -33,8 +33,6 @@ enter_gap-requires c =
     let g = a.gaps.now in
     let es = c.section_of-section.ensures in
     let ef = c.start_of-start.ensures in (
-      q.0,
-      q.1,
       rw es (section_here _ _ _ _ q.2 _ t),
       absent_here (sections_named a.heads.now a.table_names.now) (given (sections_in a.heads.now.bytes.now a.heads.now.places.now) a.table.now.room) (ceilings_in a.table_names.now a.added.now) g.keys.now g.ends.now _ l.i es ef
           (l.invariant.0.fresh l.i (omega arith) t),
