@@ -10,7 +10,11 @@ ghost use Rattle.split_joins.specs.Joins.{Apart, Between, TakesPlace, AtOnce};
 
 use obj::Split;
 use split_edits::{first_from, lies_after, next_outside, shift_rows_down};
-use splits::{SplitColumns, SplitTable, next_of_unit, next_within, rest_of};
+use splits::{SplitTable, next_of_unit, next_within, rest_of};
+
+mod row_run;
+
+use row_run::RowRun;
 
 // Whether one of the rows from `from` up to `to` is the unit's. No early exit, so that the compiler compares eight at a time.
 fn has_unit(units: &[u16], from: usize, to: usize, unit: u16) -> bool
@@ -24,16 +28,16 @@ fn has_unit(units: &[u16], from: usize, to: usize, unit: u16) -> bool
     any
 }
 
-// Whether the rows from `first` up to `stop` have no unit but `unit` in common with those around them: then a renaming of theirs leaves those as they are.
-fn keeps_units(splits: &SplitColumns, first: usize, stop: usize, unit: u16) -> bool
-    requires { (first ≤ stop) × (stop ≤ splits.now.count) }
-    ensures { result ≡ true → Apart (λ (k : ℕ). get_or splits.now.units.now k 0) splits.now.count first stop unit }
+// Whether the rows have no unit but `unit` in common with those around them: then a renaming of theirs leaves those as they are.
+fn keeps_units(rows: &RowRun, unit: u16) -> bool
+    ensures { result ≡ true → Apart (λ (k : ℕ). get_or rows.now.splits.units.now k 0) rows.now.splits.count rows.now.first rows.now.stop unit }
 {
-    for i in first..stop {
+    let splits = &rows.splits;
+    for i in rows.first..rows.stop {
         let u = splits.units[i];
         if u != unit {
-            let before = has_unit(splits.units, 0, first, u);
-            let behind = has_unit(splits.units, stop, splits.count, u);
+            let before = has_unit(splits.units, 0, rows.first, u);
+            let behind = has_unit(splits.units, rows.stop, splits.count, u);
             if before | behind {
                 return false;
             }
@@ -42,15 +46,16 @@ fn keeps_units(splits: &SplitColumns, first: usize, stop: usize, unit: u16) -> b
     true
 }
 
-// Whether s lies between the rows before `first` and those from `stop` on.
-fn lies_between(splits: &SplitColumns, first: usize, stop: usize, s: Split) -> bool
-    requires { (first ≤ stop) × (stop ≤ splits.now.count) }
-    ensures { result ≡ true → Between s (columns_of splits.now) splits.now.count first stop }
+// Whether s lies between the rows before these and those behind them.
+fn lies_between(rows: &RowRun, s: Split) -> bool
+    ensures { result ≡ true → Between s (columns_of rows.now.splits) rows.now.splits.count rows.now.first rows.now.stop }
 {
-    let from = first_from(&splits.first(first), s);
-    if from < first {
+    let splits = &rows.splits;
+    let from = first_from(&splits.first(rows.first), s);
+    if from < rows.first {
         return false;
     }
+    let stop = rows.stop;
     if stop == splits.count {
         return true;
     }
@@ -64,25 +69,25 @@ fn lies_between(splits: &SplitColumns, first: usize, stop: usize, s: Split) -> b
     )
 }
 
-// Whether s may take the place of the rows from `first` up to `stop`, which are in its range: no other row is in it or of its unit in the section, or takes
+// Whether s may take the place of the rows, which are in its range: no other row is in it or of its unit in the section, or takes
 // another name by the join, and s lies where they do.
-fn takes_place(splits: &SplitColumns, first: usize, stop: usize, s: Split) -> bool
-    requires { (first ≤ stop) × (stop ≤ splits.now.count) }
-    ensures { result ≡ true → TakesPlace s (columns_of splits.now) splits.now.count first stop }
+fn takes_place(rows: &RowRun, s: Split) -> bool
+    ensures { result ≡ true → TakesPlace s (columns_of rows.now.splits) rows.now.splits.count rows.now.first rows.now.stop }
 {
-    if (stop <= first) | (s.end <= s.start) {
+    if (rows.stop <= rows.first) | (s.end <= s.start) {
         return false;
     }
-    let other = next_within(splits, s.section, s.start, s.end, stop);
-    let own = next_of_unit(&splits.first(first), s.section, s.unit, 0);
-    let later = next_of_unit(splits, s.section, s.unit, stop);
+    let splits = &rows.splits;
+    let other = next_within(splits, s.section, s.start, s.end, rows.stop);
+    let own = next_of_unit(&splits.first(rows.first), s.section, s.unit, 0);
+    let later = next_of_unit(splits, s.section, s.unit, rows.stop);
     if (other < splits.count) | (own.is_some() | later.is_some()) {
         return false;
     }
-    if !keeps_units(splits, first, stop, s.unit) {
+    if !keeps_units(rows, s.unit) {
         return false;
     }
-    lies_between(splits, first, stop, s)
+    lies_between(rows, s)
 }
 
 // A join over the range of s and a push of s, where s can take the place of the rows in it: the rows behind move once. Whether it could; else nothing changed.
@@ -96,7 +101,12 @@ pub fn join_and_push(table: &mut SplitTable, s: Split) -> bool
     let splits = table.columns();
     let first = next_within(&splits, s.section, s.start, s.end, 0);
     let stop = next_outside(&splits, s.section, s.start, s.end, first);
-    if !takes_place(&splits, first, stop, s) {
+    let rows = RowRun {
+        splits,
+        first,
+        stop,
+    };
+    if !takes_place(&rows, s) {
         return false;
     }
     let packed = rest_of(s);

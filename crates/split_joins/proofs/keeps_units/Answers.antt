@@ -15,14 +15,14 @@ pub loop-i-preserved : goal.loop-i-preserved
 loop-i-preserved c =
     let l = c.loop-i in
     let a = c.args in
-    let u : ℕ → ℕ = λ j. get_or a.splits.now.units.now j 0 in (
+    let u : ℕ → ℕ = λ j. get_or a.rows.now.splits.units.now j 0 in (
       omega arith,
       omega arith,
-      each_more (λ k. Alone u a.splits.now.count a.first a.stop a.unit (u k)) a.first l.i l.invariant.2
+      each_more (λ k. Alone u a.rows.now.splits.count a.rows.now.first a.rows.now.stop a.unit (u k)) a.rows.now.first l.i l.invariant.2
           (elim c.if-u-unit.branch [
             | then-u-unit+else-before-behind w ↦
                 let none = or_false w.has_unit-before.result w.has_unit-behind.result w.if-before-behind.false in
-                alone_none u a.splits.now.count a.first a.stop a.unit (u l.i) (omega arith) (sym w.has_unit-before.ensures ∙ none.0) (sym w.has_unit-behind.ensures ∙ none.1)
-            | else-u-unit w ↦ alone_same u a.splits.now.count a.first a.stop a.unit (u l.i) (omega (arith, w.if-u-unit.false))
+                alone_none u a.rows.now.splits.count a.rows.now.first a.rows.now.stop a.unit (u l.i) (omega arith) (sym w.has_unit-before.ensures ∙ none.0) (sym w.has_unit-behind.ensures ∙ none.1)
+            | else-u-unit w ↦ alone_same u a.rows.now.splits.count a.rows.now.first a.rows.now.stop a.unit (u l.i) (omega (arith, w.if-u-unit.false))
           ]),
     )

@@ -6,4 +6,4 @@ use Rattle.split_joins.specs.Joins.{Alone}
 use Rattle.split_joins.proofs.keeps_units.Given as goal
 
 abbrev pub invariant-loop-i : goal.invariant-loop-i
-invariant-loop-i l = (l.first ≤ l.i) × (l.i ≤ l.stop) × ((k : ℕ) → l.first ≤ k → k < l.i → Alone (λ (j : ℕ). get_or l.splits.units.now j 0) l.splits.count l.first l.stop l.unit (get_or l.splits.units.now k 0))
+invariant-loop-i l = (l.rows.first ≤ l.i) × (l.i ≤ l.rows.stop) × ((k : ℕ) → l.rows.first ≤ k → k < l.i → Alone (λ (j : ℕ). get_or l.rows.splits.units.now j 0) l.rows.splits.count l.rows.first l.rows.stop l.unit (get_or l.rows.splits.units.now k 0))
