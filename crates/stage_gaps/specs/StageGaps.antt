@@ -25,8 +25,6 @@ use Rattle.sections.specs.declared.Obj.{Obj}
 use Rattle.splits.specs.Bytes.{table_bytes}
 use Rattle.stage_splits.specs.StageSplits.{room_of, said}
 use Rattle.merge.specs.Merge.{given}
-use Rattle.gaps.specs.Found.{Clean}
-use Rattle.gap_columns.specs.declared.gap_table.GapTable.{GapTable}
 use Rattle.gap_splits.specs.Entering.{Filled, Ceilings}
 use Rattle.gap_splits.specs.Answers.{names_in}
 use Rattle.create_gap_splits.specs.Create.{gaps_filled, Short}
@@ -130,9 +128,3 @@ pub record Passed (obj : Obj) (index : NameIndex) (image : Table) : Type 0 where
   pub few : length obj.symbols.places.now ≤ 4096
   pub names : NamesIn obj.names index
   pub headed : HeadedIn obj.heads image obj.names
-
--- there is a mark for each name, and room for all gaps that there can be
-pub record Scratch (marks : List ℕ) (found : GapTable) : Type 0 where
-  pub marks_long : length marks ≡ 4096
-  pub clean : Clean marks
-  pub gaps_long : found.room ≡ 6208

@@ -9,7 +9,8 @@ ghost use Rattle.splits.specs.Table.{rows_of, rows_in};
 ghost use Rattle.gap_splits.specs.Answers.{names_in, added_in, ceilings, ceilings_in};
 ghost use Rattle.stage_splits.specs.StageSplits.{room_of};
 ghost use Rattle.obj.specs.Records.{split_width};
-ghost use Rattle.stage_gaps.specs.StageGaps.{stage_of, filling_of, GivesIn, LaidIn, SameLent, SpaceIn, Passed, Scratch};
+ghost use Rattle.gaps.specs.Found.{Clean};
+ghost use Rattle.stage_gaps.specs.StageGaps.{stage_of, filling_of, GivesIn, LaidIn, SameLent, SpaceIn, Passed};
 
 use create_gap_splits::create_gap_splits;
 use gap_columns::GapTable;
@@ -21,6 +22,10 @@ use sections::Obj;
 use splits::{SplitColumns, SplitTable};
 use stage_names::give_names;
 use stage_splits::{put_splits, room_of, take_split_columns};
+
+mod passed_tables;
+
+use passed_tables::PassedTables;
 
 // The outputs that are lent to the stage: the ends and the bytes of the names, the splits, and the counts of all three.
 #[derive(Drop)]
@@ -69,46 +74,48 @@ fn give_filled(names: &Names, added: &AddedNames, splits: &SplitColumns, outputs
 
 // The filling of gaps between the rows of the table, and its outputs.
 fn fill_rows(
-    obj: &Obj,
-    index: &NameIndex,
-    image: &Table,
+    tables: &PassedTables,
     table: &mut SplitTable,
     added: &mut AddedNames,
-    marks: &mut [u8],
+    marks: &mut [u8; 4096],
     found: &mut GapTable,
     outputs: &mut GapOutputs,
 ) -> Result<(), Refusal>
-    requires { Passed obj.now index.now image.now
-        × SpaceIn obj.now.names added.old.most added.old.most_bytes outputs.old
-        × Scratch marks.old found.old
-        × (table.old.room ≤ 1024)
-        × (split_width * table.old.room ≤ length outputs.old.splits.now) }
+    requires space { SpaceIn tables.now.obj.names added.old.most added.old.most_bytes outputs.old }
+    requires unmarked { Clean marks.old }
+    requires gaps { found.old.room ≡ 6208 }
+    requires few { table.old.room ≤ 1024 }
+    requires splits { split_width * table.old.room ≤ length outputs.old.splits.now }
     ensures gives { GivesIn
-        (filling_of obj.now image.now table.old.room (ceilings_in obj.now.names added.old) (rows_in table.old))
+        (filling_of tables.now.obj tables.now.image table.old.room (ceilings_in tables.now.obj.names added.old) (rows_in table.old))
         result outputs.old outputs.new }
     ensures lent { SameLent outputs.old outputs.new }
 {
-    create_gap_splits(obj, index, image, table, added, marks, found)?;
+    let obj = &tables.obj;
+    create_gap_splits(
+        obj,
+        &tables.index,
+        &tables.image,
+        table,
+        added,
+        marks,
+        found,
+    )?;
     give_filled(&obj.names, added, &table.columns(), outputs);
     Ok(())
 }
 
 // The same, with columns of its own for the names that are added and the gaps.
 fn with_added(
-    obj: &Obj,
-    index: &NameIndex,
-    image: &Table,
+    tables: &PassedTables,
     table: &mut SplitTable,
-    most: usize,
-    most_bytes: usize,
     outputs: &mut GapOutputs,
 ) -> Result<(), Refusal>
-    requires { Passed obj.now index.now image.now
-        × SpaceIn obj.now.names most most_bytes outputs.old
+    requires { SpaceIn tables.now.obj.names tables.now.most tables.now.most_bytes outputs.old
         × (table.old.room ≤ 1024)
         × (split_width * table.old.room ≤ length outputs.old.splits.now) }
     ensures gives { GivesIn
-        (filling_of obj.now image.now table.old.room (ceilings (names_in obj.now.names) most most_bytes) (rows_in table.old))
+        (filling_of tables.now.obj tables.now.image table.old.room (ceilings (names_in tables.now.obj.names) tables.now.most tables.now.most_bytes) (rows_in table.old))
         result outputs.old outputs.new }
     ensures lent { SameLent outputs.old outputs.new }
 {
@@ -124,8 +131,8 @@ fn with_added(
         lengths: &mut lengths,
         count: 0,
         used: 0,
-        most,
-        most_bytes,
+        most: tables.most,
+        most_bytes: tables.most_bytes,
     };
     let mut found = GapTable {
         keys: &mut keys,
@@ -133,34 +140,28 @@ fn with_added(
         count: 0,
         room: 6208,
     };
-    fill_rows(
-        obj, index, image, table, &mut added, &mut marks, &mut found, outputs,
-    )
+    fill_rows(tables, table, &mut added, &mut marks, &mut found, outputs)
 }
 
 // The splits in lent columns, and the filling.
 fn from_splits(
-    obj: &Obj,
-    index: &NameIndex,
-    image: &Table,
+    tables: &PassedTables,
     splits: &[u8],
     places: &mut [u32],
     table: &mut SplitTable,
-    most: usize,
-    most_bytes: usize,
     outputs: &mut GapOutputs,
 ) -> Result<(), Refusal>
-    requires { Passed obj.now index.now image.now
-        × SpaceIn obj.now.names most most_bytes outputs.old
+    requires { SpaceIn tables.now.obj.names tables.now.most tables.now.most_bytes outputs.old
         × (length places.old ≡ 1024)
         × (table.old.room ≡ room_of (length outputs.old.splits.now)) }
     ensures gives { GivesIn
-        (stage_of obj.now image.now (ceilings (names_in obj.now.names) most most_bytes) splits.now (length outputs.old.splits.now))
+        (stage_of tables.now.obj tables.now.image (ceilings (names_in tables.now.obj.names) tables.now.most tables.now.most_bytes) splits.now (length outputs.old.splits.now))
         result outputs.old outputs.new }
     ensures lent { SameLent outputs.old outputs.new }
 {
+    let obj = &tables.obj;
     take_split_columns(obj.names.lengths, &obj.heads, splits, places, table)?;
-    with_added(obj, index, image, table, most, most_bytes, outputs)
+    with_added(tables, table, outputs)
 }
 
 // The same, with columns of its own for the splits.
@@ -192,15 +193,12 @@ pub fn with_splits(
         count: 0,
         room: room_of(outputs.splits.len()),
     };
-    from_splits(
-        obj,
-        index,
-        image,
-        splits,
-        &mut places,
-        &mut table,
+    let tables = PassedTables {
+        obj: *obj,
+        index: *index,
+        image: *image,
         most,
         most_bytes,
-        outputs,
-    )
+    };
+    from_splits(&tables, splits, &mut places, &mut table, outputs)
 }

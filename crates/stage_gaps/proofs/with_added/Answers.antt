@@ -6,7 +6,10 @@ use Rattle.stage_gaps.proofs.Laws.{added_room}
 use Rattle.stage_gaps.proofs.with_added.Goals as goal
 
 pub invariant_of-added : goal.invariant_of-added
-invariant_of-added c = record { stand = stand_none _ _ _ (added_room (search rules) (search rules) (search rules) c.requires.1) }
+invariant_of-added c = record { stand = stand_none _ _ _ (added_room (search rules) (search rules) (search rules) c.requires.0) }
 
-pub fill_rows-requires : goal.fill_rows-requires
-fill_rows-requires c = let q = c.requires in (q.0, q.1, record { marks_long = search rules; clean = search (rules, clean_zeros); gaps_long = search rules }, q.2, q.3)
+pub fill_rows-requires-clause-space : goal.fill_rows-requires-clause-space
+fill_rows-requires-clause-space c = c.requires.0
+
+pub fill_rows-requires-clause-unmarked : goal.fill_rows-requires-clause-unmarked
+fill_rows-requires-clause-unmarked c = search (rules, clean_zeros)
