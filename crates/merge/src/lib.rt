@@ -19,7 +19,7 @@ ghost use Rattle.merge.specs.Answers.{decided, HandsGood, merged};
 use obj::{Refusal, Split, Table, partial_at, refuse, section_at};
 use split_edits::{join, push};
 use split_joins::join_and_push;
-use splits::{SplitColumns, SplitTable, meets, next_of_unit, row};
+use splits::{SectionRange, SplitColumns, SplitTable, meets, next_of_unit, row};
 
 // What a round does with the new split, if it does not refuse it.
 #[derive(Clone, Copy)]
@@ -74,7 +74,7 @@ fn decide_joint(splits: &SplitColumns, new: Split, joint: Split) -> Result<Step,
     if joint.end < joint.start {
         return refuse_at(11, joint);
     }
-    let met = meets(splits, joint.section, joint.start, joint.end, new.unit);
+    let met = meets(splits, SectionRange::of(joint), new.unit);
     if (new.flags / 2 % 2 == 1) & met.hand {
         return Ok(Step::Keep);
     }
@@ -199,7 +199,7 @@ pub fn add_split(table: &mut SplitTable, heads: &Table, new: Split) -> Result<()
                 if join_at_once(table, heads, joint) {
                     return Ok(());
                 }
-                join(table, joint.section, joint.start, joint.end, joint.unit);
+                join(table, SectionRange::of(joint), joint.unit);
                 s = joint;
             }
         }

@@ -10,7 +10,7 @@ ghost use Rattle.split_joins.specs.Joins.{Apart, Between, TakesPlace, AtOnce};
 
 use obj::Split;
 use split_edits::{first_from, lies_after, next_outside, shift_rows_down};
-use splits::{SplitTable, next_of_unit, next_within, rest_of};
+use splits::{SectionRange, SplitTable, next_of_unit, next_within, rest_of};
 
 mod row_run;
 
@@ -78,7 +78,7 @@ fn takes_place(rows: &RowRun, s: Split) -> bool
         return false;
     }
     let splits = &rows.splits;
-    let other = next_within(splits, s.section, s.start, s.end, rows.stop);
+    let other = next_within(splits, SectionRange::of(s), rows.stop);
     let own = next_of_unit(&splits.first(rows.first), s.section, s.unit, 0);
     let later = next_of_unit(splits, s.section, s.unit, rows.stop);
     if (other < splits.count) | (own.is_some() | later.is_some()) {
@@ -99,8 +99,9 @@ pub fn join_and_push(table: &mut SplitTable, s: Split) -> bool
 {
     let n = table.count;
     let splits = table.columns();
-    let first = next_within(&splits, s.section, s.start, s.end, 0);
-    let stop = next_outside(&splits, s.section, s.start, s.end, first);
+    let range = SectionRange::of(s);
+    let first = next_within(&splits, range, 0);
+    let stop = next_outside(&splits, range, first);
     let rows = RowRun {
         splits,
         first,

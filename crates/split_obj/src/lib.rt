@@ -20,7 +20,7 @@ use obj::{Refusal, Table, section_at};
 use pieces::PieceTables;
 use relocs::for_section;
 use sections::{Obj, Short, end_for_section, section_bytes};
-use splits::{SplitColumns, is_within, row};
+use splits::{SectionRange, SplitColumns, is_within, row};
 use walk::{Step, choose, give, refuse_at};
 
 // The first split from place `from` on that starts in low..end of section n, or how many splits there are.
@@ -28,8 +28,13 @@ fn next_split(splits: &SplitColumns, n: usize, low: u32, end: u32, from: usize) 
     requires { (from ≤ splits.now.count) × (n < 65535) }
     ensures { Hits (within n low end) (columns_of splits.now) splits.now.count from result }
 {
+    let range = SectionRange {
+        section: n as u16,
+        from: low,
+        to: end,
+    };
     for i in from..splits.count {
-        if is_within(n as u16, low, end, splits.starts[i], splits.rest[i]) {
+        if is_within(range, splits.starts[i], splits.rest[i]) {
             return i;
         }
     }

@@ -9,7 +9,7 @@ ghost use Rattle.obj.specs.Records.{split_at, partial_width, split_width};
 ghost use Rattle.splits.specs.Columns.{alignment_of, Good, row_of, row_at};
 ghost use Rattle.splits.specs.Table.{columns_of, rows_of, columns_in, rows_in, Shows, SameColumns, OnlyEnds};
 ghost use Rattle.splits.specs.Updates.{with_end};
-ghost use Rattle.splits.specs.Questions.{within, of_unit, NextHit, Meets};
+ghost use Rattle.splits.specs.Questions.{in_range, of_unit, NextHit, Meets};
 ghost use Rattle.splits.specs.Bytes.{partial_bytes, split_bytes, table_bytes, Loadable};
 
 use fields::{put16, put32};
@@ -48,6 +48,29 @@ impl SplitTable<'_, '_, '_, '_> {
             units: &*self.units,
             rest: &*self.rest,
             count: self.count,
+        }
+    }
+}
+
+// A range of a section: a split is in it that starts at `from` or above, and below `to`.
+#[derive(Clone, Copy)]
+pub struct SectionRange {
+    pub section: u16,
+    pub from: u32,
+    pub to: u32,
+}
+
+impl SectionRange {
+    // From a split's start up to its end.
+    pub fn of(s: Split) -> SectionRange
+        ensures section { result.section ≡ s.section }
+        ensures from { result.from ≡ s.start }
+        ensures to { result.to ≡ s.end }
+    {
+        SectionRange {
+            section: s.section,
+            from: s.start,
+            to: s.end,
         }
     }
 }
@@ -191,10 +214,10 @@ pub fn store(splits: &SplitColumns, out: &mut [u8])
 // ---- questions
 
 // Whether a row starts in a range of a section; `ystart` and `yrest` are the row's.
-pub fn is_within(section: u16, from: u32, to: u32, ystart: u32, yrest: u64) -> bool
-    ensures { result ≡ (eqb (yrest % 65536) section && (leb from ystart && ltb ystart to)) }
+pub fn is_within(range: SectionRange, ystart: u32, yrest: u64) -> bool
+    ensures { result ≡ (eqb (yrest % 65536) range.section && (leb range.from ystart && ltb ystart range.to)) }
 {
-    (yrest % 65536 == section as u64) & ((from <= ystart) & (ystart < to))
+    (yrest % 65536 == range.section as u64) & ((range.from <= ystart) & (ystart < range.to))
 }
 
 // Whether a row is a unit's in a section.
@@ -283,22 +306,15 @@ fn holds_start(starts: &[u32], at: usize, from: u32, to: u32) -> bool
 }
 
 // The first row from `at` up to `stop` in the range, or `stop`: row by row.
-fn within_in_rows(
-    splits: &SplitColumns,
-    section: u16,
-    from: u32,
-    to: u32,
-    at: usize,
-    stop: usize,
-) -> usize
+fn within_in_rows(splits: &SplitColumns, range: SectionRange, at: usize, stop: usize) -> usize
     requires { (stop ≤ splits.now.count) × (at ≤ stop) }
     ensures { (at ≤ result)
         × (result ≤ stop)
-        × ((k : ℕ) → at ≤ k → k < result → within section from to (row_at (columns_of splits.now) k) ≡ false)
-        × (result < stop → within section from to (row_at (columns_of splits.now) result) ≡ true) }
+        × ((k : ℕ) → at ≤ k → k < result → in_range range (row_at (columns_of splits.now) k) ≡ false)
+        × (result < stop → in_range range (row_at (columns_of splits.now) result) ≡ true) }
 {
     for i in at..stop {
-        if is_within(section, from, to, splits.starts[i], splits.rest[i]) {
+        if is_within(range, splits.starts[i], splits.rest[i]) {
             return i;
         }
     }
@@ -306,49 +322,49 @@ fn within_in_rows(
 }
 
 // The same of the 32 rows from `at` on: row by row only where one starts in the range in some section.
-fn within_in_block(splits: &SplitColumns, section: u16, from: u32, to: u32, at: usize) -> usize
+fn within_in_block(splits: &SplitColumns, range: SectionRange, at: usize) -> usize
     requires { at + 32 ≤ splits.now.count }
     ensures { (at ≤ result)
         × (result ≤ at + 32)
-        × ((k : ℕ) → at ≤ k → k < result → within section from to (row_at (columns_of splits.now) k) ≡ false)
-        × (result < at + 32 → within section from to (row_at (columns_of splits.now) result) ≡ true) }
+        × ((k : ℕ) → at ≤ k → k < result → in_range range (row_at (columns_of splits.now) k) ≡ false)
+        × (result < at + 32 → in_range range (row_at (columns_of splits.now) result) ≡ true) }
 {
-    if holds_start(splits.starts, at, from, to) {
-        return within_in_rows(splits, section, from, to, at, at + 32);
+    if holds_start(splits.starts, at, range.from, range.to) {
+        return within_in_rows(splits, range, at, at + 32);
     }
     at + 32
 }
 
 // The first row from `at` on in the range, or the table's end: by blocks of 32 rows, then the rows that are left. Callers take that as the end of a range of rows
 // (split_edits `remove_rows`, `remove_range`, split_joins `join_and_push`), so it is no Option.
-pub fn next_within(splits: &SplitColumns, section: u16, from: u32, to: u32, at: usize) -> usize
+pub fn next_within(splits: &SplitColumns, range: SectionRange, at: usize) -> usize
     requires { at ≤ splits.now.count }
     ensures { (at ≤ result)
         × (result ≤ splits.now.count)
-        × ((k : ℕ) → at ≤ k → k < result → within section from to (row_at (columns_of splits.now) k) ≡ false)
-        × (result < splits.now.count → within section from to (row_at (columns_of splits.now) result) ≡ true) }
+        × ((k : ℕ) → at ≤ k → k < result → in_range range (row_at (columns_of splits.now) k) ≡ false)
+        × (result < splits.now.count → in_range range (row_at (columns_of splits.now) result) ≡ true) }
 {
     // by blocks, and then what is left: no count of rows
     let mut i = at;
     while 32 <= splits.count - i {
-        let k = within_in_block(splits, section, from, to, i);
+        let k = within_in_block(splits, range, i);
         if k < i + 32 {
             return k;
         }
         i += 32;
     }
-    within_in_rows(splits, section, from, to, i, splits.count)
+    within_in_rows(splits, range, i, splits.count)
 }
 
 // What the range holds, for a split of `unit`: "an autogenerated one that meets a hand split changes nothing", "25 meets a hand split of another unit",
 // "26 a round goes on but its range holds no split".
-pub fn meets(splits: &SplitColumns, section: u16, from: u32, to: u32, unit: u16) -> Met
-    ensures { Meets (within section from to) unit (rows_of splits.now) result }
+pub fn meets(splits: &SplitColumns, range: SectionRange, unit: u16) -> Met
+    ensures { Meets (in_range range) unit (rows_of splits.now) result }
 {
     let mut any = false;
     let mut hand = false;
     let mut other = false;
-    let mut i = next_within(splits, section, from, to, 0);
+    let mut i = next_within(splits, range, 0);
     // from one row in the range to the next: no count
     while i < splits.count {
         let by_hand = is_hand(splits.rest[i]);
@@ -356,7 +372,7 @@ pub fn meets(splits: &SplitColumns, section: u16, from: u32, to: u32, unit: u16)
         any = true;
         hand |= by_hand;
         other |= by_hand & of_other;
-        i = next_within(splits, section, from, to, i + 1);
+        i = next_within(splits, range, i + 1);
     }
     Met { any, hand, other }
 }

@@ -66,8 +66,9 @@ loop-table-smaller c =
     let joins : decide g (rows_in x) l.s ≡ accepted (join c.in-Join.joint) =
     sym (rw c.columns.ensures.rows at c.decide_round.ensures.0) ∙ ap decided (c.in_ok-decide_round.was ∙ ap Ok c.in-Join.is) in
     let same = c.join_at_once.ensures.none c.if-join_at_once.false in
+    let r = c.of.ensures in
     let done : rows_in y ≡ joined_by c.in-Join.joint (rows_in x) =
-    c.join.ensures.rows ∙ ap (joined_by c.in-Join.joint) (unchanged_rows _ _ same) in
+    rw (r.section, r.from, r.to) at c.join.ensures.rows ∙ ap (joined_by c.in-Join.joint) (unchanged_rows _ _ same) in
     join_less g (columns_in x) (columns_in y) x.count y.count l.s _ joins done
 
 pub loop-table-preserved : goal.loop-table-preserved
@@ -79,8 +80,9 @@ loop-table-preserved c =
     let joins : decide g (rows_in x) l.s ≡ accepted (join c.in-Join.joint) =
     sym (rw c.columns.ensures.rows at c.decide_round.ensures.0) ∙ ap decided (c.in_ok-decide_round.was ∙ ap Ok c.in-Join.is) in
     let same = c.join_at_once.ensures.none c.if-join_at_once.false in
+    let r = c.of.ensures in
     let done : rows_in c.join.new.table ≡ joined_by c.in-Join.joint (rows_in x) =
-    c.join.ensures.rows ∙ ap (joined_by c.in-Join.joint) (unchanged_rows _ _ same) in
+    rw (r.section, r.from, r.to) at c.join.ensures.rows ∙ ap (joined_by c.in-Join.joint) (unchanged_rows _ _ same) in
     record {
       room = c.join.ensures.size.room ∙ same.room ∙ l.invariant.room;
       good = handed _ _ (c.in_ok-decide_round.was ∙ ap Ok c.in-Join.is) c.decide_round.ensures.1;

@@ -11,23 +11,31 @@ pub returns-then-new-met : goal.returns-then-new-met
 returns-then-new-met c =
     let a = c.args in
     let m = c.meets-met in
-    (sym (joint_hand _ a.new a.joint c.if-joint.false m.result m.ensures c.if-new-met.true), tt)
+    let e = c.of.ensures in
+    let met = rw (e.section, e.from, e.to) at m.ensures in
+    (sym (joint_hand _ a.new a.joint c.if-joint.false m.result met c.if-new-met.true), tt)
 
 pub returns-then-met : goal.returns-then-met
 returns-then-met c =
     let a = c.args in
     let m = c.meets-met in
-    answers _ c.refuse_at-then-met.ensures (joint_25 _ a.new a.joint c.if-joint.false m.result m.ensures c.if-new-met.false c.if-met.true)
+    let e = c.of.ensures in
+    let met = rw (e.section, e.from, e.to) at m.ensures in
+    answers _ c.refuse_at-then-met.ensures (joint_25 _ a.new a.joint c.if-joint.false m.result met c.if-new-met.false c.if-met.true)
 
 pub returns-then-not-met : goal.returns-then-not-met
 returns-then-not-met c =
     let a = c.args in
     let m = c.meets-met in
+    let e = c.of.ensures in
+    let met = rw (e.section, e.from, e.to) at m.ensures in
     answers _ c.refuse_at-then-not-met.ensures
-    (joint_26 _ a.new a.joint c.if-joint.false m.result m.ensures c.if-new-met.false c.if-met.false c.if-not-met.true)
+    (joint_26 _ a.new a.joint c.if-joint.false m.result met c.if-new-met.false c.if-met.false c.if-not-met.true)
 
 pub returns : goal.returns
 returns c =
     let s = c in
     let m = c.meets-met in
-    (sym (joint_joins _ s.args.new s.args.joint c.if-joint.false m.result m.ensures c.if-new-met.false c.if-met.false c.if-not-met.false), s.requires)
+    let e = c.of.ensures in
+    let met = rw (e.section, e.from, e.to) at m.ensures in
+    (sym (joint_joins _ s.args.new s.args.joint c.if-joint.false m.result met c.if-new-met.false c.if-met.false c.if-not-met.false), s.requires)

@@ -10,7 +10,7 @@ use Rattle.lists.proofs.SomeRows.{some_ended}
 use Rattle.obj.specs.declared.Split.{Split}
 use Rattle.splits.specs.Columns.{row_of, row_at}
 use Rattle.splits.specs.Table.{columns_of}
-use Rattle.splits.specs.Questions.{within, is_auto, is_by_hand, is_of_other}
+use Rattle.splits.specs.Questions.{in_range, is_auto, is_by_hand, is_of_other}
 use Rattle.splits.proofs.Blocks.{some_jump}
 use Rattle.splits.proofs.Meeting.{left_first, or_yes}
 use Rattle.splits.proofs.meets.Goals as goal
@@ -21,7 +21,7 @@ loop-i-init c =
     let r = c.next_within-i in
     let h = r.ensures in
     let c₀ = columns_of a.splits.now in
-    let p = within a.section a.from a.to in (
+    let p = in_range a.range in (
       h.1,
       h.3,
       left_first p c₀ a.splits.now.count r.result h.1 (λ k m. h.2 k (omega arith) m),
@@ -42,7 +42,7 @@ loop-i-preserved c =
     let r = c.next_within-i-in-loop-i in
     let h = r.ensures in
     let f = row_at (columns_of a.splits.now) in
-    let p = within a.section a.from a.to in
+    let p = in_range a.range in
     let inside = l.invariant.1 t in
     let by_hand = c.is_hand-by_hand.ensures in
     let of_other = not (eqb (get_or a.splits.now.units.now l.i 0) a.unit) in

@@ -12,6 +12,6 @@ returns c =
     let c₀ = columns_of a.splits.now in (
       omega arith,
       omega arith,
-      starts_none a.section a.from a.to c₀ a.at 32 (sym c.holds_start.ensures ∙ c.if-holds_start.false),
+      starts_none a.range.section a.range.from a.range.to c₀ a.at 32 (sym c.holds_start.ensures ∙ c.if-holds_start.false),
       λ h. absurd (let z : ⊥ = omega arith in z),
     )
