@@ -21,6 +21,10 @@ use split_edits::{join, push};
 use split_joins::join_and_push;
 use splits::{SectionRange, SplitColumns, SplitTable, meets, next_of_unit, row};
 
+mod held_heads;
+
+use held_heads::HeldHeads;
+
 // What a round does with the new split, if it does not refuse it.
 #[derive(Clone, Copy)]
 pub enum Step {
@@ -138,17 +142,17 @@ fn section_end(heads: &Table, i: usize) -> u64
 fn decide_round(
     splits: &SplitColumns,
     room: usize,
-    heads: &Table,
+    heads: &HeldHeads,
     new: Split,
 ) -> Result<Step, Refusal>
-    requires { AllHeld 15 heads.now.bytes.now heads.now.places.now × Good new.alignment }
-    ensures { (decided result ≡ decide (given (sections_in heads.now.bytes.now heads.now.places.now) room) (rows_of splits.now) new) × HandsGood result }
+    requires { Good new.alignment }
+    ensures { (decided result ≡ decide (given (sections_in heads.now.table.bytes.now heads.now.table.places.now) room) (rows_of splits.now) new) × HandsGood result }
 {
     let section = new.section as usize;
-    if heads.places.len() <= section {
+    if heads.table.places.len() <= section {
         return refuse_at(20, new);
     }
-    let limit = section_end(heads, section);
+    let limit = section_end(&heads.table, section);
     if (new.end != 0) & (limit < new.end as u64) {
         return refuse_at(21, new);
     }
@@ -159,20 +163,20 @@ fn decide_round(
 
 // A join and the push that is the next round's, in one move, where nothing else can come of that round. Whether it was made; else nothing changed. 20 and 21 of
 // that round are asked here.
-fn join_at_once(table: &mut SplitTable, heads: &Table, joint: Split) -> bool
-    requires { AllHeld 15 heads.now.bytes.now heads.now.places.now × Good joint.alignment }
+fn join_at_once(table: &mut SplitTable, heads: &HeldHeads, joint: Split) -> bool
+    requires { Good joint.alignment }
     ensures made { result ≡ true
         → ((room : ℕ) → table.old.count ≤ room
         → accepted (rows_in table.new)
-        ≡ merge_one (given (sections_in heads.now.bytes.now heads.now.places.now) room) (joined_by joint (rows_in table.old)) joint) }
+        ≡ merge_one (given (sections_in heads.now.table.bytes.now heads.now.table.places.now) room) (joined_by joint (rows_in table.old)) joint) }
     ensures none { result ≡ false → Unchanged table.old table.new }
     ensures room { table.new.room ≡ table.old.room }
 {
     let section = joint.section as usize;
-    if heads.places.len() <= section {
+    if heads.table.places.len() <= section {
         return false;
     }
-    let limit = section_end(heads, section);
+    let limit = section_end(&heads.table, section);
     if (joint.end != 0) & (limit < joint.end as u64) {
         return false;
     }
@@ -187,16 +191,17 @@ pub fn add_split(table: &mut SplitTable, heads: &Table, new: Split) -> Result<()
     ensures room { table.new.room ≡ table.old.room }
 {
     let room = table.room;
+    let held = HeldHeads { table: *heads };
     let mut s = new;
     loop {
-        match decide_round(&table.columns(), room, heads, s)? {
+        match decide_round(&table.columns(), room, &held, s)? {
             Step::Keep => return Ok(()),
             Step::Push => {
                 push(table, s);
                 return Ok(());
             }
             Step::Join(joint) => {
-                if join_at_once(table, heads, joint) {
+                if join_at_once(table, &held, joint) {
                     return Ok(());
                 }
                 join(table, SectionRange::of(joint), joint.unit);

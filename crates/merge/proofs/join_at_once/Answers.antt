@@ -6,4 +6,4 @@ pub returns-clause-made : goal.returns-clause-made
 returns-clause-made c made =
     let a = c.args in
     let e = c.section_end-limit in
-    at_once a.heads.now.bytes.now a.heads.now.places.now a.joint c.if-heads-section.false e.result e.ensures c.if-joint-limit.false _ _ _ _ (c.join_and_push.ensures.made made)
+    at_once a.heads.now.table.bytes.now a.heads.now.table.places.now a.joint c.if-heads-section.false e.result e.ensures c.if-joint-limit.false _ _ _ _ (c.join_and_push.ensures.made made)
