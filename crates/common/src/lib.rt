@@ -15,6 +15,10 @@ use names::{Names, is_bss, name_at};
 use obj::{Refusal, Split, Table, refuse, section_at};
 use splits::{SplitColumns, SplitTable, rest_of, row};
 
+mod named_sections;
+
+use named_sections::NamedSections;
+
 // The sections named `.bss`.
 #[derive(Clone, Copy)]
 pub enum Bss {
@@ -26,22 +30,22 @@ pub enum Bss {
 // ---- the section
 
 // Whether section k is named `.bss`.
-fn is_bss_at(names: &Names, heads: &Table, k: usize) -> bool
-    requires { SectionsIn names.now heads.now × (k < length heads.now.places.now) }
-    ensures { result ≡ has_bss_name names.now heads.now k }
+fn is_bss_at(sections: &NamedSections, k: usize) -> bool
+    requires { k < length sections.now.heads.places.now }
+    ensures { result ≡ has_bss_name sections.now.names sections.now.heads k }
 {
-    let head = section_at(heads, k);
+    let head = section_at(&sections.heads, k);
     let name = head.name as usize;
-    is_bss(name_at(names, name))
+    is_bss(name_at(&sections.names, name))
 }
 
 // The first section from `from` on that is named `.bss`.
-fn next_bss(names: &Names, heads: &Table, from: usize) -> Option<usize>
-    requires { SectionsIn names.now heads.now × (from ≤ length heads.now.places.now) }
-    ensures { First (has_bss_name names.now heads.now) (λ k. k) (length heads.now.places.now) from result }
+fn next_bss(sections: &NamedSections, from: usize) -> Option<usize>
+    requires { from ≤ length sections.now.heads.places.now }
+    ensures { First (has_bss_name sections.now.names sections.now.heads) (λ k. k) (length sections.now.heads.places.now) from result }
 {
-    for k in from..heads.places.len() {
-        if is_bss_at(names, heads, k) {
+    for k in from..sections.heads.places.len() {
+        if is_bss_at(sections, k) {
             return Some(k);
         }
     }
@@ -49,14 +53,13 @@ fn next_bss(names: &Names, heads: &Table, from: usize) -> Option<usize>
 }
 
 // `by_name(".bss")`: at most one section may have the name.
-fn by_name(names: &Names, heads: &Table) -> Bss
-    requires { SectionsIn names.now heads.now }
-    ensures { result ≡ bss_of (bss_numbers names.now heads.now) }
+fn by_name(sections: &NamedSections) -> Bss
+    ensures { result ≡ bss_of (bss_numbers sections.now.names sections.now.heads) }
 {
-    let Some(first) = next_bss(names, heads, 0) else {
+    let Some(first) = next_bss(sections, 0) else {
         return Bss::None;
     };
-    let second = next_bss(names, heads, first + 1);
+    let second = next_bss(sections, first + 1);
     match second {
         Some(_) => Bss::Many,
         None => Bss::One(first as u16),
@@ -125,7 +128,11 @@ pub fn common_start(
     ensures { start_meaning result
         ≡ common_start (is_some given) (unwrap_or given 0) (bss_numbers names.now heads.now) (rows_of splits.now) }
 {
-    let bss = by_name(names, heads);
+    let sections = NamedSections {
+        names: *names,
+        heads: *heads,
+    };
+    let bss = by_name(&sections);
     match given {
         Some(start) => given_start(bss, start),
         None => Ok(common_bss_start(bss, splits)),

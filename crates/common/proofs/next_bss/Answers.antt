@@ -10,19 +10,19 @@ pub returns-then-is_bss_at : goal.returns-then-is_bss_at
 returns-then-is_bss_at c =
     let l = c.loop-k in
     let a = c.args in
-    let p = has_bss_name a.names.now a.heads.now in
-    first_hit p (λ j. j) (length a.heads.now.places.now) a.from l.k c.loop-k-test.true (l.invariant ∙ filter_hit p (λ j. j) (length a.heads.now.places.now) l.k c.loop-k-test.true (sym c.is_bss_at.ensures ∙ c.if-is_bss_at.true))
+    let p = has_bss_name a.sections.now.names a.sections.now.heads in
+    first_hit p (λ j. j) (length a.sections.now.heads.places.now) a.from l.k c.loop-k-test.true (l.invariant ∙ filter_hit p (λ j. j) (length a.sections.now.heads.places.now) l.k c.loop-k-test.true (sym c.is_bss_at.ensures ∙ c.if-is_bss_at.true))
 
 pub loop-k-preserved : goal.loop-k-preserved
 loop-k-preserved c =
     let l = c.loop-k in
     let a = c.args in
-    let p = has_bss_name a.names.now a.heads.now in
-    l.invariant ∙ filter_miss p (λ j. j) (length a.heads.now.places.now) l.k c.loop-k-test.true (sym c.is_bss_at.ensures ∙ c.if-is_bss_at.false)
+    let p = has_bss_name a.sections.now.names a.sections.now.heads in
+    l.invariant ∙ filter_miss p (λ j. j) (length a.sections.now.heads.places.now) l.k c.loop-k-test.true (sym c.is_bss_at.ensures ∙ c.if-is_bss_at.false)
 
 pub returns : goal.returns
 returns c =
     let l = c.loop-k in
     let a = c.args in
-    let p = has_bss_name a.names.now a.heads.now in
-    first_none p (λ j. j) (length a.heads.now.places.now) a.from (l.invariant ∙ filter_none p (λ j. j) (length a.heads.now.places.now) l.k c.loop-k-test.false)
+    let p = has_bss_name a.sections.now.names a.sections.now.heads in
+    first_none p (λ j. j) (length a.sections.now.heads.places.now) a.from (l.invariant ∙ filter_none p (λ j. j) (length a.sections.now.heads.places.now) l.k c.loop-k-test.false)

@@ -8,5 +8,5 @@ use Rattle.common.proofs.next_bss.Given as goal
 
 abbrev pub invariant-loop-k : goal.invariant-loop-k
 invariant-loop-k l =
-    keep_if (has_bss_name l.names l.heads) (tabulate (λ j. j) l.from (length l.heads.places.now - l.from))
-    ≡ keep_if (has_bss_name l.names l.heads) (tabulate (λ j. j) l.k (length l.heads.places.now - l.k))
+    keep_if (has_bss_name l.sections.names l.sections.heads) (tabulate (λ j. j) l.from (length l.sections.heads.places.now - l.from))
+    ≡ keep_if (has_bss_name l.sections.names l.sections.heads) (tabulate (λ j. j) l.k (length l.sections.heads.places.now - l.k))
