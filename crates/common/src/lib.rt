@@ -117,6 +117,8 @@ fn given_start(bss: Bss, start: u32) -> Result<Option<(u16, u32)>, Refusal>
     }
 }
 
+// The public functions ask of names and heads what `NamedSections` has: they take them as they did, and only the first one needs the struct.
+
 // The section and the address where the common splits begin, if they begin anywhere: "the given address .., else .. the first common one".
 pub fn common_start(
     names: &Names,
@@ -193,7 +195,7 @@ pub fn marked_rows(rows: [Split; 1024], section: u16, address: u32) -> [Split; 1
     table
 }
 
-// The rows as split records.
+// The rows as split records. That they are at most 1,024 is asked by all that put rows into such an array; in `SplitTable` it would be asked of each table.
 fn records(splits: &SplitColumns) -> [Split; 1024]
     requires { splits.now.count ≤ 1024 }
     ensures { take splits.now.count result ≡ rows_of splits.now }

@@ -55,6 +55,8 @@ pub record Unchanged (t u : SplitTable) : Type 0 where
   pub count : u.count ≡ t.count
   pub room : u.room ≡ t.room
 
+-- Three records, for three columns: one over the column would have to call the others first, second and third, and these names are what callers cite.
+
 -- from t to u only the ends of rows changed
 pub record OnlyEnds (t u : SplitTable) : Type 0 where
   pub starts : u.starts.now ≡ t.starts.now

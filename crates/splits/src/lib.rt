@@ -234,6 +234,9 @@ fn is_hand(yrest: u64) -> bool
     !(yrest / 4294967296 % 256 / 2 % 2 == 1)
 }
 
+// Two searches follow, for a unit in a section and for a range: each by rows, by a block of 32, and to the table's end. So three functions have the same
+// parameters, which are what is searched, what for, and from where: section and unit are two fields of a split at each call, and a struct of them would be made there.
+
 // Whether one of the 32 units from `at` on is `unit`. No early exit and a fixed count, so that the compiler compares eight at a time.
 fn holds_unit(units: &[u16], at: usize, unit: u16) -> bool
     requires { at + 32 ≤ length units.now }

@@ -4,6 +4,9 @@ ghost use Rattle.lists.specs.Rows.{keep_if, first_in};
 ghost use Rattle.lists.specs.Sort.{between, at_least};
 ghost use Rattle.symbol_order.specs.Search.{Keyed};
 
+// That `key` may be asked at each place is a clause of all four: a struct of the column and the closure would be generic as they are, and its callers, which
+// only have the closure, would make it for one call.
+
 // The first place whose key is at least `low`, if it lies in from..=to; a place in from..=to anyway.
 fn halve<F: Fn(usize) -> u64>(s: &[u16], from: usize, to: usize, low: u64, key: &F) -> usize
     requires asked { (i : ℕ) → i < length s.now → F.pre key.now i }
