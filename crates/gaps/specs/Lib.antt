@@ -1,2 +1,3 @@
 pub mod Gaps
 pub mod Found
+pub mod Search

@@ -2,7 +2,7 @@
 // is, and kept in a lent table in the order in which they enter.
 #![tactic(auto)]
 
-ghost use Rattle.std.specs.Prelude.{◌≡◌, [], true, false, cond, not, ◌&&◌, ◌+◌, ◌*◌, ◌%◌, ◌≤◌, ◌<◌, length, get_or, eqb, ltb};
+ghost use Rattle.std.specs.Prelude.{ℕ, ◌≡◌, [], true, false, cond, not, ◌&&◌, ◌+◌, ◌*◌, ◌%◌, ◌≤◌, ◌<◌, length, get_or, eqb, ltb};
 ghost use Rattle.lists.specs.Rows.{keep_if};
 ghost use Rattle.align.specs.Align.{good_align, bad_align};
 ghost use Rattle.symbol_order.specs.Order.{symbol_of, Readable, Order};
@@ -14,6 +14,7 @@ ghost use Rattle.splits.specs.Table.{columns_of, rows_of};
 ghost use Rattle.splits.specs.Questions.{Hit};
 ghost use Rattle.gap_columns.specs.Table.{found_in};
 ghost use Rattle.gaps.specs.Gaps.{gap_end, gaps_to, gaps_before, gaps_from, below, section_gaps, into, found_gaps};
+ghost use Rattle.gaps.specs.Search.{symbol_in, count_in, SameSearch};
 ghost use Rattle.gaps.specs.Found.{end_meaning, end_number, alignment_of_next, next_meaning, searched, Clean, Markable, Lent, Space, SectionSpace, Stopped, Unmarked, end_in};
 
 use align::align_up;
@@ -24,6 +25,10 @@ use sections::{Obj, alignment_of, default_alignment, end_for_section, section_by
 use splits::{SplitColumns, row};
 use symbol_order::{key_of, number};
 use symbols::{Backwards, for_section_range};
+
+mod gap_search;
+
+use gap_search::{GapSearch, GapSection};
 
 // Why a gap ends nowhere: "41 repeated name not at a multiple of 4", "42 gap would end where it starts".
 #[derive(Clone, Copy, Debug, PartialEq, Eq)]
@@ -59,6 +64,8 @@ fn misses(current: u32, alignment: u32) -> bool
     }
     current % alignment != 0
 }
+
+// `stop_of`, `end_at` and `clear_marks` take the table, a part and the marks apart: a struct would be made twice, for the part and for its first j numbers.
 
 // How many symbols of the part a gap from `current` on goes past: "to the first unstripped symbol whose name already occurred in the gap, or whose
 // alignment the *current address* misses". The names that occurred are left marked.
@@ -98,12 +105,11 @@ fn end_at(
     part: &[u16],
     j: usize,
     marks: &[u8],
-    section: u16,
     current: u32,
     next: u32,
 ) -> Result<u32, NoEnd>
     requires { Readable table.now.bytes.now table.now.places.now part.now × Markable (symbol_of table.now.bytes.now table.now.places.now) (length table.now.places.now) marks.now × Stopped (symbol_of table.now.bytes.now table.now.places.now) current part.now marks.now j × (current < next) }
-    ensures { end_meaning section current result ≡ end_in (symbol_of table.now.bytes.now table.now.places.now) section current next part.now }
+    ensures { (n : ℕ) → end_meaning n current result ≡ end_in (symbol_of table.now.bytes.now table.now.places.now) n current next part.now }
 {
     if part.len() <= j {
         return Ok(next);
@@ -120,21 +126,25 @@ fn end_at(
 }
 
 // Where a gap from `current` on ends, before or at the next start.
-fn gap_end(
-    table: &Table,
-    order: &[u16],
-    marks: &mut [u8],
-    section: u16,
-    current: u32,
-    next: u32,
-) -> Result<u32, NoEnd>
-    requires { Order table.now.bytes.now table.now.places.now order.now × Markable (symbol_of table.now.bytes.now table.now.places.now) (length table.now.places.now) marks.old × Clean marks.old × (current < next) }
-    ensures { (end_meaning section current result ≡ gap_end (symbol_of table.now.bytes.now table.now.places.now) (length table.now.places.now) section current next) × Clean marks.new }
+fn gap_end(search: &mut GapSearch, current: u32, next: u32) -> Result<u32, NoEnd>
+    requires { current < next }
+    ensures end { end_meaning search.old.here.section current result
+        ≡ gap_end (symbol_in search.old.here) (count_in search.old.here) search.old.here.section current next }
+    ensures same { SameSearch search.old search.new }
 {
-    let part = for_section_range(table.bytes, table.places, order, section, current, next);
-    let j = stop_of(table, part, current, marks);
-    let end = end_at(table, part, j, marks, section, current, next);
-    clear_marks(table, &part[..j], marks);
+    let here = search.here;
+    let part = for_section_range(
+        here.symbols.bytes,
+        here.symbols.places,
+        here.order,
+        here.section,
+        current,
+        next,
+    );
+    let marks = &mut *search.marks;
+    let j = stop_of(&here.symbols, part, current, marks);
+    let end = end_at(&here.symbols, part, j, marks, current, next);
+    clear_marks(&here.symbols, &part[..j], marks);
     end
 }
 
@@ -142,30 +152,27 @@ fn gap_end(
 
 // The gaps from `current` up to the next start.
 fn gaps_to(
-    table: &Table,
-    order: &[u16],
-    marks: &mut [u8],
+    search: &mut GapSearch,
     found: &mut GapTable,
-    section: u16,
     current: u32,
     next: u32,
     alignment: u32,
 ) -> Result<(), Refusal>
-    requires { Lent table.now.bytes.now table.now.places.now order.now marks.old
-        × Space (symbol_of table.now.bytes.now table.now.places.now) (length table.now.places.now) section current next [] found.old
+    requires { Space (symbol_in search.old.here) (count_in search.old.here) search.old.here.section current next [] found.old
         × (current ≤ next) × (next ≤ 4026531840) × (good_align alignment ≡ true) }
     ensures gaps { searched found.new result
-        ≡ into (found_in found.old) (gaps_to (symbol_of table.now.bytes.now table.now.places.now) (length table.now.places.now) section current next alignment) }
-    ensures marks { Clean marks.new }
+        ≡ into (found_in found.old) (gaps_to (symbol_in search.old.here) (count_in search.old.here) search.old.here.section current next alignment) }
+    ensures same { SameSearch search.old search.new }
     ensures room { found.new.room ≡ found.old.room }
 {
+    let section = search.here.section;
     let mut at = current;
     // no count: a turn begins where the gap before it ended
     loop {
         if next <= align_up(at, alignment) {
             return Ok(());
         }
-        match gap_end(table, order, marks, section, at, next) {
+        match gap_end(search, at, next) {
             Ok(e) => {
                 let key = key_of(section, at);
                 place_gap(found, key, e);
@@ -179,49 +186,44 @@ fn gaps_to(
 }
 
 // "the next split's alignment"; 11 where a range is asked for it.
-fn next_alignment(
-    table: &Table,
-    order: &[u16],
-    section: u16,
-    least: u32,
-    s: Split,
-) -> Result<u32, Backwards>
-    requires { Order table.now.bytes.now table.now.places.now order.now }
-    ensures { next_meaning section s.start result ≡ alignment_of_next (symbol_of table.now.bytes.now table.now.places.now) (length table.now.places.now) section least s }
+fn next_alignment(here: &GapSection, s: Split) -> Result<u32, Backwards>
+    ensures { next_meaning here.now.section s.start result ≡ alignment_of_next (symbol_in here.now) (count_in here.now) here.now.section here.now.least s }
 {
-    let chosen = alignment_of(table, order, section, least, s.alignment, s.start, s.end)?;
+    let chosen = alignment_of(
+        &here.symbols,
+        here.order,
+        here.section,
+        here.least,
+        s.alignment,
+        s.start,
+        s.end,
+    )?;
     Ok(chosen.value())
 }
 
 // The gaps before the split s: 11 where its alignment is asked, then "40 next start below current".
 fn gaps_before(
-    table: &Table,
-    order: &[u16],
-    marks: &mut [u8],
+    search: &mut GapSearch,
     found: &mut GapTable,
-    section: u16,
-    least: u32,
     current: u32,
     s: Split,
 ) -> Result<(), Refusal>
-    requires { Lent table.now.bytes.now table.now.places.now order.now marks.old
-        × Space (symbol_of table.now.bytes.now table.now.places.now) (length table.now.places.now) section current s.start [] found.old
-        × Sound (symbol_of table.now.bytes.now table.now.places.now) (length table.now.places.now)
-        × (s.start ≤ 4026531840) × (bad_align s.alignment ≡ false) × (good_align least ≡ true) }
+    requires { Space (symbol_in search.old.here) (count_in search.old.here) search.old.here.section current s.start [] found.old
+        × (s.start ≤ 4026531840) × (bad_align s.alignment ≡ false) }
     ensures gaps { searched found.new result
-        ≡ into (found_in found.old) (gaps_before (symbol_of table.now.bytes.now table.now.places.now) (length table.now.places.now) section least current s) }
-    ensures marks { Clean marks.new }
+        ≡ into (found_in found.old)
+        (gaps_before (symbol_in search.old.here) (count_in search.old.here) search.old.here.section search.old.here.least current s) }
+    ensures same { SameSearch search.old search.new }
     ensures room { found.new.room ≡ found.old.room }
 {
-    let Ok(alignment) = next_alignment(table, order, section, least, s) else {
-        return refuse(11, section, s.start);
+    let here = search.here;
+    let Ok(alignment) = next_alignment(&here, s) else {
+        return refuse(11, here.section, s.start);
     };
     if s.start < current {
-        return refuse(40, section, current);
+        return refuse(40, here.section, current);
     }
-    gaps_to(
-        table, order, marks, found, section, current, s.start, alignment,
-    )
+    gaps_to(search, found, current, s.start, alignment)
 }
 
 // The first row from `at` on that is a split of the section below its splitting end, or the count of rows.
@@ -252,40 +254,36 @@ fn end_after(splits: &SplitColumns, i: usize, end: u32, own: u32) -> u32
 
 // The gaps of a section from its start up to its splitting end, over the splits below it.
 fn section_gaps(
-    table: &Table,
-    order: &[u16],
-    marks: &mut [u8],
+    search: &mut GapSearch,
     found: &mut GapTable,
     splits: &SplitColumns,
-    section: u16,
-    least: u32,
     start: u32,
     end: u32,
 ) -> Result<(), Refusal>
-    requires { Lent table.now.bytes.now table.now.places.now order.now marks.old
-        × Space (symbol_of table.now.bytes.now table.now.places.now) (length table.now.places.now) section start end (rows_of splits.now) found.old
-        × Sound (symbol_of table.now.bytes.now table.now.places.now) (length table.now.places.now)
-        × (end ≤ 4026531840) × (good_align least ≡ true) }
+    requires { Space (symbol_in search.old.here) (count_in search.old.here) search.old.here.section start end (rows_of splits.now) found.old
+        × (end ≤ 4026531840) }
     ensures gaps { searched found.new result
         ≡ into (found_in found.old)
-        (gaps_from (symbol_of table.now.bytes.now table.now.places.now) (length table.now.places.now) section least end start
-        (keep_if (below section end) (rows_of splits.now))) }
-    ensures marks { Clean marks.new }
+        (gaps_from (symbol_in search.old.here) (count_in search.old.here) search.old.here.section search.old.here.least end start
+        (keep_if (below search.old.here.section end) (rows_of splits.now))) }
+    ensures same { SameSearch search.old search.new }
     ensures room { found.new.room ≡ found.old.room }
 {
+    let section = search.here.section;
+    let least = search.here.least;
     let mut current = start;
     let mut i = next_below(splits, section, end, 0);
     // no count: the walk goes from a split of the section to the next
     while (i < splits.count) & (current < end) {
         let s = row(splits, i);
-        gaps_before(table, order, marks, found, section, least, current, s)?;
+        gaps_before(search, found, current, s)?;
         i = next_below(splits, section, end, i + 1);
         current = end_after(splits, i, end, s.end);
     }
     if end <= current {
         return Ok(());
     }
-    gaps_to(table, order, marks, found, section, current, end, least)
+    gaps_to(search, found, current, end, least)
 }
 
 // The gaps of section k: 10 where its splitting end is asked.
@@ -320,17 +318,14 @@ fn gaps_of(
     };
     let name = name_at(&obj.names, head.name as usize);
     let least = default_alignment(head, name);
-    section_gaps(
-        &obj.symbols,
-        obj.order,
-        marks,
-        found,
-        splits,
+    let here = GapSection {
+        symbols: obj.symbols,
+        order: obj.order,
         section,
         least,
-        head.address,
-        end,
-    )
+    };
+    let mut search = GapSearch { here, marks };
+    section_gaps(&mut search, found, splits, head.address, end)
 }
 
 // All gaps of all sections, in the order in which they enter, or the first refusal: 10, 11, 40, 41, 42.

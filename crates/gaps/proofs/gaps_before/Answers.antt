@@ -13,28 +13,23 @@ returns-in_default-clause-gaps c =
     let before = found_in a.found.now in
     rw c.refuse.ensures (sym (ap (into before) (before_backwards _ _ _ _ a.current _ c.in_default.ensures) ∙ into-stops before _ _ _))
 
-pub returns-in_default-clause-marks : goal.returns-in_default-clause-marks
-returns-in_default-clause-marks c = c.requires.0.clean
-
 pub returns-then-s-current-clause-gaps : goal.returns-then-s-current-clause-gaps
 returns-then-s-current-clause-gaps c =
     let a = c.args in
     let before = found_in a.found.now in
-    let is = sym (ap (next_meaning a.section a.s.start) c.in-Ok.is) ∙ c.next_alignment.ensures in
+    let is = sym (ap (next_meaning a.search.now.here.section a.s.start) c.in-Ok.is) ∙ c.next_alignment.ensures in
     rw c.refuse-then-s-current.ensures (sym (ap (into before) (before_below _ _ _ _ _ _ _ is c.if-s-current.true) ∙ into-stops before _ _ _))
-
-pub returns-then-s-current-clause-marks : goal.returns-then-s-current-clause-marks
-returns-then-s-current-clause-marks c = c.requires.0.clean
 
 pub gaps_to-requires : goal.gaps_to-requires
 gaps_to-requires c =
     let a = c.args in
     let p = c.requires in
-    let is = sym (ap (next_meaning a.section a.s.start) c.in-Ok.is) ∙ c.next_alignment.ensures in
-    (p.0, p.1, c.if-s-current.false, p.3, next_good _ _ _ _ a.current a.s _ is p.2 p.5 p.4)
+    let h = a.search.now.here in
+    let is = sym (ap (next_meaning a.search.now.here.section a.s.start) c.in-Ok.is) ∙ c.next_alignment.ensures in
+    (p.0, c.if-s-current.false, p.1, next_good _ _ _ _ a.current a.s _ is h.sound h.good p.2)
 
 pub returns-clause-gaps : goal.returns-clause-gaps
 returns-clause-gaps c =
     let a = c.args in
-    let is = sym (ap (next_meaning a.section a.s.start) c.in-Ok.is) ∙ c.next_alignment.ensures in
+    let is = sym (ap (next_meaning a.search.now.here.section a.s.start) c.in-Ok.is) ∙ c.next_alignment.ensures in
     c.gaps_to.ensures.gaps ∙ ap (into (found_in a.found.now)) (sym (before_on _ _ _ _ _ _ _ is c.if-s-current.false))

@@ -48,6 +48,14 @@ returns-in_default-clause-gaps c =
 pub returns-in_default-clause-marks : goal.returns-in_default-clause-marks
 returns-in_default-clause-marks c = c.requires.2.clean
 
+pub invariant_of-here : goal.invariant_of-here
+invariant_of-here c =
+    let p = c.requires in
+    record { ordered = p.2.symbols; sound = p.3; good = ap good_align c.default_alignment-least.ensures ∙ default_good _ _ }
+
+pub invariant_of-search : goal.invariant_of-search
+invariant_of-search c = let p = c.requires in record { markable = p.2.markable; clean = p.2.clean }
+
 pub section_gaps-requires : goal.section_gaps-requires
 section_gaps-requires c =
     let a = c.args in
@@ -56,18 +64,12 @@ section_gaps-requires c =
     let bytes : c.section_bytes-bytes.result.now ≡ s.bytes a.k = c.section_bytes-bytes.ensures ∙ ap (bytes_of a.image.now.bytes.now a.image.now.places.now a.k) c.section_at-head.ensures in
     let last = ap₂ (splitting_end g a.k) c.section_at-head.ensures bytes in
     let is : accepted c.in-Ok.end ≡ splitting_end g a.k (s.head a.k) (s.bytes a.k) = sym (ap (end_meaning a.k c.section_at-head.result.address) c.in-Ok.is) ∙ c.end_for_section.ensures ∙ last in
-    let name : ℕ → List ℕ = name_at a.obj.now.names.bytes.now a.obj.now.names.places.now a.obj.now.names.lengths.now in
-    let least : c.default_alignment-least.result ≡ default_of g s a.k =
-    c.default_alignment-least.ensures ∙ ap₂ default_alignment c.section_at-head.ensures (c.name_at-name.ensures ∙ ap name (ap (λ (h : Section). h.name) c.section_at-head.ensures)) in
     let p = c.requires in
     let end = c.in-Ok.end in
     let within = end_within g a.k (s.head a.k) (s.bytes a.k) end (sym is) in (
-      p.2,
       subst (λ (h : Section). Space (symbol_of a.obj.now.symbols.bytes.now a.obj.now.symbols.places.now) (length a.obj.now.symbols.places.now) a.k h.address end (rows_of a.splits.now) a.found.now)
           (sym c.section_at-head.ensures) (p.5 end),
-      p.3,
       omega (arith, within, p.1.below a.k p.4),
-      ap good_align least ∙ default_good _ _,
     )
 
 pub returns-clause-gaps : goal.returns-clause-gaps

@@ -1,5 +1,5 @@
 -- The gaps before each split enter, up to the splitting end.
-use Rattle.std.proofs.Common.{ℕ, false, ◌&&◌, ◌≡◌, ◌<◌, ◌≤◌, ◌∙◌, sym, ap, arith, length}
+use Rattle.std.proofs.Common.{ℕ, false, ◌&&◌, ◌≡◌, ◌<◌, ◌≤◌, ◌∙◌, refl, sym, ap, arith}
 use Rattle.std.proofs.lemmas.Result.{err_from_is_err_and}
 use mathlib.Core.Logic.{◌⊎◌, inl, inr}
 use lib.Dec.{ltb}
@@ -7,9 +7,7 @@ use borrow.Author.Tests.{lt-ltb, ltb-true, ltb-false}
 use Rattle.lists.proofs.Both.{both}
 use Rattle.lists.proofs.Compare.{lt_or_ge}
 use Rattle.lists.proofs.Tests.{and_false}
-use Rattle.symbol_order.specs.Order.{symbol_of}
 use Rattle.gaps.specs.Found.{searched}
-use Rattle.gaps.proofs.Marks.{still_markable}
 use Rattle.gaps.proofs.Passes.{walk_start, walk_done, walk_last, walk_low, walk_aligned, walk_room, walk_refused, walk_on, space_before}
 use Rattle.gaps.proofs.section_gaps.Goals as goal
 
@@ -22,7 +20,7 @@ all_passed i n current end e h = go (lt_or_ge i n)
     go (inr q) = q
 
 pub loop-i-init : goal.loop-i-init
-loop-i-init c = let p = c.requires in record { holds = walk_start _ _ _ c.args.least _ _ _ _ _ _ c.next_below-i.ensures p.1; clean = p.0.clean }
+loop-i-init c = let p = c.requires in record { holds = walk_start _ _ _ c.args.search.now.here.least _ _ _ _ _ _ c.next_below-i.ensures p.0; same = record { here = refl; marks = refl } }
 
 pub row-s-requires : goal.row-s-requires
 row-s-requires c =
@@ -34,34 +32,29 @@ pub gaps_before-requires : goal.gaps_before-requires
 gaps_before-requires c =
     let a = c.args in
     let p = c.requires in
+    let h = a.search.now.here in
     let l = c.loop-i in
     let m = a.splits.now.count in
-    let h = ltb-true l.i m (both (ltb l.i m) (ltb l.current a.end) c.loop-i-test.true).0 in
-    let low = walk_low _ _ _ _ _ _ _ _ _ p.2 p.4 _ _ _ l.invariant.holds h _ c.row-s.ensures in (
-      record {
-        symbols = p.0.symbols;
-        markable = still_markable (symbol_of a.table.now.bytes.now a.table.now.places.now) (length a.table.now.places.now) a.marks.now l.marks p.0.markable l.auto.marks;
-        clean = l.invariant.clean;
-      },
-      walk_room _ _ _ _ _ _ _ _ _ p.2 p.4 _ _ _ l.invariant.holds h _ c.row-s.ensures,
-      p.2,
-      omega (arith, low, p.3),
-      walk_aligned _ _ _ _ _ _ _ _ _ p.2 p.4 _ _ _ l.invariant.holds h _ c.row-s.ensures,
-      p.4,
+    let t = ltb-true l.i m (both (ltb l.i m) (ltb l.current a.end) c.loop-i-test.true).0 in
+    let low = walk_low _ _ _ _ _ _ _ _ _ h.sound h.good _ _ _ l.invariant.holds t _ c.row-s.ensures in
+    rw l.invariant.same.here (
+      walk_room _ _ _ _ _ _ _ _ _ h.sound h.good _ _ _ l.invariant.holds t _ c.row-s.ensures,
+      omega (arith, low, p.1),
+      walk_aligned _ _ _ _ _ _ _ _ _ h.sound h.good _ _ _ l.invariant.holds t _ c.row-s.ensures,
     )
 
 pub returns-in_err-gaps_before-clause-gaps : goal.returns-in_err-gaps_before-clause-gaps
 returns-in_err-gaps_before-clause-gaps c =
     let a = c.args in
-    let p = c.requires in
+    let h = a.search.now.here in
     let l = c.loop-i in
     let m = a.splits.now.count in
     let g = c.gaps_before in
     let t = both (ltb l.i m) (ltb l.current a.end) c.loop-i-test.true in
     let e = err_from_is_err_and c.from_residual.result c.from_residual.ensures.1 in
     rw (e.1, e.2) (
-    walk_refused _ _ _ _ _ _ _ _ _ p.2 p.4 _ _ _ l.invariant.holds (ltb-true l.i m t.0) _ c.row-s.ensures (ltb-true l.current a.end t.1) _ _ _
-    (sym (ap (searched g.new.found) c.in_err-gaps_before.was) ∙ g.ensures.gaps)
+    walk_refused _ _ _ _ _ _ _ _ _ h.sound h.good _ _ _ l.invariant.holds (ltb-true l.i m t.0) _ c.row-s.ensures (ltb-true l.current a.end t.1) _ _ _
+    (sym (ap (searched g.new.found) c.in_err-gaps_before.was) ∙ rw l.invariant.same.here at g.ensures.gaps)
     )
 
 pub returns-in_err-gaps_before-clause-room : goal.returns-in_err-gaps_before-clause-room
@@ -70,54 +63,56 @@ returns-in_err-gaps_before-clause-room c = c.gaps_before.ensures.room ∙ c.loop
 pub loop-i-preserved : goal.loop-i-preserved
 loop-i-preserved c =
     let a = c.args in
-    let p = c.requires in
+    let h = a.search.now.here in
     let l = c.loop-i in
     let m = a.splits.now.count in
     let g = c.gaps_before in
     let t = both (ltb l.i m) (ltb l.current a.end) c.loop-i-test.true in
     record {
-      holds = walk_on _ _ _ _ _ _ _ _ _ p.2 p.4 _ _ _ l.invariant.holds (ltb-true l.i m t.0) _ c.row-s.ensures (ltb-true l.current a.end t.1)
+      holds = walk_on _ _ _ _ _ _ _ _ _ h.sound h.good _ _ _ l.invariant.holds (ltb-true l.i m t.0) _ c.row-s.ensures (ltb-true l.current a.end t.1)
           g.new.found c.end_after-current.result c.next_below-i-in-loop-i.result g.ensures.room
-          (sym (ap (searched g.new.found) c.in_ok-gaps_before.was) ∙ g.ensures.gaps)
+          (sym (ap (searched g.new.found) c.in_ok-gaps_before.was) ∙ rw l.invariant.same.here at g.ensures.gaps)
           c.next_below-i-in-loop-i.ensures c.end_after-current.ensures;
-      clean = g.ensures.marks;
+      same = record { here = g.ensures.same.here ∙ l.invariant.same.here; marks = g.ensures.same.marks ∙ l.invariant.same.marks };
     }
 
 pub returns-then-end-current-clause-gaps : goal.returns-then-end-current-clause-gaps
 returns-then-end-current-clause-gaps c =
-    let p = c.requires in
-    walk_done _ _ _ _ _ _ _ _ _ p.2 p.4 _ _ _ c.loop-i.invariant.holds c.if-end-current.true
+    let h = c.args.search.now.here in
+    walk_done _ _ _ _ _ _ _ _ _ h.sound h.good _ _ _ c.loop-i.invariant.holds c.if-end-current.true
 
-pub returns-then-end-current-clause-marks : goal.returns-then-end-current-clause-marks
-returns-then-end-current-clause-marks c = c.loop-i.invariant.clean
+pub returns-then-end-current-clause-same : goal.returns-then-end-current-clause-same
+returns-then-end-current-clause-same c = c.loop-i.invariant.same
 
 pub returns-then-end-current-clause-room : goal.returns-then-end-current-clause-room
 returns-then-end-current-clause-room c = c.loop-i.invariant.holds.same_room
 
 pub gaps_to-requires : goal.gaps_to-requires
 gaps_to-requires c =
-    let a = c.args in
     let p = c.requires in
     let l = c.loop-i in
-    let h = c.if-end-current.false in (
-      record {
-        symbols = p.0.symbols;
-        markable = still_markable (symbol_of a.table.now.bytes.now a.table.now.places.now) (length a.table.now.places.now) a.marks.now l.marks p.0.markable l.auto.marks;
-        clean = l.invariant.clean;
-      },
-      space_before _ _ _ _ _ _ _ _ (omega arith) l.invariant.holds.space,
-      omega (arith, h),
-      p.3,
-      p.4,
-    )
+    let h = c.if-end-current.false in
+    rw l.invariant.same.here (space_before _ _ _ _ _ _ _ _ (omega arith) l.invariant.holds.space, omega (arith, h), p.1, c.args.search.now.here.good)
 
 pub returns-clause-gaps : goal.returns-clause-gaps
 returns-clause-gaps c =
     let a = c.args in
-    let p = c.requires in
+    let h = a.search.now.here in
     let l = c.loop-i in
     let m = a.splits.now.count in
-    c.gaps_to.ensures.gaps ∙ walk_last _ _ _ _ _ _ _ _ _ p.2 p.4 _ _ _ l.invariant.holds (all_passed l.i m l.current a.end c.loop-i-test.false c.if-end-current.false)
+    rw l.invariant.same.here at c.gaps_to.ensures.gaps ∙ walk_last _ _ _ _ _ _ _ _ _ h.sound h.good _ _ _ l.invariant.holds (all_passed l.i m l.current a.end c.loop-i-test.false c.if-end-current.false)
+
+pub returns-in_err-gaps_before-clause-same : goal.returns-in_err-gaps_before-clause-same
+returns-in_err-gaps_before-clause-same c =
+    let same = c.gaps_before.ensures.same in
+    let before = c.loop-i.invariant.same in
+    record { here = same.here ∙ before.here; marks = same.marks ∙ before.marks }
+
+pub returns-clause-same : goal.returns-clause-same
+returns-clause-same c =
+    let same = c.gaps_to.ensures.same in
+    let before = c.loop-i.invariant.same in
+    record { here = same.here ∙ before.here; marks = same.marks ∙ before.marks }
 
 pub returns-clause-room : goal.returns-clause-room
 returns-clause-room c = c.gaps_to.ensures.room ∙ c.loop-i.invariant.holds.same_room
