@@ -26,9 +26,10 @@ fn part_of<'a>(table: &Table, order: &'a [u16], low: u64, high: u64) -> &'a [u16
 }
 
 // Bytes and places go apart here, in `for_section_range`, `for_section_through` and `last_below`: tried as a `&Table`, the proofs don't close, since that each
-// byte is below 256 is known of a slice and not of a struct's (DECISIONS 138).
+// byte is below 256 is known of a slice that is lent and not of a struct's (DECISIONS 138).
 // Table and order are two parameters of all questions, and `Order` a clause of each: callers have them as two fields of an `Obj`, and a struct with the clause
-// as a ghost field would be made, and proved, at each of their calls.
+// as a ghost field would be made, and proved, at each of their calls. Section, start and end stay three numbers: callers have them in a head, a split or a
+// gap, and one of the questions is of start..=end.
 
 // The section's symbols.
 pub fn for_section<'a>(b: &[u8], places: &[u32], order: &'a [u16], section: u16) -> &'a [u16]
