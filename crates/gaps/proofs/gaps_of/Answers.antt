@@ -53,9 +53,6 @@ invariant_of-here c =
     let p = c.requires in
     record { ordered = p.2.symbols; sound = p.3; good = ap good_align c.default_alignment-least.ensures ∙ default_good _ _ }
 
-pub invariant_of-search : goal.invariant_of-search
-invariant_of-search c = let p = c.requires in record { markable = p.2.markable; clean = p.2.clean }
-
 pub section_gaps-requires : goal.section_gaps-requires
 section_gaps-requires c =
     let a = c.args in

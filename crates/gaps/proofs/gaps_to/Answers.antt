@@ -19,12 +19,6 @@ pub returns-then-next-align_up-clause-gaps : goal.returns-then-next-align_up-cla
 returns-then-next-align_up-clause-gaps c =
     turn_done _ _ _ _ _ _ _ c.requires.3 _ _ c.loop-current.invariant.holds (omega (arith, c.if-next-align_up.true, c.align_up.ensures.is))
 
-pub returns-then-next-align_up-clause-same : goal.returns-then-next-align_up-clause-same
-returns-then-next-align_up-clause-same c = c.loop-current.invariant.same
-
-pub returns-then-next-align_up-clause-room : goal.returns-then-next-align_up-clause-room
-returns-then-next-align_up-clause-room c = c.loop-current.invariant.holds.same_room
-
 pub gap_end-requires : goal.gap_end-requires
 gap_end-requires c =
     let a = c.args in
@@ -71,12 +65,3 @@ returns-in-Err-clause-gaps c =
     let is : gap_end (symbol_in h) (count_in h) h.section l.at a.next ≡ refused c.end_number.result h.section l.at =
     rw c.end_number.ensures (sym (rw l.invariant.same.here at c.gap_end.ensures.end) ∙ ap (end_meaning h.section l.at) c.in-Err.is) in
     rw c.refuse.ensures (turn_refused _ _ _ _ _ _ _ c.requires.3 _ _ l.invariant.holds follows _ _ _ is)
-
-pub returns-in-Err-clause-same : goal.returns-in-Err-clause-same
-returns-in-Err-clause-same c =
-    let same = c.gap_end.ensures.same in
-    let before = c.loop-current.invariant.same in
-    record { here = same.here ∙ before.here; marks = same.marks ∙ before.marks }
-
-pub returns-in-Err-clause-room : goal.returns-in-Err-clause-room
-returns-in-Err-clause-room c = c.loop-current.invariant.holds.same_room

@@ -57,9 +57,6 @@ returns-in_err-gaps_before-clause-gaps c =
     (sym (ap (searched g.new.found) c.in_err-gaps_before.was) ∙ rw l.invariant.same.here at g.ensures.gaps)
     )
 
-pub returns-in_err-gaps_before-clause-room : goal.returns-in_err-gaps_before-clause-room
-returns-in_err-gaps_before-clause-room c = c.gaps_before.ensures.room ∙ c.loop-i.invariant.holds.same_room
-
 pub loop-i-preserved : goal.loop-i-preserved
 loop-i-preserved c =
     let a = c.args in
@@ -81,12 +78,6 @@ returns-then-end-current-clause-gaps c =
     let h = c.args.search.now.here in
     walk_done _ _ _ _ _ _ _ _ _ h.sound h.good _ _ _ c.loop-i.invariant.holds c.if-end-current.true
 
-pub returns-then-end-current-clause-same : goal.returns-then-end-current-clause-same
-returns-then-end-current-clause-same c = c.loop-i.invariant.same
-
-pub returns-then-end-current-clause-room : goal.returns-then-end-current-clause-room
-returns-then-end-current-clause-room c = c.loop-i.invariant.holds.same_room
-
 pub gaps_to-requires : goal.gaps_to-requires
 gaps_to-requires c =
     let p = c.requires in
@@ -101,18 +92,3 @@ returns-clause-gaps c =
     let l = c.loop-i in
     let m = a.splits.now.count in
     rw l.invariant.same.here at c.gaps_to.ensures.gaps ∙ walk_last _ _ _ _ _ _ _ _ _ h.sound h.good _ _ _ l.invariant.holds (all_passed l.i m l.current a.end c.loop-i-test.false c.if-end-current.false)
-
-pub returns-in_err-gaps_before-clause-same : goal.returns-in_err-gaps_before-clause-same
-returns-in_err-gaps_before-clause-same c =
-    let same = c.gaps_before.ensures.same in
-    let before = c.loop-i.invariant.same in
-    record { here = same.here ∙ before.here; marks = same.marks ∙ before.marks }
-
-pub returns-clause-same : goal.returns-clause-same
-returns-clause-same c =
-    let same = c.gaps_to.ensures.same in
-    let before = c.loop-i.invariant.same in
-    record { here = same.here ∙ before.here; marks = same.marks ∙ before.marks }
-
-pub returns-clause-room : goal.returns-clause-room
-returns-clause-room c = c.gaps_to.ensures.room ∙ c.loop-i.invariant.holds.same_room

@@ -8,8 +8,5 @@ use Rattle.stage_gaps.proofs.with_added.Goals as goal
 pub invariant_of-added : goal.invariant_of-added
 invariant_of-added c = record { stand = stand_none _ _ _ (added_room (search rules) (search rules) (search rules) c.requires.0) }
 
-pub fill_rows-requires-clause-space : goal.fill_rows-requires-clause-space
-fill_rows-requires-clause-space c = c.requires.0
-
 pub fill_rows-requires-clause-unmarked : goal.fill_rows-requires-clause-unmarked
 fill_rows-requires-clause-unmarked c = search (rules, clean_zeros)
