@@ -34,9 +34,6 @@ returns-in_err-gaps_of-clause-gaps c =
     let e = err_from_is_err_and c.from_residual.result c.from_residual.ensures.1 in
     rw (e.1, e.2) (search_refused _ _ _ _ _ _ _ l.invariant.holds c.loop-k-test.true _ _ _ (sym (ap (searched g.new.found) c.in_err-gaps_of.was) ∙ g.ensures.gaps))
 
-pub returns-in_err-gaps_of-clause-room : goal.returns-in_err-gaps_of-clause-room
-returns-in_err-gaps_of-clause-room c = c.gaps_of.ensures.room ∙ c.loop-k.invariant.holds.same_room
-
 pub loop-k-preserved : goal.loop-k-preserved
 loop-k-preserved c =
     let l = c.loop-k in
@@ -48,9 +45,3 @@ loop-k-preserved c =
 
 pub returns-clause-gaps : goal.returns-clause-gaps
 returns-clause-gaps c = search_done _ _ _ _ _ _ _ c.loop-k.invariant.holds c.loop-k-test.false
-
-pub returns-clause-marks : goal.returns-clause-marks
-returns-clause-marks c = c.loop-k.invariant.clean
-
-pub returns-clause-room : goal.returns-clause-room
-returns-clause-room c = c.loop-k.invariant.holds.same_room

@@ -45,9 +45,6 @@ returns-in_default-clause-gaps c =
     let last = ap₂ (splitting_end g a.k) c.section_at-head.ensures bytes in
     rw c.refuse.ensures (section_short g s a.k (rows_of a.splits.now) (found_in a.found.now) 10 a.k c.section_at-head.result.address (c.in_default.ensures ∙ last))
 
-pub returns-in_default-clause-marks : goal.returns-in_default-clause-marks
-returns-in_default-clause-marks c = c.requires.2.clean
-
 pub invariant_of-here : goal.invariant_of-here
 invariant_of-here c =
     let p = c.requires in

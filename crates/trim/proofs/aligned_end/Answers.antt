@@ -33,9 +33,6 @@ end_of-end-requires c =
     let found = sym c.last_in.ensures ∙ ap (found_meaning y.section y.start) c.in_ok-found.was in
     (a.tables.now.asks.tables.symbols.whole, a.tables.now.asks.sound, p.0.end, λ i e. (in_found g.symbol g.count y.section y.start y.end i (found ∙ ap accepted e)).there)
 
-pub split_alignment-requires : goal.split_alignment-requires
-split_alignment-requires c = let t = c.args.tables.now in (t.asks.tables, t.asks.headed, c.requires.0.section)
-
 pub returns-in_err-a : goal.returns-in_err-a
 unfolding ◌>>=◌
 returns-in_err-a c =

@@ -1,7 +1,6 @@
 -- `trim::ask_next` meets its contract: no next split, one of another section, or one whose alignment is asked.
 use mathlib.Core.Path.{sym, ap, ◌∙◌}
 use Prim.Native.Nat.{ℕ}
-use native.Mathlib.Omega.{arith}
 use Rattle.std.proofs.lemmas.Result.{err_from_is_err_and}
 use Rattle.lists.specs.Outcome.{refused, ◌>>=◌}
 use Rattle.sections.specs.Image.{image_in}
@@ -28,11 +27,6 @@ returns-then-next-s c =
     let head = head_in a.tables.now.obj in
     let row = row_at (columns_of a.splits.now) in
     next_other g head a.s row a.splits.now.count a.j c.if-splits-j.false _ c.row-next.ensures c.if-next-s.true
-
-pub split_alignment-requires : goal.split_alignment-requires
-split_alignment-requires c =
-    let t = c.args.tables.now in
-    (t.asks.tables, t.asks.headed, omega arith)
 
 pub returns-in_err-split_alignment : goal.returns-in_err-split_alignment
 unfolding ◌>>=◌

@@ -1,7 +1,6 @@
 -- `trim::cut_section` meets its contract: 10, the rows as they are where the splitting end is the section's end, or its last row cut.
 use mathlib.Core.Path.{sym, ap, ◌∙◌}
 use Prim.Native.Nat.{◌+◌}
-use native.Mathlib.Omega.{arith}
 use Rattle.lists.specs.Outcome.{accepted}
 use Rattle.obj.specs.Answers.{Answer}
 use Rattle.obj.specs.declared.Section.{Section}
@@ -16,17 +15,6 @@ use Rattle.trim.proofs.cut_section.Goals as goal
 
 pub section_at-head-requires : goal.section_at-head-requires
 section_at-head-requires c = kept-held _ _ _ _ _ c.args.tables.now.kept c.args.k c.requires
-
-pub overflow_add-head : goal.overflow_add-head
-overflow_add-head c =
-    let e = ap (λ (h : Section). h.address + h.size) c.section_at-head.ensures in
-    omega (arith, e, c.args.tables.now.kept.below c.args.k c.requires)
-
-pub overflow_cast-k : goal.overflow_cast-k
-overflow_cast-k c = omega (arith, c.args.tables.now.kept.few, c.requires)
-
-pub overflow_cast-k-in-Err : goal.overflow_cast-k-in-Err
-overflow_cast-k-in-Err c = omega (arith, c.args.tables.now.kept.few, c.requires)
 
 pub returns-then-head-low-clause-rows : goal.returns-then-head-low-clause-rows
 returns-then-head-low-clause-rows c =

@@ -2,7 +2,6 @@
 use mathlib.Core.Path.{sym, ◌∙◌}
 use mathlib.Core.List.{List}
 use Prim.Native.Nat.{ℕ}
-use native.Mathlib.Omega.{arith}
 use Rattle.lists.specs.Outcome.{◌>>=◌}
 use Rattle.obj.proofs.Errors.{same_err}
 use Rattle.obj.specs.declared.Split.{Split}
@@ -38,11 +37,6 @@ returns-in_err-find_falls-clause-rows c =
     let found = rw (e.starts, e.ends, e.units, e.rest, e.count) at c.find_falls.ensures in
     rw (same_err c.from_residual.result c.find_falls.result c.from_residual.ensures.1 c.in_err-find_falls.was)
     (seen-stops _ _ (falls_of g sections.head table) next found table c.in_err-find_falls.was)
-
-pub carry_out-requires : goal.carry_out-requires
-carry_out-requires c =
-    let p = c.requires in
-    omega (arith, p.4, c.find_falls.auto.falls)
 
 pub returns-in_err-carry_out-clause-rows : goal.returns-in_err-carry_out-clause-rows
 unfolding trimmed
