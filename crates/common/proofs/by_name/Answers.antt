@@ -28,6 +28,3 @@ overflow_add-first c = let h = (c.next_bss.ensures.there c.in-Some.first c.in-So
 
 pub next_bss-second-requires : goal.next_bss-second-requires
 next_bss-second-requires c = let h = (c.next_bss.ensures.there c.in-Some.first c.in-Some.is).0 in omega arith
-
-pub overflow_cast-result : goal.overflow_cast-result
-overflow_cast-result c = let h = (c.next_bss.ensures.there c.in-Some.first c.in-Some.is).0 in omega arith

@@ -11,9 +11,6 @@ use Rattle.common.proofs.put_records.Goals as goal
 pub loop-i-init : goal.loop-i-init
 loop-i-init c = (writing_start _ _ _ _ _, record { starts = refl; ends = refl; units = refl; held = refl; count = refl; room = refl })
 
-pub rest_of-requires : goal.rest_of-requires
-rest_of-requires c = c.requires.1.aligned c.loop-i.i c.loop-i-test.true
-
 pub loop-i-preserved : goal.loop-i-preserved
 loop-i-preserved c =
     let l = c.loop-i in

@@ -1,5 +1,5 @@
 -- Each split is merged as the definition merges it, and the rows that it leaves are those of the next one.
-use Rattle.std.proofs.Common.{refl, ◌∙◌, sym, ap, arith}
+use Rattle.std.proofs.Common.{refl, ◌∙◌, sym, ap}
 use Rattle.std.proofs.lemmas.Result.{err_from_is_err_and}
 use Rattle.lists.proofs.Parts.{tabulate_all}
 use Rattle.align.specs.Align.{bad_align}
@@ -14,11 +14,6 @@ use Rattle.merge.proofs.add_splits.Goals as goal
 
 pub loop-i-init : goal.loop-i-init
 loop-i-init c = record { room = refl; merges = ap (merge_all _ _) (tabulate_all _ _) }
-
-pub partial_at-new-requires : goal.partial_at-new-requires
-partial_at-new-requires c =
-    let p = c.requires.1 in
-    (p.held _ c.loop-i-test.true, omega (arith, p.few, c.loop-i-test.true))
 
 pub add_split-requires : goal.add_split-requires
 add_split-requires c =
