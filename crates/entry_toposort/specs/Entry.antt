@@ -76,14 +76,6 @@ pub record Room (size r : ℕ) : Type 0 where
   pub fits : 2 * r ≤ size
   pub same : (n : ℕ) → n ≤ 1024 → ltb r n ≡ ltb (size / 2) n
 
--- the lent columns are long enough for an edge table within the ceilings
-pub record Scratch (n : ℕ) (edges from to table : List ℕ) : Type 0 where
-  pub nodes : n ≤ 1024
-  pub few : length edges / 4 ≤ 2048
-  pub from_long : length from ≡ 2048
-  pub to_long : length to ≡ 2048
-  pub table_long : length table ≡ 1024
-
 -- no check of the tables refuses: within the ceilings, so what is left is the sort
 pub record Checked (nodes : ℕ) (edges : List ℕ) : Type 0 where
   pub few_nodes : nodes ≤ 1024

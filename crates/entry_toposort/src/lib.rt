@@ -7,13 +7,13 @@ ghost use Rattle.lists.specs.Rows.{clear_from, tabulate};
 ghost use Rattle.outputs.specs.Outputs.{store_count};
 ghost use Rattle.fields.specs.Fields.{le16};
 ghost use Rattle.toposort.specs.Sorting.{Within, sort_of};
-ghost use Rattle.toposort.specs.Search.{Graph};
-ghost use Rattle.entry_toposort.specs.Entry.{graph_of, toposort_of, Checked, Room, Scratch, Ends, Leaves};
+ghost use Rattle.toposort.specs.Lent.{graph_in};
+ghost use Rattle.entry_toposort.specs.Entry.{graph_of, toposort_of, Checked, Room, Ends, Leaves};
 
 use fields::get16;
 use obj::{Refusal, place_of, refuse, word_of};
 use outputs::{clear_from, put_count, put_halves};
-use toposort::{Unsorted, answer_of, kept};
+use toposort::{EdgeTable, Unsorted, answer_of, kept};
 
 // One column of the edge table, at the front of `out`: the number at byte `at` of each of the first k edges.
 fn column(edges: &[u8], at: usize, k: usize, out: &mut [u16])
@@ -34,40 +34,21 @@ fn room_of(size: usize) -> usize
 
 // The sort of edges in columns, in the lent `table`; the nodes that it leaves are written to the front of `out`.
 fn sort_columns(
-    n: usize,
-    from: &[u16],
-    to: &[u16],
-    table: &mut [u16],
+    graph: &EdgeTable,
+    table: &mut [u16; 1024],
     out: &mut [u8],
 ) -> Result<usize, Unsorted>
-    requires { Within (record { count = n; from = from.now; to = to.now }) × (length table.old ≡ 1024) }
-    ensures { Ends (sort_of (record { count = n; from = from.now; to = to.now }) (length out.old / 2)) result out.old out.new }
+    requires { Within (graph_in graph.now) }
+    ensures { Ends (sort_of (graph_in graph.now) (length out.old / 2)) result out.old out.new }
 {
     let room = room_of(out.len());
-    let r = toposort::toposort(n, from, to, &mut table[..room]);
+    let r = toposort::toposort(graph, &mut table[..room]);
     let m = kept(r);
     put_halves(out, &table[..m]);
     r
 }
 
-// The sort of an edge table within the ceilings, in lent columns.
-fn sort_in(
-    n: usize,
-    edges: &[u8],
-    from: &mut [u16],
-    to: &mut [u16],
-    table: &mut [u16],
-    out: &mut [u8],
-) -> Result<usize, Unsorted>
-    requires { Scratch n edges.now from.old to.old table.old }
-    ensures { Ends (sort_of (graph_of n edges.now) (length out.old / 2)) result out.old out.new }
-{
-    let k = edges.len() / 4;
-    column(edges, 0, k, from);
-    column(edges, 2, k, to);
-    sort_columns(n, &from[..k], &to[..k], table, out)
-}
-
+// The sort of an edge table within the ceilings.
 fn sort_table(n: usize, edges: &[u8], out: &mut [u8]) -> Result<usize, Unsorted>
     requires { (n ≤ 1024) × (length edges.now / 4 ≤ 2048) }
     ensures { Ends (sort_of (graph_of n edges.now) (length out.old / 2)) result out.old out.new }
@@ -75,7 +56,15 @@ fn sort_table(n: usize, edges: &[u8], out: &mut [u8]) -> Result<usize, Unsorted>
     let mut from = [0u16; 2048];
     let mut to = [0u16; 2048];
     let mut table = [0u16; 1024];
-    sort_in(n, edges, &mut from, &mut to, &mut table, out)
+    let k = edges.len() / 4;
+    column(edges, 0, k, &mut from);
+    column(edges, 2, k, &mut to);
+    let graph = EdgeTable {
+        count: n,
+        from: &from[..k],
+        to: &to[..k],
+    };
+    sort_columns(&graph, &mut table, out)
 }
 
 // The checks of the tables, in document 01's order.

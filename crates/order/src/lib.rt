@@ -19,7 +19,7 @@ use obj::{Refusal, refuse};
 use order_numbers::{order_twice, order_units};
 pub use records::put_unit;
 use records::write_records;
-use toposort::Unsorted;
+use toposort::{EdgeTable, Unsorted};
 
 // Why there is no link order: a refusal, or "61 cycle, left in the unit table", of so many unit records.
 #[derive(Clone, Copy)]
@@ -106,7 +106,12 @@ fn sort_graph(
     let n = graph.count;
     let e = graph.edges;
     let room = room_of(out.len());
-    let r = toposort::toposort(n, &graph.from[..e], &graph.to[..e], &mut table[..room]);
+    let edges = EdgeTable {
+        count: n,
+        from: &graph.from[..e],
+        to: &graph.to[..e],
+    };
+    let r = toposort::toposort(&edges, &mut table[..room]);
     let m = toposort::kept(r);
     write_records(tables, graph.column, &graph.nodes[..n], &table[..m], out);
     linked(r)

@@ -1,3 +1,4 @@
 pub mod Search
 pub mod Answers
 pub mod Sorting
+pub mod Lent

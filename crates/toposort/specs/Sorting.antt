@@ -93,12 +93,12 @@ pub record Follows (from heads chain : List ℕ) (v next : ℕ) : Type 0 where
   pub after : After from v next
 
 -- what a move asks: the root's next is a node or the end, another's comes after an edge of its own
-pub record Moves (n : ℕ) (from to heads chain : List ℕ) (cur next : ℕ) : Type 0 where
-  pub chained : Chained from heads chain
-  pub few : length from ≤ 2048
-  pub paired : length to ≡ length from
+pub record Moves (g : Graph) (heads chain : List ℕ) (cur next : ℕ) : Type 0 where
+  pub chained : Chained g.from heads chain
+  pub few : length g.from ≤ 2048
+  pub paired : length g.to ≡ length g.from
   pub low : next ≤ 2048
-  pub inner : cur ≢ 1024 → (cur < 1024) × After from cur next
+  pub inner : cur ≢ 1024 → (cur < 1024) × After g.from cur next
 
 -- what the search starts from: edges that join nodes, chained, and a table with room for the nodes
 pub record Ready (g : Graph) (heads chain table : List ℕ) : Type 0 where

@@ -3,10 +3,14 @@
 
 ghost use Rattle.std.specs.Prelude.{◌≡◌, [], ◌++◌, ℕ, suc, ◌≤◌, ◌<◌, length, drop, MatchOption};
 ghost use Rattle.lists.specs.Outcome.{accepted};
-ghost use Rattle.toposort.specs.Search.{Graph, next_edge, bad_edge, move_of, node, parent_of, hops, climb, state_at, Reaches, searched, start};
+ghost use Rattle.toposort.specs.Search.{next_edge, bad_edge, move_of, node, parent_of, hops, climb, state_at, Reaches, searched, start};
 ghost use Rattle.toposort.specs.Sorting.{Sorts, Within, Chainable, Chained, Follows, Moves, Ready, sort_of, carried, kept as kept_by, answer_of};
+ghost use Rattle.toposort.specs.Lent.{graph_in};
 ghost use Rattle.toposort.specs.declared.State.TheVariants.{Open, Closed};
 
+mod edge_table;
+
+pub use edge_table::EdgeTable;
 use obj::{Refusal, refuse};
 
 // The root's record: the last of the 1,025.
@@ -43,15 +47,15 @@ pub enum Move {
 }
 
 // The first edge from or to no node.
-pub fn bad_edge(n: usize, from: &[u16], to: &[u16]) -> Option<usize>
-    requires { length to.now ≡ length from.now }
-    ensures { MatchOption result (bad_edge n from.now to.now ≡ length from.now) (λ e. (e ≡ bad_edge n from.now to.now) × (e < length from.now)) }
+pub fn bad_edge(graph: &EdgeTable) -> Option<usize>
+    ensures { MatchOption result (bad_edge graph.now.count graph.now.from.now graph.now.to.now ≡ length graph.now.from.now)
+        (λ e. (e ≡ bad_edge graph.now.count graph.now.from.now graph.now.to.now) × (e < length graph.now.from.now)) }
 {
-    for e in 0..from.len() {
-        if n <= from[e] as usize {
+    for e in 0..graph.from.len() {
+        if graph.count <= graph.from[e] as usize {
             return Some(e);
         }
-        if n <= to[e] as usize {
+        if graph.count <= graph.to[e] as usize {
             return Some(e);
         }
     }
@@ -59,7 +63,7 @@ pub fn bad_edge(n: usize, from: &[u16], to: &[u16]) -> Option<usize>
 }
 
 // Chains the edges by the node that they leave, so that a node's next edge is found without a search: from the last edge to the first,
-// each is put before its node's chain.
+// each is put before its node's chain. `heads` has a place for each node and `chain` one for each edge, so they are no columns of one table.
 pub fn chain_edges(from: &[u16], heads: &mut [u16], chain: &mut [u16])
     requires { Chainable from.now heads.old chain.old }
     ensures { Chained from.now heads.new chain.new }
@@ -158,27 +162,19 @@ pub fn write_cycle(nodes: [Node; 1025], from: usize, k: usize, table: &mut [u16]
 }
 
 // What the open node `cur` does, whose edges before `next` are passed.
-pub fn next_move(
-    n: usize,
-    from: &[u16],
-    to: &[u16],
-    heads: &[u16],
-    chain: &[u16],
-    cur: usize,
-    next: usize,
-) -> Move
-    requires { Moves n from.now to.now heads.now chain.now cur next }
-    ensures { result ≡ move_of (record { count = n; from = from.now; to = to.now }) cur next }
+pub fn next_move(graph: &EdgeTable, heads: &[u16], chain: &[u16], cur: usize, next: usize) -> Move
+    requires { Moves (graph_in graph.now) heads.now chain.now cur next }
+    ensures { result ≡ move_of (graph_in graph.now) cur next }
 {
     if cur == ROOT {
-        if next == n {
+        if next == graph.count {
             return Move::Finish;
         }
         return Move::Take(next + 1, next);
     }
-    match next_edge(from, heads, chain, cur, next) {
+    match next_edge(graph.from, heads, chain, cur, next) {
         None => Move::Close,
-        Some(e) => Move::Take(e + 1, to[e] as usize),
+        Some(e) => Move::Take(e + 1, graph.to[e] as usize),
     }
 }
 
@@ -195,27 +191,25 @@ fn unseen() -> [Node; 1025]
 
 // The search proper: closed nodes are written from the end of the table's first n places downwards, so the last closed stands first.
 pub fn search(
-    n: usize,
-    from: &[u16],
-    to: &[u16],
+    graph: &EdgeTable,
     heads: &[u16],
     chain: &[u16],
     table: &mut [u16],
 ) -> Result<usize, Unsorted>
-    requires { Ready (record { count = n; from = from.now; to = to.now }) heads.now chain.now table.old }
-    ensures { Sorts (accepted (searched (record { count = n; from = from.now; to = to.now }))) (length table.old) result table.new }
+    requires { Ready (graph_in graph.now) heads.now chain.now table.old }
+    ensures { Sorts (accepted (searched (graph_in graph.now))) (length table.old) result table.new }
 {
     let mut nodes = unseen();
-    let mut left = n;
+    let mut left = graph.count;
     let mut cur = ROOT;
     // no count: a turn enters a node, leaves one, or passes an edge, as the graph has them
     loop {
         let State::Open { next, parent } = nodes[cur].state else {
             return Err(Unsorted::Short);
         };
-        match next_move(n, from, to, heads, chain, cur, next as usize) {
+        match next_move(graph, heads, chain, cur, next as usize) {
             Move::Finish => {
-                return Ok(n);
+                return Ok(graph.count);
             }
             Move::Close => {
                 nodes[cur] = closed();
@@ -243,20 +237,20 @@ pub fn search(
 }
 
 // The order of the nodes, or a cycle, at the front of the table; or a refusal, with whatever in the table.
-pub fn toposort(n: usize, from: &[u16], to: &[u16], table: &mut [u16]) -> Result<usize, Unsorted>
-    requires { Within (record { count = n; from = from.now; to = to.now }) }
-    ensures { Sorts (sort_of (record { count = n; from = from.now; to = to.now }) (length table.old)) (length table.old) result table.new }
+pub fn toposort(graph: &EdgeTable, table: &mut [u16]) -> Result<usize, Unsorted>
+    requires { Within (graph_in graph.now) }
+    ensures { Sorts (sort_of (graph_in graph.now) (length table.old)) (length table.old) result table.new }
 {
-    if let Some(e) = bad_edge(n, from, to) {
+    if let Some(e) = bad_edge(graph) {
         return Err(Unsorted::NoNode(e));
     }
-    if table.len() < n {
+    if table.len() < graph.count {
         return Err(Unsorted::Short);
     }
     let mut heads = [0u16; 1024];
     let mut chain = [0u16; 2048];
-    chain_edges(from, &mut heads, &mut chain);
-    search(n, from, to, &heads, &chain, table)
+    chain_edges(graph.from, &mut heads, &mut chain);
+    search(graph, &heads, &chain, table)
 }
 
 // ---- what an answer leaves and says

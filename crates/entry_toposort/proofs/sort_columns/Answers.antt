@@ -6,5 +6,5 @@ use Rattle.entry_toposort.proofs.sort_columns.Goals as goal
 
 pub returns : goal.returns
 returns c =
-    let s = sorts_in _ c.room_of-room.result c.args.table.now (omega (arith, c.room_of-room.ensures.low, c.requires.1)) c.toposort-r.ensures in
-    sorted_ends _ _ _ _ _ _ _ _ _ c.requires.0.nodes c.room_of-room.ensures refl s c.kept-m.ensures c.put_halves.ensures
+    let s = sorts_in _ c.room_of-room.result c.args.table.now (omega (arith, c.room_of-room.ensures.low)) c.toposort-r.ensures in
+    sorted_ends _ _ _ _ _ _ _ _ _ c.requires.nodes c.room_of-room.ensures refl s c.kept-m.ensures c.put_halves.ensures

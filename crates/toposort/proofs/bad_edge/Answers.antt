@@ -4,14 +4,14 @@ use native.Mathlib.Omega.{arith}
 use Rattle.toposort.proofs.Edges.{bad_from_lem, bad_to, bad_on, bad_end}
 use Rattle.toposort.proofs.bad_edge.Goals as goal
 
-pub returns-then-n-from : goal.returns-then-n-from
-returns-then-n-from c = (sym (c.loop-e.invariant ∙ bad_from_lem _ _ _ _ (omega arith) (omega arith) (omega arith)), omega arith)
+pub returns-then-graph-e : goal.returns-then-graph-e
+returns-then-graph-e c = (sym (c.loop-e.invariant ∙ bad_from_lem _ _ _ _ (omega arith) (omega arith) (omega arith)), omega arith)
 
-pub returns-then-n-to : goal.returns-then-n-to
-returns-then-n-to c = (sym (c.loop-e.invariant ∙ bad_to _ _ _ _ (omega arith) (omega arith) (omega arith) (omega arith)), omega arith)
+pub returns-then-graph-e-2 : goal.returns-then-graph-e-2
+returns-then-graph-e-2 c = (sym (c.loop-e.invariant ∙ bad_to _ _ _ _ (omega arith) (omega arith) (omega arith) (omega arith)), omega arith)
 
 pub loop-e-preserved : goal.loop-e-preserved
 loop-e-preserved c = c.loop-e.invariant ∙ bad_on _ _ _ _ (omega arith) (omega arith) (omega arith) (omega arith)
 
 pub returns : goal.returns
-returns c = omega (arith, c.loop-e.invariant, bad_end c.args.n c.args.from.now c.args.to.now c.loop-e.e (omega arith))
+returns c = omega (arith, c.loop-e.invariant, bad_end c.args.graph.now.count c.args.graph.now.from.now c.args.graph.now.to.now c.loop-e.e (omega arith))

@@ -5,4 +5,4 @@ use Rattle.toposort.proofs.Edges.{bad_from}
 use Rattle.toposort.proofs.bad_edge.Given as goal
 
 abbrev pub invariant-loop-e : goal.invariant-loop-e
-invariant-loop-e l = bad_edge l.n l.from l.to ≡ bad_from l.n l.from l.to l.e
+invariant-loop-e l = bad_edge l.graph.count l.graph.from.now l.graph.to.now ≡ bad_from l.graph.count l.graph.from.now l.graph.to.now l.e

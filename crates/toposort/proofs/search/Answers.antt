@@ -8,6 +8,7 @@ use Rattle.toposort.specs.declared.State.{State}
 use Rattle.toposort.specs.declared.State.TheVariants.{Unseen, Open, Closed}
 use Rattle.toposort.specs.declared.Node.{Node}
 use Rattle.toposort.specs.Search.{Graph, node, state_at, cyclic, hops, climb, Reaches, searched}
+use Rattle.toposort.specs.Lent.{graph_in}
 use Rattle.toposort.proofs.Seen.{Taking}
 use Rattle.toposort.proofs.Walk.{Turn, walk_start, walk_here, walk_in, walk_after, walk_low, walk_parent, walk_room, close_less, walk_close, walk_taking, pass_less, walk_pass, open_less, walk_open, walk_reaches, walk_short, walk_cycle, walk_finish, cycle_sorts}
 use Rattle.toposort.proofs.search.Goals as goal
@@ -15,7 +16,7 @@ use Rattle.toposort.proofs.search.Goals.{In-Open, In-Close, In-Take, After-open,
 
 -- ---- The open node.
 abbrev graph : In-Open → Graph
-graph c = record { count = c.args.n; from = c.args.from.now; to = c.args.to.now }
+graph c = graph_in c.args.graph.now
 
 turn : (c : In-Open) → Turn (graph c) c.args.table.now c.loop-nodes.table c.loop-nodes.nodes c.loop-nodes.left c.loop-nodes.cur c.in-Open.next c.in-Open.parent
 turn c = record { sound = c.requires.sound; inv = c.loop-nodes.invariant; is = c.in-Open.is }
@@ -56,7 +57,7 @@ meet_of c = (goal.at.After-cycle_length-k c).In-Open-state
 counted : (c : After-cycle_length-k) → c.cycle_length-k.result ≡ suc (hops 1025 (past (take_of (meet_of c))) c.in-Take.adj c.loop-nodes.cur)
 counted c = c.cycle_length-k.ensures ∙ ap (λ (x : Node). suc (hops 1025 (set c.loop-nodes.nodes c.loop-nodes.cur x) c.in-Take.adj c.loop-nodes.cur)) c.open.ensures
 
-fits : (c : After-cycle_length-k) → c.cycle_length-k.result ≤ c.args.n
+fits : (c : After-cycle_length-k) → c.cycle_length-k.result ≤ c.args.graph.now.count
 fits c = omega (arith, counted c, walk_short (turn (taker (take_of (meet_of c)))) (sym c.in-Take.ensures) (meeting (meet_of c)))
 
 cycle : (c : After-cycle_length-k)

@@ -7,8 +7,8 @@ use Rattle.toposort.proofs.toposort.Goals as goal
 pub returns-in-Some : goal.returns-in-Some
 returns-in-Some c = sorts_bad _ c.requires _ c.in-Some.ensures.0 c.in-Some.ensures.1 _
 
-pub returns-then-table-n : goal.returns-then-table-n
-returns-then-table-n c = sorts_short _ c.requires c.in_default.ensures _ c.if-table-n.true
+pub returns-then-table-graph : goal.returns-then-table-graph
+returns-then-table-graph c = sorts_short _ c.requires c.in_default.ensures _ c.if-table-graph.true
 
 pub chain_edges-requires : goal.chain_edges-requires
 chain_edges-requires c = chainable _ c.requires c.in_default.ensures _ _ refl refl
@@ -18,8 +18,8 @@ search-requires c =
     record {
       sound = sound _ c.requires c.in_default.ensures;
       chained = c.chain_edges.ensures;
-      room = c.if-table-n.false;
+      room = c.if-table-graph.false;
     }
 
 pub returns : goal.returns
-returns c = sorts_searched _ c.requires c.in_default.ensures _ c.if-table-n.false _ _ c.search.ensures
+returns c = sorts_searched _ c.requires c.in_default.ensures _ c.if-table-graph.false _ _ c.search.ensures
