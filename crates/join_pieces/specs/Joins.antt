@@ -1,10 +1,10 @@
 -- What the joiner's functions ask of the lent bytes, and what they leave. The definition is that of crate join, over the pieces of crate piece_records.
-use Rattle.std.specs.Prelude.{ℕ, ◌*◌, ◌≤◌, ◌/◌, ◌≡◌, List, ◌++◌, Bool, false, length, take, drop, replicate}
+use Rattle.std.specs.Prelude.{ℕ, ◌*◌, ◌≤◌, ◌≡◌, List, ◌++◌, Bool, false, length, take, drop, replicate}
 use Rattle.lists.specs.Outcome.{Outcome, accepted, ◌>>=◌}
 use Rattle.obj.specs.Answers.{meaning}
 use Rattle.obj.specs.Answers.{Answer}
 use Rattle.lists.specs.Rows.{some}
-use Rattle.join.specs.Join.{Part, outside, held}
+use Rattle.join.specs.Join.{Part, held}
 use Rattle.stage_tables.specs.StageTables.{stage_sections}
 use Rattle.piece_records.specs.Records.{part_at, parts_at, Lying}
 
@@ -17,12 +17,6 @@ pub record Base (sections : List ℕ) (k r : ℕ) : Type 0 where
 pub record Among (n : ℕ) (b : List ℕ) (at : ℕ) : Type 0 where
   pub lying : Lying b at
   pub one : (p : Part → Bool) → some p (parts_at n b 0) ≡ false → p (part_at b at) ≡ false
-
--- the piece at `at` is whole, and no 82; "64 sections"
-pub record Good (sections b : List ℕ) (at : ℕ) : Type 0 where
-  pub few : length sections / 15 ≤ 64
-  pub lying : Lying b at
-  pub home : outside (stage_sections sections) (part_at b at) ≡ false
 
 -- the first bytes of the output made zeros
 abbrev pub zeroed : (total : ℕ) → List ℕ → List ℕ

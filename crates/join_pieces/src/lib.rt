@@ -2,6 +2,8 @@
 // there: that finds 83 in time proportional to the bytes.
 #![tactic(auto)]
 
+mod whole_pieces;
+
 ghost use Rattle.std.specs.Prelude.{ℕ, Bool, ◌≡◌, false, not, ◌≤◌, ◌<◌, ◌/◌, length, get_or};
 ghost use Rattle.std.proofs.lemmas.List.Edits.{sets};
 ghost use Rattle.lists.specs.Rows.{some};
@@ -10,12 +12,13 @@ ghost use Rattle.join.specs.Join.{Part, nowhere, outside, held_by, held, join_of
 ghost use Rattle.join.specs.Laying.{spot_of, laid_over, unlike, some_unlike};
 ghost use Rattle.stage_tables.specs.StageTables.{stage_sections};
 ghost use Rattle.piece_records.specs.Records.{part_at, parts_at, Lying, Whole};
-ghost use Rattle.join_pieces.specs.Joins.{Base, Among, Good, Joins, zeroed};
+ghost use Rattle.join_pieces.specs.Joins.{Base, Among, Joins, zeroed};
 
 use names::put_bytes;
 use obj::{Refusal, read_section, refuse};
 use outputs::clear_from;
 use piece_records::{bytes_at, head_at, next_at};
+use whole_pieces::WholePieces;
 
 // ---- the sections
 
@@ -88,37 +91,25 @@ pub fn any_outside(sections: &[u8], b: &[u8], n: u32) -> bool
 // ---- laying
 
 // Where the piece's bytes stand among the joined ones.
-fn spot_of(sections: &[u8], b: &[u8], at: usize) -> usize
-    requires { Good sections.now b.now at }
-    ensures { result ≡ spot_of (stage_sections sections.now) (part_at b.now at) }
+fn spot_of(pieces: &WholePieces, at: usize) -> usize
+    requires { Among pieces.now.count pieces.now.bytes.now at }
+    ensures { result ≡ spot_of (stage_sections pieces.now.sections.now) (part_at pieces.now.bytes.now at) }
 {
-    let p = head_at(b, at);
+    let p = head_at(pieces.bytes, at);
     let n = p.section as usize;
-    let s = read_section(sections, 15 * n);
-    base_of(sections, n) + ((p.address - s.address) as usize)
+    let s = read_section(pieces.sections, 15 * n);
+    base_of(pieces.sections, n) + ((p.address - s.address) as usize)
 }
 
-// The piece's bytes are written there.
-fn lay_piece(sections: &[u8], b: &[u8], at: usize, out: &mut [u8])
-    requires { Good sections.now b.now at × (held (stage_sections sections.now) ≤ length out.old) }
-    ensures { out.new ≡ sets out.old (spot_of (stage_sections sections.now) (part_at b.now at)) (part_at b.now at).bytes }
-{
-    let spot = spot_of(sections, b, at);
-    put_bytes(out, spot, bytes_at(b, at));
-}
-
-// All n pieces, one after another.
-fn lay_pieces(sections: &[u8], b: &[u8], n: u32, out: &mut [u8])
-    requires { (length sections.now / 15 ≤ 64)
-        × Whole n b.now 0
-        × (some (outside (stage_sections sections.now)) (parts_at n b.now 0) ≡ false)
-        × (held (stage_sections sections.now) ≤ length out.old) }
-    ensures { out.new ≡ laid_over (stage_sections sections.now) (parts_at n b.now 0) out.old }
+// The bytes of all pieces are written there, one piece after another.
+fn lay_pieces(pieces: &WholePieces, out: &mut [u8])
+    requires { held (stage_sections pieces.now.sections.now) ≤ length out.old }
+    ensures { out.new ≡ laid_over (stage_sections pieces.now.sections.now) (parts_at pieces.now.count pieces.now.bytes.now 0) out.old }
 {
     let mut at: usize = 0;
-    for _i in 0..n {
-        lay_piece(sections, b, at, out);
-        at = next_at(b, at);
+    for _i in 0..pieces.count {
+        put_bytes(out, spot_of(pieces, at), bytes_at(pieces.bytes, at));
+        at = next_at(pieces.bytes, at);
     }
 }
 
@@ -139,25 +130,26 @@ pub fn unequal(x: &[u8], y: &[u8]) -> bool
 }
 
 // The piece has other bytes than those that lie in its place.
-fn is_unlike(sections: &[u8], b: &[u8], at: usize, out: &[u8]) -> bool
-    requires { Good sections.now b.now at × (held (stage_sections sections.now) ≤ length out.now) }
-    ensures { result ≡ unlike (stage_sections sections.now) out.now (part_at b.now at) }
+fn is_unlike(pieces: &WholePieces, at: usize, out: &[u8]) -> bool
+    requires { Among pieces.now.count pieces.now.bytes.now at × (held (stage_sections pieces.now.sections.now) ≤ length out.now) }
+    ensures { result ≡ unlike (stage_sections pieces.now.sections.now) out.now (part_at pieces.now.bytes.now at) }
 {
-    let spot = spot_of(sections, b, at);
-    let bytes = bytes_at(b, at);
+    let spot = spot_of(pieces, at);
+    let bytes = bytes_at(pieces.bytes, at);
     let end = spot + bytes.len();
     unequal(bytes, &out[spot..end])
 }
 
-// Some of the n pieces has.
-fn any_unlike(sections: &[u8], b: &[u8], n: u32, out: &[u8]) -> bool
-    requires { (length sections.now / 15 ≤ 64)
-        × Whole n b.now 0
-        × (some (outside (stage_sections sections.now)) (parts_at n b.now 0) ≡ false)
-        × (held (stage_sections sections.now) ≤ length out.now) }
-    ensures { result ≡ some_unlike (stage_sections sections.now) out.now (parts_at n b.now 0) }
+// Some piece has.
+fn any_unlike(pieces: &WholePieces, out: &[u8]) -> bool
+    requires { held (stage_sections pieces.now.sections.now) ≤ length out.now }
+    ensures { result ≡ some_unlike (stage_sections pieces.now.sections.now) out.now (parts_at pieces.now.count pieces.now.bytes.now 0) }
 {
-    any_piece(b, n, |at| is_unlike(sections, b, at, out))
+    any_piece(
+        pieces.bytes,
+        pieces.count,
+        |at| is_unlike(pieces, at, out),
+    )
 }
 
 // ---- the joiner
@@ -172,7 +164,12 @@ pub fn lay_over_zeros(sections: &[u8], b: &[u8], n: u32, total: usize, out: &mut
     ensures { out.new ≡ laid_over (stage_sections sections.now) (parts_at n b.now 0) (zeroed total out.old) }
 {
     clear_from(&mut out[..total], 0);
-    lay_pieces(sections, b, n, out);
+    let pieces = WholePieces {
+        sections,
+        bytes: b,
+        count: n,
+    };
+    lay_pieces(&pieces, out);
 }
 
 // 80, 82, 83, and the joined bytes in the first bytes of the output; those past them stay.
@@ -188,7 +185,12 @@ pub fn join(sections: &[u8], b: &[u8], n: u32, out: &mut [u8]) -> Result<(), Ref
         return refuse(82, 0, 0);
     }
     lay_over_zeros(sections, b, n, total, out);
-    if any_unlike(sections, b, n, out) {
+    let pieces = WholePieces {
+        sections,
+        bytes: b,
+        count: n,
+    };
+    if any_unlike(&pieces, out) {
         return refuse(83, 0, 0);
     }
     Ok(())

@@ -8,6 +8,7 @@ use native.Mathlib.Numerals.{add-one}
 use lib.ListN.{length, drop, length-take, length-drop}
 use lib.Dec.{eqb, ltb, leb}
 use borrow.Author.Tests.{ltb-false, lt-ltb, le-ltb, le-leb, lt-leb}
+use Rattle.std.specs.Coded.{×_prop, Unit-prop, le_prop}
 use Rattle.lists.specs.Outcome.{accepted, refused, refuse, ◌>>◌}
 use Rattle.lists.proofs.Compare.{never}
 use Rattle.lists.proofs.Outcomes.{then_inv, same_accepted, not_both, fails, passes}
@@ -16,6 +17,15 @@ use Rattle.lists.proofs.Tests.{none_of, or_false}
 use Rattle.fields.specs.Fields.{le16, le32}
 use Rattle.join.specs.Join.{Part}
 use Rattle.piece_records.specs.Records.{part_at, next_at, record_bad, count_from, parts_at, Lying, Whole}
+
+-- that records are whole is a fact, which a struct can keep
+Lying-prop : (b : List ℕ) (at : ℕ) → IsProp (Lying b at)
+Lying-prop b at = hlevel le_prop
+
+pub Whole-prop : (count : ℕ) (b : List ℕ) (at : ℕ) → IsProp (Whole count b at)
+unfolding Whole
+Whole-prop zero b at = Unit-prop
+Whole-prop (suc count) b at = ×_prop (Lying-prop b at) (Whole-prop count b (next_at b at))
 
 -- ---- one record
 

@@ -36,6 +36,8 @@ fn record_bad(b: &[u8], at: usize) -> bool
     (get16(b, at + 4) != 7) | (size < 6)
 }
 
+// What is read below is asked at a place where a record lies whole (`Lying`): a struct of the bytes and the place would be made anew for each record and read once.
+
 // Where the next record starts.
 pub fn next_at(b: &[u8], at: usize) -> usize
     requires { Lying b.now at }

@@ -14,15 +14,15 @@ use Rattle.join_pieces.proofs.is_unlike.Goals as goal
 pub overflow_add-end : goal.overflow_add-end
 overflow_add-end c =
     let a = c.args in
-    let p = part_at a.b.now a.at in
-    let f = spot-fits (stage_sections a.sections.now) p (inside (stage_sections a.sections.now) p c.requires.0.home) in
+    let p = part_at a.pieces.now.bytes.now a.at in
+    let f = spot-fits (stage_sections a.pieces.now.sections.now) p (inside (stage_sections a.pieces.now.sections.now) p (c.requires.0.one _ c.args.pieces.now.inside)) in
     omega (arith, f, c.spot_of-spot.ensures, ap length c.bytes_at-bytes.ensures, c.requires.1)
 
 pub slice_bounds-unequal-end : goal.slice_bounds-unequal-end
 slice_bounds-unequal-end c =
     let a = c.args in
-    let p = part_at a.b.now a.at in
-    let f = spot-fits (stage_sections a.sections.now) p (inside (stage_sections a.sections.now) p c.requires.0.home) in
+    let p = part_at a.pieces.now.bytes.now a.at in
+    let f = spot-fits (stage_sections a.pieces.now.sections.now) p (inside (stage_sections a.pieces.now.sections.now) p (c.requires.0.one _ c.args.pieces.now.inside)) in
     omega (arith, f, c.spot_of-spot.ensures, ap length c.bytes_at-bytes.ensures, c.requires.1)
 
 pub returns : goal.returns

@@ -28,7 +28,7 @@ any_unlike-requires c =
     let a = c.args in
     let none = sym c.any_outside.ensures ∙ c.if-any_outside.false in
     let roomy = after_roomy (stage_sections a.sections.now) (parts_at a.n a.b.now 0) a.out.now _ (base_all c.base_of-total.ensures) c.if-out-total.false none c.lay_over_zeros.ensures in
-    (c.requires.0, c.requires.1, none, roomy)
+    roomy
 
 pub returns-then-any_unlike : goal.returns-then-any_unlike
 returns-then-any_unlike c =

@@ -8,5 +8,5 @@ use Rattle.join_pieces.proofs.lay_pieces.Given as goal
 
 abbrev pub invariant-loop-i : goal.invariant-loop-i
 invariant-loop-i l =
-    Passing l.n l.b l.at l._i
-    × (laid_over (stage_sections l.sections) (parts_at (l.n - l._i) l.b l.at) l.out ≡ laid_over (stage_sections l.sections) (parts_at l.n l.b 0) l.initial.out)
+    Passing l.pieces.count l.pieces.bytes.now l.at l._i
+    × (laid_over (stage_sections l.pieces.sections.now) (parts_at (l.pieces.count - l._i) l.pieces.bytes.now l.at) l.out ≡ laid_over (stage_sections l.pieces.sections.now) (parts_at l.pieces.count l.pieces.bytes.now 0) l.initial.out)

@@ -15,37 +15,37 @@ use Rattle.join_pieces.proofs.spot_of.Goals as goal
 pub read_section-s-requires : goal.read_section-s-requires
 read_section-s-requires c =
     let a = c.args in
-    let p = part_at a.b.now a.at in
-    let there = section_there a.sections.now p c.requires.home in
+    let p = part_at a.pieces.now.bytes.now a.at in
+    let there = section_there a.pieces.now.sections.now p (c.requires.one _ c.args.pieces.now.inside) in
     let e = c.head_at-p.ensures.section in
     omega arith
 
 pub base_of-requires : goal.base_of-requires
 base_of-requires c =
     let a = c.args in
-    let p = part_at a.b.now a.at in
-    let there = section_there a.sections.now p c.requires.home in
+    let p = part_at a.pieces.now.bytes.now a.at in
+    let there = section_there a.pieces.now.sections.now p (c.requires.one _ c.args.pieces.now.inside) in
     let e = c.head_at-p.ensures.section in
-    let few = c.requires.few in
+    let few = c.args.pieces.now.few in
     (omega arith, omega arith)
 
 pub overflow_sub-result : goal.overflow_sub-result
 overflow_sub-result c =
     let s = c in
     let a = s.args in
-    let p = part_at a.b.now a.at in
+    let p = part_at a.pieces.now.bytes.now a.at in
     let h = c.head_at-p.ensures in
-    let start = ap (λ (s : Section). s.address) (home_there a.sections.now p s.requires.home h.section c.read_section-s.ensures) in
-    let i = inside (stage_sections a.sections.now) p s.requires.home in
+    let start = ap (λ (s : Section). s.address) (home_there a.pieces.now.sections.now p (s.requires.one _ s.args.pieces.now.inside) h.section c.read_section-s.ensures) in
+    let i = inside (stage_sections a.pieces.now.sections.now) p (s.requires.one _ s.args.pieces.now.inside) in
     omega (arith, h.address, start, i.low)
 
 pub returns : goal.returns
 returns c =
     let s = c in
     let a = s.args in
-    let p = part_at a.b.now a.at in
+    let p = part_at a.pieces.now.bytes.now a.at in
     let h = c.head_at-p.ensures in
-    let start = ap (λ (s : Section). s.address) (home_there a.sections.now p s.requires.home h.section c.read_section-s.ensures) in
+    let start = ap (λ (s : Section). s.address) (home_there a.pieces.now.sections.now p (s.requires.one _ s.args.pieces.now.inside) h.section c.read_section-s.ensures) in
     ap₂ (λ (x y : ℕ). x + y)
-    (c.base_of.ensures.is ∙ ap (λ (k : ℕ). held (take k (stage_sections a.sections.now))) h.section)
+    (c.base_of.ensures.is ∙ ap (λ (k : ℕ). held (take k (stage_sections a.pieces.now.sections.now))) h.section)
     (ap₂ (λ (x y : ℕ). x - y) h.address start)
