@@ -1,14 +1,13 @@
 // All names of an ELF file, "numbered by first use, sections first", in the lent name table.
 #![tactic(auto)]
 
-ghost use Rattle.std.specs.Prelude.{◌≡◌, [], List, ℕ, ◌≤◌, length};
+ghost use Rattle.std.specs.Prelude.{[], List, ℕ, length};
 ghost use Rattle.number_names.specs.Tables.{room_of, SameTable, HeldBy, EnteredBy};
 ghost use Rattle.import.specs.Import.{names_of};
 ghost use Rattle.import_names.specs.Numbered.{name_room, Numbered};
 
 use elf_file::{ElfFile, bytes_in, header_table, section_strings, symbol_strings, symbol_table};
 use elf_names::{enter_sections, enter_symbols};
-use names::clear_heads;
 use number_names::{Count, NumberedNames};
 use obj::Refusal;
 use stage_names::{bytes_room, names_room};
@@ -27,34 +26,7 @@ fn number_in(file: &ElfFile, names: &mut NumberedNames) -> Result<(), Refusal>
     enter_symbols(table, symbol_strings(file), names)
 }
 
-// The same, whatever the lent index holds.
-fn number_cleared(
-    file: &ElfFile,
-    name_ends: &mut [u8],
-    name_bytes: &mut [u8],
-    heads: &mut [u16],
-    chain: &mut [u16],
-) -> Result<Count, Refusal>
-    requires { (length heads.old ≡ 8192) × (4096 ≤ length chain.old) }
-    ensures { Numbered (names_of file.now.bytes.now (name_room (length name_ends.old) (length name_bytes.old))) name_ends.old name_bytes.old name_ends.new name_bytes.new result }
-{
-    clear_heads(heads);
-    let most = names_room(name_ends.len());
-    let most_bytes = bytes_room(name_bytes.len());
-    let mut names = NumberedNames {
-        ends: name_ends,
-        bytes: name_bytes,
-        heads: heads,
-        chain: chain,
-        count: Count { names: 0, used: 0 },
-        most: most,
-        most_bytes: most_bytes,
-    };
-    number_in(file, &mut names)?;
-    Ok(names.count)
-}
-
-// All names of a file, with an index of its own.
+// All names of a file, with an index of its own. The two outputs are the entry's, each with a length of its own.
 pub fn number_all(
     file: &ElfFile,
     name_ends: &mut [u8],
@@ -64,5 +36,17 @@ pub fn number_all(
 {
     let mut heads = [0u16; 8192];
     let mut chain = [0u16; 4096];
-    number_cleared(file, name_ends, name_bytes, &mut heads, &mut chain)
+    let most = names_room(name_ends.len());
+    let most_bytes = bytes_room(name_bytes.len());
+    let mut names = NumberedNames {
+        ends: name_ends,
+        bytes: name_bytes,
+        heads: &mut heads,
+        chain: &mut chain,
+        count: Count { names: 0, used: 0 },
+        most,
+        most_bytes,
+    };
+    number_in(file, &mut names)?;
+    Ok(names.count)
 }

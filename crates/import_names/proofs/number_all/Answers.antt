@@ -1,15 +1,15 @@
--- Cleared heads index no name; what the table holds after it is what the outputs hold.
-use Rattle.std.proofs.Common.{rules, sym, ap, length}
+-- An index of zeros has no name; what the table holds after it is what the outputs hold.
+use Rattle.std.proofs.Common.{rules, refl, arith, sym, ap, length}
 use Rattle.std.proofs.lemmas.Result.{err_from_is_err_and}
 use Rattle.import.specs.Import.{names_of}
 use Rattle.names.proofs.Indexes.{indexed_cleared}
 use Rattle.number_names.proofs.Laws.{held_standing}
 use Rattle.import_names.proofs.Laws.{held_none, names-within, room_as, numbered_all, numbered_short}
-use Rattle.import_names.proofs.number_cleared.Goals as goal
+use Rattle.import_names.proofs.number_all.Goals as goal
 
 pub invariant_of-names : goal.invariant_of-names
 invariant_of-names c = record {
-  standing = held_standing (held_none (indexed_cleared _ _ _ c.requires.0 c.clear_heads.ensures c.requires.1));
+  standing = held_standing (held_none (indexed_cleared _ _ _ refl refl (omega arith)));
   room = names-within c.names_room-most.ensures c.bytes_room-most_bytes.ensures;
 }
 
@@ -18,7 +18,7 @@ returns-in_err-number_in c =
     let a = c.args in
     let s = c.in_err-number_in.ensures.0 in
     let p = err_from_is_err_and c.from_residual.result c.from_residual.ensures.1 in
-    let e = c.in_err-number_in.ensures.1 a.name_ends.now a.name_bytes.now (held_none (indexed_cleared _ _ _ c.requires.0 c.clear_heads.ensures c.requires.1)) in
+    let e = c.in_err-number_in.ensures.1 a.name_ends.now a.name_bytes.now (held_none (indexed_cleared _ _ _ refl refl (omega arith))) in
     let room = ap (names_of a.file.now.bytes.now) (room_as (length a.name_ends.now) (length a.name_bytes.now) c.names_room-most.ensures c.bytes_room-most_bytes.ensures) in
     rw (p.1, p.2) (numbered_short room (search (rules, sym s.ends)) (search (rules, sym s.bytes)) e)
 
@@ -26,6 +26,6 @@ pub returns : goal.returns
 returns c =
     let a = c.args in
     let s = c.number_in.ensures.0 in
-    let e = c.in_ok-number_in.ensures.1 a.name_ends.now a.name_bytes.now (held_none (indexed_cleared _ _ _ c.requires.0 c.clear_heads.ensures c.requires.1)) in
+    let e = c.in_ok-number_in.ensures.1 a.name_ends.now a.name_bytes.now (held_none (indexed_cleared _ _ _ refl refl (omega arith))) in
     let room = ap (names_of a.file.now.bytes.now) (room_as (length a.name_ends.now) (length a.name_bytes.now) c.names_room-most.ensures c.bytes_room-most_bytes.ensures) in
     numbered_all room (search (rules, sym s.ends)) (search (rules, sym s.bytes)) e
