@@ -92,25 +92,6 @@ fn pass(b: &[u8], starts: &[usize], order: &[u16]) -> bool
     false
 }
 
-// 83 of as many pieces as the columns are long.
-fn sweep_columns(b: &[u8], starts: &mut [usize], order: &mut [u16]) -> bool
-    requires { Whole (length starts.old) b.now 0 × (length starts.old ≤ 1024) × (length order.old ≡ length starts.old) }
-    ensures { result ≡ differ (parts_at (length starts.old) b.now 0) }
-{
-    let n = starts.len();
-    fill_starts(b, n, starts);
-    order_pieces(b, starts, order);
-    pass(b, starts, order)
-}
-
-// The same of the first n places of the columns.
-fn sweep_first(b: &[u8], n: usize, starts: &mut [usize], order: &mut [u16]) -> bool
-    requires { Whole n b.now 0 × (n ≤ 1024) × (length starts.old ≡ 1024) × (length order.old ≡ 1024) }
-    ensures { result ≡ differ (parts_at n b.now 0) }
-{
-    sweep_columns(b, &mut starts[..n], &mut order[..n])
-}
-
 // "83, two pieces of one section differ at an address", of at most 1,024 pieces.
 pub fn any_differ(b: &[u8], n: u32) -> bool
     requires { Whole n b.now 0 × (n ≤ 1024) }
@@ -118,5 +99,10 @@ pub fn any_differ(b: &[u8], n: u32) -> bool
 {
     let mut starts = [0usize; 1024];
     let mut order = [0u16; 1024];
-    sweep_first(b, n as usize, &mut starts, &mut order)
+    let n = n as usize;
+    let starts = &mut starts[..n];
+    let order = &mut order[..n];
+    fill_starts(b, n, starts);
+    order_pieces(b, starts, order);
+    pass(b, starts, order)
 }
