@@ -1,6 +1,7 @@
 // The listing of a run, a line at a time: each line goes into a small lent buffer, and a cursor says where the next begins. No buffer holds the whole listing.
 #![tactic(auto)]
 
+mod lent;
 mod piece_lists;
 mod reading;
 mod seek;
@@ -11,6 +12,8 @@ ghost use Rattle.listing.specs.Cursor.{Valid, NextLine};
 ghost use Rattle.listing.specs.Tables.{run_of, Readable};
 ghost use Rattle.listing.specs.Lent.{tables_of};
 
+use crate::lent::RunTables;
+use crate::reading::figure_of;
 use crate::seek::seek;
 use crate::text::{piece_line, reloc_line, symbol_line, unit_line};
 use lines::write_total;
@@ -52,27 +55,45 @@ pub fn next_line<'a>(
         × (208 ≤ length out.old) }
     ensures { NextLine (run_of (tables_of base.now added.now symbols.now relocs.now unit_table.now lists.now)) cursor out.old out.new result }
 {
+    let tables = RunTables {
+        base,
+        added,
+        symbols,
+        relocs,
+        units: unit_table,
+        lists,
+    };
     let units = unit_table.places.len() as u16;
-    let ready = seek(units, lists, cursor);
-    match ready {
-        Cursor::Units { unit, bytes } => Some(unit_line(
-            base, added, symbols, unit_table, lists, unit, bytes, out,
-        )),
-        Cursor::Pieces { unit, at, bytes } => Some(piece_line(
-            base, added, lists, unit, at, bytes, out,
-        )),
-        Cursor::Symbols { unit, at, bytes } => Some(symbol_line(
-            base, added, symbols, lists, unit, at, bytes, out,
-        )),
+    match seek(units, lists, cursor) {
+        Cursor::Units { unit, bytes } => {
+            let size = figure_of(&tables, unit);
+            let length = unit_line(&tables, unit, size, out);
+            let bytes = bytes + size;
+            let next = Cursor::Pieces { unit, at: 0, bytes };
+            Some(Line { length, next })
+        }
+        Cursor::Pieces { unit, at, bytes } => {
+            let length = piece_line(&tables, at, out);
+            let at = at + 1;
+            let next = Cursor::Pieces { unit, at, bytes };
+            Some(Line { length, next })
+        }
+        Cursor::Symbols { unit, at, bytes } => {
+            let length = symbol_line(&tables, at, out);
+            let at = at + 1;
+            let next = Cursor::Symbols { unit, at, bytes };
+            Some(Line { length, next })
+        }
         Cursor::Relocs { unit, at, bytes } => {
-            Some(reloc_line(relocs, lists, unit, at, bytes, out))
+            let length = reloc_line(&tables, at, out);
+            let at = at + 1;
+            let next = Cursor::Relocs { unit, at, bytes };
+            Some(Line { length, next })
         }
         Cursor::Total { bytes } => {
             let length = write_total(out, units, lists.made.pieces as u16, bytes);
-            Some(Line {
-                length,
-                next: Cursor::Done,
-            })
+            let next = Cursor::Done;
+            Some(Line { length, next })
         }
         Cursor::Done => None,
     }

@@ -3,24 +3,24 @@ ghost use Rattle.std.specs.Prelude.{◌≡◌, ◌<◌};
 ghost use Rattle.listing.specs.Listing.{sizes, pieces_of, common_size, commons, symbols_of};
 ghost use Rattle.listing.specs.Cursor.{piece_of, owner_at};
 ghost use Rattle.listing.specs.Tables.{Known, Name, Adds, Summed, Figure};
-ghost use Rattle.listing.specs.Lent.{listed_pieces, listed_symbols, piece_on, symbol_on, symbol_of, SymbolsHeld, columns_of};
-ghost use Rattle.obj.specs.Records.{Held};
+ghost use Rattle.listing.specs.Lent.{listed_pieces, listed_symbols, piece_on, symbol_on, symbol_of, columns_of};
 
 use crate::PieceLists;
+use crate::lent::RunTables;
 use lines::Owner;
-use names::{Names, name_at};
-use obj::{Table, symbol_at};
+use names::name_at;
+use obj::symbol_at;
 use pieces::{Piece, piece_at, piece_symbol_at};
 
 // A number below the base's count is a base name, else an added one.
-pub fn name_of<'a>(base: &Names<'a, '_, '_>, added: &Names<'a, '_, '_>, k: usize) -> &'a [u8]
-    requires { Known (columns_of base.now) (columns_of added.now) k }
-    ensures { Name (columns_of base.now) (columns_of added.now) k result.now }
+pub fn name_of<'a>(tables: &RunTables<'a>, k: usize) -> &'a [u8]
+    requires { Known (columns_of tables.now.base.now) (columns_of tables.now.added.now) k }
+    ensures { Name (columns_of tables.now.base.now) (columns_of tables.now.added.now) k result.now }
 {
-    if k < base.places.len() {
-        return name_at(base, k);
+    if k < tables.base.places.len() {
+        return name_at(tables.base, k);
     }
-    name_at(added, k - base.places.len())
+    name_at(tables.added, k - tables.base.places.len())
 }
 
 // Piece k; all zeros where there is none.
@@ -78,19 +78,18 @@ fn pieces_size(lists: &PieceLists, unit: u16) -> u64
 }
 
 // What piece symbol k adds to the figure of the unit: the size of the image's symbol, if it is listed as common and that size is known.
-fn common_in(symbols: &Table, lists: &PieceLists, k: usize, unit: u16) -> u64
-    requires { (k < lists.now.made.symbols)
-        × Held 20 symbols.now.bytes.now symbols.now.places.now (symbol_on lists.now k).symbol }
-    ensures { Adds unit (symbol_on lists.now k).unit (common_size (symbol_of symbols.now) (symbol_on lists.now k)) result }
+fn common_in(tables: &RunTables, k: usize, unit: u16) -> u64
+    requires { k < tables.now.lists.now.made.symbols }
+    ensures { Adds unit (symbol_on tables.now.lists.now k).unit (common_size (symbol_of tables.now.symbols.now) (symbol_on tables.now.lists.now k)) result }
 {
-    let y = piece_symbol_at(lists.symbols, k);
+    let y = piece_symbol_at(tables.lists.symbols, k);
     if y.unit != unit {
         return 0;
     }
     if y.piece != 65535 {
         return 0;
     }
-    let s = symbol_at(symbols, y.symbol as usize);
+    let s = symbol_at(tables.symbols, y.symbol as usize);
     if s.size_known == 1 {
         return s.size as u64;
     }
@@ -98,23 +97,21 @@ fn common_in(symbols: &Table, lists: &PieceLists, k: usize, unit: u16) -> u64
 }
 
 // "the sizes of the unit's symbols of known size that are listed as `common`, each once"
-fn commons_size(symbols: &Table, lists: &PieceLists, unit: u16) -> u64
-    requires { SymbolsHeld symbols.now lists.now }
-    ensures { Summed lists.now.made.symbols (commons (symbol_of symbols.now) (symbols_of unit (listed_symbols lists.now))) result }
+fn commons_size(tables: &RunTables, unit: u16) -> u64
+    ensures { Summed tables.now.lists.now.made.symbols (commons (symbol_of tables.now.symbols.now) (symbols_of unit (listed_symbols tables.now.lists.now))) result }
 {
     let mut sum: u64 = 0;
-    for k in 0..lists.made.symbols {
-        sum += common_in(symbols, lists, k, unit);
+    for k in 0..tables.lists.made.symbols {
+        sum += common_in(tables, k, unit);
     }
     sum
 }
 
 // "the unit figure is the pieces' sizes plus ..", in 64 bits
-pub fn figure_of(symbols: &Table, lists: &PieceLists, unit: u16) -> u64
-    requires { SymbolsHeld symbols.now lists.now }
-    ensures { Figure (symbol_of symbols.now) (listed_pieces lists.now) (listed_symbols lists.now) unit result }
+pub fn figure_of(tables: &RunTables, unit: u16) -> u64
+    ensures { Figure (symbol_of tables.now.symbols.now) (listed_pieces tables.now.lists.now) (listed_symbols tables.now.lists.now) unit result }
 {
-    let of_pieces = pieces_size(lists, unit);
-    let of_commons = commons_size(symbols, lists, unit);
+    let of_pieces = pieces_size(tables.lists, unit);
+    let of_commons = commons_size(tables, unit);
     of_pieces + of_commons
 }

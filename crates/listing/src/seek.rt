@@ -1,37 +1,38 @@
 // The next record of the unit, from a cursor on: the cursor itself moves there, or to the next kind of record, or to the next unit, or to the total.
 ghost use Rattle.std.specs.Prelude.{◌≡◌, ℕ, Bool, ◌<◌};
 ghost use Rattle.listing.specs.declared.Cursor.TheVariants.{Units, Pieces, Symbols, Relocs};
-ghost use Rattle.listing.specs.Cursor.{piece_is, symbol_is, reloc_is, First, Before, Within, Valid, Sought, SoughtRelocs, SoughtUnits};
+ghost use Rattle.listing.specs.Cursor.{piece_is, symbol_is, reloc_is, First, Before, Valid, Sought, SoughtRelocs, SoughtUnits};
 ghost use Rattle.listing.specs.Lent.{listed_pieces, listed_symbols, listed_relocs, piece_on, symbol_on, reloc_on};
 
+use crate::lent::UnitHere;
 use crate::reading::piece_of;
 use crate::{Cursor, PieceLists};
 use pieces::{piece_at, piece_reloc_at, piece_symbol_at};
 
-fn piece_is(lists: &PieceLists, k: usize, unit: u16) -> bool
-    requires { k < lists.now.made.pieces }
-    ensures { result ≡ piece_is unit (piece_on lists.now k) }
+fn piece_is(here: &UnitHere, k: usize) -> bool
+    requires { k < here.now.lists.now.made.pieces }
+    ensures { result ≡ piece_is here.now.unit (piece_on here.now.lists.now k) }
 {
-    let p = piece_at(lists.pieces, k);
-    p.unit == unit
+    let p = piece_at(here.lists.pieces, k);
+    p.unit == here.unit
 }
 
-fn symbol_is(lists: &PieceLists, k: usize, unit: u16) -> bool
-    requires { k < lists.now.made.symbols }
-    ensures { result ≡ symbol_is unit (symbol_on lists.now k) }
+fn symbol_is(here: &UnitHere, k: usize) -> bool
+    requires { k < here.now.lists.now.made.symbols }
+    ensures { result ≡ symbol_is here.now.unit (symbol_on here.now.lists.now k) }
 {
-    let y = piece_symbol_at(lists.symbols, k);
-    y.unit == unit
+    let y = piece_symbol_at(here.lists.symbols, k);
+    y.unit == here.unit
 }
 
 // A relocation is its piece's unit's.
-fn reloc_is(lists: &PieceLists, k: usize, unit: u16) -> bool
-    requires { k < lists.now.made.relocs }
-    ensures { result ≡ reloc_is (listed_pieces lists.now) unit (reloc_on lists.now k) }
+fn reloc_is(here: &UnitHere, k: usize) -> bool
+    requires { k < here.now.lists.now.made.relocs }
+    ensures { result ≡ reloc_is (listed_pieces here.now.lists.now) here.now.unit (reloc_on here.now.lists.now k) }
 {
-    let r = piece_reloc_at(lists.relocs, k);
-    let p = piece_of(lists, r.piece as usize);
-    p.unit == unit
+    let r = piece_reloc_at(here.lists.relocs, k);
+    let p = piece_of(here.lists, r.piece as usize);
+    p.unit == here.unit
 }
 
 // The first number from `at` on, below `count`, that passes the test.
@@ -48,24 +49,24 @@ fn first_from<F: Fn(usize) -> bool>(at: usize, count: usize, test: F) -> Option<
 }
 
 // The first piece of the unit from `at` on.
-fn next_piece(lists: &PieceLists, unit: u16, at: usize) -> Option<usize>
-    ensures { First (λ k. piece_is unit (piece_on lists.now k)) at lists.now.made.pieces result }
+fn next_piece(here: &UnitHere, at: usize) -> Option<usize>
+    ensures { First (λ k. piece_is here.now.unit (piece_on here.now.lists.now k)) at here.now.lists.now.made.pieces result }
 {
-    first_from(at, lists.made.pieces, |k| piece_is(lists, k, unit))
+    first_from(at, here.lists.made.pieces, |k| piece_is(here, k))
 }
 
 // The first symbol of the unit from `at` on.
-fn next_symbol(lists: &PieceLists, unit: u16, at: usize) -> Option<usize>
-    ensures { First (λ k. symbol_is unit (symbol_on lists.now k)) at lists.now.made.symbols result }
+fn next_symbol(here: &UnitHere, at: usize) -> Option<usize>
+    ensures { First (λ k. symbol_is here.now.unit (symbol_on here.now.lists.now k)) at here.now.lists.now.made.symbols result }
 {
-    first_from(at, lists.made.symbols, |k| symbol_is(lists, k, unit))
+    first_from(at, here.lists.made.symbols, |k| symbol_is(here, k))
 }
 
 // The first relocation of the unit from `at` on.
-fn next_reloc(lists: &PieceLists, unit: u16, at: usize) -> Option<usize>
-    ensures { First (λ k. reloc_is (listed_pieces lists.now) unit (reloc_on lists.now k)) at lists.now.made.relocs result }
+fn next_reloc(here: &UnitHere, at: usize) -> Option<usize>
+    ensures { First (λ k. reloc_is (listed_pieces here.now.lists.now) here.now.unit (reloc_on here.now.lists.now k)) at here.now.lists.now.made.relocs result }
 {
-    first_from(at, lists.made.relocs, |k| reloc_is(lists, k, unit))
+    first_from(at, here.lists.made.relocs, |k| reloc_is(here, k))
 }
 
 // The unit, or the total behind the last.
@@ -80,36 +81,45 @@ fn seek_unit(units: u16, unit: u16, bytes: u64) -> Cursor
 }
 
 // The next relocation of the unit, or what follows it.
-fn seek_reloc(units: u16, lists: &PieceLists, unit: u16, at: usize, bytes: u64) -> Cursor
-    requires { Within units unit bytes }
-    ensures { SoughtRelocs units (listed_pieces lists.now) (listed_relocs lists.now) (Relocs unit at bytes) result }
+fn seek_reloc(here: &UnitHere, at: usize) -> Cursor
+    ensures { SoughtRelocs here.now.units (listed_pieces here.now.lists.now) (listed_relocs here.now.lists.now) (Relocs here.now.unit at here.now.bytes) result }
 {
-    if let Some(k) = next_reloc(lists, unit, at) {
-        return Cursor::Relocs { unit, at: k, bytes };
+    if let Some(k) = next_reloc(here, at) {
+        return Cursor::Relocs {
+            unit: here.unit,
+            at: k,
+            bytes: here.bytes,
+        };
     }
-    seek_unit(units, unit + 1, bytes)
+    seek_unit(here.units, here.unit + 1, here.bytes)
 }
 
 // The next symbol of the unit; "then `reloc`".
-fn seek_symbol(units: u16, lists: &PieceLists, unit: u16, at: usize, bytes: u64) -> Cursor
-    requires { Within units unit bytes }
-    ensures { Sought units (listed_pieces lists.now) (listed_symbols lists.now) (listed_relocs lists.now) (Symbols unit at bytes) result }
+fn seek_symbol(here: &UnitHere, at: usize) -> Cursor
+    ensures { Sought here.now.units (listed_pieces here.now.lists.now) (listed_symbols here.now.lists.now) (listed_relocs here.now.lists.now) (Symbols here.now.unit at here.now.bytes) result }
 {
-    if let Some(k) = next_symbol(lists, unit, at) {
-        return Cursor::Symbols { unit, at: k, bytes };
+    if let Some(k) = next_symbol(here, at) {
+        return Cursor::Symbols {
+            unit: here.unit,
+            at: k,
+            bytes: here.bytes,
+        };
     }
-    seek_reloc(units, lists, unit, 0, bytes)
+    seek_reloc(here, 0)
 }
 
 // The next piece of the unit; "After a unit's pieces come `sym`".
-fn seek_piece(units: u16, lists: &PieceLists, unit: u16, at: usize, bytes: u64) -> Cursor
-    requires { Within units unit bytes }
-    ensures { Sought units (listed_pieces lists.now) (listed_symbols lists.now) (listed_relocs lists.now) (Pieces unit at bytes) result }
+fn seek_piece(here: &UnitHere, at: usize) -> Cursor
+    ensures { Sought here.now.units (listed_pieces here.now.lists.now) (listed_symbols here.now.lists.now) (listed_relocs here.now.lists.now) (Pieces here.now.unit at here.now.bytes) result }
 {
-    if let Some(k) = next_piece(lists, unit, at) {
-        return Cursor::Pieces { unit, at: k, bytes };
+    if let Some(k) = next_piece(here, at) {
+        return Cursor::Pieces {
+            unit: here.unit,
+            at: k,
+            bytes: here.bytes,
+        };
     }
-    seek_symbol(units, lists, unit, 0, bytes)
+    seek_symbol(here, 0)
 }
 
 // The cursor at the next record of its unit, at the next unit, or at the total.
@@ -119,9 +129,33 @@ pub fn seek(units: u16, lists: &PieceLists, cursor: Cursor) -> Cursor
 {
     match cursor {
         Cursor::Units { unit, bytes } => seek_unit(units, unit, bytes),
-        Cursor::Pieces { unit, at, bytes } => seek_piece(units, lists, unit, at, bytes),
-        Cursor::Symbols { unit, at, bytes } => seek_symbol(units, lists, unit, at, bytes),
-        Cursor::Relocs { unit, at, bytes } => seek_reloc(units, lists, unit, at, bytes),
+        Cursor::Pieces { unit, at, bytes } => {
+            let here = UnitHere {
+                lists,
+                units,
+                unit,
+                bytes,
+            };
+            seek_piece(&here, at)
+        }
+        Cursor::Symbols { unit, at, bytes } => {
+            let here = UnitHere {
+                lists,
+                units,
+                unit,
+                bytes,
+            };
+            seek_symbol(&here, at)
+        }
+        Cursor::Relocs { unit, at, bytes } => {
+            let here = UnitHere {
+                lists,
+                units,
+                unit,
+                bytes,
+            };
+            seek_reloc(&here, at)
+        }
         Cursor::Total { bytes } => Cursor::Total { bytes },
         Cursor::Done => Cursor::Done,
     }

@@ -10,8 +10,8 @@ use Rattle.listing.proofs.reading.commons_size.Goals as goal
 
 pub loop-k-preserved : goal.loop-k-preserved
 unfolding symbols_in
-loop-k-preserved c = let a = c.args in let q = c.loop-k-test.true in sum_turn (λ (y : PieceSymbol). y.unit) (common_size (symbol_of a.symbols.now)) (symbol_on a.lists.now) a.lists.now.made.symbols a.unit c.loop-k.invariant q c.common_in-sum.ensures
+loop-k-preserved c = let a = c.args in let q = c.loop-k-test.true in sum_turn (λ (y : PieceSymbol). y.unit) (common_size (symbol_of a.tables.now.symbols.now)) (symbol_on a.tables.now.lists.now) a.tables.now.lists.now.made.symbols a.unit c.loop-k.invariant q c.common_in-sum.ensures
 
 pub returns : goal.returns
 unfolding symbols_in
-returns c = let a = c.args in sum_end (λ (y : PieceSymbol). y.unit) (common_size (symbol_of a.symbols.now)) (symbol_on a.lists.now) a.lists.now.made.symbols a.unit c.loop-k.invariant c.loop-k-test.false (omega arith)
+returns c = let a = c.args in sum_end (λ (y : PieceSymbol). y.unit) (common_size (symbol_of a.tables.now.symbols.now)) (symbol_on a.tables.now.lists.now) a.tables.now.lists.now.made.symbols a.unit c.loop-k.invariant c.loop-k-test.false (omega arith)

@@ -7,4 +7,4 @@ use Rattle.listing.specs.Lent.{listed_symbols, symbol_of}
 use Rattle.listing.proofs.reading.commons_size.Given as goal
 
 abbrev pub invariant-loop-k : goal.invariant-loop-k
-invariant-loop-k l = Sum (λ (y : PieceSymbol). y.unit) (common_size (symbol_of l.symbols)) (listed_symbols l.lists) l.unit l.k l.sum
+invariant-loop-k l = Sum (λ (y : PieceSymbol). y.unit) (common_size (symbol_of l.tables.symbols.now)) (listed_symbols l.tables.lists.now) l.unit l.k l.sum

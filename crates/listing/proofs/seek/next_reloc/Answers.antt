@@ -6,4 +6,4 @@ use Rattle.listing.specs.Lent.{listed_pieces, reloc_on}
 use Rattle.listing.proofs.seek.next_reloc.Goals as goal
 
 pub returns : goal.returns
-returns c = let a = c.args in c.first_from.ensures (λ (k : ℕ). reloc_is (listed_pieces a.lists.now) a.unit (reloc_on a.lists.now k)) (λ k r h e. search (rules, e))
+returns c = let a = c.args in c.first_from.ensures (λ (k : ℕ). reloc_is (listed_pieces a.here.now.lists.now) a.here.now.unit (reloc_on a.here.now.lists.now k)) (λ k r h e. search (rules, e))

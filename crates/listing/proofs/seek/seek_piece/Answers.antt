@@ -8,10 +8,10 @@ pub returns-in-Some : goal.returns-in-Some
 unfolding pieces_in
 returns-in-Some c =
     let a = c.args in
-    sought_piece a.units a.unit a.at a.bytes (piece_on a.lists.now) a.lists.now.made.pieces (listed_symbols a.lists.now) (listed_relocs a.lists.now) c.in-Some.ensures c.requires
+    sought_piece a.here.now.units a.here.now.unit a.at a.here.now.bytes (piece_on a.here.now.lists.now) a.here.now.lists.now.made.pieces (listed_symbols a.here.now.lists.now) (listed_relocs a.here.now.lists.now) c.in-Some.ensures a.here.now.within
 
 pub returns : goal.returns
 unfolding pieces_in
 returns c =
     let a = c.args in
-    pieces_passed a.units a.unit a.at a.bytes (piece_on a.lists.now) a.lists.now.made.pieces (listed_symbols a.lists.now) (listed_relocs a.lists.now) c.in_default.ensures c.seek_symbol.ensures
+    pieces_passed a.here.now.units a.here.now.unit a.at a.here.now.bytes (piece_on a.here.now.lists.now) a.here.now.lists.now.made.pieces (listed_symbols a.here.now.lists.now) (listed_relocs a.here.now.lists.now) c.in_default.ensures c.seek_symbol.ensures

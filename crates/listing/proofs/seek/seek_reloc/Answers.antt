@@ -8,10 +8,10 @@ pub returns-in-Some : goal.returns-in-Some
 unfolding relocs_in
 returns-in-Some c =
     let a = c.args in
-    λ symbols. sought_reloc a.units a.unit a.at a.bytes (listed_pieces a.lists.now) (reloc_on a.lists.now) a.lists.now.made.relocs symbols c.in-Some.ensures c.requires
+    λ symbols. sought_reloc a.here.now.units a.here.now.unit a.at a.here.now.bytes (listed_pieces a.here.now.lists.now) (reloc_on a.here.now.lists.now) a.here.now.lists.now.made.relocs symbols c.in-Some.ensures a.here.now.within
 
 pub returns : goal.returns
 unfolding relocs_in
 returns c =
     let a = c.args in
-    λ symbols. relocs_passed a.units a.unit a.at a.bytes (listed_pieces a.lists.now) (reloc_on a.lists.now) a.lists.now.made.relocs symbols c.in_default.ensures (c.seek_unit.ensures (listed_pieces a.lists.now) symbols (listed_relocs a.lists.now))
+    λ symbols. relocs_passed a.here.now.units a.here.now.unit a.at a.here.now.bytes (listed_pieces a.here.now.lists.now) (reloc_on a.here.now.lists.now) a.here.now.lists.now.made.relocs symbols c.in_default.ensures (c.seek_unit.ensures (listed_pieces a.here.now.lists.now) symbols (listed_relocs a.here.now.lists.now))

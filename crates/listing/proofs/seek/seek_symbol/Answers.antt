@@ -8,10 +8,10 @@ pub returns-in-Some : goal.returns-in-Some
 unfolding symbols_in
 returns-in-Some c =
     let a = c.args in
-    sought_symbol a.units a.unit a.at a.bytes (listed_pieces a.lists.now) (symbol_on a.lists.now) a.lists.now.made.symbols (listed_relocs a.lists.now) c.in-Some.ensures c.requires
+    sought_symbol a.here.now.units a.here.now.unit a.at a.here.now.bytes (listed_pieces a.here.now.lists.now) (symbol_on a.here.now.lists.now) a.here.now.lists.now.made.symbols (listed_relocs a.here.now.lists.now) c.in-Some.ensures a.here.now.within
 
 pub returns : goal.returns
 unfolding symbols_in
 returns c =
     let a = c.args in
-    symbols_passed a.units a.unit a.at a.bytes (listed_pieces a.lists.now) (symbol_on a.lists.now) a.lists.now.made.symbols (listed_relocs a.lists.now) c.in_default.ensures (c.seek_reloc.ensures (listed_symbols a.lists.now))
+    symbols_passed a.here.now.units a.here.now.unit a.at a.here.now.bytes (listed_pieces a.here.now.lists.now) (symbol_on a.here.now.lists.now) a.here.now.lists.now.made.symbols (listed_relocs a.here.now.lists.now) c.in_default.ensures (c.seek_reloc.ensures (listed_symbols a.here.now.lists.now))
