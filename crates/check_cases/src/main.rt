@@ -3,243 +3,214 @@
 // sections, symbols, relocations, splits and units. `stdout` has what must come out, by document 01 and the decisions.
 #![tactic(auto)]
 
-use program_input::{digit, longer, push, read_full};
+use program_input::{Gathered, digit, longer, read_full};
 use std::io;
 
 // ---- what is read
 
-// Bytes stand as hexadecimal digits.
-const BYTES: u8 = 0;
-// `= title` up to the line's end
-const TITLE: u8 = 1;
-// `# comment` up to the line's end
-const COMMENT: u8 = 2;
-// `"text"`
-const TEXT: u8 = 3;
-// `@width*count` and `*count`: the last `width` bytes, or the last one, stand so many times in all
-const WIDTH: u8 = 4;
-
-const COUNT: u8 = 5;
-// `<k` keeps the first k tables of the case before
-const KEEP: u8 = 6;
+// What the next character belongs to.
+#[derive(Clone, Copy)]
+pub enum Mode {
+    // bytes as hexadecimal digits
+    Bytes,
+    // `= title` up to the line's end
+    Title,
+    // `# comment` up to the line's end
+    Comment,
+    // `"text"`
+    Text,
+    // `@width*count` and `*count`: the last `width` bytes, or the last one, stand so many times in all
+    Width,
+    Count,
+    // `<k` keeps the first k tables of the case before
+    Keep,
+}
 
 // How far a case is read: `high` is the first digit of a byte, 16 if none was read; table k ends at cuts[k].
-#[derive(Clone, Copy)]
-pub struct Reading {
-    pub mode: u8,
+#[derive(Drop)]
+pub struct Reading<'b> {
+    pub bytes: Gathered<'b>,
+    pub mode: Mode,
     pub high: u8,
-    pub used: usize,
     pub table: usize,
     pub width: usize,
     pub count: usize,
     pub cuts: [usize; 9],
 }
 
-fn nothing() -> Reading {
-    Reading {
-        mode: BYTES,
-        high: 16,
-        used: 0,
-        table: 0,
-        width: 1,
-        count: 0,
-        cuts: [0; 9],
+// Bytes more.
+fn push_all(bytes: &mut Gathered, more: &[u8]) {
+    for byte in more {
+        bytes.push(*byte);
     }
 }
 
-fn with_mode(s: Reading, mode: u8) -> Reading {
-    let mut r = s;
-    r.mode = mode;
-    r
-}
-
-// The byte `width` before the end, 0 if there is none.
-fn before(bytes: &[u8], used: usize, width: usize) -> u8 {
-    if used < width {
-        return 0;
-    }
-    let at = used - width;
-    if bytes.len() <= at {
-        return 0;
-    }
-    bytes[at]
-}
-
-// The last `width` bytes once more.
-fn again(bytes: &mut [u8], used: usize, width: usize) -> usize {
-    let mut end = used;
-    for _ in 0..width {
-        let v = before(bytes, end, width);
-        end = push(bytes, end, v);
-    }
-    end
-}
-
-// The last `width` bytes so many times in all.
-fn repeat(bytes: &mut [u8], used: usize, width: usize, count: usize) -> usize {
-    let mut end = used;
-    for _ in 1..count {
-        end = again(bytes, end, width);
-    }
-    end
+// The record of name i, of two bytes that no other name has.
+fn push_name(bytes: &mut Gathered, i: usize) {
+    push_all(bytes, b"\x02\x00\x00\x00\x01\x00");
+    bytes.push((33 + i / 94 % 94) as u8);
+    bytes.push((33 + i % 94) as u8);
 }
 
 // A record file's 4,096 names of two bytes, all different.
-fn numbered_names(bytes: &mut [u8], used: usize) -> usize {
-    let mut end = used;
+fn push_names(bytes: &mut Gathered) {
     for i in 0..4096 {
-        end = numbered_name(bytes, end, i);
+        push_name(bytes, i);
     }
-    end
-}
-
-fn numbered_name(bytes: &mut [u8], used: usize, i: usize) -> usize {
-    let a = push_all(bytes, used, b"\x02\x00\x00\x00\x01\x00");
-    let b = push(bytes, a, (33 + i / 94 % 94) as u8);
-    push(bytes, b, (33 + i % 94) as u8)
-}
-
-fn push_all(bytes: &mut [u8], used: usize, from: &[u8]) -> usize {
-    let mut end = used;
-    for byte in from {
-        end = push(bytes, end, *byte);
-    }
-    end
 }
 
 // ---- a character more
 
-fn in_line(rt: &impl Print, s: Reading, c: u8) -> io::Result<Reading> {
-    if c == b'\n' {
-        if s.mode == TITLE {
-            rt.write_all(b": ")?;
+impl Reading<'_> {
+    // The byte `width` before the end, 0 if there is none.
+    fn before(&self) -> u8 {
+        let bytes = self.bytes.bytes();
+        if (self.width == 0) | (bytes.len() < self.width) {
+            return 0;
         }
-        return Ok(with_mode(s, BYTES));
+        bytes[bytes.len() - self.width]
     }
-    if s.mode == TITLE {
-        rt.write_all(&[c])?;
-    }
-    Ok(s)
-}
 
-fn with_used(s: Reading, used: usize, mode: u8) -> Reading {
-    let mut r = s;
-    r.used = used;
-    r.mode = mode;
-    r.high = 16;
-    r
-}
+    // The last `width` bytes once more.
+    fn again(&mut self) {
+        for _ in 0..self.width {
+            let v = self.before();
+            self.bytes.push(v);
+        }
+    }
 
-fn in_text(s: Reading, c: u8, bytes: &mut [u8]) -> Reading {
-    if c == b'"' {
-        return with_mode(s, BYTES);
+    // The last `width` bytes so many times in all.
+    fn repeat(&mut self) {
+        for _ in 1..self.count {
+            self.again();
+        }
     }
-    with_used(s, push(bytes, s.used, c), TEXT)
-}
 
-fn in_width(s: Reading, c: u8) -> Reading {
-    let d = digit(c);
-    let mut r = s;
-    if d < 10 {
-        r.width = longer(s.width, d);
-        return r;
+    // A byte that was read.
+    fn add(&mut self, v: u8) {
+        self.bytes.push(v);
+        self.high = 16;
     }
-    r.mode = COUNT;
-    r
-}
 
-fn in_count(s: Reading, c: u8, bytes: &mut [u8]) -> Reading {
-    let d = digit(c);
-    if d < 10 {
-        let mut r = s;
-        r.count = longer(s.count, d);
-        return r;
+    fn add_names(&mut self) {
+        push_names(&mut self.bytes);
+        self.high = 16;
     }
-    with_used(s, repeat(bytes, s.used, s.width, s.count), BYTES)
-}
 
-// Table k ends where the bytes so far do.
-fn with_cut(s: Reading) -> Reading {
-    let mut r = s;
-    let k = s.table;
-    if k < 9 {
-        r.cuts[k] = s.used;
-        r.table = k + 1;
+    fn in_title(&mut self, rt: &impl Print, c: u8) -> io::Result<()> {
+        if c == b'\n' {
+            self.mode = Mode::Bytes;
+            return rt.write_all(b": ");
+        }
+        rt.write_all(&[c])
     }
-    r
-}
 
-fn in_keep(s: Reading, c: u8) -> Reading {
-    let k = digit(c) as usize;
-    let mut r = s;
-    r.mode = BYTES;
-    if k == 0 {
-        return r;
+    fn in_comment(&mut self, c: u8) {
+        if c == b'\n' {
+            self.mode = Mode::Bytes;
+        }
     }
-    if 9 <= k {
-        return r;
-    }
-    let last = k - 1;
-    r.table = k;
-    r.used = s.cuts[last];
-    r
-}
 
-fn in_bytes(s: Reading, c: u8, bytes: &mut [u8]) -> Reading {
-    let d = digit(c);
-    if 16 <= d {
-        return s;
+    fn in_text(&mut self, c: u8) {
+        if c == b'"' {
+            self.mode = Mode::Bytes;
+            return;
+        }
+        self.add(c);
     }
-    if 16 <= s.high {
-        let mut r = s;
-        r.high = d;
-        return r;
-    }
-    let high = s.high;
-    with_used(s, push(bytes, s.used, high % 16 * 16 + d % 16), BYTES)
-}
 
-fn started(s: Reading, mode: u8) -> Reading {
-    let mut r = s;
-    r.mode = mode;
-    r.width = 1;
-    r.count = 0;
-    if mode == WIDTH {
-        r.width = 0;
+    fn in_width(&mut self, c: u8) {
+        let d = digit(c);
+        if d < 10 {
+            self.width = longer(self.width, d);
+            return;
+        }
+        self.mode = Mode::Count;
     }
-    if mode == TITLE {
-        r.used = 0;
-        r.table = 0;
-    }
-    r
-}
 
-fn on_sign(rt: &impl Print, s: Reading, c: u8, bytes: &mut [u8]) -> io::Result<Reading> {
-    match c {
-        b'=' => Ok(started(s, TITLE)),
-        b'#' => Ok(started(s, COMMENT)),
-        b'"' => Ok(started(s, TEXT)),
-        b'@' => Ok(started(s, WIDTH)),
-        b'*' => Ok(started(s, COUNT)),
-        b'<' => Ok(started(s, KEEP)),
-        b'|' => Ok(with_cut(s)),
-        b'N' => Ok(with_used(s, numbered_names(bytes, s.used), BYTES)),
-        b'?' => check_file(rt, s, bytes),
-        b'!' => check_tables(rt, s, bytes),
-        _ => Ok(in_bytes(s, c, bytes)),
+    fn in_count(&mut self, c: u8) {
+        let d = digit(c);
+        if d < 10 {
+            self.count = longer(self.count, d);
+            return;
+        }
+        self.repeat();
+        self.high = 16;
+        self.mode = Mode::Bytes;
     }
-}
 
-fn turn(rt: &impl Print, s: Reading, c: u8, bytes: &mut [u8]) -> io::Result<Reading> {
-    let mode = s.mode;
-    match mode {
-        1 => in_line(rt, s, c),
-        2 => in_line(rt, s, c),
-        3 => Ok(in_text(s, c, bytes)),
-        4 => Ok(in_width(s, c)),
-        5 => Ok(in_count(s, c, bytes)),
-        6 => Ok(in_keep(s, c)),
-        _ => on_sign(rt, s, c, bytes),
+    // Table k ends where the bytes so far do.
+    fn cut(&mut self) {
+        if self.table < 9 {
+            self.cuts[self.table] = self.bytes.used;
+            self.table += 1;
+        }
+    }
+
+    fn in_keep(&mut self, c: u8) {
+        let k = digit(c) as usize;
+        self.mode = Mode::Bytes;
+        if (k == 0) | (9 <= k) {
+            return;
+        }
+        self.table = k;
+        self.bytes.take_up(self.cuts[k - 1]);
+    }
+
+    fn in_bytes(&mut self, c: u8) {
+        let d = digit(c);
+        if 16 <= d {
+            return;
+        }
+        if 16 <= self.high {
+            self.high = d;
+            return;
+        }
+        self.add(self.high % 16 * 16 + d % 16);
+    }
+
+    // The next case begins, with its title.
+    fn next_case(&mut self) {
+        self.mode = Mode::Title;
+        self.bytes.take_up(0);
+        self.table = 0;
+    }
+
+    // A number of times begins; of more than one byte where its width is read first.
+    fn start_count(&mut self, mode: Mode, width: usize) {
+        self.mode = mode;
+        self.width = width;
+        self.count = 0;
+    }
+
+    fn on_sign(&mut self, rt: &impl Print, c: u8) -> io::Result<()> {
+        match c {
+            b'=' => self.next_case(),
+            b'#' => self.mode = Mode::Comment,
+            b'"' => self.mode = Mode::Text,
+            b'@' => self.start_count(Mode::Width, 0),
+            b'*' => self.start_count(Mode::Count, 1),
+            b'<' => self.mode = Mode::Keep,
+            b'|' => self.cut(),
+            b'N' => self.add_names(),
+            b'?' => return self.check_file(rt),
+            b'!' => return self.check_tables(rt),
+            _ => self.in_bytes(c),
+        }
+        Ok(())
+    }
+
+    fn turn(&mut self, rt: &impl Print, c: u8) -> io::Result<()> {
+        match self.mode {
+            Mode::Bytes => return self.on_sign(rt, c),
+            Mode::Title => return self.in_title(rt, c),
+            Mode::Comment => self.in_comment(c),
+            Mode::Text => self.in_text(c),
+            Mode::Width => self.in_width(c),
+            Mode::Count => self.in_count(c),
+            Mode::Keep => self.in_keep(c),
+        }
+        Ok(())
     }
 }
 
@@ -272,70 +243,72 @@ fn part(bytes: &[u8], from: usize, to: usize) -> &[u8] {
     &bytes[from..to]
 }
 
-fn check_file(rt: &impl Print, s: Reading, bytes: &[u8]) -> io::Result<Reading> {
-    let mut counts = [9u8; 12];
-    show_word(
-        rt,
-        entry_check_file::check_file(part(bytes, 0, s.used), &mut counts),
-    )?;
-    show_counts(rt, &counts)?;
-    Ok(s)
-}
-
-// Where table k ends: tables that a case doesn't have are empty.
-fn end(s: Reading, k: usize) -> usize {
-    if s.table <= k {
-        return s.used;
+impl Reading<'_> {
+    fn check_file(&self, rt: &impl Print) -> io::Result<()> {
+        let mut counts = [9u8; 12];
+        show_word(
+            rt,
+            entry_check_file::check_file(self.bytes.bytes(), &mut counts),
+        )?;
+        show_counts(rt, &counts)
     }
-    if 9 <= k {
-        return s.used;
-    }
-    s.cuts[k]
-}
 
-fn table(s: Reading, bytes: &[u8], k: usize) -> &[u8] {
-    if k == 0 {
-        return part(bytes, 0, end(s, 0));
+    // Where table k ends: tables that a case doesn't have are empty.
+    fn end(&self, k: usize) -> usize {
+        if (self.table <= k) | (9 <= k) {
+            return self.bytes.used;
+        }
+        self.cuts[k]
     }
-    part(bytes, end(s, k - 1), end(s, k))
-}
 
-fn check_tables(rt: &impl Print, s: Reading, bytes: &[u8]) -> io::Result<Reading> {
-    show_word(
-        rt,
-        entry_check_tables::check_tables(
-            table(s, bytes, 0),
-            table(s, bytes, 1),
-            table(s, bytes, 2),
-            table(s, bytes, 3),
-            table(s, bytes, 4),
-            table(s, bytes, 5),
-            table(s, bytes, 6),
-            table(s, bytes, 7),
-            table(s, bytes, 8),
-        ),
-    )?;
-    println!(rt; "")?;
-    Ok(s)
+    fn table(&self, k: usize) -> &[u8] {
+        let bytes = self.bytes.bytes();
+        if k == 0 {
+            return part(bytes, 0, self.end(0));
+        }
+        part(bytes, self.end(k - 1), self.end(k))
+    }
+
+    fn check_tables(&self, rt: &impl Print) -> io::Result<()> {
+        show_word(
+            rt,
+            entry_check_tables::check_tables(
+                self.table(0),
+                self.table(1),
+                self.table(2),
+                self.table(3),
+                self.table(4),
+                self.table(5),
+                self.table(6),
+                self.table(7),
+                self.table(8),
+            ),
+        )?;
+        println!(rt; "")
+    }
 }
 
 // ---- all cases
 
-fn run(rt: &impl Print, text: &[u8], bytes: &mut [u8]) -> io::Result<()> {
-    let mut s = nothing();
+fn run(rt: &impl Print, text: &[u8], buffer: &mut [u8]) -> io::Result<()> {
+    let mut s = Reading {
+        bytes: Gathered { buffer, used: 0 },
+        mode: Mode::Bytes,
+        high: 16,
+        table: 0,
+        width: 1,
+        count: 0,
+        cuts: [0; 9],
+    };
     for c in text {
-        s = turn(rt, s, *c, bytes)?;
+        s.turn(rt, *c)?;
     }
     Ok(())
 }
 
-fn read(rt: &(impl Input + Print), text: &mut [u8], bytes: &mut [u8]) -> io::Result<()> {
-    let n = read_full(&mut rt.reader(), text)?;
-    run(rt, part(text, 0, n), bytes)
-}
-
 fn main(rt: HostRuntime) -> io::Result<()> {
     let mut text = [0u8; 65536];
-    let mut bytes = [0u8; 131072];
-    read(&rt, &mut text, &mut bytes)
+    let mut buffer = [0u8; 131072];
+    let n = read_full(&mut rt.reader(), &mut text)?;
+    run(&rt, &text[..n], &mut buffer)
 }

@@ -1,11 +1,13 @@
 // What more than one of the programs needs to read its input: a buffer filled from a reader, and the digits and bytes of cases that stand in text.
 #![tactic(auto)]
 
+mod gathered;
+
 ghost use Rattle.std.specs.Prelude.{◌≡◌, ℕ, ◌+◌, ◌*◌, ◌≤◌, ◌<◌, length, take, IfOk};
-ghost use Rattle.std.proofs.Common.{set};
 ghost use Rattle.std.specs.Io.KnownBytes.{Consumes, IsAtEnd};
 ghost use Rattle.names.specs.GapName.{digit};
 
+pub use gathered::Gathered;
 use std::io;
 use std::io::Read;
 
@@ -48,16 +50,4 @@ pub fn longer(n: usize, d: u8) -> usize
         return n * 10 + (d as usize);
     }
     n
-}
-
-// A byte more behind those that are used, where there is room: how many are used then.
-pub fn push(bytes: &mut [u8], used: usize, v: u8) -> usize
-    ensures room { used < length bytes.old → (bytes.new ≡ set bytes.old used v) × (result ≡ used + 1) }
-    ensures none { length bytes.old ≤ used → (bytes.new ≡ bytes.old) × (result ≡ used) }
-{
-    if used < bytes.len() {
-        bytes[used] = v;
-        return used + 1;
-    }
-    used
 }
