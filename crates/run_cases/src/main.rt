@@ -2,205 +2,168 @@
 // then what `splitlist` prints for it: the Rust's listing, or document 01's refusal.
 #![tactic(auto)]
 
-use program_input::{digit, longer, push};
+use program_input::{Gathered, digit, longer};
 use std::io;
 use std::io::Read;
 
 // ---- what is read
 
-// Bytes stand as hexadecimal digits.
-const BYTES: u8 = 0;
-// `= title` up to the line's end, which is printed
-const TITLE: u8 = 1;
-// `# comment` up to the line's end
-const COMMENT: u8 = 2;
-// `*count`: the last byte stands so many times in all
-const COUNT: u8 = 3;
+// What the next character belongs to.
+#[derive(Clone, Copy)]
+pub enum Mode {
+    // bytes as hexadecimal digits
+    Bytes,
+    // `= title` up to the line's end, which is printed
+    Title,
+    // `# comment` up to the line's end
+    Comment,
+    // `*count`: the last byte stands so many times in all
+    Count,
+}
 
 // How far a case is read: `high` is the first digit of a byte, 16 if none was read; `open` says that there is a case.
-#[derive(Clone, Copy)]
-pub struct Reading {
-    pub mode: u8,
+#[derive(Drop)]
+pub struct Reading<'b> {
+    pub bytes: Gathered<'b>,
+    pub mode: Mode,
     pub high: u8,
-    pub used: usize,
     pub count: usize,
     pub open: bool,
 }
 
-fn nothing() -> Reading {
-    Reading {
-        mode: BYTES,
-        high: 16,
-        used: 0,
-        count: 0,
-        open: false,
+impl Reading<'_> {
+    // The last byte, 0 if there is none.
+    fn last(&self) -> u8 {
+        match self.bytes.bytes() {
+            [.., v] => *v,
+            [] => 0,
+        }
     }
-}
 
-fn with_mode(s: Reading, mode: u8) -> Reading {
-    let mut r = s;
-    r.mode = mode;
-    r.count = 0;
-    r
-}
-
-fn with_used(s: Reading, used: usize) -> Reading {
-    let mut r = s;
-    r.mode = BYTES;
-    r.high = 16;
-    r.used = used;
-    r
-}
-
-// The last byte, 0 if there is none.
-fn last(bytes: &[u8], used: usize) -> u8 {
-    if used == 0 {
-        return 0;
+    // The last byte so many times in all.
+    fn repeat(&mut self) {
+        let v = self.last();
+        for _ in 1..self.count {
+            self.bytes.push(v);
+        }
     }
-    let at = used - 1;
-    if bytes.len() <= at {
-        return 0;
+
+    // ---- a case is run
+
+    // What the case that was read prints, where there is one.
+    fn close(&self, rt: &impl Print) -> io::Result<()> {
+        if self.open {
+            print_run::print_run(&mut io::writer(rt), self.bytes.bytes())?;
+        }
+        Ok(())
     }
-    bytes[at]
-}
 
-// The last byte so many times in all.
-fn repeat(bytes: &mut [u8], used: usize, count: usize) -> usize {
-    let v = last(bytes, used);
-    let mut end = used;
-    for _ in 1..count {
-        end = push(bytes, end, v);
+    // The next case begins.
+    fn next_case(&mut self, rt: &impl Print) -> io::Result<()> {
+        self.close(rt)?;
+        self.mode = Mode::Title;
+        self.high = 16;
+        self.bytes.take_up(0);
+        self.open = true;
+        rt.write_all(b"=")
     }
-    end
-}
 
-// ---- a case is run
+    // ---- a character more
 
-// The first n bytes, all where these are fewer.
-fn first(bytes: &[u8], n: usize) -> &[u8] {
-    if bytes.len() < n {
-        return bytes;
+    fn in_title(&mut self, rt: &impl Print, c: u8) -> io::Result<()> {
+        self.in_comment(c);
+        rt.write_all(&[c])
     }
-    &bytes[..n]
-}
 
-// What the case that was read prints, where there is one.
-fn close(rt: &impl Print, s: Reading, bytes: &[u8]) -> io::Result<()> {
-    if s.open {
-        print_run::print_run(&mut io::writer(rt), first(bytes, s.used))?;
+    fn in_comment(&mut self, c: u8) {
+        if c == b'\n' {
+            self.mode = Mode::Bytes;
+        }
     }
-    Ok(())
-}
 
-// The next case begins.
-fn next_case(rt: &impl Print, s: Reading, bytes: &[u8]) -> io::Result<Reading> {
-    close(rt, s, bytes)?;
-    rt.write_all(b"=")?;
-    Ok(Reading {
-        mode: TITLE,
-        high: 16,
-        used: 0,
-        count: 0,
-        open: true,
-    })
-}
-
-// ---- a character more
-
-fn in_title(rt: &impl Print, s: Reading, c: u8) -> io::Result<Reading> {
-    rt.write_all(&[c])?;
-    Ok(in_comment(s, c))
-}
-
-fn in_comment(s: Reading, c: u8) -> Reading {
-    if c == b'\n' {
-        return with_mode(s, BYTES);
+    fn in_count(&mut self, c: u8) {
+        let d = digit(c);
+        if d < 10 {
+            self.count = longer(self.count, d);
+            return;
+        }
+        self.repeat();
+        self.mode = Mode::Bytes;
+        self.high = 16;
     }
-    s
-}
 
-fn in_count(s: Reading, c: u8, bytes: &mut [u8]) -> Reading {
-    let d = digit(c);
-    if d < 10 {
-        let mut r = s;
-        r.count = longer(s.count, d);
-        return r;
+    fn in_bytes(&mut self, c: u8) {
+        let d = digit(c);
+        if 16 <= d {
+            return;
+        }
+        if 16 <= self.high {
+            self.high = d;
+            return;
+        }
+        self.bytes.push(self.high % 16 * 16 + d % 16);
+        self.high = 16;
     }
-    with_used(s, repeat(bytes, s.used, s.count))
-}
 
-fn in_bytes(s: Reading, c: u8, bytes: &mut [u8]) -> Reading {
-    let d = digit(c);
-    if 16 <= d {
-        return s;
+    fn start_count(&mut self) {
+        self.mode = Mode::Count;
+        self.count = 0;
     }
-    if 16 <= s.high {
-        let mut r = s;
-        r.high = d;
-        return r;
-    }
-    let high = s.high;
-    with_used(s, push(bytes, s.used, high % 16 * 16 + d % 16))
-}
 
-fn on_sign(rt: &impl Print, s: Reading, c: u8, bytes: &mut [u8]) -> io::Result<Reading> {
-    match c {
-        b'=' => next_case(rt, s, bytes),
-        b'#' => Ok(with_mode(s, COMMENT)),
-        b'*' => Ok(with_mode(s, COUNT)),
-        _ => Ok(in_bytes(s, c, bytes)),
+    fn on_sign(&mut self, rt: &impl Print, c: u8) -> io::Result<()> {
+        match c {
+            b'=' => return self.next_case(rt),
+            b'#' => self.mode = Mode::Comment,
+            b'*' => self.start_count(),
+            _ => self.in_bytes(c),
+        }
+        Ok(())
     }
-}
 
-fn turn(rt: &impl Print, s: Reading, c: u8, bytes: &mut [u8]) -> io::Result<Reading> {
-    let mode = s.mode;
-    match mode {
-        1 => in_title(rt, s, c),
-        2 => Ok(in_comment(s, c)),
-        3 => Ok(in_count(s, c, bytes)),
-        _ => on_sign(rt, s, c, bytes),
+    fn turn(&mut self, rt: &impl Print, c: u8) -> io::Result<()> {
+        match self.mode {
+            Mode::Bytes => return self.on_sign(rt, c),
+            Mode::Title => return self.in_title(rt, c),
+            Mode::Comment => self.in_comment(c),
+            Mode::Count => self.in_count(c),
+        }
+        Ok(())
+    }
+
+    fn read_text(&mut self, rt: &impl Print, text: &[u8]) -> io::Result<()> {
+        for c in text {
+            self.turn(rt, *c)?;
+        }
+        Ok(())
     }
 }
 
 // ---- all cases
 
-fn read_text(
-    rt: &impl Print,
-    start: Reading,
-    text: &[u8],
-    bytes: &mut [u8],
-) -> io::Result<Reading> {
-    let mut s = start;
-    for c in text {
-        s = turn(rt, s, *c, bytes)?;
-    }
-    Ok(s)
-}
-
-// All of standard input, a part at a time. A proved loop has to end, and nothing says that the input does: so the turns are counted, up to a number that no input uses
-// up.
-fn read_all(rt: &(impl Input + Print), text: &mut [u8], bytes: &mut [u8]) -> io::Result<Reading> {
+// All of standard input, a part at a time; the last case ends with it. A proved loop has to end, and nothing says that the input does: so the turns are counted, up to a
+// number that no input uses up.
+fn run(rt: &(impl Input + Print), buffer: &mut [u8]) -> io::Result<()> {
+    let mut text = [0u8; 4096];
     let mut input = rt.reader();
-    let mut s = nothing();
+    let mut s = Reading {
+        bytes: Gathered { buffer, used: 0 },
+        mode: Mode::Bytes,
+        high: 16,
+        count: 0,
+        open: false,
+    };
     for _ in 0..u64::MAX {
-        let n = input.read(text)?;
+        let n = input.read(&mut text)?;
         if n == 0 {
             break;
         }
-        s = read_text(rt, s, &text[..n], bytes)?;
+        s.read_text(rt, &text[..n])?;
     }
-    Ok(s)
-}
-
-// All cases: the last one ends with the input.
-fn run(rt: &(impl Input + Print), text: &mut [u8], bytes: &mut [u8]) -> io::Result<()> {
-    let s = read_all(rt, text, bytes)?;
-    close(rt, s, bytes)
+    s.close(rt)
 }
 
 // "a file over 65,536 bytes is refused first": one byte more is kept of a case, so that a longer one is refused and not cut.
 fn main(rt: HostRuntime) -> io::Result<()> {
-    let mut text = [0u8; 4096];
-    let mut bytes = [0u8; 65537];
-    run(&rt, &mut text, &mut bytes)
+    let mut buffer = [0u8; 65537];
+    run(&rt, &mut buffer)
 }
