@@ -2,4 +2,5 @@ pub mod Cases
 pub mod Deciding
 pub mod Adding
 pub mod Giving
+pub mod Added
 pub mod Regions

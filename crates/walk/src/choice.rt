@@ -1,4 +1,4 @@
-// What a split asks for: all refusals from 71 to 74, and 11 of its alignment, before anything is written.
+// What a split asks for: all refusals from 71 to 74, and 11 of its alignment, before anything is written. `n` is the number of the split's section.
 ghost use Rattle.std.specs.Prelude.{◌≡◌, false, ◌&&◌, leb, ltb, ◌+◌, ◌<◌, ◌≤◌, length};
 ghost use Rattle.align.specs.Align.{bad_align};
 ghost use Rattle.obj.specs.Answers.{meaning};

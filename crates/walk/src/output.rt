@@ -1,4 +1,5 @@
-// What a split gives to the output: its symbols, and unless it is common its relocations and its piece.
+// What a split gives to the output: its symbols, and unless it is common its relocations and its piece. `n` is the number of the split's section and `part` has the numbers
+// of that section's relocations; with the split `s` they are what the loop over splits has at hand, and a struct of the three would be made anew for each split.
 ghost use Rattle.std.specs.Prelude.{◌≡◌, true, cond, not, ◌&&◌, ◌||◌, eqb, ltb, ◌%◌, ◌≤◌, ◌<◌, length};
 ghost use Rattle.symbol_order.specs.Order.{symbol_of, Order};
 ghost use Rattle.symbols.specs.Ranges.{has_symbols};
@@ -8,7 +9,7 @@ ghost use Rattle.pieces.specs.Tables.{pieces_of, relocs_of};
 ghost use Rattle.piece_columns.specs.Columns.{CountedIn};
 ghost use Rattle.relocs.specs.Relocs.{reloc_of};
 ghost use Rattle.splits.specs.Questions.{is_common};
-ghost use Rattle.walk.specs.Walk.{fits, piece_of};
+ghost use Rattle.walk.specs.Walk.{fits, piece_of, split_symbols};
 ghost use Rattle.walk.specs.Giving.{counts_in, Beside, PieceGives, pieces_with, relocs_with, Sided, SectionRelocs, GivesOut};
 
 use crate::entries::{add_relocs, add_symbols};
@@ -57,6 +58,21 @@ fn is_backwards(symbols: &Table, order: &[u16], part: &[u16], n: usize, s: Split
         return false;
     }
     ((part.len() != 0) | has_symbols(symbols, order, n as u16)) | (s.flags % 2 != 1)
+}
+
+// The numbers of the symbols that the split takes: those of its section from its start through its end.
+fn symbols_inside<'a>(obj: &'a Obj, n: usize, s: Split) -> &'a [u16]
+    requires { TablesIn obj.now × (n < 65535) }
+    ensures { result.now ≡ split_symbols (image_in obj.now) n s }
+{
+    for_section_through(
+        obj.symbols.bytes,
+        obj.symbols.places,
+        obj.order,
+        n as u16,
+        s.start,
+        s.end,
+    )
 }
 
 // The relocations and the piece of a split that is not common, if there is room; `part` are the section's relocations.
@@ -121,14 +137,7 @@ pub fn give(
     if is_backwards(&obj.symbols, obj.order, part, n, s) {
         return refuse_at(11, n, s.start);
     }
-    let inside = for_section_through(
-        obj.symbols.bytes,
-        obj.symbols.places,
-        obj.order,
-        n as u16,
-        s.start,
-        s.end,
-    );
+    let inside = symbols_inside(obj, n, s);
     let added = add_symbols(
         &obj.symbols,
         &obj.names,

@@ -1,7 +1,7 @@
 -- `walk::entries::add_symbol` meets its contract: the symbol is passed over, or the unit has it, or there is no room, or it is entered.
 use mathlib.Core.Path.{◌≡◌, refl, sym, ap, ap₂, ◌∙◌}
 use mathlib.Core.List.{[], ◌∷◌, ◌++◌}
-use mathlib.Core.Bool.{Bool, false, ◌||◌}
+use mathlib.Core.Bool.{Bool, ◌||◌}
 use native.Mathlib.Omega.{arith}
 use lib.ListN.{length, length-append}
 use Rattle.sections.specs.Image.{image_of}

@@ -10,7 +10,6 @@ use lib.Dec.{eqb, leb, ltb}
 use lib.ListN.{length, take, drop}
 use lib.Seq.{length-take-le, length_front}
 use Rattle.lists.specs.Outcome.{accepted}
-use Rattle.obj.specs.declared.Split.{Split}
 use Rattle.symbols.specs.Ranges.{has_symbols}
 use Rattle.symbols.proofs.Parts.{part_readable}
 use Rattle.sections.specs.Image.{image_in}
@@ -19,16 +18,16 @@ use Rattle.pieces.specs.declared.Counts.{Counts}
 use Rattle.pieces.specs.declared.Piece.{Piece}
 use Rattle.pieces.specs.declared.PieceSymbol.{PieceSymbol}
 use Rattle.pieces.specs.declared.PieceReloc.{PieceReloc}
-use Rattle.pieces.specs.Tables.{pieces_of, symbols_of, relocs_of}
-use Rattle.pieces.proofs.Laws.{length-pieces_in, length-symbols_in, length-relocs_in}
+use Rattle.pieces.specs.Tables.{pieces_of, relocs_of}
+use Rattle.pieces.proofs.Laws.{length-pieces_in, length-relocs_in}
 use Rattle.pieces.proofs.Same.{pieces_same, symbols_same, relocs_same, lent_same, lent_still}
 use Rattle.relocs.specs.Relocs.{reloc_of}
 use Rattle.piece_columns.proofs.Same.{counted_same, chained_same}
 use Rattle.piece_columns.specs.Columns.{CountedIn}
-use Rattle.walk.specs.Walk.{add_symbols}
 use Rattle.walk.specs.Adding.{Entries}
 use Rattle.walk.specs.Giving.{input_of, output_of, chains_in, counts_in, pieces_with, relocs_with}
-use Rattle.walk.proofs.Giving.{symbols_with, piece_out, aligned_backwards, symbols_full, common_made, piece_made, piece_full, kept_above, backwards_is, forwards_ends}
+use Rattle.walk.proofs.Giving.{piece_out, aligned_backwards, symbols_full, common_made, piece_made, piece_full, kept_above, backwards_is, forwards_ends}
+use Rattle.walk.proofs.Added.{forwards_is, wanted_is, entries_are, few_entries}
 use Rattle.walk.proofs.Regions.{chains_front, counts_front, counts_whole, chains_behind, counts_behind}
 use Rattle.walk.proofs.output.give.Goals as goal
 
@@ -54,7 +53,7 @@ unfolding chains_in
 add_symbols-added-requires c =
     let a = c.args in
     let g = image_in a.obj.now in
-    let part = c.for_section_through-inside.ensures in (
+    let part = c.symbols_inside-inside.ensures in (
       record {
         readable = part_readable _ _ _ c.requires.1.symbols a.n _ part;
         above = kept_above (λ (i : ℕ). (g.symbol i).address) a.s.start (λ (i : ℕ). leb (g.symbol i).address a.s.end) _ part;
@@ -71,9 +70,8 @@ returns-in_default c =
     let head = head_of a.obj.now.heads.bytes.now a.obj.now.heads.places.now in
     let reloc = reloc_of a.relocs.now.bytes.now a.relocs.now.places.now in
     let relocs = length a.relocs.now.places.now in
-    let forwards = λ (count : ℕ) (bytes : ℕ → List ℕ) (splits : List Split) (units : List ℕ). (sym (backwards_is (input_of g (record { count = count; head = head; bytes = bytes }) reloc relocs splits units t.room) a.n a.s.start a.unit a.alignment a.s (output_of t) c.requires.6 a.part.now c.requires.2.is) ∙ sym c.is_backwards.ensures ∙ c.if-is_backwards.false) in
-    let wanted : add_symbols g a.unit t.made.pieces a.s (symbols_of t) c.for_section_through-inside.result.now ≡ symbols_with g head reloc relocs a.n a.unit a.alignment a.s t.room (output_of t) =
-    λ d. add_symbols g a.unit (sym (length-pieces_in t.pieces.now t.made.pieces) d) a.s (symbols_of t) (c.for_section_through-inside.ensures d) in
+    let forwards = forwards_is g head reloc relocs a.n a.unit a.alignment a.s t c.requires.6 c.requires.2.is c.is_backwards.ensures c.if-is_backwards.false in
+    let wanted = wanted_is g head reloc relocs a.n a.unit a.alignment a.s t c.symbols_inside-inside.ensures in
     let full = c.in_default.ensures in
     rw c.refuse_at-in_default.ensures
     (record {
@@ -91,15 +89,12 @@ returns-then-s-eq1 c =
     let head = head_of a.obj.now.heads.bytes.now a.obj.now.heads.places.now in
     let reloc = reloc_of a.relocs.now.bytes.now a.relocs.now.places.now in
     let relocs = length a.relocs.now.places.now in
-    let forwards = λ (count : ℕ) (bytes : ℕ → List ℕ) (splits : List Split) (units : List ℕ). (sym (backwards_is (input_of g (record { count = count; head = head; bytes = bytes }) reloc relocs splits units t.room) a.n a.s.start a.unit a.alignment a.s (output_of t) c.requires.6 a.part.now c.requires.2.is) ∙ sym c.is_backwards.ensures ∙ c.if-is_backwards.false) in
-    let wanted : add_symbols g a.unit t.made.pieces a.s (symbols_of t) c.for_section_through-inside.result.now ≡ symbols_with g head reloc relocs a.n a.unit a.alignment a.s t.room (output_of t) =
-    λ d. add_symbols g a.unit (sym (length-pieces_in t.pieces.now t.made.pieces) d) a.s (symbols_of t) (c.for_section_through-inside.ensures d) in
+    let forwards = forwards_is g head reloc relocs a.n a.unit a.alignment a.s t c.requires.6 c.requires.2.is c.is_backwards.ensures c.if-is_backwards.false in
     let more = c.add_symbols-added in
     let mid = more.new.tables in
     let now = c.in-Some.ensures in
-    let entries : symbols_of mid ≡ symbols_with g head reloc relocs a.n a.unit a.alignment a.s t.room (output_of t) = now.is ∙ wanted in
-    let few : length (symbols_with g head reloc relocs a.n a.unit a.alignment a.s t.room (output_of t)) ≤ t.room.symbols =
-    omega (arith, ap (λ (l : List PieceSymbol). length l) entries, length-symbols_in mid.symbols.now mid.made.symbols, mid.fits.few_symbols, ap (λ (m : Counts). m.symbols) now.lent.room) in
+    let entries = entries_are g head reloc relocs a.n a.unit a.alignment a.s t c.symbols_inside-inside.ensures now in
+    let few = few_entries g head reloc relocs a.n a.unit a.alignment a.s t c.symbols_inside-inside.ensures now in
     let front : length more.new.chains ≡ 8192 = more.auto.chains ∙ length-take-le 8192 a.scratch.now c.requires.0.long in
     let between : List ℕ = more.new.chains ++ drop 8192 a.scratch.now in
     let long : length between ≡ length a.scratch.now = length_front a.scratch.now more.new.chains 8192 more.auto.chains in
@@ -155,15 +150,11 @@ returns-in_default-given c =
     let head = head_of a.obj.now.heads.bytes.now a.obj.now.heads.places.now in
     let reloc = reloc_of a.relocs.now.bytes.now a.relocs.now.places.now in
     let relocs = length a.relocs.now.places.now in
-    let forwards = λ (count : ℕ) (bytes : ℕ → List ℕ) (splits : List Split) (units : List ℕ). (sym (backwards_is (input_of g (record { count = count; head = head; bytes = bytes }) reloc relocs splits units t.room) a.n a.s.start a.unit a.alignment a.s (output_of t) c.requires.6 a.part.now c.requires.2.is) ∙ sym c.is_backwards.ensures ∙ c.if-is_backwards.false) in
-    let wanted : add_symbols g a.unit t.made.pieces a.s (symbols_of t) c.for_section_through-inside.result.now ≡ symbols_with g head reloc relocs a.n a.unit a.alignment a.s t.room (output_of t) =
-    λ d. add_symbols g a.unit (sym (length-pieces_in t.pieces.now t.made.pieces) d) a.s (symbols_of t) (c.for_section_through-inside.ensures d) in
+    let forwards = forwards_is g head reloc relocs a.n a.unit a.alignment a.s t c.requires.6 c.requires.2.is c.is_backwards.ensures c.if-is_backwards.false in
     let more = c.add_symbols-added in
     let mid = more.new.tables in
     let now = c.in-Some.ensures in
-    let entries : symbols_of mid ≡ symbols_with g head reloc relocs a.n a.unit a.alignment a.s t.room (output_of t) = now.is ∙ wanted in
-    let few : length (symbols_with g head reloc relocs a.n a.unit a.alignment a.s t.room (output_of t)) ≤ t.room.symbols =
-    omega (arith, ap (λ (l : List PieceSymbol). length l) entries, length-symbols_in mid.symbols.now mid.made.symbols, mid.fits.few_symbols, ap (λ (m : Counts). m.symbols) now.lent.room) in
+    let entries = entries_are g head reloc relocs a.n a.unit a.alignment a.s t c.symbols_inside-inside.ensures now in
     let pieces : pieces_with (head a.n) a.n a.unit a.alignment a.s (pieces_of mid) ≡ pieces_with (head a.n) a.n a.unit a.alignment a.s (pieces_of t) =
     ap (pieces_with (head a.n) a.n a.unit a.alignment a.s) (pieces_same now.pieces) in
     let place = now.pieces.made ∙ sym (length-pieces_in t.pieces.now t.made.pieces) in
@@ -189,15 +180,12 @@ returns c =
     let head = head_of a.obj.now.heads.bytes.now a.obj.now.heads.places.now in
     let reloc = reloc_of a.relocs.now.bytes.now a.relocs.now.places.now in
     let relocs = length a.relocs.now.places.now in
-    let forwards = λ (count : ℕ) (bytes : ℕ → List ℕ) (splits : List Split) (units : List ℕ). (sym (backwards_is (input_of g (record { count = count; head = head; bytes = bytes }) reloc relocs splits units t.room) a.n a.s.start a.unit a.alignment a.s (output_of t) c.requires.6 a.part.now c.requires.2.is) ∙ sym c.is_backwards.ensures ∙ c.if-is_backwards.false) in
-    let wanted : add_symbols g a.unit t.made.pieces a.s (symbols_of t) c.for_section_through-inside.result.now ≡ symbols_with g head reloc relocs a.n a.unit a.alignment a.s t.room (output_of t) =
-    λ d. add_symbols g a.unit (sym (length-pieces_in t.pieces.now t.made.pieces) d) a.s (symbols_of t) (c.for_section_through-inside.ensures d) in
+    let forwards = forwards_is g head reloc relocs a.n a.unit a.alignment a.s t c.requires.6 c.requires.2.is c.is_backwards.ensures c.if-is_backwards.false in
     let more = c.add_symbols-added in
     let mid = more.new.tables in
     let now = c.in-Some.ensures in
-    let entries : symbols_of mid ≡ symbols_with g head reloc relocs a.n a.unit a.alignment a.s t.room (output_of t) = now.is ∙ wanted in
-    let few : length (symbols_with g head reloc relocs a.n a.unit a.alignment a.s t.room (output_of t)) ≤ t.room.symbols =
-    omega (arith, ap (λ (l : List PieceSymbol). length l) entries, length-symbols_in mid.symbols.now mid.made.symbols, mid.fits.few_symbols, ap (λ (m : Counts). m.symbols) now.lent.room) in
+    let entries = entries_are g head reloc relocs a.n a.unit a.alignment a.s t c.symbols_inside-inside.ensures now in
+    let few = few_entries g head reloc relocs a.n a.unit a.alignment a.s t c.symbols_inside-inside.ensures now in
     let pieces : pieces_with (head a.n) a.n a.unit a.alignment a.s (pieces_of mid) ≡ pieces_with (head a.n) a.n a.unit a.alignment a.s (pieces_of t) =
     ap (pieces_with (head a.n) a.n a.unit a.alignment a.s) (pieces_same now.pieces) in
     let place = now.pieces.made ∙ sym (length-pieces_in t.pieces.now t.made.pieces) in
