@@ -1,2 +1,3 @@
 pub mod Laws
 pub mod Seen
+pub mod Loop

@@ -1,17 +1,8 @@
--- The loop of `elf_names::enter_sections`: entering the names that are left, from those that stand there, gives what entering all gives, and the offsets that are kept
--- have their strings among them.
-use Rattle.std.proofs.Common.{◌≡◌, List, ℕ, length}
-use Rattle.number_names.specs.Numbers.{enter_names}
-use Rattle.number_names.specs.Tables.{room_of, SameTable, HeldBy}
+-- The loop of `elf_names::enter_sections`: the names of the sections from i on are left (`Entering`).
 use Rattle.elf_names.specs.Names.{section_names}
-use Rattle.elf_names.specs.Seen.{GoingSeen}
 use Rattle.elf_names.proofs.Laws.{sections_left}
+use Rattle.elf_names.proofs.Loop.{Entering}
 use Rattle.elf_names.proofs.enter_sections.Given as goal
 
 abbrev pub invariant-loop-i : goal.invariant-loop-i
-invariant-loop-i l = record {
-  sized : length l.seen ≡ 64;
-  same : SameTable l.initial.names l.names;
-  going : (held : List (List ℕ)) (ends₀ bytes₀ : List ℕ) → HeldBy held ends₀ bytes₀ l.initial.names
-      → GoingSeen (room_of l.initial.names) (sections_left l.headers l.strings) (enter_names (room_of l.initial.names) held (section_names l.headers l.strings)) l.strings ends₀ bytes₀ l.names l.seen l.i;
-}
+invariant-loop-i l = Entering (sections_left l.headers l.strings) (section_names l.headers l.strings) l.strings l.initial.names l.names l.seen l.i
