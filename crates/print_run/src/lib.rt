@@ -54,7 +54,7 @@ fn print_lines<'a, W: Write>(
     }
 }
 
-// The listing of a run that was done, of n units: the parts of the column of places are the tables of names, symbols and relocations.
+// The listing of a run that was done, of n units, for which the lent table has room and may have more: the parts of the column of places are the tables of names, symbols and relocations.
 fn print_done<'a, W: Write>(
     out: &mut W,
     file: &'a [u8],
@@ -196,8 +196,58 @@ fn print_in<'a, W: Write>(
     )
 }
 
-// The run of the file, printed, in columns of document 01's ceilings: "64 sections, 4,096 symbols, 4,096 relocations, 1,024 splits, 1,024 units, 4,096 names of 65,535
-// bytes in all" and "Outputs: 1,024 pieces, 4,096 piece symbols, 4,096 piece relocations". Where all was written, the writer took the text of the answer of the file's run.
+// The same, with the added names and the outputs in columns of its own: "4,096 names of 65,535 bytes in all" and "Outputs: 1,024 pieces, 4,096 piece symbols, 4,096 piece
+// relocations".
+fn print_split<'a, W: Write>(
+    out: &mut W,
+    file: &'a [u8],
+    places: &mut [u32],
+    lengths: &mut [u8],
+    heads: &mut [u16],
+    chain: &mut [u16],
+    images: &mut [u32],
+    order: &mut [u16],
+    table: &mut SplitTable,
+) -> io::Result<()>
+    requires { Loader places.old lengths.old heads.old chain.old images.old order.old × (table.old.room ≡ 1024) }
+    ensures { OnOk result (Prints file.now 1024 main_room (W.contents out.old) (W.contents out.new)) }
+{
+    let mut added_bytes = [0u8; 65535];
+    let mut added_places = [0u32; 4096];
+    let mut added_lengths = [0u8; 4096];
+    let mut out_units = [0u8; 8192];
+    let mut pieces = [0u8; 30720];
+    let mut entries = [0u8; 49152];
+    let mut offsets = [0u8; 32768];
+    let mut added = AddedNames {
+        bytes: &mut added_bytes,
+        places: &mut added_places,
+        lengths: &mut added_lengths,
+        count: 0,
+        used: 0,
+        most: 4096,
+        most_bytes: 65535,
+    };
+    print_in(
+        out,
+        file,
+        places,
+        lengths,
+        heads,
+        chain,
+        images,
+        order,
+        table,
+        &mut added,
+        &mut out_units,
+        &mut pieces,
+        &mut entries,
+        &mut offsets,
+    )
+}
+
+// The run of the file, printed, in columns of document 01's ceilings: "64 sections, 4,096 symbols, 4,096 relocations, 1,024 splits, 1,024 units, 4,096 names". Where all was
+// written, the writer took the text of the answer of the file's run.
 pub fn print_run<W: Write>(out: &mut W, file: &[u8]) -> io::Result<()>
     ensures { OnOk result (Prints file.now 1024 main_room (W.contents out.old) (W.contents out.new)) }
 {
@@ -211,13 +261,6 @@ pub fn print_run<W: Write>(out: &mut W, file: &[u8]) -> io::Result<()>
     let mut ends = [0u32; 1024];
     let mut units = [0u16; 1024];
     let mut rest = [0u64; 1024];
-    let mut added_bytes = [0u8; 65535];
-    let mut added_places = [0u32; 4096];
-    let mut added_lengths = [0u8; 4096];
-    let mut out_units = [0u8; 8192];
-    let mut pieces = [0u8; 30720];
-    let mut entries = [0u8; 49152];
-    let mut offsets = [0u8; 32768];
     let mut table = SplitTable {
         starts: &mut starts,
         ends: &mut ends,
@@ -226,16 +269,7 @@ pub fn print_run<W: Write>(out: &mut W, file: &[u8]) -> io::Result<()>
         count: 0,
         room: 1024,
     };
-    let mut added = AddedNames {
-        bytes: &mut added_bytes,
-        places: &mut added_places,
-        lengths: &mut added_lengths,
-        count: 0,
-        used: 0,
-        most: 4096,
-        most_bytes: 65535,
-    };
-    print_in(
+    print_split(
         out,
         file,
         &mut places,
@@ -245,10 +279,5 @@ pub fn print_run<W: Write>(out: &mut W, file: &[u8]) -> io::Result<()>
         &mut images,
         &mut order,
         &mut table,
-        &mut added,
-        &mut out_units,
-        &mut pieces,
-        &mut entries,
-        &mut offsets,
     )
 }

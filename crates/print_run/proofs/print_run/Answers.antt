@@ -1,19 +1,7 @@
--- The lent tables have document 01's ceilings.
-use Rattle.std.specs.Prelude.{OnOk}
-use Rattle.std.proofs.Common.{rules, subst, arith}
-use Rattle.pieces.specs.declared.Counts.{Counts}
-use Rattle.print_run.specs.Printed.{Prints}
-use Rattle.run_file.proofs.Columns.{rows_long, names_stand}
-use Rattle.print_run.proofs.Ended.{room_is}
+-- The split table has document 01's ceilings.
+use Rattle.std.proofs.Common.{rules, arith}
+use Rattle.run_file.proofs.Columns.{rows_long}
 use Rattle.print_run.proofs.print_run.Goals as goal
-
-pub returns : goal.returns
-returns g c =
-    subst (λ (room : Counts). OnOk c.print_in.result (Prints c.args.file.now 1024 room (g.W.Write.contents c.args.out.now) (g.W.Write.contents c.print_in.new.out))) room_is
-    (search rules)
 
 pub invariant_of-table : goal.invariant_of-table
 invariant_of-table g c = record { long = rows_long (omega arith) (search rules) (search rules) (search rules) (search rules); fits = omega arith }
-
-pub invariant_of-added : goal.invariant_of-added
-invariant_of-added g c = record { stand = names_stand (search rules) (search rules) (search rules) }
