@@ -12,7 +12,7 @@ returns c =
     let k = a.self.now.made.pieces in
     record {
       more = ap (λ (b : List ℕ). pieces_in b (k + 1)) c.put_piece.ensures
-          ∙ pieces_more a.self.now.pieces.now k a.p (record { unit = search rules; number = search rules; section = search rules; name = search rules; address = search rules; size = search rules; alignment = search rules; offset = search rules; origin = search rules }) (omega (arith, c.requires, a.self.now.fits.pieces_long));
+          ∙ pieces_more a.self.now.pieces.now k a.p (search rules) (omega (arith, c.requires, a.self.now.fits.pieces_long));
       one = refl;
       lent = record { room = refl; pieces = refl; symbols = refl; relocs = refl };
       symbols = record { bytes = refl; made = refl };

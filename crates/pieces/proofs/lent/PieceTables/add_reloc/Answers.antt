@@ -12,7 +12,7 @@ returns c =
     let k = a.self.now.made.relocs in
     record {
       more = ap (λ (b : List ℕ). relocs_in b (k + 1)) c.put_piece_reloc.ensures
-          ∙ relocs_more a.self.now.relocs.now k a.r (record { piece = search rules; relocation = search rules; offset = search rules }) (omega (arith, c.requires, a.self.now.fits.relocs_long));
+          ∙ relocs_more a.self.now.relocs.now k a.r (search rules) (omega (arith, c.requires, a.self.now.fits.relocs_long));
       one = refl;
       lent = record { room = refl; pieces = refl; symbols = refl; relocs = refl };
       pieces = record { bytes = refl; made = refl };

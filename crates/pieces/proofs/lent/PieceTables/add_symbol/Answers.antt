@@ -12,7 +12,7 @@ returns c =
     let k = a.self.now.made.symbols in
     record {
       more = ap (λ (b : List ℕ). symbols_in b (k + 1)) c.put_piece_symbol.ensures
-          ∙ symbols_more a.self.now.symbols.now k a.y (record { unit = search rules; piece = search rules; symbol = search rules; flags = search rules; address = search rules }) (omega (arith, c.requires, a.self.now.fits.symbols_long));
+          ∙ symbols_more a.self.now.symbols.now k a.y (search rules) (omega (arith, c.requires, a.self.now.fits.symbols_long));
       one = refl;
       lent = record { room = refl; pieces = refl; symbols = refl; relocs = refl };
       pieces = record { bytes = refl; made = refl };
