@@ -1,11 +1,10 @@
 -- What the lent tables mean: the records of the walk's tables, and all tables together as those of a run.
-use Rattle.std.specs.Prelude.{ℕ, ◌*◌, ◌<◌, List}
+use Rattle.std.specs.Prelude.{ℕ, ◌*◌, List}
 use Rattle.names.specs.declared.Names.{Names}
 use Rattle.names.specs.Append.{Columns}
 use Rattle.obj.specs.declared.Table.{Table}
 use Rattle.obj.specs.declared.Symbol.{Symbol}
 use Rattle.obj.specs.declared.Reloc.{Reloc}
-use Rattle.obj.specs.Records.{Held}
 use Rattle.symbol_order.specs.Order as order
 use Rattle.relocs.specs.Relocs as relocs
 use Rattle.pieces.specs.declared.Piece.{Piece}
@@ -44,10 +43,6 @@ symbol_of symbols = order.symbol_of symbols.bytes.now symbols.places.now
 
 abbrev pub reloc_of : Table → ℕ → Reloc
 reloc_of image = relocs.reloc_of image.bytes.now image.places.now
-
--- the image's symbol of each listed one can be read
-abbrev pub SymbolsHeld : Table → PieceLists → Type 0
-SymbolsHeld symbols l = (k : ℕ) → k < l.made.symbols → Held 20 symbols.bytes.now symbols.places.now (symbol_on l k).symbol
 
 abbrev pub columns_of : Names → Columns
 columns_of names = record { bytes = names.bytes.now; places = names.places.now; lengths = names.lengths.now }
