@@ -20,6 +20,7 @@ fn show_word(rt: &impl Print, word: u64) -> io::Result<()> {
     println!(rt; "{number} {section} {address}")
 }
 
+// A call of the entry, whose two outputs are slices of their own.
 fn toposort(
     rt: &impl Print,
     nodes: u32,

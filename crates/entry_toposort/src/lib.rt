@@ -83,7 +83,7 @@ fn check_tables(nodes: u32, edges: &[u8]) -> Result<(), Refusal>
     Ok(())
 }
 
-// The outputs once the nodes stand at the front of the node table: zeros after them, and their number.
+// The two outputs, as C lends them, once the nodes stand at the front of the node table: zeros after them, and their number.
 fn leave(kept: usize, out: &mut [u8], counts: &mut [u8])
     requires { kept ≤ 1024 }
     ensures { (out.new ≡ clear_from 0 (2 * kept) out.old) × (counts.new ≡ store_count 0 kept (clear_from 0 0 counts.old)) }

@@ -38,7 +38,7 @@ pub fn get64(s: &[u8], at: usize) -> u64
     ])
 }
 
-// Stores v as 2 bytes at `at`.
+// Stores v as 2 bytes at `at`: the bytes, a place in them and a number, as `copy_from_slice` and the like take them; no struct of the three would be kept.
 pub fn put16(b: &mut [u8], at: usize, v: u16)
     requires { at + 2 ≤ length b.old }
     ensures { b.new ≡ sets b.old at (enc16 v) }

@@ -1,5 +1,6 @@
 // Putting an image back: document 02, (e). The pieces are laid over zeros, each in its place among the sections' bytes, and then each is compared with what lies
-// there: that finds 83 in time proportional to the bytes.
+// there: that finds 83 in time proportional to the bytes. What other crates call takes the sections, the records and their number as they have them, and asks that the
+// records are whole; `WholePieces` is what is known once 82 is passed.
 #![tactic(auto)]
 
 mod whole_pieces;

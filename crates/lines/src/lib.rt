@@ -1,5 +1,6 @@
 // The lines of the listing, each written into a small lent buffer: no buffer holds the whole listing.
-// Where a field ends, and that there is room for it, follows from the lengths of the texts before it.
+// Where a field ends, and that there is room for it, follows from the lengths of the texts before it. Each line says that its buffer has 208 bytes and its name no more than
+// 128: that is all that is asked of either, so a struct of one slice would be no plainer.
 #![tactic(auto, using(crate::proofs::Puts::fields), unfolding(names::specs::Fixed::codes))]
 
 mod numbers;

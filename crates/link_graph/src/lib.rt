@@ -33,7 +33,7 @@ pub fn blank(column: &mut [u16])
     column.fill(NONE);
 }
 
-// "Units count by first split."
+// "Units count by first split." The column has a place for each name and `nodes` one for each unit, so they are no columns of one table.
 fn count_units(us: &[u16], column: &mut [u16], nodes: &mut [u16]) -> usize
     requires { Countable us.now column.old nodes.old }
     ensures { Counted us.now column.new nodes.new result }

@@ -464,7 +464,8 @@ fn clear_floors(places: &mut [u32])
     places[FLOORS..].fill(0);
 }
 
-// Loads the file: how many records of each kind it has, and in the columns where they are.
+// Loads the file: how many records of each kind it has, and in the columns where they are. The columns come as each caller has them, with lengths of their own: they are one
+// struct from here on.
 pub fn load_file(
     file: &[u8],
     c: Ceilings,

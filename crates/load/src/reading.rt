@@ -27,7 +27,8 @@ pub struct Payload<'f, 'p, 'l, 'h, 'c> {
     pub ghost inside: { at + len ≤ length before.file.now },
 }
 
-// The columns that hold what is loaded: the places of all records, the lengths of the names, and the index of the names.
+// The columns that hold what is loaded: the places of all records, the lengths of the names, and the index of the names. What they hold (`ReadyIn`) is no ghost field: it
+// is of the file, the ceilings and the counts beside them, and does not hold between the writes that keep a record.
 #[derive(Drop)]
 pub struct Columns<'p, 'l, 'h, 'c> {
     pub places: &'p mut [u32],

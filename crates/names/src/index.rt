@@ -32,7 +32,8 @@ fn is_name(names: &Names, k: usize, x: &[u8]) -> bool
     same(x, name_at(names, k))
 }
 
-// The number of the name x among the n names, if it is one of them: along the chain of its bucket, from the last name to the first.
+// The number of the name x among the n names, if it is one of them: along the chain of its bucket, from the last name to the first. While a table is read, its columns
+// are longer than n.
 pub fn find(names: &Names, n: usize, index: &NameIndex, x: &[u8]) -> Option<usize>
     requires { Named names.now.bytes.now names.now.places.now names.now.lengths.now n × Indexed (names_of names.now.bytes.now names.now.places.now names.now.lengths.now n) index.now.heads.now index.now.chain.now }
     ensures { Sought (names_of names.now.bytes.now names.now.places.now names.now.lengths.now n) x.now result }
@@ -49,7 +50,8 @@ pub fn find(names: &Names, n: usize, index: &NameIndex, x: &[u8]) -> Option<usiz
     None
 }
 
-// Enters name k into its bucket, before the last name that was entered there.
+// Enters name k into its bucket, before the last name that was entered there. `heads` has a place for each bucket and `chain` one for each name, so they are no columns of
+// one table.
 pub fn enter(heads: &mut [u16], chain: &mut [u16], bucket: usize, k: usize)
     requires { (bucket < length heads.old) × (k < length chain.old) × (k < 65535) }
     ensures { (heads.new ≡ set heads.old bucket (k + 1))

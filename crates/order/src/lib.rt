@@ -92,7 +92,7 @@ fn room_of(size: usize) -> usize
     1024
 }
 
-// The sort of the graph, in the lent `table`; the records of the nodes that it leaves are written to the front of `out`.
+// The sort of the graph, in the lent `table`, which is for the work; the records of the nodes that it leaves are written to the front of `out`.
 fn sort_graph(
     tables: &LinkTables,
     graph: &mut LinkGraph,
@@ -117,7 +117,8 @@ fn sort_graph(
     linked(r)
 }
 
-// The stage: 60, then the graph and its sort. `numbers`, `scratch` and `graph` are for the work, and what they hold at first is of no matter.
+// The stage: 60, then the graph and its sort. `numbers`, `scratch` and `graph` are for the work, and what they hold at first is of no matter; each is for a thing of its own,
+// so they are no columns of one table.
 pub fn resolve_link_order(
     tables: &LinkTables,
     numbers: &mut [u16],

@@ -113,7 +113,7 @@ fn write_units(unit_table: &Table, column: &[u16], nodes: &[u16], list: &[u16], 
     }
 }
 
-// The same, with the column filled first; what it holds at first is of no matter.
+// The same, with the column filled first; what it holds at first is of no matter. It has a place for each name, and `out` the records.
 pub fn write_records(
     tables: &LinkTables,
     column: &mut [u16],

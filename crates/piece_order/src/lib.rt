@@ -15,7 +15,7 @@ use piece_records::{head_at, next_at};
 use symbol_order::{By, sort};
 use tables::fill_places;
 
-// Where each of the n pieces starts.
+// Where each of the n pieces starts, at the front of a column that may have room for more.
 pub fn fill_starts(b: &[u8], n: usize, starts: &mut [usize])
     requires { Whole n b.now 0 × (n ≤ length starts.old) }
     ensures { take n starts.new ≡ starts_at n b.now 0 }

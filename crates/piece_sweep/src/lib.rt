@@ -1,4 +1,5 @@
-// 83 where no bytes are lent to lay pieces on: the pieces by section and address, each compared with the one before it that reaches farthest. Document 02, (n).
+// 83 where no bytes are lent to lay pieces on: the pieces by section and address, each compared with the one before it that reaches farthest. Document 02, (n). A
+// piece is the bytes and the place where its record lies whole; a struct of the two would be made anew for each comparison.
 #![tactic(auto)]
 
 ghost use Rattle.std.specs.Prelude.{◌≡◌, map, ◌≤◌, ◌<◌, length, get_or};

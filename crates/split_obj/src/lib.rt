@@ -71,7 +71,8 @@ fn section_end(obj: &Obj, image: &Table, n: usize) -> Result<u32, Short>
     end_for_section(&obj.symbols, obj.order, &obj.names, n as u16, head, bytes)
 }
 
-// The walk of the sections first..last, behind what is made already. What is carried from one section to the next is the output.
+// The walk of the sections first..last, behind what is made already. What is carried from one section to the next is the output. `scratch` and `part` are columns to work
+// in, of other lengths and for other things. The function is longer than others since its three loops are to stand in one.
 pub fn walk_sections(
     scratch: &mut [u16],
     part: &mut [u16],

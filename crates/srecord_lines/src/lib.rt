@@ -11,7 +11,7 @@ ghost use Rattle.srecord_lines.specs.Leaves.{line_head, line_tail, Sum};
 use names::put_hexes;
 use obj::Section;
 
-// The sum of the bytes.
+// The sum of the bytes: at most 250, as each function says that the data of a line goes through; a struct of the one slice would be no plainer.
 fn sum_of(bytes: &[u8]) -> u32
     requires { length bytes.now ≤ 250 }
     ensures { Sum bytes.now 64000 result }

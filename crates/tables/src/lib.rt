@@ -55,7 +55,7 @@ pub fn table_size(size: usize, width: usize, ceiling: usize) -> Result<(), Refus
     Ok(())
 }
 
-// The places of a stage table's n records.
+// The places of a stage table's n records, at the front of a column that may have room for more.
 pub fn fill_places(places: &mut [u32], width: usize, n: usize)
     requires { (n ≤ length places.old) × (width * n ≤ 4294967295) }
     ensures { take n places.new ≡ stage_places width n }
@@ -103,6 +103,9 @@ fn number_at(column: &[u32], k: usize) -> u32
     }
     0
 }
+
+// The faults below are asked of a table and a number k, as their definitions are, and each says that the records are held and that there is a k: `Table` is every table of
+// records, of any width, so it has no such fact of its own, and a struct of a table and a number would be made anew for each record.
 
 // Record k is refused with this number if the test holds.
 #[tactic(auto, unfolding(lists::specs::Outcome::refuse))]

@@ -20,7 +20,7 @@ use srecord_text::write_section;
 
 // ---- 87
 
-// Section k's head.
+// Section k's head. That there is a section k is asked wherever one is named, as an index's bound is.
 fn head_of(sections: &[u8], k: usize) -> Section
     requires { k < length sections.now / 15 }
     ensures { result ≡ get_or (stage_sections sections.now) k nowhere }
