@@ -33,7 +33,8 @@ fn is_name(names: &Names, k: usize, x: &[u8]) -> bool
 }
 
 // The number of the name x among the n names, if it is one of them: along the chain of its bucket, from the last name to the first. While a table is read, its columns
-// are longer than n.
+// are longer than n. Inlined: handed to a call by reference, the structs of slices would have to lie in memory at each caller.
+#[inline(always)]
 pub fn find(names: &Names, n: usize, index: &NameIndex, x: &[u8]) -> Option<usize>
     requires { Named names.now.bytes.now names.now.places.now names.now.lengths.now n × Indexed (names_of names.now.bytes.now names.now.places.now names.now.lengths.now n) index.now.heads.now index.now.chain.now }
     ensures { Sought (names_of names.now.bytes.now names.now.places.now names.now.lengths.now n) x.now result }
