@@ -36,6 +36,25 @@ unfolding some spells_one
 spelled_one [] name = refl
 spelled_one (text ∷ texts) name = ap₂ ◌||◌ (spelled text name) (spelled_one texts name)
 
+-- code that asks `same` of each text after the first, and joins the answers to the first's
+unfoldable pub any_same : Bool → List String → List ℕ → Bool
+any_same t [] name = t
+any_same t (text ∷ texts) name = any_same (t || same_name name (codes text)) texts name
+
+any_same_is : (t : Bool) (texts : List String) (name : List ℕ) → any_same t texts name ≡ (t || spells_one texts name)
+unfolding any_same spells_one
+any_same_is true [] name = refl
+any_same_is false [] name = refl
+any_same_is true (text ∷ texts) name = any_same_is true texts name
+any_same_is false (text ∷ texts) name =
+    any_same_is (same_name name (codes text)) texts name ∙ ap (λ (s : Bool). s || spells_one texts name) (spelled text name)
+
+pub spelled_after : (text : String) (texts : List String) (name : List ℕ)
+    → any_same (same_name name (codes text)) texts name ≡ spells_one (text ∷ texts) name
+unfolding spells_one
+spelled_after text texts name =
+    any_same_is (same_name name (codes text)) texts name ∙ ap (λ (s : Bool). s || spells_one texts name) (spelled text name)
+
 -- ---- by length
 
 -- a name spells no text of another length
