@@ -156,7 +156,8 @@ fn larger_of(least: u32, highest: u32) -> Alignment
     Alignment::Default(least)
 }
 
-// "Alignment of a split": `own` is the given one, 0 if there is none, and `least` the default.
+// "Alignment of a split": `own` is the given one, 0 if there is none, and `least` the default. Inlined, so that a given one costs no call.
+#[inline(always)]
 pub fn alignment_of(
     table: &Table,
     order: &[u16],
@@ -186,11 +187,16 @@ fn default_of(names: &Names, heads: &Table, k: usize) -> u32
     default_alignment(head, name_at(names, name))
 }
 
-// "Alignment of a split", of a split of a stage's table; the range is asked from `start` on.
+// "Alignment of a split", of a split of a stage's table; the range is asked from `start` on. Inlined for the same reason.
+#[inline(always)]
 pub fn split_alignment(obj: &Obj, s: Split, start: u32) -> Result<Alignment, Backwards>
     requires { TablesIn obj.now × Heads obj.now.heads.bytes.now obj.now.heads.places.now obj.now.names.places.now × (s.section < length obj.now.heads.places.now) }
     ensures { alignment_meaning s.section start result ≡ alignment_from (image_in obj.now) (head_of obj.now.heads.bytes.now obj.now.heads.places.now) start s }
 {
+    // "The given one": the section's name need not be looked at
+    if s.alignment != 0 {
+        return Ok(Alignment::Given(s.alignment));
+    }
     let least = default_of(&obj.names, &obj.heads, usize::from(s.section));
     alignment_of(
         &obj.symbols,

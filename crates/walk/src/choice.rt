@@ -56,6 +56,10 @@ fn alignment_at(obj: &Obj, n: usize, s: Split, start: u32) -> Result<u32, Backwa
         (alignment_in (image_in obj.now) (head_of obj.now.heads.bytes.now obj.now.heads.places.now n) n start s)
         n start result }
 {
+    // "The given one": the section's name need not be looked at
+    if s.alignment != 0 {
+        return Ok(s.alignment);
+    }
     let head = section_at(&obj.heads, n);
     let k = head.name as usize;
     let least = default_alignment(head, name_at(&obj.names, k));

@@ -1,10 +1,15 @@
--- `sections::split_alignment` meets its contract: the alignment, with the default of the split's section.
+-- `sections::split_alignment` meets its contract: the given one, else the alignment with the default of the split's section.
 use mathlib.Core.Path.{ap, ◌∙◌}
 use Prim.Native.Nat.{ℕ}
 use lib.ListN.{length}
 use Rattle.symbol_order.specs.Order.{symbol_of}
 use Rattle.sections.specs.Alignment.{alignment_of, alignment_from}
+use Rattle.sections.proofs.Larger.{its_own}
 use Rattle.sections.proofs.split_alignment.Goals as goal
+
+pub returns-then-s-ne0 : goal.returns-then-s-ne0
+unfolding alignment_from
+returns-then-s-ne0 c = its_own _ _ _ _ _ _ _ c.if-s-ne0.true
 
 pub returns : goal.returns
 unfolding alignment_from
