@@ -18,7 +18,9 @@ GivesIn o a before after = Gives o a (length before.splits.now) (length before.c
 abbrev pub LeavesIn : Outcome (List Split) → (answer : ℕ) → (before after : SplitOutput) → Type 0
 LeavesIn o answer before after = Leaves o (length before.splits.now) (length before.counts.now) answer after.splits.now after.counts.now
 
--- the same outputs are lent
+-- the same outputs are lent, of the same lengths
 pub record SameLent (before after : SplitOutput) : Type 0 where
   pub splits : after.splits.ghost_name ≡ before.splits.ghost_name
   pub counts : after.counts.ghost_name ≡ before.counts.ghost_name
+  pub size : length after.splits.now ≡ length before.splits.now
+  pub counts_size : length after.counts.now ≡ length before.counts.now
