@@ -1,12 +1,11 @@
 -- What tables that passed leave to the trim: symbols, sections and rows as its core requires them, and lines of the definition over the columns that are those
 -- over the lent tables. Assumes nothing.
 use Prim.Native.Nat.{ℕ, ◌/◌, ◌≤◌, ◌<◌}
-use mathlib.Core.Path.{◌≡◌, sym, ap, ap₂, ◌∙◌}
+use mathlib.Core.Path.{◌≡◌, sym, ap, ◌∙◌}
 use mathlib.Core.List.{List}
 use native.Mathlib.Nat.{zero-add}
 use native.Mathlib.Omega.{arith}
 use lib.ListN.{length, get_or, take, length-map}
-use lib.Seq.{get_or-take, length-take-le}
 use Rattle.lists.specs.Outcome.{Outcome, accepted, ◌>>◌}
 use Rattle.lists.proofs.Rows.{get_d_tabulate, length-tabulate}
 use Rattle.obj.specs.Answers.{meaning}
@@ -19,7 +18,9 @@ use Rattle.obj.proofs.Laws.{length-stage_places}
 use Rattle.tables.specs.Tables.{records_check}
 use Rattle.tables.specs.Records.{sections_in, image_places_of, split_fault, no_split}
 use Rattle.tables.proofs.Laws.{splits_section, splits_partials, partials_end}
-use Rattle.name_table.specs.Stored.{stage_lengths, name_starts, Stored}
+use Rattle.name_table.specs.NameTable.{stage_names}
+use Rattle.name_table.specs.Stored.{stage_lengths, name_lengths, name_starts}
+use Rattle.name_table.proofs.Laws.{length-stage_names}
 use Rattle.stage_tables.specs.StageTables.{stage_sections, stage_splits, image_check, symbols_check, splits_check}
 use Rattle.stage_tables.proofs.Laws.{table_passed}
 use Rattle.symbol_order.specs.Order.{symbol_of}
@@ -31,11 +32,11 @@ use Rattle.stage_symbols.specs.StageSymbols.{answered, Ordered}
 use Rattle.obj.specs.declared.Refusal.{Refusal}
 use Rattle.stage_symbols.proofs.Laws.{symbols_sound}
 use Rattle.stage_splits.specs.StageSplits.{room_of, Laid, Gives}
-use Rattle.stage_splits.proofs.Laws.{gives_refused, gives_laid, gives_said}
+use Rattle.stage_splits.proofs.Laws.{gives_refused, gives_laid, gives_said, gives_as, gives_goes}
 use Rattle.trim.specs.Trim.{trimmed}
 use Rattle.trim.specs.Steps.{seen, AllPlaced}
 use Rattle.trim.proofs.Alike.{trim_alike}
-use Rattle.entry_trim_splits.specs.Entry.{from_splits, from_symbols, from_sections, Names}
+use Rattle.entry_trim_splits.specs.Entry.{from_splits, from_symbols, from_sections}
 
 -- ---- the stage's answer
 module _ {size counts_size : ℕ} {out counts : List ℕ} (a : Answer) (o : Outcome (List Split)) (l : List Split) (q : seen a l ≡ o) where
@@ -44,6 +45,14 @@ module _ {size counts_size : ℕ} {out counts : List ℕ} (a : Answer) (o : Outc
 
   pub seen-laid : a ≡ Ok tt → Laid l size counts_size out counts → Gives o a size counts_size out counts
   seen-laid e w = gives_said o (sym e) (gives_laid (sym (ap (λ (x : Answer). seen x l) e) ∙ q) w)
+
+-- ---- splits that passed are trimmed
+pub trim_goes : (lengths : List ℕ) (heads : List Section) (g : Image) (sections : Sections) (splits : List ℕ) (size : ℕ) {room : ℕ} {rows : List Split} {answer : Answer}
+    {out_size counts_size : ℕ} {out counts : List ℕ} → room ≡ room_of size → splits_check room lengths heads splits ≡ accepted tt → rows ≡ stage_splits splits
+    → Gives (trimmed g sections rows) answer out_size counts_size out counts → Gives (from_splits lengths heads g sections splits size) answer out_size counts_size out counts
+unfolding from_splits
+trim_goes lengths heads g sections splits size fits passed taken w =
+    gives_goes (sym (ap (λ (k : ℕ). splits_check k lengths heads splits) fits) ∙ passed) (gives_as (ap (trimmed g sections) taken) w)
 
 -- ---- splits that passed: each has a section, and ends at or below 0xF0000000
 pub rows-placed : (ceiling : ℕ) (lengths : List ℕ) (heads : List Section) (b : List ℕ) (c : Columns) (held : ℕ) → splits_check ceiling lengths heads b ≡ accepted tt
@@ -110,42 +119,20 @@ sections_as name_bytes name_places name_lengths b image head_places I places sym
     (trim_alike (image_of symbols (stage_places 20 (length symbols / 20)) name_bytes name_places name_lengths) b (stage_places 15 (length b / 15)) image I (image_places_of places)
     (λ n h. same n (rw length-stage_places at h)) (stage_splits splits))
 
--- ---- names that passed stand at the fronts of their columns
-module _ (ends bytes places lengths heads chain : List ℕ) (stored : Stored ends bytes places lengths heads chain (length ends / 2)) where
-  places_count : length (take (length ends / 2) places) ≡ length ends / 2
-  places_count = length-take-le _ _ stored.named.placed
-
-  lengths_count : length (take (length ends / 2) lengths) ≡ length ends / 2
-  lengths_count = length-take-le _ _ stored.named.measured
-
-  pub names-taken : Names bytes (take (length ends / 2) places) (take (length ends / 2) lengths)
-  names-taken =
-      record {
-        named = record {
-          placed = omega arith;
-          measured = rw (places_count, lengths_count) (omega arith);
-          inside = λ k h. let q : k < length ends / 2 = rw places_count at h in rw (get_or-take _ places k 0 q, get_or-take _ lengths k 0 q) (stored.named.inside k q);
-        };
-        paired = lengths_count ∙ sym places_count;
-      }
-
-  -- the sections are asked with them
-  pub names_as : (sections section_places image symbols splits : List ℕ) (size : ℕ)
-      → from_sections bytes (take (length ends / 2) places) (take (length ends / 2) lengths) sections section_places image symbols splits size
-      ≡ (image_check 64 (stage_lengths ends bytes) section_places (length image) sections
-      >> (symbols_check 4096 (length ends / 2) (stage_sections sections) symbols
-      >> (splits_check (room_of size) (stage_lengths ends bytes) (stage_sections sections) splits
-      >> trimmed (image_of symbols (stage_places 20 (length symbols / 20)) bytes (name_starts ends (length ends / 2)) (stage_lengths ends bytes))
-      (sections_of sections (stage_places 15 (length sections / 15)) image (image_places_of section_places)) (stage_splits splits))))
-  unfolding from_sections from_symbols from_splits
-  names_as sections section_places image symbols splits size =
-      ap (λ (n : ℕ). lines n (take (length ends / 2) places) (take (length ends / 2) lengths)) lengths_count
-      ∙ ap₂ (lines (length ends / 2)) stored.starts stored.sizes
-    where
-      lines : (count : ℕ) → (starts sizes : List ℕ) → Outcome (List Split)
-      lines count starts sizes =
-          image_check 64 sizes section_places (length image) sections
-          >> (symbols_check 4096 count (stage_sections sections) symbols
-          >> (splits_check (room_of size) sizes (stage_sections sections) splits
-          >> trimmed (image_of symbols (stage_places 20 (length symbols / 20)) bytes starts sizes)
-          (sections_of sections (stage_places 15 (length sections / 15)) image (image_places_of section_places)) (stage_splits splits)))
+-- ---- names that passed: the sections are asked with them
+pub names_as : (ends bytes sections section_places image symbols splits : List ℕ) (size : ℕ)
+    → from_sections bytes (name_starts ends (length ends / 2)) (stage_lengths ends bytes) sections section_places image symbols splits size
+    ≡ (image_check 64 (stage_lengths ends bytes) section_places (length image) sections
+    >> (symbols_check 4096 (length ends / 2) (stage_sections sections) symbols
+    >> (splits_check (room_of size) (stage_lengths ends bytes) (stage_sections sections) splits
+    >> trimmed (image_of symbols (stage_places 20 (length symbols / 20)) bytes (name_starts ends (length ends / 2)) (stage_lengths ends bytes))
+    (sections_of sections (stage_places 15 (length sections / 15)) image (image_places_of section_places)) (stage_splits splits))))
+unfolding from_sections from_symbols from_splits name_lengths
+names_as ends bytes sections section_places image symbols splits size =
+    ap (λ (n : ℕ).
+    image_check 64 (stage_lengths ends bytes) section_places (length image) sections
+    >> (symbols_check 4096 n (stage_sections sections) symbols
+    >> (splits_check (room_of size) (stage_lengths ends bytes) (stage_sections sections) splits
+    >> trimmed (image_of symbols (stage_places 20 (length symbols / 20)) bytes (name_starts ends (length ends / 2)) (stage_lengths ends bytes))
+    (sections_of sections (stage_places 15 (length sections / 15)) image (image_places_of section_places)) (stage_splits splits))))
+    (length-map (stage_names ends bytes (length ends / 2)) length ∙ length-stage_names ends bytes (length ends / 2))

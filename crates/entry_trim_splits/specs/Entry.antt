@@ -1,19 +1,18 @@
 -- The entry `trim_splits` on its lent bytes: what it answers for every input, and the splits that it gives back. "stage tables by kind .., each for 1, 2,
 -- then its kind's number", then the trim (trim/specs/Trim.antt). The contract is `Leaves` of stage_splits at this outcome: the word, every byte of the
 -- output, and the count.
-use Rattle.std.specs.Prelude.{ℕ, ◌/◌, ◌≡◌, List, length}
+use Rattle.std.specs.Prelude.{ℕ, ◌/◌, List, length}
 use Rattle.lists.specs.Outcome.{Outcome, ◌>>◌}
 use Rattle.obj.specs.Records.{stage_places}
 use Rattle.obj.specs.declared.Section.{Section}
 use Rattle.obj.specs.declared.Split.{Split}
-use Rattle.names.specs.Names.{Named}
-use Rattle.tables.specs.Tables.{main_ceilings, AllHeld}
+use Rattle.tables.specs.Tables.{main_ceilings}
 use Rattle.tables.specs.Records.{image_places_of}
 use Rattle.name_table.specs.NameTable.{names_check}
 use Rattle.name_table.specs.Stored.{stage_lengths, name_starts}
 use Rattle.stage_tables.specs.StageTables.{stage_sections, stage_splits, image_check, symbols_check, splits_check}
 use Rattle.sections.specs.Image.{Image, image_of}
-use Rattle.sections.specs.Sections.{Sections, sections_of, Kept}
+use Rattle.sections.specs.Sections.{Sections, sections_of}
 use Rattle.stage_splits.specs.StageSplits.{room_of}
 use Rattle.trim.specs.Trim.{trimmed}
 
@@ -53,19 +52,3 @@ from_sections name_bytes name_places name_lengths sections places image symbols 
   image_check main_ceilings.sections name_lengths places (length image) sections
   from_symbols name_bytes name_places name_lengths (stage_sections sections)
       (sections_of sections (stage_places 15 (length sections / 15)) image (image_places_of places)) symbols splits size
-
--- the names are in columns of one length
-pub record Names (name_bytes name_places name_lengths : List ℕ) : Type 0 where
-  pub named : Named name_bytes name_places name_lengths (length name_places)
-  pub paired : length name_lengths ≡ length name_places
-
--- the sections that passed
-pub record Headed (heads head_places image image_places name_places : List ℕ) : Type 0 where
-  pub all : AllHeld 15 heads head_places
-  pub kept : Kept heads head_places image image_places name_places
-
--- the table has room for the splits that an output of `size` bytes allows, and the lent columns for a place and a number of each
-pub record Scratch (size room : ℕ) (places falls : List ℕ) : Type 0 where
-  pub allowed : room ≡ room_of size
-  pub places_long : length places ≡ 1024
-  pub falls_long : length falls ≡ 1024

@@ -13,42 +13,42 @@ use Rattle.entry_trim_splits.specs.Entry.{from_sections}
 use Rattle.entry_trim_splits.proofs.Laws.{sections_as}
 use Rattle.entry_trim_splits.proofs.from_sections.Goals as goal
 
-pub returns-in_err-take_image : goal.returns-in_err-take_image
+pub returns-in_err-take_image-clause-gives : goal.returns-in_err-take_image-clause-gives
 unfolding from_sections
-returns-in_err-take_image c =
+returns-in_err-take_image-clause-gives c =
     rw (same_err c.from_residual.result c.take_image.result c.from_residual.ensures.1 c.in_err-take_image.was)
     (gives_stops _ c.take_image.ensures.said (ap meaning c.in_err-take_image.was))
 
-pub slice_bounds-with_symbols-end : goal.slice_bounds-with_symbols-end
-slice_bounds-with_symbols-end c =
+pub slice_bounds-heads-end : goal.slice_bounds-heads-end
+slice_bounds-heads-end c =
     let t = c.take_image in
     let n = taken_few 15 64 c.args.lent.now.sections.now _ _ t.ensures (ap meaning c.in_ok-take_image.was) in
-    omega (arith, n, t.auto.places, c.requires.1)
+    omega (arith, n, t.auto.places)
 
-pub slice_bounds-with_symbols-end-2 : goal.slice_bounds-with_symbols-end-2
-slice_bounds-with_symbols-end-2 c = sym (taken-count 15 64 c.args.lent.now.sections.now _ _ c.take_image.ensures (ap meaning c.in_ok-take_image.was))
+pub slice_bounds-from_symbols-end : goal.slice_bounds-from_symbols-end
+slice_bounds-from_symbols-end c = sym (taken-count 15 64 c.args.lent.now.sections.now _ _ c.take_image.ensures (ap meaning c.in_ok-take_image.was))
 
-pub slice_bounds-with_symbols-end-4 : goal.slice_bounds-with_symbols-end-4
-slice_bounds-with_symbols-end-4 c = sym (length-take-le _ _ c.take_image_places-p.ensures.inside)
+pub slice_bounds-from_symbols-end-2 : goal.slice_bounds-from_symbols-end-2
+slice_bounds-from_symbols-end-2 c = sym (length-take-le _ _ c.take_image_places-p.ensures.inside)
 
-pub with_symbols-requires : goal.with_symbols-requires
-with_symbols-requires c =
+pub from_symbols-requires : goal.from_symbols-requires
+from_symbols-requires c =
     let t = c.take_image in
     let p = c.take_image_places-p in
     let a = c.args in
     let e = ap meaning c.in_ok-take_image.was in (
-      c.requires.0,
+      c.requires,
       record {
         all = taken-held 15 64 a.lent.now.sections.now _ _ t.ensures e (omega arith);
         kept =
             sections_kept 64 a.names.now.lengths.now a.lent.now.section_places.now a.lent.now.image.now a.lent.now.sections.now (sym t.ensures.said ∙ e) (omega arith) _ _ _ _
-            (taken_places 15 64 a.lent.now.sections.now _ _ t.ensures e) c.requires.0.paired p.ensures (p.auto.column ∙ c.requires.2);
+            (taken_places 15 64 a.lent.now.sections.now _ _ t.ensures e) c.requires.paired p.ensures p.auto.column;
       },
     )
 
-pub returns : goal.returns
+pub returns-clause-gives : goal.returns-clause-gives
 unfolding from_sections
-returns c =
+returns-clause-gives c =
     let t = c.take_image in
     let p = c.take_image_places-p in
     let a = c.args in
@@ -56,9 +56,9 @@ returns c =
     let passed = sym t.ensures.said ∙ e in
     gives_goes passed
     (gives_as
-    (sections_as a.names.now.bytes.now a.names.now.places.now a.names.now.lengths.now a.lent.now.sections.now a.lent.now.image.now _ _ a.lent.now.section_places.now a.lent.now.symbols.now a.lent.now.splits.now (length a.out.now)
+    (sections_as a.names.now.bytes.now a.names.now.places.now a.names.now.lengths.now a.lent.now.sections.now a.lent.now.image.now _ _ a.lent.now.section_places.now a.lent.now.symbols.now a.lent.now.splits.now (length a.output.now.splits.now)
     (taken_places 15 64 a.lent.now.sections.now _ _ t.ensures e)
     (λ n h.
     place_is 64 a.names.now.lengths.now a.lent.now.section_places.now a.lent.now.image.now a.lent.now.sections.now passed _ _ p.ensures n
-    (omega (arith, h, taken_few 15 64 a.lent.now.sections.now _ _ t.ensures e, p.auto.column, c.requires.2))))
-    c.with_symbols.ensures)
+    (omega (arith, h, taken_few 15 64 a.lent.now.sections.now _ _ t.ensures e, p.auto.column))))
+    c.from_symbols.ensures.gives)

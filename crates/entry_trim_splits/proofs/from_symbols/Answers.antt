@@ -14,64 +14,52 @@ use Rattle.entry_trim_splits.specs.Entry.{from_symbols}
 use Rattle.entry_trim_splits.proofs.Laws.{symbols_passed, symbols_few, sound_taken, symbols_as}
 use Rattle.entry_trim_splits.proofs.from_symbols.Goals as goal
 
-pub returns-in_err-ordered : goal.returns-in_err-ordered
+pub returns-in_err-ordered-clause-gives : goal.returns-in_err-ordered-clause-gives
 unfolding from_symbols
-returns-in_err-ordered c =
+returns-in_err-ordered-clause-gives c =
     let p = err_from_is_err_and c.from_residual.result c.from_residual.ensures.1 in
     rw (p.1, p.2) (gives_stops _ c.in_err-ordered.ensures.said refl)
 
-pub slice_bounds-with_splits-end : goal.slice_bounds-with_splits-end
-slice_bounds-with_splits-end c =
-    let a = c.args in
-    let t = c.take_symbol_order in
-    let o = c.in_ok-ordered.ensures in
-    let few = symbols_few (length a.names.now.lengths.now) (sections_in a.heads.now.bytes.now a.heads.now.places.now) a.lent.now.symbols.now _ _ (Ok c.in_ok-ordered.ordered) o refl in
-    omega (arith, few, t.auto.places, c.requires.2.places_long)
+pub slice_bounds-places-end : goal.slice_bounds-places-end
+slice_bounds-places-end c = omega (arith, symbols_few _ _ _ _ _ (Ok c.in_ok-ordered.ordered) c.in_ok-ordered.ensures refl, c.take_symbol_order.auto.places)
 
-pub slice_bounds-with_splits-end-2 : goal.slice_bounds-with_splits-end-2
-slice_bounds-with_splits-end-2 c =
-    let a = c.args in
-    let t = c.take_symbol_order in
-    let o = c.in_ok-ordered.ensures in
-    let few = symbols_few (length a.names.now.lengths.now) (sections_in a.heads.now.bytes.now a.heads.now.places.now) a.lent.now.symbols.now _ _ (Ok c.in_ok-ordered.ordered) o refl in
-    sym (length-take-le _ _ (omega (arith, few, t.auto.places, c.requires.2.places_long)))
+pub slice_bounds-from_splits-end : goal.slice_bounds-from_splits-end
+slice_bounds-from_splits-end c =
+    sym (length-take-le _ _ (omega (arith, symbols_few _ _ _ _ _ (Ok c.in_ok-ordered.ordered) c.in_ok-ordered.ensures refl, c.take_symbol_order.auto.places)))
 
-pub slice_bounds-with_splits-end-3 : goal.slice_bounds-with_splits-end-3
-slice_bounds-with_splits-end-3 c =
-    let a = c.args in
-    let t = c.take_symbol_order in
+pub slice_bounds-order-end : goal.slice_bounds-order-end
+slice_bounds-order-end c =
     let o = c.in_ok-ordered.ensures in
-    let few = symbols_few (length a.names.now.lengths.now) (sections_in a.heads.now.bytes.now a.heads.now.places.now) a.lent.now.symbols.now _ _ (Ok c.in_ok-ordered.ordered) o refl in
-    omega (arith, o.small, few, t.auto.order, c.requires.2.order_long)
+    omega (arith, o.small, symbols_few _ _ _ _ _ (Ok c.in_ok-ordered.ordered) o refl, c.take_symbol_order.auto.order)
 
-pub slice_bounds-with_splits-end-4 : goal.slice_bounds-with_splits-end-4
-slice_bounds-with_splits-end-4 c =
-    let a = c.args in
-    let t = c.take_symbol_order in
+pub slice_bounds-from_splits-end-2 : goal.slice_bounds-from_splits-end-2
+slice_bounds-from_splits-end-2 c =
     let o = c.in_ok-ordered.ensures in
-    let few = symbols_few (length a.names.now.lengths.now) (sections_in a.heads.now.bytes.now a.heads.now.places.now) a.lent.now.symbols.now _ _ (Ok c.in_ok-ordered.ordered) o refl in
-    sym (length-take-le _ _ (omega (arith, o.small, few, t.auto.order, c.requires.2.order_long)))
+    sym (length-take-le _ _ (omega (arith, o.small, symbols_few _ _ _ _ _ (Ok c.in_ok-ordered.ordered) o refl, c.take_symbol_order.auto.order)))
 
-pub with_splits-requires : goal.with_splits-requires
-with_splits-requires c =
-    let s = c in
-    let a = s.args in
-    let heads = sections_in a.heads.now.bytes.now a.heads.now.places.now in
+pub from_splits-requires : goal.from_splits-requires
+from_splits-requires c =
+    let a = c.args in
+    let q = c.requires in
     let o = c.in_ok-ordered.ensures in
-    let r = Ok c.in_ok-ordered.ordered in
-    let count = length a.names.now.lengths.now in (
-      tables-taken 4096 count heads a.lent.now.symbols.now (symbols_passed count heads a.lent.now.symbols.now _ _ r o refl) (omega arith) _ _ _ _ _ r o (sym s.requires.0.paired) s.requires.0.named,
-      sound_taken count heads a.lent.now.symbols.now _ _ r o refl,
-      s.requires.1,
+    let r = Ok c.in_ok-ordered.ordered in (
+      tables-taken 4096 _ _ _ (symbols_passed _ _ _ _ _ r o refl) (omega arith) _ _ _ _ _ r o (sym q.0.paired) q.0.named,
+      sound_taken _ _ _ _ _ r o refl,
+      q.1.all,
+      q.1.kept,
     )
 
-pub returns : goal.returns
+pub returns-clause-gives : goal.returns-clause-gives
 unfolding from_symbols
-returns c =
-    let a = c.args in
+returns-clause-gives c =
+    let names = c.args.names.now in
+    let heads = c.args.heads.now in
+    let image = c.args.image.now in
+    let lent = c.args.lent.now in
     let o = c.in_ok-ordered.ensures in
     gives_goes (sym o.said)
     (gives_as
-    (symbols_as (length a.names.now.lengths.now) (sections_in a.heads.now.bytes.now a.heads.now.places.now) a.lent.now.symbols.now _ _ (Ok c.in_ok-ordered.ordered) o refl
-    a.names.now.bytes.now a.names.now.places.now a.names.now.lengths.now (sections_of a.heads.now.bytes.now a.heads.now.places.now a.image.now.bytes.now a.image.now.places.now) a.lent.now.splits.now (length a.out.now))
-    c.with_splits.ensures)
+    (symbols_as (length names.lengths.now) (sections_in heads.bytes.now heads.places.now) lent.symbols.now _ _ (Ok c.in_ok-ordered.ordered) o refl
+    names.bytes.now names.places.now names.lengths.now (sections_of heads.bytes.now heads.places.now image.bytes.now image.places.now) lent.splits.now
+    (length c.args.output.now.splits.now))
+    c.from_splits.ensures.gives)
