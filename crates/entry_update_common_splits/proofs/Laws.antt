@@ -31,15 +31,15 @@ use Rattle.tables.specs.Records.{no_section}
 use Rattle.tables.proofs.Lookups.{held}
 use Rattle.tables.proofs.Laws.{sections_named}
 use Rattle.name_table.specs.NameTable.{stage_names}
-use Rattle.name_table.specs.Stored.{stage_lengths, Stored}
+use Rattle.name_table.specs.Stored.{stage_lengths, name_lengths, name_starts, Stored, Readable}
 use Rattle.name_table.proofs.Laws.{length-stage_names}
 use Rattle.stage_tables.specs.StageTables.{stage_sections, stage_splits, sections_check, splits_check, Filled}
 use Rattle.stage_tables.proofs.Laws.{table_passed, taken_few, taken_places, taken-count, taken-held}
-use Rattle.stage_splits.specs.StageSplits.{room_of, Laid, Gives, Leaves}
-use Rattle.stage_splits.proofs.Laws.{gives_as}
+use Rattle.stage_splits.specs.StageSplits.{room_of, Laid, Gives}
+use Rattle.stage_splits.proofs.Laws.{gives_as, gives_goes}
 use Rattle.common.specs.Common.{bss_sections, common_start, common_of, answered}
-use Rattle.common.specs.Sections.{bss_at, bss_in, Sections}
-use Rattle.entry_update_common_splits.specs.Entry.{stage_bss, from_splits, from_sections, Names}
+use Rattle.common.specs.Sections.{bss_at, Sections}
+use Rattle.entry_update_common_splits.specs.Entry.{stage_bss, from_splits, from_sections}
 
 -- ---- the stage's answer
 module _ {size counts_size : ℕ} {out counts : List ℕ} {a : Answer} (o : Outcome (List Split)) (l : List Split) (q : answered a l ≡ o) where
@@ -51,13 +51,14 @@ module _ {size counts_size : ℕ} {out counts : List ℕ} {a : Answer} (o : Outc
       gives_as (sym (ap (λ (x : Answer). answered x l) e) ∙ q)
       (record { answered = ap meaning e; given = λ r z. subst (λ (x : List Split). Laid x size counts_size out counts) (same_accepted z) w })
 
--- at the end, the outputs are as long as they were
-pub leaves_as : {size counts_size r : ℕ} {out counts out' counts' : List ℕ} {a : Answer} (o : Outcome (List Split)) → length out ≡ size → length counts ≡ counts_size
-    → (Gives o a (length out) (length counts) out counts → Leaves o (length out) (length counts) r out' counts')
-    → Gives o a size counts_size out counts → Leaves o size counts_size r out' counts'
-leaves_as {size} {counts_size} {r} {out} {counts} {out'} {counts'} {a} o e f k =
-    subst (λ (m : ℕ). Gives o a m counts_size out counts → Leaves o m counts_size r out' counts') e
-    (subst (λ (m : ℕ). Gives o a (length out) m out counts → Leaves o (length out) m r out' counts') f k)
+-- splits that passed are given to the stage
+pub update_goes : (lengths : List ℕ) (heads : List Section) (bss splits : List ℕ) (given : Bool) (start size : ℕ) {room : ℕ} {rows : List Split} {answer : Answer}
+    {out_size counts_size : ℕ} {out counts : List ℕ} → room ≡ room_of size → splits_check room lengths heads splits ≡ accepted tt → rows ≡ stage_splits splits
+    → Gives (common_of given start bss rows) answer out_size counts_size out counts
+    → Gives (from_splits lengths heads bss splits given start size) answer out_size counts_size out counts
+unfolding from_splits
+update_goes lengths heads bss splits given start size fits passed taken w =
+    gives_goes (sym (ap (λ (k : ℕ). splits_check k lengths heads splits) fits) ∙ passed) (gives_as (ap (common_of given start bss) taken) w)
 
 -- ---- the sections
 
@@ -70,7 +71,7 @@ within l j h = go (lt_or_ge j (length l))
     go (inr q) = absurd (let z : ⊥ = omega (arith, h, get_or-eq_default l 0 q) in z)
 
 -- sections that were accepted, with the names that they have
-pub sections_of_lem : {name_bytes name_places name_lengths : List ℕ} (b places : List ℕ) {answer : Outcome (Unit {0})} → Names name_bytes name_places name_lengths
+pub sections_of_lem : {name_bytes name_places name_lengths : List ℕ} (b places : List ℕ) {answer : Outcome (Unit {0})} → Readable name_bytes name_places name_lengths
     → Filled answer (sections_check 64 name_lengths b) 15 (length b) places → answer ≡ accepted tt
     → Sections name_bytes name_places name_lengths b (take (length b / 15) places)
 sections_of_lem {name_bytes} {name_places} {name_lengths} b places names f e = record {
@@ -88,15 +89,15 @@ sections_of_lem {name_bytes} {name_places} {name_lengths} b places names f e = r
         let at = ap (λ (l : List ℕ). (section_at b (get_or l k 0)).name) (taken_places 15 64 b places _ f e) in
         let there = ap (λ (s : Section). s.name) (get_d_map (section_at b) (stage_places 15 n) k 0 no_section (omega (arith, h, length-stage_places 15 n))) in
         let named = (sections_named name_lengths (stage_sections b) n (table_passed 15 64 b _ (sym f.said ∙ e)).2 k h).0 in
-        omega (arith, at, there, within name_lengths (get_or (stage_sections b) k no_section).name named, names.same)
+        omega (arith, at, there, within name_lengths (get_or (stage_sections b) k no_section).name named, names.paired)
 
 -- ---- the sections named `.bss`
 
 -- a name of the columns is that of the table, and empty where the table has none
 name_as : {ends bytes places lengths heads chain : List ℕ} {n : ℕ} → Stored ends bytes places lengths heads chain n → (j : ℕ)
-    → name_at bytes (take n places) (take n lengths) j ≡ get_or (stage_names ends bytes n) j []
+    → name_at bytes (name_starts ends n) (name_lengths ends bytes n) j ≡ get_or (stage_names ends bytes n) j []
 unfolding name_at
-name_as {ends} {bytes} {places} {lengths} {heads} {chain} {n} s j = go (lt_or_ge j n)
+name_as {ends} {bytes} {places} {lengths} {heads} {chain} {n} s j = rw (sym s.starts, sym s.sizes) (go (lt_or_ge j n))
   where
     go : (j < n) ⊎ (n ≤ j) → take (get_or (take n lengths) j 0) (drop (get_or (take n places) j 0) bytes) ≡ get_or (stage_names ends bytes n) j []
     go (inl h) =
@@ -107,39 +108,30 @@ name_as {ends} {bytes} {places} {lengths} {heads} {chain} {n} s j = go (lt_or_ge
         ap (λ (x : ℕ). take x (drop (get_or (take n places) j 0) bytes)) (get_or-eq_default (take n lengths) 0 (omega (arith, h, length-take-le n lengths s.named.measured)))
         ∙ sym (get_or-eq_default (stage_names ends bytes n) [] (omega (arith, h, length-stage_names ends bytes n)))
 
-pub bss_as : {ends bytes places lengths heads chain : List ℕ} (sections : List ℕ) → Stored ends bytes places lengths heads chain (length ends / 2)
-    → bss_in bytes (take (length ends / 2) places) (take (length ends / 2) lengths) sections (stage_places 15 (length sections / 15))
-    ≡ bss_sections (stage_bss ends bytes sections) (length sections / 15)
-unfolding bss_sections bss_at
-bss_as {ends} {bytes} {places} {lengths} sections s =
-    ap (λ (m : ℕ). keep_if (bss_at bytes (take n places) (take n lengths) sections at) (tabulate (λ k. k) 0 m)) (length-stage_places 15 count)
-    ∙ keep_same _ _ (tabulate (λ k. k) 0 count) (numbers_all _ 0 count (λ k _ h. one k (omega arith)))
+-- the sections are asked with the names of the table
+pub names_as : {ends bytes places lengths heads chain : List ℕ} (sections splits : List ℕ) (given : Bool) (start size : ℕ)
+    → Stored ends bytes places lengths heads chain (length ends / 2)
+    → from_sections bytes (name_starts ends (length ends / 2)) (stage_lengths ends bytes) sections splits given start size
+    ≡ (sections_check 64 (stage_lengths ends bytes) sections
+    >> (splits_check (room_of size) (stage_lengths ends bytes) (stage_sections sections) splits
+    >> common_of given start (bss_sections (stage_bss ends bytes sections) (length sections / 15)) (stage_splits splits)))
+unfolding from_sections from_splits bss_sections bss_at
+names_as {ends} {bytes} sections splits given start size s =
+    ap (λ (bss : List ℕ). sections_check 64 (stage_lengths ends bytes) sections
+    >> (splits_check (room_of size) (stage_lengths ends bytes) (stage_sections sections) splits >> common_of given start bss (stage_splits splits)))
+    (ap (λ (m : ℕ). keep_if (bss_at bytes (name_starts ends (length ends / 2)) (stage_lengths ends bytes) sections at) (tabulate (λ k. k) 0 m)) (length-stage_places 15 count)
+    ∙ keep_same _ _ (tabulate (λ k. k) 0 count) (numbers_all _ 0 count (λ k _ h. one k (omega arith))))
   where
-    n : ℕ
-    n = length ends / 2
-
     count : ℕ
     count = length sections / 15
 
     at : List ℕ
     at = stage_places 15 count
 
-    one : (k : ℕ) → k < count → bss_at bytes (take n places) (take n lengths) sections at k ≡ stage_bss ends bytes sections k
+    one : (k : ℕ) → k < count → bss_at bytes (name_starts ends (length ends / 2)) (stage_lengths ends bytes) sections at k ≡ stage_bss ends bytes sections k
     one k h =
         ap is_bss (name_as s (section_at sections (get_or at k 0)).name
-        ∙ ap (λ (x : Section). get_or (stage_names ends bytes n) x.name []) (sym (get_d_map (section_at sections) at k 0 no_section (omega (arith, h, length-stage_places 15 count)))))
-
--- the names in the columns are those of the table
-pub names_as : {ends bytes places lengths heads chain : List ℕ} (sections splits : List ℕ) (given : Bool) (start size : ℕ)
-    → Stored ends bytes places lengths heads chain (length ends / 2)
-    → from_sections bytes (take (length ends / 2) places) (take (length ends / 2) lengths) sections splits given start size
-    ≡ (sections_check 64 (stage_lengths ends bytes) sections
-    >> (splits_check (room_of size) (stage_lengths ends bytes) (stage_sections sections) splits
-    >> common_of given start (bss_sections (stage_bss ends bytes sections) (length sections / 15)) (stage_splits splits)))
-unfolding from_sections from_splits
-names_as sections splits given start size s =
-    ap₂ (λ (l bss : List ℕ). sections_check 64 l sections >> (splits_check (room_of size) l (stage_sections sections) splits >> common_of given start bss (stage_splits splits)))
-    s.sizes (bss_as sections s)
+        ∙ ap (λ (x : Section). get_or (stage_names ends bytes (length ends / 2)) x.name []) (sym (get_d_map (section_at sections) at k 0 no_section (omega (arith, h, length-stage_places 15 count)))))
 
 -- a start that is not given is not asked
 pub start_as : (name_bytes name_places name_lengths sections splits : List ℕ) (t : Bool) (start size : ℕ) {given : Option ℕ} → given ≡ then_some t start
@@ -148,19 +140,3 @@ pub start_as : (name_bytes name_places name_lengths sections splits : List ℕ) 
 unfolding from_sections from_splits common_of common_start
 start_as name_bytes name_places name_lengths sections splits true start size e = rw e
 start_as name_bytes name_places name_lengths sections splits false start size e = rw e
-
--- the fronts of the columns have a place and a length for each name
-pub names_front : {ends bytes places lengths heads chain : List ℕ} {n : ℕ} → Stored ends bytes places lengths heads chain n → Names bytes (take n places) (take n lengths)
-names_front {ends} {bytes} {places} {lengths} {heads} {chain} {n} s =
-    let p = length-take-le n places s.named.placed in
-    let l = length-take-le n lengths s.named.measured in
-    record {
-      named = record {
-        placed = omega (arith, p);
-        measured = omega (arith, p, l);
-        inside = λ k h.
-            let small : k < n = omega (arith, h, p) in
-            omega (arith, get_or-take n places k 0 small, get_or-take n lengths k 0 small, s.named.inside k small);
-      };
-      same = l ∙ sym p;
-    }

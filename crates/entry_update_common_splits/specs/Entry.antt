@@ -1,12 +1,11 @@
 -- The entry `update_common_splits` on its lent bytes: what it answers for every input, and the splits that it gives back. "stage tables by kind .., each for 1,
 -- 2, then its kind's number", then the stage (common/specs/Common.antt). The contract is `Leaves` of stage_splits at this outcome: the word, every byte of the
 -- output, and the count.
-use Rattle.std.specs.Prelude.{ℕ, ◌/◌, ◌≡◌, List, [], Bool, not, eqb, length, get_or}
+use Rattle.std.specs.Prelude.{ℕ, ◌/◌, List, [], Bool, not, eqb, length, get_or}
 use Rattle.lists.specs.Outcome.{Outcome, ◌>>◌}
 use Rattle.obj.specs.Records.{stage_places}
 use Rattle.obj.specs.declared.Section.{Section}
 use Rattle.obj.specs.declared.Split.{Split}
-use Rattle.names.specs.Names.{Named}
 use Rattle.names.specs.Fixed.{is_bss}
 use Rattle.tables.specs.Tables.{main_ceilings}
 use Rattle.tables.specs.Records.{no_section}
@@ -46,8 +45,3 @@ unfoldable pub from_sections : (name_bytes name_places name_lengths sections spl
 from_sections name_bytes name_places name_lengths sections splits given start size = do
   sections_check main_ceilings.sections name_lengths sections
   from_splits name_lengths (stage_sections sections) (bss_in name_bytes name_places name_lengths sections (stage_places 15 (length sections / 15))) splits given start size
-
--- every name has a place and a length
-pub record Names (bytes places lengths : List ℕ) : Type 0 where
-  pub named : Named bytes places lengths (length places)
-  pub same : length lengths ≡ length places

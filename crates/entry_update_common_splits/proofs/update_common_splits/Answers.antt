@@ -1,12 +1,12 @@
--- After the tables and the stage, the outputs stay or are cleared.
-use lib.ListN.{length}
-use Rattle.entry_update_common_splits.specs.Entry.{update_of}
-use Rattle.entry_update_common_splits.proofs.Laws.{leaves_as}
+-- After the tables and the stage, the outputs stay or are cleared; they are still those that were lent.
+use mathlib.Core.Path.{sym, ◌∙◌}
+use Rattle.stage_splits.proofs.Laws.{finished}
 use Rattle.entry_update_common_splits.proofs.update_common_splits.Goals as goal
 
 pub returns : goal.returns
 returns c =
-    let a = c.args in
-    let t = c.checked-a in
-    let o = update_of a.name_ends.now a.name_bytes.now a.sections.now a.splits.now a.has_start a.start (length a.out.now) in
-    leaves_as o t.auto.out t.auto.counts (c.finish.ensures o) t.ensures
+    let k = c.checked-a.ensures.lent in
+    let f = c.finish.ensures.lent in
+    let s = c.out-1.given.1.1 (sym (f.splits ∙ k.splits)) in
+    let n = c.counts-1.given.1.1 (sym (f.counts ∙ k.counts)) in
+    rw (s, n) (finished _ _ _ k.size k.counts_size c.checked-a.ensures.gives c.finish.ensures.left)
