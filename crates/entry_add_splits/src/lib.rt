@@ -1,62 +1,31 @@
 // The entry `add_splits` behind its C name: the checks of its tables, the merge of the partial list into the split table, and what is left in the lent outputs.
-// The columns are local; each function lends them on whole.
+// An array stands in the lowest function that needs it, which lends it to the check and then reads it.
 #![tactic(auto)]
 
-ghost use Rattle.std.specs.Prelude.{◌≡◌, ◌≤◌, length};
-ghost use Rattle.tables.specs.Tables.{AllHeld};
-ghost use Rattle.tables.specs.Records.{sections_in};
-ghost use Rattle.name_table.specs.Stored.{Room as NameRoom};
-ghost use Rattle.splits.specs.Table.{rows_in};
-ghost use Rattle.stage_splits.specs.StageSplits.{room_of, Gives, Leaves};
-ghost use Rattle.merge.specs.Answers.{merged};
-ghost use Rattle.entry_add_splits.specs.Entry.{add_splits_of, from_splits};
+ghost use Rattle.std.specs.Prelude.{length};
+ghost use Rattle.stage_splits.specs.StageSplits.{Leaves};
+ghost use Rattle.stage_splits.specs.Output.{GivesIn, SameLent};
+ghost use Rattle.entry_add_splits.specs.Entry.{add_splits_of};
+ghost use Rattle.entry_add_splits.specs.Lent.{tables_outcome, splits_outcome, HeadsHeld};
 
 use lent_tables::StageTables;
-use name_table::check_names;
+use name_table::NameArrays;
 use obj::{PARTIAL_BYTES, Refusal, Table};
 use splits::SplitTable;
-use stage_splits::{finish, give_splits, room_of, take_split_columns};
+use stage_splits::{SplitOutput, finish, give_splits, room_of, take_split_columns};
 use stage_tables::{take_partials, take_sections};
 
-// The split table in the lent one, with its room as ceiling, the partial list, and the merge of both. `lengths` are those of the names, `heads` the sections at their places; `places` has those
+// The split table, whose room is that of the output, the partial list, and the merge of both, which is then given. `lengths` are those of the names; `places` has those
 // of the splits and, once they are in the table, those of the partial splits.
-fn with_columns(
-    lengths: &[u8],
-    heads: &Table,
-    lent: &StageTables,
-    places: &mut [u32],
-    table: &mut SplitTable,
-) -> Result<(), Refusal>
-    requires { AllHeld 15 heads.now.bytes.now heads.now.places.now × (length places.old ≡ 1024) × (table.old.room ≤ 1024) }
-    ensures rows { merged result (rows_in table.new)
-        ≡ from_splits lengths.now (sections_in heads.now.bytes.now heads.now.places.now) lent.now.splits.now lent.now.partials.now table.old.room }
-    ensures room { table.new.room ≡ table.old.room }
-{
-    take_split_columns(lengths, heads, lent.splits, places, table)?;
-    // "1,024 splits"
-    take_partials(lengths, lent.partials, 1024, places)?;
-    let m = lent.partials.len() / PARTIAL_BYTES;
-    merge::add_splits(
-        table,
-        heads,
-        &Table {
-            bytes: lent.partials,
-            places: &places[..m],
-        },
-    )
-}
-
-// The split table, the partial list, the merge and its outputs, with columns of its own.
 fn from_splits(
     lengths: &[u8],
     heads: &Table,
     lent: &StageTables,
-    out: &mut [u8],
-    counts: &mut [u8],
+    output: &mut SplitOutput,
 ) -> Result<(), Refusal>
-    requires { AllHeld 15 heads.now.bytes.now heads.now.places.now }
-    ensures { Gives (from_splits lengths.now (sections_in heads.now.bytes.now heads.now.places.now) lent.now.splits.now lent.now.partials.now (room_of (length out.old)))
-        result (length out.old) (length counts.old) out.new counts.new }
+    requires { HeadsHeld heads.now }
+    ensures gives { GivesIn (splits_outcome lengths.now heads.now lent.now (length output.old.splits.now)) result output.old output.new }
+    ensures lent { SameLent output.old output.new }
 {
     let mut places = [0u32; 1024];
     let mut starts = [0u32; 1024];
@@ -69,71 +38,38 @@ fn from_splits(
         units: &mut units,
         rest: &mut rest,
         count: 0,
-        room: room_of(out.len()),
+        room: room_of(output.splits.len()),
     };
-    with_columns(lengths, heads, lent, &mut places, &mut table)?;
-    give_splits(&table.columns(), out, counts);
+    take_split_columns(lengths, heads, lent.splits, &mut places, &mut table)?;
+    // "1,024 splits"
+    take_partials(lengths, lent.partials, 1024, &mut places)?;
+    let m = lent.partials.len() / PARTIAL_BYTES;
+    let partials = Table {
+        bytes: lent.partials,
+        places: &places[..m],
+    };
+    merge::add_splits(&mut table, heads, &partials)?;
+    give_splits(&table.columns(), output);
     Ok(())
 }
 
-// All tables, with the names in lent columns. Once they are checked only their lengths are asked, and `places` has those of the sections.
-fn all_tables(
-    lent: &StageTables,
-    places: &mut [u32],
-    lengths: &mut [u8],
-    heads: &mut [u16],
-    chain: &mut [u16],
-    out: &mut [u8],
-    counts: &mut [u8],
-) -> Result<(), Refusal>
-    requires { NameRoom 4096 places.old lengths.old heads.old chain.old }
-    ensures { Gives (add_splits_of lent.now.name_ends.now lent.now.name_bytes.now lent.now.sections.now lent.now.splits.now lent.now.partials.now (length out.old))
-        result (length out.old) (length counts.old) out.new counts.new }
+// All tables. Once the names are checked only their lengths are asked, and the places of the sections take the room of theirs.
+fn checked(lent: &StageTables, output: &mut SplitOutput) -> Result<(), Refusal>
+    ensures gives { GivesIn (tables_outcome lent.now (length output.old.splits.now)) result output.old output.new }
+    ensures lent { SameLent output.old output.new }
 {
+    let columns = &mut NameArrays::new();
     // "4,096 names"
-    check_names(
-        lent.name_ends,
-        lent.name_bytes,
-        4096,
-        places,
-        lengths,
-        heads,
-        chain,
-    )?;
-    let named = &lengths[..lent.name_ends.len() / 2];
+    columns.check(lent.name_ends, lent.name_bytes, 4096)?;
+    let named = &columns.lengths[..lent.name_ends.len() / 2];
     // "64 sections"
-    take_sections(named, lent.sections, 64, places)?;
+    take_sections(named, lent.sections, 64, &mut columns.places)?;
     let n = lent.sections.len() / 15;
-    from_splits(
-        named,
-        &Table {
-            bytes: lent.sections,
-            places: &places[..n],
-        },
-        lent,
-        out,
-        counts,
-    )
-}
-
-// All tables, with columns of its own for the names: their places and lengths, and the index.
-fn checked(lent: &StageTables, out: &mut [u8], counts: &mut [u8]) -> Result<(), Refusal>
-    ensures { Gives (add_splits_of lent.now.name_ends.now lent.now.name_bytes.now lent.now.sections.now lent.now.splits.now lent.now.partials.now (length out.old))
-        result (length out.old) (length counts.old) out.new counts.new }
-{
-    let mut places = [0u32; 4096];
-    let mut lengths = [0u8; 4096];
-    let mut heads = [0u16; 8192];
-    let mut chain = [0u16; 4096];
-    all_tables(
-        lent,
-        &mut places,
-        &mut lengths,
-        &mut heads,
-        &mut chain,
-        out,
-        counts,
-    )
+    let heads = Table {
+        bytes: lent.sections,
+        places: &columns.places[..n],
+    };
+    from_splits(named, &heads, lent, output)
 }
 
 // The entry: the merged split table or a refusal, and every byte of the outputs.
@@ -149,21 +85,22 @@ pub fn add_splits(
     ensures { Leaves (add_splits_of name_ends.now name_bytes.now sections.now splits.now partials.now (length out_splits.old))
         (length out_splits.old) (length counts.old) result out_splits.new counts.new }
 {
-    let a = checked(
-        &StageTables {
-            name_ends,
-            name_bytes,
-            sections,
-            section_places: &[],
-            image: &[],
-            symbols: &[],
-            relocs: &[],
-            partials,
-            splits,
-            units: &[],
-        },
-        out_splits,
+    let lent = StageTables {
+        name_ends,
+        name_bytes,
+        sections,
+        section_places: &[],
+        image: &[],
+        symbols: &[],
+        relocs: &[],
+        partials,
+        splits,
+        units: &[],
+    };
+    let mut output = SplitOutput {
+        splits: out_splits,
         counts,
-    );
-    finish(a, out_splits, counts)
+    };
+    let a = checked(&lent, &mut output);
+    finish(a, &mut output)
 }

@@ -1,43 +1,96 @@
--- `entry_add_splits::from_splits` meets its contract: its columns are as long as the ceiling, so that they hold the rows that the output has room for.
--- Assumes nothing.
+-- `entry_add_splits::from_splits` meets its contract. A refused table is the answer; else the split table holds its splits, the partial list has its places, and the merge
+-- over both is that of the tables: its refusal is the answer, or its rows are laid into the outputs. Assumes nothing.
 use mathlib.Core.Path.{sym, ap, ◌∙◌}
 use native.Mathlib.Omega.{arith}
+use Prim.Native.Nat.{ℕ}
 use lib.ListN.{length}
-use Rattle.std.proofs.lemmas.Result.{err_from_is_err_and}
-use Rattle.obj.specs.Answers.{Answer}
-use Rattle.splits.specs.Table.{rows_in}
-use Rattle.merge.specs.Answers.{merged}
-use Rattle.stage_splits.proofs.Laws.{room_low, room_fits, gives_refused, gives_laid}
+use Rattle.obj.specs.Answers.{meaning}
+use Rattle.obj.specs.Records.{partial_width}
+use Rattle.obj.proofs.Errors.{same_err}
+use Rattle.tables.specs.Records.{sections_in, partials_in}
+use Rattle.stage_tables.specs.StageTables.{splits_check}
+use Rattle.stage_tables.proofs.Laws.{taken_few, taken_places, taken-count}
+use Rattle.stage_splits.specs.StageSplits.{room_of}
+use Rattle.stage_splits.proofs.Laws.{room_low, room_fits, partials_mergeable, gives_stops, gives_goes}
+use Rattle.entry_add_splits.specs.Entry.{from_splits}
+use Rattle.entry_add_splits.proofs.Laws.{merge_goes, merge_refused, merge_laid}
 use Rattle.entry_add_splits.proofs.from_splits.Goals as goal
 
-pub invariant_of-table-clause-long : goal.invariant_of-table-clause-long
-invariant_of-table-clause-long c =
+pub invariant_of-table : goal.invariant_of-table
+invariant_of-table c =
     let e = c.room_of.ensures in
-    let low = room_low (length c.args.out.now) in
-    record { starts = omega (arith, e, low); ends = omega (arith, e, low); units = omega (arith, e, low); rest = omega (arith, e, low) }
+    let low = room_low (length c.args.output.now.splits.now) in
+    record {
+      long = record { starts = omega (arith, e, low); ends = omega (arith, e, low); units = omega (arith, e, low); rest = omega (arith, e, low) };
+      fits = omega arith;
+    }
 
-pub with_columns-requires : goal.with_columns-requires
-with_columns-requires c = (c.requires, omega arith, omega (arith, c.room_of.ensures, room_low (length c.args.out.now)))
+pub take_split_columns-requires : goal.take_split_columns-requires
+take_split_columns-requires c =
+    let e = c.room_of.ensures in
+    let low = room_low (length c.args.output.now.splits.now) in
+    (c.requires, record { few = omega (arith, e, low); long = omega (arith, e, low) })
 
-pub returns-in_err-with_columns : goal.returns-in_err-with_columns
-returns-in_err-with_columns c =
-    let w = c.with_columns in
-    let rows = rw c.room_of.ensures at w.ensures.rows in
-    let p = err_from_is_err_and c.from_residual.result c.from_residual.ensures.1 in
-    rw (p.1, p.2) (gives_refused (sym (ap (λ (r : Answer). merged r (rows_in w.new.table)) c.in_err-with_columns.was) ∙ rows))
+pub returns-in_err-take_split_columns-clause-gives : goal.returns-in_err-take_split_columns-clause-gives
+unfolding from_splits
+returns-in_err-take_split_columns-clause-gives c =
+    let a = c.args in
+    let t = c.take_split_columns in
+    let said = t.ensures.taken.said ∙ ap (λ (k : ℕ). splits_check k a.lengths.now (sections_in a.heads.now.bytes.now a.heads.now.places.now) a.lent.now.splits.now) c.room_of.ensures in
+    rw (same_err c.from_residual.result t.result c.from_residual.ensures.1 c.in_err-take_split_columns.was) (gives_stops _ said (ap meaning c.in_err-take_split_columns.was))
+
+pub returns-in_err-take_partials-clause-gives : goal.returns-in_err-take_partials-clause-gives
+unfolding from_splits
+returns-in_err-take_partials-clause-gives c =
+    let a = c.args in
+    let t = c.take_split_columns in
+    let u = c.take_partials in
+    let said = t.ensures.taken.said ∙ ap (λ (k : ℕ). splits_check k a.lengths.now (sections_in a.heads.now.bytes.now a.heads.now.places.now) a.lent.now.splits.now) c.room_of.ensures in
+    rw (same_err c.from_residual-in_err-take_partials.result u.result c.from_residual-in_err-take_partials.ensures.1 c.in_err-take_partials.was)
+    (gives_goes (sym said ∙ ap meaning c.in_ok-take_split_columns.was) (gives_stops _ u.ensures.said (ap meaning c.in_err-take_partials.was)))
+
+pub slice_bounds-places-end : goal.slice_bounds-places-end
+slice_bounds-places-end c =
+    let u = c.take_partials in
+    omega (arith, taken_few partial_width 1024 c.args.lent.now.partials.now _ _ u.ensures (ap meaning c.in_ok-take_partials.was), u.auto.places, c.take_split_columns.auto.places)
+
+pub slice_bounds-partials-end : goal.slice_bounds-partials-end
+slice_bounds-partials-end c = sym (taken-count partial_width 1024 c.args.lent.now.partials.now _ _ c.take_partials.ensures (ap meaning c.in_ok-take_partials.was))
+
+pub add_splits-requires : goal.add_splits-requires
+add_splits-requires c =
+    (c.requires, partials_mergeable _ _ c.args.lent.now.partials.now _ (omega arith) (ap meaning c.in_ok-take_partials.was) c.take_partials.ensures)
+
+pub returns-in_err-add_splits-clause-gives : goal.returns-in_err-add_splits-clause-gives
+returns-in_err-add_splits-clause-gives c =
+    let a = c.args in
+    let t = c.take_split_columns in
+    let u = c.take_partials in
+    let heads = sections_in a.heads.now.bytes.now a.heads.now.places.now in
+    let passed = sym t.ensures.taken.said ∙ ap meaning c.in_ok-take_split_columns.was in
+    let told = ap meaning c.in_ok-take_partials.was in
+    rw (same_err c.from_residual-in_err-add_splits.result c.add_splits.result c.from_residual-in_err-add_splits.ensures.1 c.in_err-add_splits.was)
+    (merge_goes a.lengths.now heads a.lent.now.splits.now a.lent.now.partials.now (room_of (length a.output.now.splits.now)) c.room_of.ensures passed (t.ensures.taken.taken passed)
+    (sym u.ensures.said ∙ told) (ap (partials_in a.lent.now.partials.now) (taken_places partial_width 1024 a.lent.now.partials.now _ _ u.ensures told))
+    (merge_refused _ (rw t.ensures.room at c.add_splits.ensures.rows) c.in_err-add_splits.was))
 
 pub give_splits-requires : goal.give_splits-requires
 give_splits-requires c =
-    let e = c.room_of.ensures in
-    let w = c.with_columns in
-    let t = w.new.table in
+    let t = c.take_split_columns in
     let n = c.columns.ensures.columns.count in
-    let h = length c.args.out.now in
-    (omega (arith, e, n, t.fits, w.ensures.room, room_fits h), omega (arith, e, n, t.fits, w.ensures.room, room_low h))
+    let fits = c.add_splits.new.table.fits in
+    let m = c.add_splits.ensures.room in
+    let size = length c.args.output.now.splits.now in
+    (omega (arith, n, m, fits, t.ensures.room, c.room_of.ensures, room_fits size), omega (arith, n, m, fits, t.ensures.room, c.room_of.ensures, room_low size))
 
-pub returns : goal.returns
-returns c =
-    let w = c.with_columns in
-    let rows = rw c.room_of.ensures at w.ensures.rows in
-    let laid = rw c.columns.ensures.rows at c.give_splits.ensures in
-    gives_laid (sym (ap (λ (r : Answer). merged r (rows_in w.new.table)) c.in_ok-with_columns.was) ∙ rows) laid
+pub returns-clause-gives : goal.returns-clause-gives
+returns-clause-gives c =
+    let a = c.args in
+    let t = c.take_split_columns in
+    let u = c.take_partials in
+    let heads = sections_in a.heads.now.bytes.now a.heads.now.places.now in
+    let passed = sym t.ensures.taken.said ∙ ap meaning c.in_ok-take_split_columns.was in
+    let told = ap meaning c.in_ok-take_partials.was in
+    merge_goes a.lengths.now heads a.lent.now.splits.now a.lent.now.partials.now (room_of (length a.output.now.splits.now)) c.room_of.ensures passed (t.ensures.taken.taken passed)
+    (sym u.ensures.said ∙ told) (ap (partials_in a.lent.now.partials.now) (taken_places partial_width 1024 a.lent.now.partials.now _ _ u.ensures told))
+    (merge_laid _ (rw t.ensures.room at c.add_splits.ensures.rows) c.in_ok-add_splits.was (rw c.columns.ensures.rows at c.give_splits.ensures.laid))
