@@ -5,8 +5,8 @@ use mathlib.Core.Path.{◌≡◌, sym, ap, ap₂, ◌∙◌}
 use mathlib.Core.List.{List}
 use native.Mathlib.Omega.{arith}
 use lib.ListN.{length, get_or, take}
-use Rattle.lists.specs.Outcome.{Outcome, accepted, refused}
-use Rattle.lists.proofs.Outcomes.{not_both, then_goes}
+use Rattle.lists.specs.Outcome.{Outcome, accepted}
+use Rattle.lists.proofs.Outcomes.{then_goes}
 use Rattle.lists.proofs.Rows.{get_d_map, length-tabulate}
 use Rattle.obj.specs.Records.{section_at, stage_places, split_width}
 use Rattle.obj.specs.Answers.{Answer}
@@ -19,16 +19,16 @@ use Rattle.tables.proofs.Lookups.{held}
 use Rattle.tables.proofs.Laws.{sections_end}
 use Rattle.name_table.specs.NameTable.{names_check}
 use Rattle.name_table.specs.Stored as names
-use Rattle.stage_tables.specs.StageTables.{stage_sections, stage_splits, sections_check, splits_check, Room, Filled}
+use Rattle.stage_tables.specs.StageTables.{stage_sections, stage_splits, sections_check, splits_check, Filled}
 use Rattle.stage_tables.proofs.Laws.{table_passed, taken_few, taken_places, taken-count, taken-held}
-use Rattle.splits.specs.Columns.{Columns, columns, row_at, rows, Long}
+use Rattle.splits.specs.Columns.{Columns, row_at, rows}
 use Rattle.mend.specs.Mend.{section_ends_of, mend}
 use Rattle.mend.specs.Steps.{LowHeads, Mends, line_bytes}
 use Rattle.std.specs.Prelude.{Result}
 use Rattle.obj.specs.declared.Refusal.{Refusal}
 use Rattle.mend_outputs.specs.Outputs.{Laid, Gives, Stores}
 use Rattle.mend_outputs.proofs.Laws.{stored_gives}
-use Rattle.entry_mend_splits.specs.Entry.{from_splits, from_sections, NamesTaken, HeadsTaken}
+use Rattle.entry_mend_splits.specs.Entry.{from_splits, NamesTaken}
 
 -- ---- names
 pub names-taken : {answer : Outcome (Unit {0})} (ends bytes lengths : List ℕ) {places heads chain : List ℕ}
@@ -39,17 +39,7 @@ names-taken ends bytes lengths s = record {
   sizes = λ e. (s.stored (sym s.said ∙ e)).sizes;
 }
 
--- the lengths in the column are those of the names
-pub lengths_as : {l m : List ℕ} (sections splits : List ℕ) (room line-room : ℕ) → l ≡ m
-    → from_sections l sections splits room line-room ≡ from_sections m sections splits room line-room
-lengths_as sections splits room line-room e = ap (λ (x : List ℕ). from_sections x sections splits room line-room) e
-
 -- ---- sections
-
--- the sections at their places are those of the table
-pub heads_as : (lengths b : List ℕ) {p q : List ℕ} (splits : List ℕ) (room line-room : ℕ) → p ≡ q
-    → from_splits lengths (sections_in b p) splits room line-room ≡ from_splits lengths (sections_in b q) splits room line-room
-heads_as lengths b splits room line-room e = ap (λ (l : List ℕ). from_splits lengths (sections_in b l) splits room line-room) e
 
 -- no section that passed its check ends above 32 bits
 low_heads : (lengths b : List ℕ) {places : List ℕ} → records_check (section_fault lengths (stage_sections b)) (length b / 15) ≡ accepted tt
@@ -66,10 +56,6 @@ low_heads lengths b {places} passed e all = record { held = held all; low = low 
         omega (arith, top, end)
 
 module _ (lengths b places : List ℕ) {answer : Outcome (Unit {0})} (f : Filled answer (sections_check main_ceilings.sections lengths b) 15 (length b) places) where
-  -- they were refused
-  pub heads_refused : {number section address : ℕ} (section_ends : List ℕ) → answer ≡ refused number section address → HeadsTaken answer lengths b places section_ends
-  heads_refused section_ends e = record { said = f.said; heads = λ q. absurd (not_both (sym e ∙ q)) }
-
   module _ (e : answer ≡ accepted tt) where
     -- what the column of their ends asks
     pub heads_low : LowHeads b (take (length b / 15) places)
@@ -83,29 +69,7 @@ module _ (lengths b places : List ℕ) {answer : Outcome (Unit {0})} (f : Filled
     pub heads_count : length (take (length b / 15) places) ≡ length b / 15
     heads_count = taken-count 15 _ b places _ f e
 
-    -- they were accepted, and the column is filled
-    pub heads_filled : (section_ends : List ℕ)
-        → take (length (take (length b / 15) places)) section_ends ≡ section_ends_of (sections_in b (take (length b / 15) places)) → HeadsTaken answer lengths b places section_ends
-    heads_filled section_ends q = record {
-      said = f.said;
-      heads = λ _. record {
-        few = heads_few;
-        places_are = taken_places 15 _ b places _ f e;
-        held = taken-held 15 _ b places _ f e (omega arith);
-        ends_are = ap (λ (n : ℕ). take n section_ends) (sym heads_count) ∙ q;
-      };
-    }
-
 -- ---- the split table
-
--- the column has a place for each record
-pub places_room : {places : List ℕ} (room : ℕ) → room ≤ 1024 → length places ≡ 1024 → Room room places
-places_room room h l = record { few = omega arith; long = omega arith }
-
--- the columns hold so many rows
-pub rows_long : {starts ends units rest : List ℕ} (n : ℕ) → n ≤ 1024 → length starts ≡ 1024 → length ends ≡ 1024 → length units ≡ 1024 → length rest ≡ 1024
-    → Long (columns starts ends units rest) n
-rows_long n h p q r s = record { starts = omega arith; ends = omega arith; units = omega arith; rest = omega arith }
 
 -- it passed, the table held its splits before they were mended, and what was mended is stored
 pub mended_gives : (lengths : List ℕ) (heads : List Section) (splits : List ℕ) (room : ℕ) {answer : Outcome (Unit {0})} {section_ends : List ℕ} {old : List Split} (c : Columns) (n : ℕ)

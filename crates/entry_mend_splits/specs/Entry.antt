@@ -2,10 +2,8 @@
 -- every input is `Leaves` of mend_outputs of this outcome.
 use Rattle.std.specs.Prelude.{ℕ, ◌/◌, ◌≤◌, ◌≡◌, List, length, take}
 use Rattle.lists.specs.Outcome.{Outcome, accepted, ◌>>◌}
-use Rattle.obj.specs.Records.{stage_places}
 use Rattle.obj.specs.declared.Section.{Section}
-use Rattle.tables.specs.Tables.{main_ceilings, AllHeld}
-use Rattle.tables.specs.Records.{sections_in}
+use Rattle.tables.specs.Tables.{main_ceilings}
 use Rattle.name_table.specs.NameTable.{names_check}
 use Rattle.name_table.specs.Stored.{stage_lengths}
 use Rattle.stage_tables.specs.StageTables.{stage_sections, stage_splits, sections_check, splits_check}
@@ -43,15 +41,3 @@ pub record NamesTaken (answer : Outcome (Unit {0})) (ends bytes lengths : List �
   pub said : answer ≡ names_check main_ceilings.names ends bytes
   pub few : answer ≡ accepted tt → length ends / 2 ≤ length lengths
   pub sizes : answer ≡ accepted tt → take (length ends / 2) lengths ≡ stage_lengths ends bytes
-
--- the places of the n sections, and where each ends, at the front of the columns
-pub record HeadsHeld (b places section_ends : List ℕ) (n : ℕ) : Type 0 where
-  pub few : n ≤ 64
-  pub places_are : take n places ≡ stage_places 15 n
-  pub held : AllHeld 15 b (take n places)
-  pub ends_are : take n section_ends ≡ section_ends_of (sections_in b (take n places))
-
--- what was answered of the sections, and the columns if they were accepted
-pub record HeadsTaken (answer : Outcome (Unit {0})) (lengths b places section_ends : List ℕ) : Type 0 where
-  pub said : answer ≡ sections_check main_ceilings.sections lengths b
-  pub heads : answer ≡ accepted tt → HeadsHeld b places section_ends (length b / 15)

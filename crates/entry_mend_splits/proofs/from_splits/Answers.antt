@@ -5,54 +5,60 @@ use Prim.Native.Nat.{ℕ}
 use native.Mathlib.Omega.{arith}
 use lib.ListN.{length}
 use Rattle.obj.specs.Answers.{meaning}
+use Rattle.obj.proofs.Errors.{same_err}
 use Rattle.tables.specs.Records.{sections_in}
 use Rattle.splits.specs.Table.{columns_in}
 use Rattle.stage_splits.proofs.Laws.{room_low, room_fits}
 use Rattle.mend_outputs.proofs.Laws.{gives_as, gives_stops}
 use Rattle.entry_mend_splits.specs.Entry.{from_splits}
-use Rattle.entry_mend_splits.proofs.Laws.{places_room, rows_long, mended_gives, lines_low}
-use borrow.Author.Rules.{rules}
+use Rattle.entry_mend_splits.proofs.Laws.{mended_gives, lines_low}
 use Rattle.entry_mend_splits.proofs.from_splits.Goals as goal
-use Rattle.obj.proofs.Errors.{same_err}
 
-pub invariant_of-table-clause-long : goal.invariant_of-table-clause-long
-invariant_of-table-clause-long c =
-    let h = room_low (length c.args.out.now) in
-    rows_long _ (omega (arith, c.room_of-room.ensures, h)) (search rules) (search rules) (search rules) (search rules)
+pub invariant_of-table : goal.invariant_of-table
+invariant_of-table c =
+    let e = c.room_of.ensures in
+    let low = room_low (length c.args.output.now.splits.now) in
+    record {
+      long = record { starts = omega (arith, e, low); ends = omega (arith, e, low); units = omega (arith, e, low); rest = omega (arith, e, low) };
+      fits = omega arith;
+    }
 
 pub take_split_columns-requires : goal.take_split_columns-requires
 take_split_columns-requires c =
-    let h = room_low (length c.args.out.now) in
-    (c.requires.0, places_room _ (omega (arith, c.room_of-room.ensures, h)) (search rules))
+    let e = c.room_of.ensures in
+    let low = room_low (length c.args.output.now.splits.now) in
+    (c.requires.0, record { few = omega (arith, e, low); long = omega (arith, e, low) })
 
-pub returns-in_err-take_split_columns : goal.returns-in_err-take_split_columns
+pub returns-in_err-take_split_columns-clause-gives : goal.returns-in_err-take_split_columns-clause-gives
 unfolding from_splits
-returns-in_err-take_split_columns c =
+returns-in_err-take_split_columns-clause-gives c =
+    let a = c.args in
+    let line-room = length a.output.now.lines.now in
     rw (same_err c.from_residual.result c.take_split_columns.result c.from_residual.ensures.1 c.in_err-take_split_columns.was)
-    (let a = c.args in
-    gives_as (ap (λ (room : ℕ). from_splits a.lengths.now (sections_in a.heads.now.bytes.now a.heads.now.places.now) a.splits.now room (length a.lines.now)) c.room_of-room.ensures)
+    (gives_as (ap (λ (room : ℕ). from_splits a.lengths.now (sections_in a.heads.now.bytes.now a.heads.now.places.now) a.splits.now room line-room) c.room_of.ensures)
     (gives_stops _ c.take_split_columns.ensures.taken.said (ap meaning c.in_err-take_split_columns.was)))
 
 pub give_mended-requires : goal.give_mended-requires
 give_mended-requires c =
     let t = c.take_split_columns in
     let w = c.mend_table-r in
-    let size = length c.args.out.now in
-    let room = t.ensures.room ∙ c.room_of-room.ensures in
+    let size = length c.args.output.now.splits.now in
+    let room = t.ensures.room ∙ c.room_of.ensures in
     let n = c.columns.ensures.columns.count ∙ w.ensures.others.count in (
       omega (arith, room, n, room_fits size),
       omega (arith, room, n, room_low size),
       lines_low (columns_in t.new.table) t.new.table.count (omega (arith, room, room_low size)) w.ensures.mended,
     )
 
-pub returns : goal.returns
-returns c =
+pub returns-clause-gives : goal.returns-clause-gives
+returns-clause-gives c =
     let t = c.take_split_columns in
     let w = c.mend_table-r in
     let a = c.args in
+    let heads = sections_in a.heads.now.bytes.now a.heads.now.places.now in
     let told = ap meaning c.in_ok-take_split_columns.was in
-    let room = t.ensures.room ∙ c.room_of-room.ensures in
-    gives_as (ap (λ (room : ℕ). from_splits a.lengths.now (sections_in a.heads.now.bytes.now a.heads.now.places.now) a.splits.now room (length a.lines.now)) c.room_of-room.ensures)
-    (mended_gives a.lengths.now (sections_in a.heads.now.bytes.now a.heads.now.places.now) a.splits.now _ (columns_in w.new.table) w.new.table.count _ t.ensures.taken.said told
-    (omega (arith, room, w.ensures.others.count, room_fits (length a.out.now))) c.requires.1 (t.ensures.taken.taken (sym t.ensures.taken.said ∙ told)) w.ensures.mended
+    let room = t.ensures.room ∙ c.room_of.ensures in
+    gives_as (ap (λ (room : ℕ). from_splits a.lengths.now heads a.splits.now room (length a.output.now.lines.now)) c.room_of.ensures)
+    (mended_gives a.lengths.now heads a.splits.now _ (columns_in w.new.table) w.new.table.count _ t.ensures.taken.said told
+    (omega (arith, room, w.ensures.others.count, room_fits (length a.output.now.splits.now))) c.requires.1 (t.ensures.taken.taken (sym t.ensures.taken.said ∙ told)) w.ensures.mended
     (let e = c.columns.ensures in rw (e.rows, e.columns.count) at c.give_mended.ensures))
