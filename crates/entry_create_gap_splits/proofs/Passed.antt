@@ -1,4 +1,4 @@
--- What tables that passed leave to the filling of gaps: sections with short names, names at the fronts of their columns and room for more of them; and lines of the definition
+-- What tables that passed leave to the filling of gaps: sections with short names, names from their arrays and room for more of them; and lines of the definition
 -- over the columns that are those over the lent tables. Assumes nothing.
 use Prim.Native.Nat.{ℕ, zero, suc, ◌+◌, ◌*◌, ◌-◌, ◌/◌, ◌%◌, ◌≤◌, ◌<◌}
 use mathlib.Core.Path.{◌≡◌, refl, sym, ap, ap₂, ◌∙◌}
@@ -27,7 +27,7 @@ use Rattle.tables.specs.Tables.{records_check}
 use Rattle.tables.specs.Records.{sections_in, image_places_of, section_fault, no_section}
 use Rattle.tables.proofs.Laws as tables
 use Rattle.name_table.specs.NameTable.{start_of, end_of, name_in, stage_names, names_check}
-use Rattle.name_table.specs.Stored.{stage_lengths, name_starts, Stored}
+use Rattle.name_table.specs.Stored.{stage_lengths, name_starts, Stored, Readable}
 use Rattle.name_table.proofs.Laws.{length_name, passed_sound}
 use Rattle.stage_tables.specs.StageTables.{stage_sections, stage_splits, image_check, symbols_check, splits_check}
 use Rattle.stage_tables.proofs.Laws.{table_passed}
@@ -192,43 +192,33 @@ module _ (most most_bytes : ℕ) (ends : List ℕ) (passed : fit_check most most
           let q = or_false (leb most k) (ltb most_bytes (end_of ends k)) (none-beyond k (omega (arith, e))) in
           omega (arith, ltb-false most_bytes (end_of ends k) q.1, start_more ends k, ap (start_of ends) (add-one k))
 
--- ---- names that passed stand at the fronts of their columns
-module _ (ends bytes places lengths buckets chain : List ℕ) (stored : Stored ends bytes places lengths buckets chain (length ends / 2)) where
-  places_count : length (take (length ends / 2) places) ≡ length ends / 2
-  places_count = length-take-le _ _ stored.named.placed
-
-  lengths_count : length (take (length ends / 2) lengths) ≡ length ends / 2
-  lengths_count = length-take-le _ _ stored.named.measured
-
+-- ---- names that passed, read from the arrays that hold them
+module _ (ends bytes : List ℕ) {places lengths buckets chain : List ℕ} (stored : Stored ends bytes places lengths buckets chain (length ends / 2))
+    {b p l : List ℕ} (bytes_are : b ≡ bytes) (places_are : p ≡ name_starts ends (length ends / 2)) (lengths_are : l ≡ stage_lengths ends bytes) where
   abbrev front : List (List ℕ)
-  front = names_of bytes (take (length ends / 2) places) (take (length ends / 2) lengths) (length (take (length ends / 2) places))
+  front = names_of b p l (length p)
+
+  lengths_count : length l ≡ length ends / 2
+  lengths_count = ap length (lengths_are ∙ sym stored.sizes) ∙ length-take-le _ _ stored.named.measured
 
   front_at : (k : ℕ) → k < length ends / 2 → name_at bytes (take (length ends / 2) places) (take (length ends / 2) lengths) k ≡ name_at bytes places lengths k
   unfolding name_at
   front_at k h = rw (get_or-take _ places k 0 h, get_or-take _ lengths k 0 h)
 
-  pub front_is : front ≡ stage_names ends bytes (length ends / 2)
+  pub front_is : names_of b p l (length p) ≡ stage_names ends bytes (length ends / 2)
   unfolding names_of
   front_is =
-      ap (names_of bytes (take (length ends / 2) places) (take (length ends / 2) lengths)) places_count
+      rw (bytes_are, places_are ∙ sym stored.starts, lengths_are ∙ sym stored.sizes)
+      (ap (names_of bytes (take (length ends / 2) places) (take (length ends / 2) lengths)) (length-take-le _ _ stored.named.placed)
       ∙ tabulate_ext _ _ 0 0 (length ends / 2) (λ k h. ap (name_at bytes (take (length ends / 2) places) (take (length ends / 2) lengths)) (zero-add k) ∙ front_at k h ∙ ap (name_at bytes places lengths) (sym (zero-add k)))
-      ∙ stored.names
+      ∙ stored.names)
 
   front_count : length front ≡ length ends / 2
   unfolding stage_names
   front_count = ap length front_is ∙ length-tabulate (name_in ends bytes) 0 (length ends / 2)
 
-  pub names-taken : NamesRead bytes (take (length ends / 2) places) (take (length ends / 2) lengths) buckets chain
-  names-taken =
-      record {
-        named = record {
-          placed = omega arith;
-          measured = rw (places_count, lengths_count) (omega arith);
-          inside = λ k h. let q : k < length ends / 2 = rw places_count at h in rw (get_or-take _ places k 0 q, get_or-take _ lengths k 0 q) (stored.named.inside k q);
-        };
-        paired = lengths_count ∙ sym places_count;
-        indexed = rw front_is stored.index;
-      }
+  pub names-taken : {heads next : List ℕ} → heads ≡ buckets → next ≡ chain → Readable b p l → NamesRead b p l heads next
+  names-taken heads_are chain_are r = record { named = r.named; paired = r.paired; indexed = rw (front_is, heads_are, chain_are) stored.index }
 
   -- what is free beside them, in outputs of so many bytes
   module _ (ends_size bytes_size most most_bytes end : ℕ) (most-is : most ≡ names_room ends_size) (bytes-is : most_bytes ≡ bytes_room bytes_size)
@@ -258,7 +248,7 @@ module _ (ends bytes places lengths buckets chain : List ℕ) (stored : Stored e
 
     -- the sections are asked with them
     pub names_as : (sections section_places image symbols splits : List ℕ) (size : ℕ)
-        → from_sections bytes (take (length ends / 2) places) (take (length ends / 2) lengths) sections section_places image symbols splits
+        → from_sections b p l sections section_places image symbols splits
         (ceilings front (most - length ends / 2) (most_bytes - end)) size
         ≡ (image_check 64 (stage_lengths ends bytes) section_places (length image) sections
         >> (symbols_check 4096 (length ends / 2) (stage_sections sections) symbols
@@ -270,9 +260,10 @@ module _ (ends bytes places lengths buckets chain : List ℕ) (stored : Stored e
         (record { names = stage_names ends bytes (length ends / 2); rows = stage_splits splits }))))
     unfolding from_sections from_symbols from_splits
     names_as sections section_places image symbols splits size =
-        ap₂ (λ (room : Ceilings) (names : List (List ℕ)). lines (length (take (length ends / 2) lengths)) (take (length ends / 2) places) (take (length ends / 2) lengths) room names) ceilings_are front_is
-        ∙ ap (λ (n : ℕ). lines n (take (length ends / 2) places) (take (length ends / 2) lengths) room_here all) lengths_count
-        ∙ ap₂ (λ (starts sizes : List ℕ). lines (length ends / 2) starts sizes room_here all) stored.starts stored.sizes
+        ap₂ (λ (room : Ceilings) (names : List (List ℕ)). lines b (length l) p l room names) ceilings_are front_is
+        ∙ ap (λ (n : ℕ). lines b n p l room_here all) lengths_count
+        ∙ ap₂ (λ (starts sizes : List ℕ). lines b (length ends / 2) starts sizes room_here all) places_are lengths_are
+        ∙ ap (λ (x : List ℕ). lines x (length ends / 2) (name_starts ends (length ends / 2)) (stage_lengths ends bytes) room_here all) bytes_are
       where
         room_here : Ceilings
         room_here = record { names = names_room ends_size; bytes = bytes_room bytes_size }
@@ -280,12 +271,12 @@ module _ (ends bytes places lengths buckets chain : List ℕ) (stored : Stored e
         all : List (List ℕ)
         all = stage_names ends bytes (length ends / 2)
 
-        lines : (count : ℕ) → (starts sizes : List ℕ) → Ceilings → List (List ℕ) → Outcome Filled
-        lines count starts sizes room names =
+        lines : (x : List ℕ) → (count : ℕ) → (starts sizes : List ℕ) → Ceilings → List (List ℕ) → Outcome Filled
+        lines x count starts sizes room names =
             image_check 64 sizes section_places (length image) sections
             >> (symbols_check 4096 count (stage_sections sections) symbols
             >> (splits_check (room_of size) sizes (stage_sections sections) splits
-            >> gaps_filled (image_of symbols (stage_places 20 (length symbols / 20)) bytes starts sizes)
+            >> gaps_filled (image_of symbols (stage_places 20 (length symbols / 20)) x starts sizes)
             (sections_of sections (stage_places 15 (length sections / 15)) image (image_places_of section_places))
             (given (stage_sections sections) (room_of size)) room
             (record { names = names; rows = stage_splits splits })))

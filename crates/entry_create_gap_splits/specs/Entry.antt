@@ -20,6 +20,7 @@ use Rattle.sections.specs.Sections.{Sections, sections_of}
 use Rattle.stage_splits.specs.StageSplits.{room_of}
 use Rattle.merge.specs.Merge.{given}
 use Rattle.gap_splits.specs.Entering.{Filled, Ceilings}
+use Rattle.gap_splits.specs.Answers.{names_in, ceilings}
 use Rattle.create_gap_splits.specs.Create.{gaps_filled}
 use Rattle.stage_gaps.specs.StageGaps.{filled_of, Laid, from_splits}
 use Rattle.stage_gaps.specs.declared.GapOutputs.{GapOutputs}
@@ -71,11 +72,12 @@ from_symbols name_bytes name_places name_lengths heads sections room symbols spl
   from_splits name_lengths heads (image_of symbols (stage_places 20 (length symbols / 20)) name_bytes name_places name_lengths) sections room
       (names_of name_bytes name_places name_lengths (length name_places)) splits size
 
--- .. over lent tables
-abbrev pub symbols_outcome : Names → (heads image : Table) → StageTables → Ceilings → (size : ℕ) → Outcome Filled
-symbols_outcome names heads image lent room size =
+-- .. over lent tables, where so many names of so many bytes may be added
+abbrev pub symbols_outcome : Names → (heads image : Table) → StageTables → (most most_bytes : ℕ) → GapOutputs → Outcome Filled
+symbols_outcome names heads image lent most most_bytes outputs =
     from_symbols names.bytes.now names.places.now names.lengths.now (sections_in heads.bytes.now heads.places.now)
-    (sections_of heads.bytes.now heads.places.now image.bytes.now image.places.now) room lent.symbols.now lent.splits.now size
+    (sections_of heads.bytes.now heads.places.now image.bytes.now image.places.now) (ceilings (names_in names) most most_bytes)
+    lent.symbols.now lent.splits.now (length outputs.splits.now)
 
 -- from the sections on, over names that passed
 unfoldable pub from_sections : (name_bytes name_places name_lengths sections places image symbols splits : List ℕ) → Ceilings → (size : ℕ) → Outcome Filled
@@ -85,7 +87,7 @@ from_sections name_bytes name_places name_lengths sections places image symbols 
       (sections_of sections (stage_places 15 (length sections / 15)) image (image_places_of places)) room symbols splits size
 
 -- .. over lent tables
-abbrev pub sections_outcome : Names → StageTables → Ceilings → (size : ℕ) → Outcome Filled
-sections_outcome names lent room size =
+abbrev pub sections_outcome : Names → StageTables → (most most_bytes : ℕ) → GapOutputs → Outcome Filled
+sections_outcome names lent most most_bytes outputs =
     from_sections names.bytes.now names.places.now names.lengths.now lent.sections.now lent.section_places.now lent.image.now
-    lent.symbols.now lent.splits.now room size
+    lent.symbols.now lent.splits.now (ceilings (names_in names) most most_bytes) (length outputs.splits.now)

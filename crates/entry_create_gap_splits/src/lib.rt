@@ -1,20 +1,15 @@
 // The entry `create_gap_splits` behind its C name: the checks of its tables, the filling of gaps, and what is left in the lent outputs. The columns that the checks
-// fill are local; each function lends them on whole.
+// fill are local.
 #![tactic(auto)]
 
-ghost use Rattle.std.specs.Prelude.{◌≡◌, ◌+◌, ◌*◌, ◌/◌, ◌≤◌, ◌<◌, length};
+ghost use Rattle.std.specs.Prelude.{length};
 ghost use Rattle.lists.specs.Outcome.{Outcome};
-ghost use Rattle.name_table.specs.NameTable.{start_of};
-ghost use Rattle.name_table.specs.Stored as stored;
-ghost use Rattle.stage_symbols.specs.StageSymbols as symbol_columns;
 ghost use Rattle.gap_splits.specs.Entering.{Filled};
-ghost use Rattle.gap_splits.specs.Answers.{names_in, ceilings};
 ghost use Rattle.stage_gaps.specs.StageGaps.{NamesIn, HeadedIn, SpaceIn, GivesIn, SameLent};
 ghost use Rattle.entry_create_gap_splits.specs.Entry.{gap_splits_of, tables_outcome, symbols_outcome, sections_outcome, Leaves, LeavesIn};
 
-use fields::get16;
 use lent_tables::StageTables;
-use name_table::check_names;
+use name_table::{NameArrays, start_of};
 use names::{NameIndex, Names};
 use obj::{Refusal, Table, word_of};
 use outputs::clear_from;
@@ -24,37 +19,34 @@ use stage_names::{bytes_room, fit_names, names_room};
 use stage_symbols::{take_image_places, take_symbol_order};
 use stage_tables::take_image;
 
-// The symbols with their order in lent columns, and the tables after them.
+// The symbols with their order, and the tables after them.
 fn from_symbols(
     names: &Names,
     index: &NameIndex,
     heads: &Table,
     image: &Table,
     lent: &StageTables,
-    places: &mut [u32],
-    order: &mut [u16],
-    scratch: &mut [u16],
     most: usize,
     most_bytes: usize,
     outputs: &mut GapOutputs,
 ) -> Result<(), Refusal>
     requires { NamesIn names.now index.now
         × HeadedIn heads.now image.now names.now
-        × SpaceIn names.now most most_bytes outputs.old
-        × symbol_columns.Room 4096 places.old order.old scratch.old }
-    ensures gives { GivesIn
-        (symbols_outcome names.now heads.now image.now lent.now (ceilings (names_in names.now) most most_bytes) (length outputs.old.splits.now))
-        result outputs.old outputs.new }
+        × SpaceIn names.now most most_bytes outputs.old }
+    ensures gives { GivesIn (symbols_outcome names.now heads.now image.now lent.now most most_bytes outputs.old) result outputs.old outputs.new }
     ensures lent { SameLent outputs.old outputs.new }
 {
+    let mut places = [0u32; 4096];
+    let mut order = [0u16; 4096];
+    let mut scratch = [0u16; 4096];
     let ordered = take_symbol_order(
         names.lengths.len(),
         heads,
         lent.symbols,
         4096,
-        places,
-        order,
-        scratch,
+        &mut places,
+        &mut order,
+        &mut scratch,
     )?;
     let n = lent.symbols.len() / 20;
     with_splits(
@@ -76,74 +68,32 @@ fn from_symbols(
     )
 }
 
-// The same, with columns of its own for the symbols.
-fn with_symbols(
-    names: &Names,
-    index: &NameIndex,
-    heads: &Table,
-    image: &Table,
-    lent: &StageTables,
-    most: usize,
-    most_bytes: usize,
-    outputs: &mut GapOutputs,
-) -> Result<(), Refusal>
-    requires { NamesIn names.now index.now
-        × HeadedIn heads.now image.now names.now
-        × SpaceIn names.now most most_bytes outputs.old }
-    ensures gives { GivesIn
-        (symbols_outcome names.now heads.now image.now lent.now (ceilings (names_in names.now) most most_bytes) (length outputs.old.splits.now))
-        result outputs.old outputs.new }
-    ensures lent { SameLent outputs.old outputs.new }
-{
-    let mut places = [0u32; 4096];
-    let mut order = [0u16; 4096];
-    let mut scratch = [0u16; 4096];
-    from_symbols(
-        names,
-        index,
-        heads,
-        image,
-        lent,
-        &mut places,
-        &mut order,
-        &mut scratch,
-        most,
-        most_bytes,
-        outputs,
-    )
-}
-
-// The sections and the places of their bytes in lent columns, and the tables after them.
+// The sections and the places of their bytes, and the tables after them.
 fn from_sections(
     names: &Names,
     index: &NameIndex,
     lent: &StageTables,
-    heads: &mut [u32],
-    images: &mut [u32],
     most: usize,
     most_bytes: usize,
     outputs: &mut GapOutputs,
 ) -> Result<(), Refusal>
-    requires { NamesIn names.now index.now
-        × SpaceIn names.now most most_bytes outputs.old
-        × (length heads.old ≡ 64)
-        × (length images.old ≡ 64) }
-    ensures gives { GivesIn
-        (sections_outcome names.now lent.now (ceilings (names_in names.now) most most_bytes) (length outputs.old.splits.now))
-        result outputs.old outputs.new }
+    requires { NamesIn names.now index.now × SpaceIn names.now most most_bytes outputs.old }
+    ensures gives { GivesIn (sections_outcome names.now lent.now most most_bytes outputs.old) result outputs.old outputs.new }
     ensures lent { SameLent outputs.old outputs.new }
 {
+    let mut heads = [0u32; 64];
+    let mut images = [0u32; 64];
     take_image(
         names.lengths,
         lent.section_places,
         lent.image.len(),
         lent.sections,
         64,
-        heads,
+        &mut heads,
     )?;
     let n = lent.sections.len() / 15;
-    let p = take_image_places(lent.section_places, images);
-    with_symbols(
+    let p = take_image_places(lent.section_places, &mut images);
+    from_symbols(
         names,
         index,
         &Table {
@@ -161,106 +111,24 @@ fn from_sections(
     )
 }
 
-// The same, with columns of its own for the sections.
-fn with_sections(
-    names: &Names,
-    index: &NameIndex,
-    lent: &StageTables,
-    most: usize,
-    most_bytes: usize,
-    outputs: &mut GapOutputs,
-) -> Result<(), Refusal>
-    requires { NamesIn names.now index.now
-        × SpaceIn names.now most most_bytes outputs.old }
-    ensures gives { GivesIn
-        (sections_outcome names.now lent.now (ceilings (names_in names.now) most most_bytes) (length outputs.old.splits.now))
-        result outputs.old outputs.new }
-    ensures lent { SameLent outputs.old outputs.new }
-{
-    let mut heads = [0u32; 64];
-    let mut images = [0u32; 64];
-    from_sections(
-        names,
-        index,
-        lent,
-        &mut heads,
-        &mut images,
-        most,
-        most_bytes,
-        outputs,
-    )
-}
-
-// Where the last name ends, 0 if there is none.
-fn last_end(ends: &[u8]) -> usize
-    ensures { result ≡ start_of ends.now (length ends.now / 2) }
-{
-    let n = ends.len() / 2;
-    if n == 0 {
-        return 0;
-    }
-    get16(ends, 2 * n - 2) as usize
-}
-
-// All tables, with the names in lent columns.
-fn from_names(
-    lent: &StageTables,
-    places: &mut [u32],
-    lengths: &mut [u8],
-    buckets: &mut [u16],
-    chain: &mut [u16],
-    outputs: &mut GapOutputs,
-) -> Result<(), Refusal>
-    requires { stored.Room 4096 places.old lengths.old buckets.old chain.old }
+// All tables, from the names on.
+fn checked(lent: &StageTables, outputs: &mut GapOutputs) -> Result<(), Refusal>
     ensures gives { GivesIn (tables_outcome lent.now outputs.old) result outputs.old outputs.new }
     ensures lent { SameLent outputs.old outputs.new }
 {
     let most = names_room(outputs.ends.len());
     let most_bytes = bytes_room(outputs.bytes.len());
     fit_names(lent.name_ends, most, most_bytes)?;
-    check_names(
-        lent.name_ends,
-        lent.name_bytes,
-        4096,
-        places,
-        lengths,
-        buckets,
-        chain,
-    )?;
+    let mut columns = NameArrays::new();
+    columns.check(lent.name_ends, lent.name_bytes, 4096)?;
     let n = lent.name_ends.len() / 2;
-    let end = last_end(lent.name_ends);
-    with_sections(
-        &Names {
-            bytes: lent.name_bytes,
-            places: &places[..n],
-            lengths: &lengths[..n],
-        },
-        &NameIndex {
-            heads: &*buckets,
-            chain: &*chain,
-        },
+    let end = start_of(lent.name_ends, n);
+    from_sections(
+        &columns.names(lent.name_ends, lent.name_bytes),
+        &columns.index(),
         lent,
         most - n,
         most_bytes - end,
-        outputs,
-    )
-}
-
-// All tables, with columns of its own for the names: their places and lengths, and the index.
-fn checked(lent: &StageTables, outputs: &mut GapOutputs) -> Result<(), Refusal>
-    ensures gives { GivesIn (tables_outcome lent.now outputs.old) result outputs.old outputs.new }
-    ensures lent { SameLent outputs.old outputs.new }
-{
-    let mut places = [0u32; 4096];
-    let mut lengths = [0u8; 4096];
-    let mut buckets = [0u16; 8192];
-    let mut chain = [0u16; 4096];
-    from_names(
-        lent,
-        &mut places,
-        &mut lengths,
-        &mut buckets,
-        &mut chain,
         outputs,
     )
 }

@@ -1,6 +1,5 @@
 -- Sections that are refused are the answer; else the fronts of the columns have their places and those of their bytes, and the symbols are asked with them.
-use Rattle.std.proofs.Common.{sym, ap, ◌∙◌, arith, length}
-use lib.Seq.{length-take-le}
+use Rattle.std.proofs.Common.{◌≡◌, sym, ap, ◌∙◌, arith, length}
 use Rattle.obj.specs.Answers.{meaning}
 use Rattle.obj.proofs.Errors.{same_err}
 use Rattle.stage_tables.proofs.Laws.{taken_few, taken_places, taken-count, taken-held}
@@ -17,20 +16,14 @@ returns-in_err-take_image-clause-gives c =
     rw (same_err c.from_residual.result c.take_image.result c.from_residual.ensures.1 c.in_err-take_image.was)
     (gives_stops _ c.take_image.ensures.said (ap meaning c.in_err-take_image.was))
 
-pub slice_bounds-with_symbols-end : goal.slice_bounds-with_symbols-end
-slice_bounds-with_symbols-end c = omega (arith, taken_few 15 64 c.args.lent.now.sections.now _ _ c.take_image.ensures (ap meaning c.in_ok-take_image.was), c.take_image.auto.places, c.requires.2)
+pub slice_bounds-heads-end : goal.slice_bounds-heads-end
+slice_bounds-heads-end c = omega (arith, taken_few 15 64 c.args.lent.now.sections.now _ _ c.take_image.ensures (ap meaning c.in_ok-take_image.was))
 
-pub slice_bounds-with_symbols-end-2 : goal.slice_bounds-with_symbols-end-2
-slice_bounds-with_symbols-end-2 c = sym (taken-count 15 64 c.args.lent.now.sections.now _ _ c.take_image.ensures (ap meaning c.in_ok-take_image.was))
+pub slice_bounds-from_symbols-end : goal.slice_bounds-from_symbols-end
+slice_bounds-from_symbols-end c = sym (taken-count 15 64 c.args.lent.now.sections.now _ _ c.take_image.ensures (ap meaning c.in_ok-take_image.was))
 
-pub slice_bounds-with_symbols-end-3 : goal.slice_bounds-with_symbols-end-3
-slice_bounds-with_symbols-end-3 c = c.take_image_places-p.ensures.inside
-
-pub slice_bounds-with_symbols-end-4 : goal.slice_bounds-with_symbols-end-4
-slice_bounds-with_symbols-end-4 c = sym (length-take-le _ _ c.take_image_places-p.ensures.inside)
-
-pub with_symbols-requires : goal.with_symbols-requires
-with_symbols-requires c =
+pub from_symbols-requires : goal.from_symbols-requires
+from_symbols-requires c =
     let a = c.args in
     let q = c.requires in
     let t = c.take_image in
@@ -42,7 +35,7 @@ with_symbols-requires c =
         all = taken-held 15 64 a.lent.now.sections.now _ _ t.ensures e (omega arith);
         kept =
             sections_kept 64 a.names.now.lengths.now a.lent.now.section_places.now a.lent.now.image.now a.lent.now.sections.now passed (omega arith) _ _ _ _
-            (taken_places 15 64 a.lent.now.sections.now _ _ t.ensures e) q.0.paired p.ensures (p.auto.column ∙ q.3);
+            (taken_places 15 64 a.lent.now.sections.now _ _ t.ensures e) q.0.paired p.ensures (let e : length p.new.column ≡ 64 = omega arith in e);
         short =
             sections_short 64 a.names.now.lengths.now a.lent.now.section_places.now a.lent.now.image.now a.lent.now.sections.now passed _ a.names.now.bytes.now a.names.now.places.now
             (taken_places 15 64 a.lent.now.sections.now _ _ t.ensures e);
@@ -66,5 +59,5 @@ returns-clause-gives c =
     (taken_places 15 64 a.lent.now.sections.now _ _ t.ensures e)
     (λ n h.
     place_is 64 a.names.now.lengths.now a.lent.now.section_places.now a.lent.now.image.now a.lent.now.sections.now passed _ _ p.ensures n
-    (omega (arith, h, taken_few 15 64 a.lent.now.sections.now _ _ t.ensures e, p.auto.column, q.3))))
-    c.with_symbols.ensures.gives)
+    (omega (arith, h, taken_few 15 64 a.lent.now.sections.now _ _ t.ensures e))))
+    c.from_symbols.ensures.gives)

@@ -26,40 +26,34 @@ returns-in_err-ordered-clause-gives c =
     let said = rw c.in_err-ordered.was at c.take_symbol_order.ensures.said in
     rw (p.1, p.2) (gives_stops _ said refl)
 
+pub slice_bounds-places-end : goal.slice_bounds-places-end
+slice_bounds-places-end c =
+    let passed = sym c.take_symbol_order.ensures.said ∙ ap (λ (r : Result ℕ Refusal). meaning (answered r)) c.in_ok-ordered.was in
+    let few = (table_passed 20 4096 c.args.lent.now.symbols.now _ passed).1 in
+    omega (arith, few)
+
+pub slice_bounds-order-end : goal.slice_bounds-order-end
+slice_bounds-order-end c =
+    let passed = sym c.take_symbol_order.ensures.said ∙ ap (λ (r : Result ℕ Refusal). meaning (answered r)) c.in_ok-ordered.was in
+    let few = (table_passed 20 4096 c.args.lent.now.symbols.now _ passed).1 in
+    let is = ap ordered c.in_ok-ordered.was in
+    omega (arith, is, c.take_symbol_order.ensures.small, few)
+
 pub slice_bounds-with_splits-end : goal.slice_bounds-with_splits-end
 slice_bounds-with_splits-end c =
-    let a = c.args in
     let t = c.take_symbol_order in
-    let passed = sym c.take_symbol_order.ensures.said ∙ ap (λ (r : Result ℕ Refusal). meaning (answered r)) c.in_ok-ordered.was in
-    let few = (table_passed 20 4096 a.lent.now.symbols.now _ passed).1 in
-    omega (arith, few, t.auto.places, c.requires.3.places_long)
+    let passed = sym t.ensures.said ∙ ap (λ (r : Result ℕ Refusal). meaning (answered r)) c.in_ok-ordered.was in
+    let few = (table_passed 20 4096 c.args.lent.now.symbols.now _ passed).1 in
+    let inside : length c.args.lent.now.symbols.now / 20 ≤ length t.new.places = omega (arith, few) in
+    sym (length-take-le _ _ inside)
 
 pub slice_bounds-with_splits-end-2 : goal.slice_bounds-with_splits-end-2
 slice_bounds-with_splits-end-2 c =
-    let a = c.args in
     let t = c.take_symbol_order in
-    let passed = sym c.take_symbol_order.ensures.said ∙ ap (λ (r : Result ℕ Refusal). meaning (answered r)) c.in_ok-ordered.was in
-    let few = (table_passed 20 4096 a.lent.now.symbols.now _ passed).1 in
-    let inside : length a.lent.now.symbols.now / 20 ≤ length t.new.places = omega (arith, few, t.auto.places, c.requires.3.places_long) in
+    let passed = sym t.ensures.said ∙ ap (λ (r : Result ℕ Refusal). meaning (answered r)) c.in_ok-ordered.was in
+    let few = (table_passed 20 4096 c.args.lent.now.symbols.now _ passed).1 in
+    let inside : c.in_ok-ordered.ordered ≤ length t.new.order = omega (arith, ap ordered c.in_ok-ordered.was, t.ensures.small, few) in
     sym (length-take-le _ _ inside)
-
-pub slice_bounds-with_splits-end-3 : goal.slice_bounds-with_splits-end-3
-slice_bounds-with_splits-end-3 c =
-    let a = c.args in
-    let t = c.take_symbol_order in
-    let passed = sym c.take_symbol_order.ensures.said ∙ ap (λ (r : Result ℕ Refusal). meaning (answered r)) c.in_ok-ordered.was in
-    let few = (table_passed 20 4096 a.lent.now.symbols.now _ passed).1 in
-    let is = ap ordered c.in_ok-ordered.was in
-    omega (arith, is, t.ensures.small, few, t.auto.order, c.requires.3.order_long)
-
-pub slice_bounds-with_splits-end-4 : goal.slice_bounds-with_splits-end-4
-slice_bounds-with_splits-end-4 c =
-    let a = c.args in
-    let t = c.take_symbol_order in
-    let passed = sym c.take_symbol_order.ensures.said ∙ ap (λ (r : Result ℕ Refusal). meaning (answered r)) c.in_ok-ordered.was in
-    let few = (table_passed 20 4096 a.lent.now.symbols.now _ passed).1 in
-    let is = ap ordered c.in_ok-ordered.was in
-    sym (length-take-le _ _ (omega (arith, is, t.ensures.small, few, t.auto.order, c.requires.3.order_long)))
 
 pub with_splits-requires : goal.with_splits-requires
 with_splits-requires c =
@@ -67,14 +61,13 @@ with_splits-requires c =
     let t = c.take_symbol_order in
     let passed = sym c.take_symbol_order.ensures.said ∙ ap (λ (r : Result ℕ Refusal). meaning (answered r)) c.in_ok-ordered.was in
     let few = (table_passed 20 4096 a.lent.now.symbols.now _ passed).1 in
-    let inside : length a.lent.now.symbols.now / 20 ≤ length t.new.places = omega (arith, few, t.auto.places, c.requires.3.places_long) in
     let q = c.requires in
     let count = length a.names.now.lengths.now in
     let placed : take (length a.lent.now.symbols.now / 20) t.new.places ≡ stage_places 20 (length a.lent.now.symbols.now / 20) = t.ensures.placed passed in (
       record {
         tables = tables-taken 4096 count (sections_in a.heads.now.bytes.now a.heads.now.places.now) a.lent.now.symbols.now passed (omega arith) _ _ _ _ _ (Ok _) (rw c.in_ok-ordered.was at t.ensures) (sym q.0.paired) q.0.named;
         sound = rw (placed, length-stage_places) (symbols_sound 4096 count (sections_in a.heads.now.bytes.now a.heads.now.places.now) a.lent.now.symbols.now passed);
-        few = omega (arith, few, length-take-le (length a.lent.now.symbols.now / 20) t.new.places inside);
+        few = rw (placed, length-stage_places) few;
         names = q.0;
         headed = q.1;
       },
