@@ -95,9 +95,8 @@ module _ (file : List ℕ) (names : List (List ℕ)) where
   places_written eh en = λ z. places_table (map (λ k. place_of (header_of (eh z) k)) (en z))
 
 -- the numbers of the sections taken over are numbers of sections
-pub numbers_of : (headers numbers : List ℕ) → numbers ≡ taken headers → length numbers ≤ 64 → Numbers headers numbers
-numbers_of headers numbers e h = record {
-  few = h;
+pub numbers_of : (headers numbers : List ℕ) → numbers ≡ taken headers → Numbers headers numbers
+numbers_of headers numbers e = record {
   each = λ k q. subst (λ (l : List ℕ). get_or l k 0 < count headers) (sym e) (taken-below headers k (subst (λ (l : List ℕ). k < length l) e q));
 }
 
@@ -166,8 +165,8 @@ module _ {names : List (List ℕ)} {ends bytes places lengths heads chain : List
   pub laid_names : names_in ends bytes ≡ names
   laid_names = names_back l (length ends / 2) (count_back l)
 
-  pub stored_known : Known (names_in ends bytes) ends bytes heads chain
-  stored_known = record { laid = subst (λ (x : List (List ℕ)). Laid x ends bytes) (sym laid_names) l; index = s.index }
+  pub stored_known : {first next : List ℕ} → first ≡ heads → next ≡ chain → Known (names_in ends bytes) ends bytes first next
+  stored_known f n = record { laid = subst (λ (x : List (List ℕ)). Laid x ends bytes) (sym laid_names) l; index = rw (f, n) s.index }
 
 -- ---- the whole import
 
@@ -251,19 +250,21 @@ module _ {o : Outcome Tables} (ends₀ bytes₀ sections₀ places₀ symbols₀
   leaves_zeros e q w a b c d f g = rw q (record { answered = w; ends_left = a; bytes_left = b; sections_left = c; places_left = d; symbols_left = f; counts_left = g })
 
   -- an accepted import: its tables at the front
-  pub leaves_tables : {r : Imported} {ends bytes sections places symbols counts : List ℕ} → TablesWritten o ends₀ bytes₀ sections₀ places₀ symbols₀ ends bytes sections places symbols r
+  pub leaves_tables : {r : Imported} {ends bytes sections places symbols sections' places' symbols' counts : List ℕ}
+      → TablesWritten o ends₀ bytes₀ sections₀ places₀ symbols₀ ends bytes sections places symbols r
+      → sections' ≡ sections → places' ≡ places → symbols' ≡ symbols
       → counts ≡ store_counts 0 (r.names ∷ r.used ∷ r.sections ∷ r.sections ∷ r.symbols ∷ []) counts₀
-      → Leaves o 0 ends₀ bytes₀ sections₀ places₀ symbols₀ counts₀ ends bytes sections places symbols counts
-  leaves_tables g f =
+      → Leaves o 0 ends₀ bytes₀ sections₀ places₀ symbols₀ counts₀ ends bytes sections' places' symbols' counts
+  leaves_tables g es ep ey f =
       let v = g.written in
       let said = g.said in
       rw said (record {
         answered = refl;
         ends_left = v.ends_written;
         bytes_left = v.bytes_written;
-        sections_left = v.sections_written;
-        places_left = v.places_written;
-        symbols_left = v.symbols_written;
+        sections_left = es ∙ v.sections_written;
+        places_left = ep ∙ v.places_written;
+        symbols_left = ey ∙ v.symbols_written;
         counts_left =
             f ∙ (λ z. store_counts 0 (v.names-counted z ∷ v.used-counted z ∷ v.sections_counted z ∷ v.places_counted z ∷ v.symbols_counted z ∷ []) counts₀);
       })

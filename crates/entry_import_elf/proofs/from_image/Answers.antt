@@ -16,42 +16,42 @@ use Rattle.entry_import_elf.proofs.from_image.Goals as goal
 
 pub returns-in_err-take_image : goal.returns-in_err-take_image
 returns-in_err-take_image c =
-    λ q s p.
+    λ s p.
     let a = c.args in
-    let file = a.file.now.bytes.now in
-    let names = listed a.names.now.known in
+    let file = a.source.now.file.bytes.now in
+    let names = listed a.source.now.names.known in
     let t = tables_of file names in
     let r = err_from_is_err_and c.from_residual.result c.from_residual.ensures.1 in
-    let k = a.names.now.known.known.laid in
-    let m = a.names.now.measured ∙ (λ z. stage_lengths (k.ends_are z) (k.bytes_are z)) ∙ ap (λ (x : List (List ℕ)). stage_lengths (name_ends x) (flat x)) (sym (names_are file names)) in
+    let k = a.source.now.names.known.known.laid in
+    let m = a.source.now.names.measured ∙ (λ z. stage_lengths (k.ends_are z) (k.bytes_are z)) ∙ ap (λ (x : List (List ℕ)). stage_lengths (name_ends x) (flat x)) (sym (names_are file names)) in
     let said = image_said (length file) t c.in_err-take_image.ensures.said m p s in
     rw (r.1, r.2) (sym (image_stops (length file) 64 (symbols_room (length a.symbols.now)) t said refl))
 
-pub slice_bounds-from_symbols-end : goal.slice_bounds-from_symbols-end
-slice_bounds-from_symbols-end c =
+pub slice_bounds-heads-end : goal.slice_bounds-heads-end
+slice_bounds-heads-end c =
     let t = c.take_image in
     let n = taken_few 15 64 c.args.sections.now _ _ t.ensures (ap meaning c.in_ok-take_image.was) in
-    omega (arith, t.auto.places, c.requires.1.long)
+    omega (arith, n)
 
-pub slice_bounds-from_symbols-end-2 : goal.slice_bounds-from_symbols-end-2
-slice_bounds-from_symbols-end-2 c = sym (taken-count 15 64 c.args.sections.now _ _ c.take_image.ensures (ap meaning c.in_ok-take_image.was))
+pub slice_bounds-from_symbols-end : goal.slice_bounds-from_symbols-end
+slice_bounds-from_symbols-end c = sym (taken-count 15 64 c.args.sections.now _ _ c.take_image.ensures (ap meaning c.in_ok-take_image.was))
 
 pub from_symbols-requires : goal.from_symbols-requires
 from_symbols-requires c =
     let held = taken-held 15 64 c.args.sections.now _ _ c.take_image.ensures (ap meaning c.in_ok-take_image.was) (omega arith) in
-    (c.requires.0, held, c.requires.2)
+    held
 
 pub returns : goal.returns
 returns c =
-    λ q s p.
+    λ s p.
     let a = c.args in
-    let file = a.file.now.bytes.now in
-    let names = listed a.names.now.known in
+    let file = a.source.now.file.bytes.now in
+    let names = listed a.source.now.names.known in
     let t = tables_of file names in
     let e = ap meaning c.in_ok-take_image.was in
-    let k = a.names.now.known.known.laid in
-    let m = a.names.now.measured ∙ (λ z. stage_lengths (k.ends_are z) (k.bytes_are z)) ∙ ap (λ (x : List (List ℕ)). stage_lengths (name_ends x) (flat x)) (sym (names_are file names)) in
+    let k = a.source.now.names.known.known.laid in
+    let m = a.source.now.names.measured ∙ (λ z. stage_lengths (k.ends_are z) (k.bytes_are z)) ∙ ap (λ (x : List (List ℕ)). stage_lengths (name_ends x) (flat x)) (sym (names_are file names)) in
     let said = image_said (length file) t c.take_image.ensures.said m p s in
     let heads = ap (sections_in a.sections.now) (taken_places 15 64 a.sections.now _ _ c.take_image.ensures e) ∙ ap stage_sections s in
     given_as t a.symbols.now c.from_symbols.new.symbols c.from_symbols.result (image_goes (length file) 64 (symbols_room (length a.symbols.now)) t said e)
-    (c.from_symbols.ensures q heads)
+    (c.from_symbols.ensures heads)

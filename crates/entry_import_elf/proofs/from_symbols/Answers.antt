@@ -1,5 +1,5 @@
 -- Too many are refused; else they are written, and what was written is asked.
-use Rattle.std.proofs.Common.{ℕ, ◌-◌, ◌/◌, ◌≤◌, ◌∙◌, List, sym, ap, arith, length, length-take-le}
+use Rattle.std.proofs.Common.{ℕ, ◌-◌, ◌*◌, ◌/◌, ◌≡◌, ◌≤◌, ◌∙◌, List, sym, ap, arith, length, take, length-take-le}
 use Rattle.std.proofs.lemmas.List.Edits.{sets}
 use Rattle.std.proofs.lemmas.Result.{err_from_is_err_and}
 use Rattle.lists.specs.Outcome.{refused}
@@ -17,52 +17,52 @@ use Rattle.entry_import_elf.proofs.from_symbols.Goals as goal
 
 pub returns-then-room-n : goal.returns-then-room-n
 returns-then-room-n c =
-    λ q s.
+    λ s.
     let a = c.args in
-    let file = a.file.now.bytes.now in
-    let names = listed a.names.now in
+    let file = a.source.now.file.bytes.now in
+    let names = listed a.source.now.names.known in
     let table = c.bytes_in-table.ensures ∙ ap (λ (h : SectionHeader). section_bytes file h) (c.symbol_table-t.ensures ∙ ap symbol_table c.header_table.ensures) in
     let n = c.entry_count-n.ensures.1 ∙ ap (λ (l : List ℕ). length l / 16 - 1) table ∙ sym (symbols_count file names) in
     let many = symbols_many (symbols_room (length a.symbols.now)) (tables_of file names) n (omega (arith, c.if-room-n.true, c.smaller-room.ensures.0)) in
     rw c.refuse.ensures (sym (ap (λ (m : ℕ). refused 2 0 m) c.smaller-room.ensures.0 ∙ many))
 
 pub put_symbols-requires : goal.put_symbols-requires
-put_symbols-requires c = (c.requires.0, omega (arith, c.if-room-n.false, c.smaller-room.ensures.2, c.entry_count-n.ensures.1))
+put_symbols-requires c = omega (arith, c.if-room-n.false, c.smaller-room.ensures.2, c.entry_count-n.ensures.1)
 
 pub slice_bounds-take_symbols-end-2 : goal.slice_bounds-take_symbols-end-2
 slice_bounds-take_symbols-end-2 c = sym (length-take-le _ _ (omega (arith, c.if-room-n.false, c.smaller-room.ensures.2, c.put_symbols.auto.out)))
 
 pub take_symbols-requires : goal.take_symbols-requires
-take_symbols-requires c = (c.requires.1, c.requires.2)
+take_symbols-requires c = (c.requires, record { few = omega arith; long = omega arith })
 
 pub returns-in_err-take_symbols : goal.returns-in_err-take_symbols
 returns-in_err-take_symbols c =
-    λ q s.
+    λ s.
     let a = c.args in
-    let file = a.file.now.bytes.now in
-    let names = listed a.names.now in
+    let file = a.source.now.file.bytes.now in
+    let names = listed a.source.now.names.known in
     let t = tables_of file names in
     let p = err_from_is_err_and c.from_residual.result c.from_residual.ensures.1 in
     let table = c.bytes_in-table.ensures ∙ ap (λ (h : SectionHeader). section_bytes file h) (c.symbol_table-t.ensures ∙ ap symbol_table c.header_table.ensures) in
     let n = c.entry_count-n.ensures.1 ∙ ap (λ (l : List ℕ). length l / 16 - 1) table ∙ sym (symbols_count file names) in
-    let w = c.put_symbols.ensures ∙ ap (sets a.symbols.now 0) (symbols_written file names table c.symbol_strings.ensures q) in
-    let whole = front a.symbols.now (symbols_table t.symbols) w (omega (arith, n, long_symbols t.symbols)) (omega (arith, c.if-room-n.false, c.smaller-room.ensures.2)) in
-    let ends = a.names.now.known.laid.ends_are ∙ ap (λ (l : List (List ℕ)). name_ends l) (sym (names_are file names)) in
+    let w = c.put_symbols.ensures ∙ ap (sets a.symbols.now 0) (symbols_written file names table c.symbol_strings.ensures a.source.now.all) in
+    let whole : take (20 * c.entry_count-n.result) c.put_symbols.new.out ≡ symbols_table t.symbols = front a.symbols.now (symbols_table t.symbols) w (omega (arith, n, long_symbols t.symbols)) (omega (arith, c.if-room-n.false, c.smaller-room.ensures.2)) in
+    let ends = a.source.now.names.known.known.laid.ends_are ∙ ap (λ (l : List (List ℕ)). name_ends l) (sym (names_are file names)) in
     let few : c.entry_count-n.result ≤ symbols_room (length a.symbols.now) = omega (arith, c.if-room-n.false, c.smaller-room.ensures.0) in
     rw (p.1, p.2) (sym (symbols_asked (symbols_room (length a.symbols.now)) t n few c.in_err-take_symbols.ensures.said ends s whole))
 
 pub returns : goal.returns
 returns c =
-    λ q s.
+    λ s.
     let a = c.args in
-    let file = a.file.now.bytes.now in
-    let names = listed a.names.now in
+    let file = a.source.now.file.bytes.now in
+    let names = listed a.source.now.names.known in
     let t = tables_of file names in
     let table = c.bytes_in-table.ensures ∙ ap (λ (h : SectionHeader). section_bytes file h) (c.symbol_table-t.ensures ∙ ap symbol_table c.header_table.ensures) in
     let n = c.entry_count-n.ensures.1 ∙ ap (λ (l : List ℕ). length l / 16 - 1) table ∙ sym (symbols_count file names) in
-    let w = c.put_symbols.ensures ∙ ap (sets a.symbols.now 0) (symbols_written file names table c.symbol_strings.ensures q) in
-    let whole = front a.symbols.now (symbols_table t.symbols) w (omega (arith, n, long_symbols t.symbols)) (omega (arith, c.if-room-n.false, c.smaller-room.ensures.2)) in
-    let ends = a.names.now.known.laid.ends_are ∙ ap (λ (l : List (List ℕ)). name_ends l) (sym (names_are file names)) in
+    let w = c.put_symbols.ensures ∙ ap (sets a.symbols.now 0) (symbols_written file names table c.symbol_strings.ensures a.source.now.all) in
+    let whole : take (20 * c.entry_count-n.result) c.put_symbols.new.out ≡ symbols_table t.symbols = front a.symbols.now (symbols_table t.symbols) w (omega (arith, n, long_symbols t.symbols)) (omega (arith, c.if-room-n.false, c.smaller-room.ensures.2)) in
+    let ends = a.source.now.names.known.known.laid.ends_are ∙ ap (λ (l : List (List ℕ)). name_ends l) (sym (names_are file names)) in
     record {
       said = sym (symbols_asked (symbols_room (length a.symbols.now)) t n (omega (arith, c.if-room-n.false, c.smaller-room.ensures.0)) c.in_ok-take_symbols.ensures.said ends s whole);
       written = w;

@@ -15,18 +15,18 @@ pub returns-then-taken-i : goal.returns-then-taken-i
 unfolding reserved
 returns-then-taken-i c =
     let a = c.args in
-    let z = first_here (λ k. eqb k a.shndx) a.taken.now c.loop-i.i c.loop-i-test.true (eq-eqb _ _ c.if-taken-i.true) in
+    let z = first_here (λ k. eqb k a.shndx) a.taken.numbers.now c.loop-i.i c.loop-i-test.true (eq-eqb _ _ c.if-taken-i.true) in
     home_there _ _ c.if-shndx.false (omega (arith, z, c.loop-i.invariant)) c.loop-i-test.true
 
 pub loop-i-preserved : goal.loop-i-preserved
 loop-i-preserved c =
     let a = c.args in
-    let z = first_on (λ k. eqb k a.shndx) a.taken.now c.loop-i.i c.loop-i-test.true (ne_eqb _ _ c.if-taken-i.false) in
+    let z = first_on (λ k. eqb k a.shndx) a.taken.numbers.now c.loop-i.i c.loop-i-test.true (ne_eqb _ _ c.if-taken-i.false) in
     omega (arith, z, c.loop-i.invariant)
 
 pub returns : goal.returns
 unfolding reserved
 returns c =
     let a = c.args in
-    let z = first-over (λ k. eqb k a.shndx) a.taken.now c.loop-i.i c.loop-i-test.false in
+    let z = first-over (λ k. eqb k a.shndx) a.taken.numbers.now c.loop-i.i c.loop-i-test.false in
     home_none _ _ c.if-shndx.false (omega (arith, z, c.loop-i.invariant))

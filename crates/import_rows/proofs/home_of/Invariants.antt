@@ -7,4 +7,4 @@ use Rattle.lists.specs.Rows.{first_in}
 use Rattle.import_rows.proofs.home_of.Given as goal
 
 abbrev pub invariant-loop-i : goal.invariant-loop-i
-invariant-loop-i l = first_in (λ k. eqb k l.shndx) l.taken ≡ first_in (λ k. eqb k l.shndx) (drop l.i l.taken) + l.i
+invariant-loop-i l = first_in (λ k. eqb k l.shndx) l.taken.numbers.now ≡ first_in (λ k. eqb k l.shndx) (drop l.i l.taken.numbers.now) + l.i

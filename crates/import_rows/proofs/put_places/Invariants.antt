@@ -10,4 +10,4 @@ use Rattle.import_rows.proofs.put_places.Given as goal
 
 abbrev pub invariant-loop-i : goal.invariant-loop-i
 invariant-loop-i l =
-    Writing (map (λ p. enc32 p) (map (λ k. place_of (header_of l.headers k)) (drop l.i l.taken))) (places_table (map (λ k. place_of (header_of l.headers k)) l.taken)) l.initial.out l.out (4 * l.i)
+    Writing (map (λ p. enc32 p) (map (λ k. place_of (header_of l.headers k)) (drop l.i l.taken.numbers.now))) (places_table (map (λ k. place_of (header_of l.headers k)) l.taken.numbers.now)) l.initial.out l.out (4 * l.i)

@@ -16,10 +16,10 @@ loop-i-preserved c =
     let a = c.args in
     let i = c.loop-i.i in
     let names = listed a.names.now in
-    write_turn c.loop-i.invariant (rows_turn section_record (λ j. head_of names a.strings.now (header_of a.headers.now j)) a.taken.now i c.loop-i-test.true)
+    write_turn c.loop-i.invariant (rows_turn section_record (λ j. head_of names a.strings.now (header_of a.headers.now j)) a.taken.numbers.now i c.loop-i-test.true)
     (c.put_section.ensures
     ∙ ap (λ (s : Section). sets c.loop-i.out (15 * i) (section_record s)) (c.head_of.ensures ∙ ap (head_of names a.strings.now) c.header_of-h.ensures))
-    (omega (arith, length_section (head_of names a.strings.now (header_of a.headers.now (get_or a.taken.now i 0)))))
+    (omega (arith, length_section (head_of names a.strings.now (header_of a.headers.now (get_or a.taken.numbers.now i 0)))))
 
 pub returns : goal.returns
 returns c = write_done c.loop-i.invariant (rows_done _ _ _ _ c.loop-i-test.false)

@@ -12,4 +12,4 @@ use Rattle.import_rows.proofs.put_sections.Given as goal
 abbrev pub invariant-loop-i : goal.invariant-loop-i
 invariant-loop-i l =
     let head : ℕ → Section = λ k. head_of (listed l.names) l.strings (header_of l.headers k) in
-    Writing (map section_record (map head (drop l.i l.taken))) (sections_table (map head l.taken)) l.initial.out l.out (15 * l.i)
+    Writing (map section_record (map head (drop l.i l.taken.numbers.now))) (sections_table (map head l.taken.numbers.now)) l.initial.out l.out (15 * l.i)

@@ -19,7 +19,7 @@ pub loop-i-preserved : goal.loop-i-preserved
 loop-i-preserved c =
     let a = c.args in
     let i = c.loop-i.i in
-    let symbol = symbol_of (listed a.names.now) a.strings.now a.taken.now in
+    let symbol = symbol_of (listed a.names.now) a.strings.now a.taken.numbers.now in
     write_turn c.loop-i.invariant (table_turn symbol_record symbol (λ j. symbol_entry_at a.table.now (16 * j)) _ i c.loop-i-test.true)
     (c.put_symbol.ensures
     ∙ ap (λ (s : Symbol). sets c.loop-i.out (20 * (i - 1)) (symbol_record s)) (c.symbol_of.ensures ∙ ap symbol c.read_symbol_entry-s.ensures))

@@ -12,5 +12,5 @@ use Rattle.import_rows.proofs.put_symbols.Given as goal
 
 abbrev pub invariant-loop-i : goal.invariant-loop-i
 invariant-loop-i l =
-    let symbol = symbol_of (listed l.names) l.strings l.taken in
+    let symbol = symbol_of (listed l.names) l.strings l.taken.numbers.now in
     Writing (map symbol_record (map symbol (tabulate (λ k. symbol_entry_at l.table (16 * k)) l.i (length l.table / 16 - l.i)))) (symbols_table (map symbol (entries_of l.table))) l.initial.out l.out (20 * (l.i - 1))
