@@ -4,8 +4,8 @@
 
 ghost use Rattle.std.specs.Prelude.{◌≡◌, length, ◌+◌, ◌≤◌};
 ghost use Rattle.obj.specs.Answers.{meaning};
-ghost use Rattle.tables.specs.Records.{image_places_of};
-ghost use Rattle.entry_piece_bytes.specs.Entry.{place_of, of_piece, in_section, within, outside, reach, Leaves};
+ghost use Rattle.entry_piece_bytes.specs.Entry.{place_of, outside, reach, Leaves};
+ghost use Rattle.entry_piece_bytes.specs.Lent.{of_lent, in_lent, within_lent};
 
 use fields::put32;
 use obj::{Refusal, Section, read_section, refuse, word_of};
@@ -18,6 +18,14 @@ use tables::{bytes_cut, image_place, table_size};
 pub struct Place {
     pub offset: u32,
     pub length: u32,
+}
+
+// The heads of the sections, where in the image the bytes of each start, and the image.
+#[derive(Clone, Copy)]
+pub struct LentSections<'h, 'p, 'i> {
+    pub heads: &'h [u8],
+    pub places: &'p [u8],
+    pub image: &'i [u8],
 }
 
 // As far as an offset of four bytes reaches into the image.
@@ -50,11 +58,11 @@ fn part_of(image: &[u8], start: usize, head: Section, p: Piece) -> &[u8]
 }
 
 // The place of a piece whose section has this head: 1 where the section's bytes are cut, 72 where the piece lies outside; none for kind 3.
-fn find_within(places: &[u8], image: &[u8], head: Section, p: Piece) -> Result<Place, Refusal>
-    ensures { meaning result ≡ within (image_places_of places.now) (length image.now) head p }
+fn find_within(lent: &LentSections, head: Section, p: Piece) -> Result<Place, Refusal>
+    ensures { meaning result ≡ within_lent lent.now head p }
 {
     let n = p.section as usize;
-    if bytes_cut(places, reach_of(image.len()), n, head) {
+    if bytes_cut(lent.places, reach_of(lent.image.len()), n, head) {
         return refuse(1, 0, p.section as u32);
     }
     if is_outside(head, p) {
@@ -66,8 +74,8 @@ fn find_within(places: &[u8], image: &[u8], head: Section, p: Piece) -> Result<P
             length: 0,
         });
     }
-    let start = image_place(places, n);
-    let part = part_of(image, start as usize, head, p);
+    let start = image_place(lent.places, n);
+    let part = part_of(lent.image, start as usize, head, p);
     Ok(Place {
         offset: start + (p.address - head.address),
         length: part.len() as u32,
@@ -75,46 +83,34 @@ fn find_within(places: &[u8], image: &[u8], head: Section, p: Piece) -> Result<P
 }
 
 // The place of a piece: 20 where its section is not there.
-fn find_in_section(sections: &[u8], places: &[u8], image: &[u8], p: Piece) -> Result<Place, Refusal>
-    ensures { meaning result ≡ in_section sections.now (image_places_of places.now) (length image.now) p }
+fn find_in_section(lent: &LentSections, p: Piece) -> Result<Place, Refusal>
+    ensures { meaning result ≡ in_lent lent.now p }
 {
     let n = p.section as usize;
-    if sections.len() / 15 <= n {
+    if lent.heads.len() / 15 <= n {
         return refuse(20, p.section, 0);
     }
-    find_within(places, image, read_section(sections, 15 * n), p)
+    find_within(lent, read_section(lent.heads, 15 * n), p)
 }
 
 // The place of the piece of this number: 20 where it is not there.
-fn find_piece(
-    sections: &[u8],
-    places: &[u8],
-    image: &[u8],
-    pieces: &[u8],
-    which: u32,
-) -> Result<Place, Refusal>
-    ensures { meaning result ≡ of_piece sections.now (image_places_of places.now) (length image.now) pieces.now which }
+fn find_piece(lent: &LentSections, pieces: &[u8], which: u32) -> Result<Place, Refusal>
+    ensures { meaning result ≡ of_lent lent.now pieces.now which }
 {
     let k = which as usize;
     if pieces.len() / PIECE_BYTES <= k {
         return refuse(20, 0, which);
     }
-    find_in_section(sections, places, image, piece_at(pieces, k))
+    find_in_section(lent, piece_at(pieces, k))
 }
 
 // The same, after the sizes of the two tables of records.
-fn find(
-    sections: &[u8],
-    places: &[u8],
-    image: &[u8],
-    pieces: &[u8],
-    which: u32,
-) -> Result<Place, Refusal>
-    ensures { meaning result ≡ place_of sections.now places.now image.now pieces.now which }
+fn find(lent: &LentSections, pieces: &[u8], which: u32) -> Result<Place, Refusal>
+    ensures { meaning result ≡ place_of lent.now.heads.now lent.now.places.now lent.now.image.now pieces.now which }
 {
-    table_size(sections.len(), 15, 64)?;
+    table_size(lent.heads.len(), 15, 64)?;
     table_size(pieces.len(), PIECE_BYTES, 1024)?;
-    find_piece(sections, places, image, pieces, which)
+    find_piece(lent, pieces, which)
 }
 
 // The place into the lent output, where it was given and fits whole; zeros else.
@@ -144,6 +140,11 @@ pub fn piece_bytes(
 ) -> u64
     ensures { Leaves (place_of sections.now section_places.now image.now pieces.now which) (length place.old) result place.new }
 {
-    let r = find(sections, section_places, image, pieces, which);
+    let lent = LentSections {
+        heads: sections,
+        places: section_places,
+        image,
+    };
+    let r = find(&lent, pieces, which);
     put_place(place, r)
 }

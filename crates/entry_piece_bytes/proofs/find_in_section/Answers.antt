@@ -11,14 +11,14 @@ use Rattle.entry_piece_bytes.proofs.Steps.{no_section, section_there}
 use lib.ListN.{length}
 use Rattle.entry_piece_bytes.proofs.find_in_section.Goals as goal
 
-pub returns-then-sections-n : goal.returns-then-sections-n
-returns-then-sections-n c =
+pub returns-then-lent-n : goal.returns-then-lent-n
+returns-then-lent-n c =
     let a = c.args in
-    ap (λ (x : Result Place Refusal). meaning x) c.refuse.ensures ∙ sym (no_section a.sections.now (image_places_of a.places.now) (length a.image.now) a.p c.if-sections-n.true)
+    ap (λ (x : Result Place Refusal). meaning x) c.refuse.ensures ∙ sym (no_section a.lent.now.heads.now (image_places_of a.lent.now.places.now) (length a.lent.now.image.now) a.p c.if-lent-n.true)
 
 pub returns : goal.returns
 returns c =
     let a = c.args in
     c.find_within.ensures
-    ∙ ap (λ (s : Section). within (image_places_of a.places.now) (length a.image.now) s a.p) c.read_section.ensures
-    ∙ sym (section_there a.sections.now (image_places_of a.places.now) (length a.image.now) a.p c.if-sections-n.false)
+    ∙ ap (λ (s : Section). within (image_places_of a.lent.now.places.now) (length a.lent.now.image.now) s a.p) c.read_section.ensures
+    ∙ sym (section_there a.lent.now.heads.now (image_places_of a.lent.now.places.now) (length a.lent.now.image.now) a.p c.if-lent-n.false)

@@ -13,11 +13,11 @@ use Rattle.entry_piece_bytes.proofs.find_piece.Goals as goal
 pub returns-then-pieces-k : goal.returns-then-pieces-k
 returns-then-pieces-k c =
     let a = c.args in
-    ap (λ (x : Result Place Refusal). meaning x) c.refuse.ensures ∙ sym (no_piece a.sections.now (image_places_of a.places.now) (length a.image.now) a.pieces.now a.which c.if-pieces-k.true)
+    ap (λ (x : Result Place Refusal). meaning x) c.refuse.ensures ∙ sym (no_piece a.lent.now.heads.now (image_places_of a.lent.now.places.now) (length a.lent.now.image.now) a.pieces.now a.which c.if-pieces-k.true)
 
 pub returns : goal.returns
 returns c =
     let a = c.args in
     c.find_in_section.ensures
-    ∙ ap (in_section a.sections.now (image_places_of a.places.now) (length a.image.now)) c.piece_at.ensures
-    ∙ sym (piece_there a.sections.now (image_places_of a.places.now) (length a.image.now) a.pieces.now a.which c.if-pieces-k.false)
+    ∙ ap (in_section a.lent.now.heads.now (image_places_of a.lent.now.places.now) (length a.lent.now.image.now)) c.piece_at.ensures
+    ∙ sym (piece_there a.lent.now.heads.now (image_places_of a.lent.now.places.now) (length a.lent.now.image.now) a.pieces.now a.which c.if-pieces-k.false)

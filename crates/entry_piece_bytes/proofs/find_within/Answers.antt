@@ -17,16 +17,16 @@ use Rattle.entry_piece_bytes.proofs.find_within.Goals as goal
 pub returns-then-bytes_cut : goal.returns-then-bytes_cut
 returns-then-bytes_cut c =
     let a = c.args in
-    let places = image_places_of a.places.now in
-    let image = length a.image.now in
+    let places = image_places_of a.lent.now.places.now in
+    let image = length a.lent.now.image.now in
     let cut_said = c.bytes_cut.ensures ∙ ap (λ (m : ℕ). bytes_cut places m a.p.section a.head) c.reach_of.ensures in
     ap (λ (x : Result Place Refusal). meaning x) c.refuse.ensures ∙ sym (cut places image a.head a.p (sym cut_said ∙ c.if-bytes_cut.true))
 
 pub returns-then-is_outside : goal.returns-then-is_outside
 returns-then-is_outside c =
     let a = c.args in
-    let places = image_places_of a.places.now in
-    let image = length a.image.now in
+    let places = image_places_of a.lent.now.places.now in
+    let image = length a.lent.now.image.now in
     let cut_said = c.bytes_cut.ensures ∙ ap (λ (m : ℕ). bytes_cut places m a.p.section a.head) c.reach_of.ensures in
     let whole = sym cut_said ∙ c.if-bytes_cut.false in
     ap (λ (x : Result Place Refusal). meaning x) c.refuse-then-is_outside.ensures
@@ -35,8 +35,8 @@ returns-then-is_outside c =
 pub returns-then-head-eq3 : goal.returns-then-head-eq3
 returns-then-head-eq3 c =
     let a = c.args in
-    let places = image_places_of a.places.now in
-    let image = length a.image.now in
+    let places = image_places_of a.lent.now.places.now in
+    let image = length a.lent.now.image.now in
     let cut_said = c.bytes_cut.ensures ∙ ap (λ (m : ℕ). bytes_cut places m a.p.section a.head) c.reach_of.ensures in
     let whole = sym cut_said ∙ c.if-bytes_cut.false in
     let inside = sym c.is_outside.ensures ∙ c.if-is_outside.false in
@@ -45,8 +45,8 @@ returns-then-head-eq3 c =
 pub part_of-part-requires : goal.part_of-part-requires
 part_of-part-requires c =
     let a = c.args in
-    let places = image_places_of a.places.now in
-    let image = length a.image.now in
+    let places = image_places_of a.lent.now.places.now in
+    let image = length a.lent.now.image.now in
     let cut_said = c.bytes_cut.ensures ∙ ap (λ (m : ℕ). bytes_cut places m a.p.section a.head) c.reach_of.ensures in
     let whole = sym cut_said ∙ c.if-bytes_cut.false in
     let inside = sym c.is_outside.ensures ∙ c.if-is_outside.false in
@@ -56,8 +56,8 @@ part_of-part-requires c =
 pub overflow_add-result : goal.overflow_add-result
 overflow_add-result c =
     let a = c.args in
-    let places = image_places_of a.places.now in
-    let image = length a.image.now in
+    let places = image_places_of a.lent.now.places.now in
+    let image = length a.lent.now.image.now in
     let cut_said = c.bytes_cut.ensures ∙ ap (λ (m : ℕ). bytes_cut places m a.p.section a.head) c.reach_of.ensures in
     let whole = sym cut_said ∙ c.if-bytes_cut.false in
     let inside = sym c.is_outside.ensures ∙ c.if-is_outside.false in
@@ -67,8 +67,8 @@ overflow_add-result c =
 pub returns : goal.returns
 returns c =
     let a = c.args in
-    let places = image_places_of a.places.now in
-    let image = length a.image.now in
+    let places = image_places_of a.lent.now.places.now in
+    let image = length a.lent.now.image.now in
     let cut_said = c.bytes_cut.ensures ∙ ap (λ (m : ℕ). bytes_cut places m a.p.section a.head) c.reach_of.ensures in
     let whole = sym cut_said ∙ c.if-bytes_cut.false in
     let inside = sym c.is_outside.ensures ∙ c.if-is_outside.false in
