@@ -98,9 +98,11 @@ module _ (o : Outcome Filled) (ends bytes out counts : List ℕ) where
   leaves_ended (Ok u) e f g w = let q = g refl in rw (q.0, q.1, q.2, q.3) (leaves_accepted refl e w)
   leaves_ended (Err r) e f g w = let q = f refl in leaves_refused refl e w q.0 q.1 q.2 q.3
 
--- the outputs have the lengths that were lent
-pub leaves_at : (o : Outcome Filled) {a : Answer} {es bs size cs es' bs' size' cs' answer : ℕ} {ends bytes out counts ends' bytes' out' counts' : List ℕ} → es' ≡ es → bs' ≡ bs → size' ≡ size → cs' ≡ cs
+-- the outputs are those that were lent, of the same lengths
+pub leaves_at : (o : Outcome Filled) {a : Answer} {es bs size cs es' bs' size' cs' answer : ℕ} {ends bytes out counts ends' bytes' out' counts' ends₁ bytes₁ out₁ counts₁ : List ℕ}
+    → es' ≡ es → bs' ≡ bs → size' ≡ size → cs' ≡ cs
     → Gives o a es bs size cs ends bytes out counts
     → ((p : Outcome Filled) → Gives p a es' bs' size' cs' ends bytes out counts → Leaves p es' bs' size' cs' answer ends' bytes' out' counts')
-    → Leaves o es bs size cs answer ends' bytes' out' counts'
-leaves_at o e f g h w k = rw (sym e, sym f, sym g, sym h) (k o (rw (e, f, g, h) w))
+    → ends₁ ≡ ends' → bytes₁ ≡ bytes' → out₁ ≡ out' → counts₁ ≡ counts'
+    → Leaves o es bs size cs answer ends₁ bytes₁ out₁ counts₁
+leaves_at o e f g h w k i j l m = rw (i, j, l, m, sym e, sym f, sym g, sym h) (k o (rw (e, f, g, h) w))

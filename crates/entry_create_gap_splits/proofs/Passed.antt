@@ -17,7 +17,10 @@ use Rattle.lists.proofs.First.{first-none, first_le}
 use Rattle.lists.proofs.Outcomes.{then_inv}
 use Rattle.lists.proofs.Rows.{get_d_map, length-tabulate, tabulate_more, tabulate_ext}
 use Rattle.lists.proofs.Tests.{or_false}
-use Rattle.obj.specs.Answers.{place}
+use Rattle.std.specs.Prelude.{Result, Ok}
+use Rattle.obj.specs.Answers.{place, meaning}
+use Rattle.obj.specs.declared.Refusal.{Refusal}
+use Rattle.stage_symbols.specs.StageSymbols.{Ordered, answered, ordered}
 use Rattle.obj.specs.Records.{section_at, stage_places}
 use Rattle.obj.specs.declared.Section.{Section}
 use Rattle.obj.proofs.Laws.{length-stage_places}
@@ -104,6 +107,17 @@ sections_short ceiling lengths places image b passed head_places name_bytes name
   where
     sections_passed : records_check (section_fault lengths (stage_sections b)) (length b / 15) ≡ accepted tt
     sections_passed = tables.image_sections lengths (image_places_of places) (length image) (stage_sections b) (length b / 15) (table_passed 15 ceiling b _ passed).2
+
+-- ---- symbols that were put in order: they passed, and are few
+module _ {b places order : List ℕ} {r : Result ℕ Refusal} {n : ℕ} (is : r ≡ Ok n) where
+  pub order-passed : {want : Outcome (Unit {0})} → Ordered want b places order r → want ≡ accepted tt
+  order-passed o = sym o.said ∙ ap (λ (x : Result ℕ Refusal). meaning (answered x)) is
+
+  pub order_few : {want : Outcome (Unit {0})} → Ordered want b places order r → n ≤ length b / 20
+  order_few o = omega (arith, ap ordered is, o.small)
+
+  pub order_symbols : (names : ℕ) (heads : List Section) → Ordered (symbols_check 4096 names heads b) b places order r → length b / 20 ≤ 4096
+  order_symbols names heads o = (table_passed 20 4096 b _ (order-passed o)).1
 
 -- ---- the bytes of names
 flat_one : (x : List ℕ) → length (flat (x ∷ [])) ≡ length x
