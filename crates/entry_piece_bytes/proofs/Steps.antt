@@ -1,8 +1,8 @@
 -- What the definition answers at each of the code's returns, and what is known of a piece where no rule refuses it. Assumes nothing.
 use Prim.Native.Nat.{ℕ, ◌+◌, ◌*◌, ◌-◌, ◌/◌, ◌<◌, ◌≤◌}
-use mathlib.Core.Path.{◌≡◌, ap, ◌∙◌}
+use mathlib.Core.Path.{◌≡◌, ap, sym, ◌∙◌}
 use mathlib.Core.List.{List}
-use mathlib.Core.Bool.{true, false, not}
+use mathlib.Core.Bool.{Bool, true, false, not}
 use mathlib.Core.Logic.{◌≢◌}
 use native.Mathlib.Omega.{arith}
 use borrow.Author.Tests.{le-leb, lt-leb, ltb-false, eq-eqb, ne_eqb}
@@ -22,6 +22,10 @@ use Rattle.entry_piece_bytes.specs.Entry.{within, in_section, of_piece, outside,
 
 -- ---- a piece whose section has this head
 module _ (places : List ℕ) (image : ℕ) (head : Section) (p : Piece) where
+  -- the test of the code is that of the definition
+  pub cut_is : {reached : ℕ} {r t : Bool} → r ≡ bytes_cut places reached p.section head → reached ≡ reach image → r ≡ t → bytes_cut places (reach image) p.section head ≡ t
+  cut_is e q b = sym (e ∙ ap (λ (m : ℕ). bytes_cut places m p.section head) q) ∙ b
+
   pub cut : bytes_cut places (reach image) p.section head ≡ true → within places image head p ≡ refused 1 0 p.section
   unfolding within
   cut e = fails 1 0 p.section _ _ e

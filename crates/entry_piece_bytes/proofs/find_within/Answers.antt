@@ -8,10 +8,10 @@ use mathlib.Core.Path.{sym, ap, ◌∙◌}
 use native.Mathlib.Omega.{arith}
 use lib.ListN.{length}
 use Rattle.lists.specs.Outcome.{accepted}
-use Rattle.tables.specs.Records.{image_places_of, bytes_cut}
+use Rattle.tables.specs.Records.{image_places_of}
 use Rattle.entry_piece_bytes.specs.declared.Place.{Place}
 use Rattle.entry_piece_bytes.specs.Entry.{reach}
-use Rattle.entry_piece_bytes.proofs.Steps.{cut, beyond, lies, placed-none, placed-some, bytes_lie, not_below, not_above}
+use Rattle.entry_piece_bytes.proofs.Steps.{cut, cut_is, beyond, lies, placed-none, placed-some, bytes_lie, not_below, not_above}
 use Rattle.entry_piece_bytes.proofs.find_within.Goals as goal
 
 pub returns-then-bytes_cut : goal.returns-then-bytes_cut
@@ -19,16 +19,14 @@ returns-then-bytes_cut c =
     let a = c.args in
     let places = image_places_of a.lent.now.places.now in
     let image = length a.lent.now.image.now in
-    let cut_said = c.bytes_cut.ensures ∙ ap (λ (m : ℕ). bytes_cut places m a.p.section a.head) c.reach_of.ensures in
-    ap (λ (x : Result Place Refusal). meaning x) c.refuse.ensures ∙ sym (cut places image a.head a.p (sym cut_said ∙ c.if-bytes_cut.true))
+    ap (λ (x : Result Place Refusal). meaning x) c.refuse.ensures ∙ sym (cut places image a.head a.p (cut_is places image a.head a.p c.bytes_cut.ensures c.reach_of.ensures c.if-bytes_cut.true))
 
 pub returns-then-is_outside : goal.returns-then-is_outside
 returns-then-is_outside c =
     let a = c.args in
     let places = image_places_of a.lent.now.places.now in
     let image = length a.lent.now.image.now in
-    let cut_said = c.bytes_cut.ensures ∙ ap (λ (m : ℕ). bytes_cut places m a.p.section a.head) c.reach_of.ensures in
-    let whole = sym cut_said ∙ c.if-bytes_cut.false in
+    let whole = cut_is places image a.head a.p c.bytes_cut.ensures c.reach_of.ensures c.if-bytes_cut.false in
     ap (λ (x : Result Place Refusal). meaning x) c.refuse-then-is_outside.ensures
     ∙ sym (beyond places image a.head a.p whole (sym c.is_outside.ensures ∙ c.if-is_outside.true))
 
@@ -37,8 +35,7 @@ returns-then-head-eq3 c =
     let a = c.args in
     let places = image_places_of a.lent.now.places.now in
     let image = length a.lent.now.image.now in
-    let cut_said = c.bytes_cut.ensures ∙ ap (λ (m : ℕ). bytes_cut places m a.p.section a.head) c.reach_of.ensures in
-    let whole = sym cut_said ∙ c.if-bytes_cut.false in
+    let whole = cut_is places image a.head a.p c.bytes_cut.ensures c.reach_of.ensures c.if-bytes_cut.false in
     let inside = sym c.is_outside.ensures ∙ c.if-is_outside.false in
     ap accepted (sym (placed-none _ a.head a.p c.if-head-eq3.true)) ∙ sym (lies places image a.head a.p whole inside)
 
@@ -47,8 +44,7 @@ part_of-part-requires c =
     let a = c.args in
     let places = image_places_of a.lent.now.places.now in
     let image = length a.lent.now.image.now in
-    let cut_said = c.bytes_cut.ensures ∙ ap (λ (m : ℕ). bytes_cut places m a.p.section a.head) c.reach_of.ensures in
-    let whole = sym cut_said ∙ c.if-bytes_cut.false in
+    let whole = cut_is places image a.head a.p c.bytes_cut.ensures c.reach_of.ensures c.if-bytes_cut.false in
     let inside = sym c.is_outside.ensures ∙ c.if-is_outside.false in
     let bytes = bytes_lie places (reach image) a.p.section a.head whole c.if-head-eq3.false in
     (omega (arith, bytes, c.image_place-start.ensures), not_below a.head a.p inside, not_above a.head a.p inside)
@@ -58,8 +54,7 @@ overflow_add-result c =
     let a = c.args in
     let places = image_places_of a.lent.now.places.now in
     let image = length a.lent.now.image.now in
-    let cut_said = c.bytes_cut.ensures ∙ ap (λ (m : ℕ). bytes_cut places m a.p.section a.head) c.reach_of.ensures in
-    let whole = sym cut_said ∙ c.if-bytes_cut.false in
+    let whole = cut_is places image a.head a.p c.bytes_cut.ensures c.reach_of.ensures c.if-bytes_cut.false in
     let inside = sym c.is_outside.ensures ∙ c.if-is_outside.false in
     let bytes = bytes_lie places (reach image) a.p.section a.head whole c.if-head-eq3.false in
     omega (arith, bytes, c.image_place-start.ensures, not_below a.head a.p inside, not_above a.head a.p inside)
@@ -69,8 +64,7 @@ returns c =
     let a = c.args in
     let places = image_places_of a.lent.now.places.now in
     let image = length a.lent.now.image.now in
-    let cut_said = c.bytes_cut.ensures ∙ ap (λ (m : ℕ). bytes_cut places m a.p.section a.head) c.reach_of.ensures in
-    let whole = sym cut_said ∙ c.if-bytes_cut.false in
+    let whole = cut_is places image a.head a.p c.bytes_cut.ensures c.reach_of.ensures c.if-bytes_cut.false in
     let inside = sym c.is_outside.ensures ∙ c.if-is_outside.false in
     ap (λ (m : ℕ). accepted (record { offset = c.image_place-start.result + (a.p.address - a.head.address); length = m })) c.part_of-part.ensures
     ∙ ap (λ (m : ℕ). accepted (record { offset = m + (a.p.address - a.head.address); length = a.p.size })) c.image_place-start.ensures
