@@ -1,11 +1,10 @@
--- What tables that passed leave to the next: relocations that rise, names at the fronts of their columns. Assumes nothing.
+-- What tables that passed leave to the next: relocations that rise, and how many names there are. Assumes nothing.
 use Prim.Native.Nat.{ℕ, ◌/◌, ◌≤◌, ◌<◌}
 use mathlib.Core.Path.{◌≡◌, sym, ap, subst, ◌∙◌}
 use mathlib.Core.List.{List}
 use native.Mathlib.Nat.{mul-div-le}
 use native.Mathlib.Omega.{arith}
-use lib.ListN.{length, get_or, take, length-map}
-use lib.Seq.{get_or-take, length-take-le}
+use lib.ListN.{length, get_or, length-map}
 use Rattle.lists.specs.Outcome.{accepted}
 use Rattle.lists.proofs.Outcomes.{then_both}
 use Rattle.lists.proofs.Rows.{get_d_map}
@@ -19,10 +18,10 @@ use Rattle.tables.proofs.Lookups.{stage_held}
 use Rattle.stage_tables.specs.StageTables.{stage_relocs, relocs_check}
 use Rattle.stage_tables.proofs.Laws.{table_passed}
 use Rattle.relocs.specs.Relocs.{reloc_of}
-use Rattle.name_table.specs.NameTable.{names_check}
-use Rattle.name_table.specs.Stored.{Stored}
+use Rattle.name_table.specs.NameTable.{names_check, stage_names}
+use Rattle.name_table.specs.Stored.{name_lengths, stage_lengths}
+use Rattle.name_table.proofs.Laws.{length-stage_names}
 use Rattle.stage_walk.specs.Lines.{Relocated}
-use Rattle.entry_split_obj.specs.Lines.{Names}
 
 -- ---- relocations
 module _ (heads : List Section) (symbols : ℕ) (b : List ℕ) (passed : relocs_check 4096 heads symbols b ≡ accepted tt) where
@@ -56,25 +55,11 @@ module _ (heads : List Section) (symbols : ℕ) (b : List ℕ) (passed : relocs_
         few = omega (arith, relocs_few, length-stage_places 23 count);
       })
 
--- ---- names that passed stand at the fronts of their columns
+-- ---- names
 pub names_few : (ceiling : ℕ) (ends bytes : List ℕ) → names_check ceiling ends bytes ≡ accepted tt → length ends / 2 ≤ ceiling
 unfolding names_check
 names_few ceiling ends bytes passed = (tables.size_passed 2 ceiling (length ends) (then_both _ _ _ passed).0).1
 
-module _ (ends bytes places lengths heads chain : List ℕ) (stored : Stored ends bytes places lengths heads chain (length ends / 2)) where
-  pub places_count : length (take (length ends / 2) places) ≡ length ends / 2
-  places_count = length-take-le _ _ stored.named.placed
-
-  pub lengths_count : length (take (length ends / 2) lengths) ≡ length ends / 2
-  lengths_count = length-take-le _ _ stored.named.measured
-
-  pub names-taken : Names bytes (take (length ends / 2) places) (take (length ends / 2) lengths)
-  names-taken =
-      record {
-        named = record {
-          placed = omega arith;
-          measured = rw (places_count, lengths_count) (omega arith);
-          inside = λ k h. let q : k < length ends / 2 = rw places_count at h in rw (get_or-take _ places k 0 q, get_or-take _ lengths k 0 q) (stored.named.inside k q);
-        };
-        paired = lengths_count ∙ sym places_count;
-      }
+pub length-stage_lengths : (ends bytes : List ℕ) → length (stage_lengths ends bytes) ≡ length ends / 2
+unfolding name_lengths
+length-stage_lengths ends bytes = length-map (stage_names ends bytes (length ends / 2)) length ∙ length-stage_names ends bytes (length ends / 2)

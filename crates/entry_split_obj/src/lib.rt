@@ -1,20 +1,18 @@
-// The entry `split_obj` behind its C name: the checks of its tables, the walk, and what is left in the lent outputs. The columns that the checks fill are local;
-// each function lends them on whole. From the splits on it is stage_walk.
+// The entry `split_obj` behind its C name: the checks of its tables, the walk, and what is left in the lent outputs. The columns that the checks fill are local.
+// From the splits on it is stage_walk.
 #![tactic(auto)]
 
-ghost use Rattle.std.specs.Prelude.{◌≡◌, ◌*◌, ◌≤◌, ◌<◌, length};
-ghost use Rattle.name_table.specs.Stored as stored;
-ghost use Rattle.sections.specs.Image.{image_in};
-ghost use Rattle.stage_symbols.specs.StageSymbols as symbol_columns;
+ghost use Rattle.std.specs.Prelude.{◌≡◌, ◌≤◌, length};
+ghost use Rattle.name_table.specs.Columns.{ReadableIn};
 ghost use Rattle.walk.specs.Giving.{output_in};
 ghost use Rattle.stage_walk.specs.Room.{room_in};
-ghost use Rattle.stage_walk.specs.Lines.{Gives, AskedIn, HeadedIn, heads_in, sections_lent};
+ghost use Rattle.stage_walk.specs.Lines.{Gives, HeadedIn};
 ghost use Rattle.entry_split_obj.specs.Entry.{split_obj_of, Laid, Leaves};
-ghost use Rattle.entry_split_obj.specs.Lines.{from_relocs, from_symbols, from_sections, made_by, word_by, Fits, Names as NamesRead, sizes_of};
+ghost use Rattle.entry_split_obj.specs.Lines.{from_symbols_in, split_obj_in, made_by, word_by, Fits, sizes_of};
 ghost use Rattle.pieces.specs.Room.{Ceilings};
 
 use lent_tables::StageTables;
-use name_table::check_names;
+use name_table::NameArrays;
 use names::Names;
 use obj::{Refusal, Table, word_of};
 use outputs::{clear_from, put_count};
@@ -24,116 +22,7 @@ use stage_symbols::{take_image_places, take_symbol_order};
 use stage_tables::{take_image, take_relocs};
 use stage_walk::{room_of, with_splits};
 
-// The relocations in a lent column, and the tables after them.
-fn from_relocs(
-    obj: &Obj,
-    image: &Table,
-    lent: &StageTables,
-    places: &mut [u32],
-    floors: &mut [u32],
-    tables: &mut PieceTables,
-) -> Result<(), Refusal>
-    requires { AskedIn obj.now
-        × HeadedIn obj.now.heads image.now obj.now.names.places.now
-        × (length obj.now.names.lengths.now ≤ 4096)
-        × (length obj.now.symbols.places.now ≤ 4096)
-        × (length places.old ≡ 4096)
-        × (length floors.old ≡ 64)
-        × Ceilings tables.old.room }
-    ensures { Gives
-        (from_relocs obj.now.names.lengths.now (heads_in obj.now.heads) (image_in obj.now) (sections_lent obj.now.heads image.now) lent.now.relocs.now lent.now.splits.now lent.now.units.now tables.old.room)
-        tables.old tables.new result }
-{
-    take_relocs(
-        &obj.heads,
-        obj.symbols.places.len(),
-        lent.relocs,
-        4096,
-        places,
-        floors,
-    )?;
-    let n = lent.relocs.len() / 23;
-    with_splits(
-        obj,
-        image,
-        &Table {
-            bytes: lent.relocs,
-            places: &places[..n],
-        },
-        lent.splits,
-        lent.units,
-        tables,
-    )
-}
-
-// The same, with columns of its own for the relocations.
-fn with_relocs(
-    obj: &Obj,
-    image: &Table,
-    lent: &StageTables,
-    tables: &mut PieceTables,
-) -> Result<(), Refusal>
-    requires { AskedIn obj.now
-        × HeadedIn obj.now.heads image.now obj.now.names.places.now
-        × (length obj.now.names.lengths.now ≤ 4096)
-        × (length obj.now.symbols.places.now ≤ 4096)
-        × Ceilings tables.old.room }
-    ensures { Gives
-        (from_relocs obj.now.names.lengths.now (heads_in obj.now.heads) (image_in obj.now) (sections_lent obj.now.heads image.now) lent.now.relocs.now lent.now.splits.now lent.now.units.now tables.old.room)
-        tables.old tables.new result }
-{
-    let mut places = [0u32; 4096];
-    let mut floors = [0u32; 64];
-    from_relocs(obj, image, lent, &mut places, &mut floors, tables)
-}
-
-// The symbols with their order in lent columns, and the tables after them.
-fn from_symbols(
-    names: &Names,
-    heads: &Table,
-    image: &Table,
-    lent: &StageTables,
-    places: &mut [u32],
-    order: &mut [u16],
-    scratch: &mut [u16],
-    tables: &mut PieceTables,
-) -> Result<(), Refusal>
-    requires { NamesRead names.now.bytes.now names.now.places.now names.now.lengths.now
-        × HeadedIn heads.now image.now names.now.places.now
-        × (length names.now.lengths.now ≤ 4096)
-        × symbol_columns.Room 4096 places.old order.old scratch.old
-        × Ceilings tables.old.room }
-    ensures { Gives
-        (from_symbols names.now.bytes.now names.now.places.now names.now.lengths.now (heads_in heads.now) (sections_lent heads.now image.now) lent.now.symbols.now lent.now.relocs.now lent.now.splits.now lent.now.units.now tables.old.room)
-        tables.old tables.new result }
-{
-    let ordered = take_symbol_order(
-        names.lengths.len(),
-        heads,
-        lent.symbols,
-        4096,
-        places,
-        order,
-        scratch,
-    )?;
-    let n = lent.symbols.len() / 20;
-    with_relocs(
-        &Obj {
-            symbols: Table {
-                bytes: lent.symbols,
-                places: &places[..n],
-            },
-            order: &order[..ordered],
-            names: *names,
-            heads: *heads,
-        },
-        image,
-        lent,
-        tables,
-    )
-}
-
-// The same, with columns of its own for the symbols.
+// The symbols with their order, the relocations, and the tables after them.
 fn with_symbols(
     names: &Names,
     heads: &Table,
@@ -141,58 +30,66 @@ fn with_symbols(
     lent: &StageTables,
     tables: &mut PieceTables,
 ) -> Result<(), Refusal>
-    requires { NamesRead names.now.bytes.now names.now.places.now names.now.lengths.now
+    requires { ReadableIn names.now
         × HeadedIn heads.now image.now names.now.places.now
         × (length names.now.lengths.now ≤ 4096)
         × Ceilings tables.old.room }
-    ensures { Gives
-        (from_symbols names.now.bytes.now names.now.places.now names.now.lengths.now (heads_in heads.now) (sections_lent heads.now image.now) lent.now.symbols.now lent.now.relocs.now lent.now.splits.now lent.now.units.now tables.old.room)
-        tables.old tables.new result }
+    ensures { Gives (from_symbols_in names.now heads.now image.now lent.now tables.old.room) tables.old tables.new result }
 {
     let mut places = [0u32; 4096];
     let mut order = [0u16; 4096];
     let mut scratch = [0u16; 4096];
-    from_symbols(
-        names,
+    let ordered = take_symbol_order(
+        names.lengths.len(),
         heads,
-        image,
-        lent,
+        lent.symbols,
+        4096,
         &mut places,
         &mut order,
         &mut scratch,
-        tables,
-    )
+    )?;
+    let n = lent.symbols.len() / 20;
+    let obj = Obj {
+        symbols: Table {
+            bytes: lent.symbols,
+            places: &places[..n],
+        },
+        order: &order[..ordered],
+        names: *names,
+        heads: *heads,
+    };
+    let mut reloc_places = [0u32; 4096];
+    let mut floors = [0u32; 64];
+    take_relocs(heads, n, lent.relocs, 4096, &mut reloc_places, &mut floors)?;
+    let relocs = Table {
+        bytes: lent.relocs,
+        places: &reloc_places[..lent.relocs.len() / 23],
+    };
+    with_splits(&obj, image, &relocs, lent.splits, lent.units, tables)
 }
 
-// The sections and the places of their bytes in lent columns, and the tables after them.
-fn from_sections(
-    names: &Names,
-    lent: &StageTables,
-    heads: &mut [u32],
-    images: &mut [u32],
-    tables: &mut PieceTables,
-) -> Result<(), Refusal>
-    requires { NamesRead names.now.bytes.now names.now.places.now names.now.lengths.now
-        × (length names.now.lengths.now ≤ 4096)
-        × (length heads.old ≡ 64)
-        × (length images.old ≡ 64)
-        × Ceilings tables.old.room }
-    ensures { Gives
-        (from_sections names.now.bytes.now names.now.places.now names.now.lengths.now lent.now.sections.now lent.now.section_places.now lent.now.image.now lent.now.symbols.now lent.now.relocs.now lent.now.splits.now lent.now.units.now tables.old.room)
-        tables.old tables.new result }
+// All tables: the names, the sections with the places of their bytes, and the tables after them.
+fn checked(lent: &StageTables, tables: &mut PieceTables) -> Result<(), Refusal>
+    requires { Ceilings tables.old.room }
+    ensures { Gives (split_obj_in lent.now tables.old.room) tables.old tables.new result }
 {
+    let mut columns = NameArrays::new();
+    columns.check(lent.name_ends, lent.name_bytes, 4096)?;
+    let names = columns.names(lent.name_ends, lent.name_bytes);
+    let mut heads = [0u32; 64];
     take_image(
         names.lengths,
         lent.section_places,
         lent.image.len(),
         lent.sections,
         64,
-        heads,
+        &mut heads,
     )?;
     let n = lent.sections.len() / 15;
-    let p = take_image_places(lent.section_places, images);
+    let mut images = [0u32; 64];
+    let p = take_image_places(lent.section_places, &mut images);
     with_symbols(
-        names,
+        &names,
         &Table {
             bytes: lent.sections,
             places: &heads[..n],
@@ -202,77 +99,6 @@ fn from_sections(
             places: &images[..p],
         },
         lent,
-        tables,
-    )
-}
-
-// The same, with columns of its own for the sections.
-fn with_sections(names: &Names, lent: &StageTables, tables: &mut PieceTables) -> Result<(), Refusal>
-    requires { NamesRead names.now.bytes.now names.now.places.now names.now.lengths.now
-        × (length names.now.lengths.now ≤ 4096)
-        × Ceilings tables.old.room }
-    ensures { Gives
-        (from_sections names.now.bytes.now names.now.places.now names.now.lengths.now lent.now.sections.now lent.now.section_places.now lent.now.image.now lent.now.symbols.now lent.now.relocs.now lent.now.splits.now lent.now.units.now tables.old.room)
-        tables.old tables.new result }
-{
-    let mut heads = [0u32; 64];
-    let mut images = [0u32; 64];
-    from_sections(names, lent, &mut heads, &mut images, tables)
-}
-
-// All tables, with the names in lent columns.
-fn from_names(
-    lent: &StageTables,
-    places: &mut [u32],
-    lengths: &mut [u8],
-    index: &mut [u16],
-    chain: &mut [u16],
-    tables: &mut PieceTables,
-) -> Result<(), Refusal>
-    requires { stored.Room 4096 places.old lengths.old index.old chain.old
-        × Ceilings tables.old.room }
-    ensures { Gives
-        (split_obj_of lent.now.name_ends.now lent.now.name_bytes.now lent.now.sections.now lent.now.section_places.now lent.now.image.now lent.now.symbols.now lent.now.relocs.now lent.now.splits.now lent.now.units.now tables.old.room)
-        tables.old tables.new result }
-{
-    check_names(
-        lent.name_ends,
-        lent.name_bytes,
-        4096,
-        places,
-        lengths,
-        index,
-        chain,
-    )?;
-    let n = lent.name_ends.len() / 2;
-    with_sections(
-        &Names {
-            bytes: lent.name_bytes,
-            places: &places[..n],
-            lengths: &lengths[..n],
-        },
-        lent,
-        tables,
-    )
-}
-
-// All tables, with columns of its own for the names: their places and lengths, and the index.
-fn with_names(lent: &StageTables, tables: &mut PieceTables) -> Result<(), Refusal>
-    requires { Ceilings tables.old.room }
-    ensures { Gives
-        (split_obj_of lent.now.name_ends.now lent.now.name_bytes.now lent.now.sections.now lent.now.section_places.now lent.now.image.now lent.now.symbols.now lent.now.relocs.now lent.now.splits.now lent.now.units.now tables.old.room)
-        tables.old tables.new result }
-{
-    let mut places = [0u32; 4096];
-    let mut lengths = [0u8; 4096];
-    let mut index = [0u16; 8192];
-    let mut chain = [0u16; 4096];
-    from_names(
-        lent,
-        &mut places,
-        &mut lengths,
-        &mut index,
-        &mut chain,
         tables,
     )
 }
@@ -353,7 +179,7 @@ pub fn split_obj(
         symbols: &mut *entries,
         relocs: &mut *offsets,
     };
-    let r = with_names(
+    let r = checked(
         &StageTables {
             name_ends,
             name_bytes,

@@ -14,12 +14,12 @@ use Rattle.entry_split_obj.proofs.split_obj.Goals as goal
 pub invariant_of-tables : goal.invariant_of-tables
 invariant_of-tables c = record { fits = fits_none c.args.pieces.now c.args.entries.now c.args.offsets.now _ _ c.room_of.ensures refl }
 
-pub with_names-r-requires : goal.with_names-r-requires
-with_names-r-requires c = low c.args.pieces.now c.args.entries.now c.args.offsets.now _ c.room_of.ensures
+pub checked-r-requires : goal.checked-r-requires
+checked-r-requires c = low c.args.pieces.now c.args.entries.now c.args.offsets.now _ c.room_of.ensures
 
 pub lay-requires : goal.lay-requires
 lay-requires c =
-    let w = c.with_names-r in
+    let w = c.checked-r in
     let t = w.new.tables in
     subst (λ (m : Counts). Fits m (length c.pieces-1.given.0) (length c.entries-1.given.0) (length c.offsets-1.given.0)) (sym c.made_of-made.ensures)
     (fits_as _ _ _ _ _ _ _ (ap (λ (l : List ℕ). length l) (c.pieces-1.given.1.1 (sym w.ensures.lent.pieces))) (ap (λ (l : List ℕ). length l) (c.entries-1.given.1.1 (sym w.ensures.lent.symbols))) (ap (λ (l : List ℕ). length l) (c.offsets-1.given.1.1 (sym w.ensures.lent.relocs)))
@@ -28,7 +28,7 @@ lay-requires c =
 pub returns : goal.returns
 returns c =
     let a = c.args in
-    let w = c.with_names-r in
+    let w = c.checked-r in
     leaves_at _ w.new.tables c.made_of-made.result _ _ _ w.result _ _ _ _ _ _ _
     (c.pieces-1.given.1.1 (sym w.ensures.lent.pieces)) (c.entries-1.given.1.1 (sym w.ensures.lent.symbols)) (c.offsets-1.given.1.1 (sym w.ensures.lent.relocs))
     c.made_of-made.ensures

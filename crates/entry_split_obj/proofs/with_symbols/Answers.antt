@@ -1,0 +1,89 @@
+-- `entry_split_obj::with_symbols` meets its contract. A table that is refused is the answer; else the fronts of the columns have the places of its records, and the tables after it are asked
+-- with them.
+-- Assumes nothing.
+use Rattle.std.specs.Prelude.{Ok, Err}
+use Rattle.std.proofs.lemmas.Result.{err_from_is_err_and}
+use Rattle.obj.specs.declared.Refusal.{Refusal}
+use Rattle.obj.specs.Answers.{meaning}
+use mathlib.Core.Path.{sym, ap, ◌∙◌}
+use Prim.Native.Nat.{◌/◌, ◌≤◌}
+use native.Mathlib.Omega.{arith}
+use lib.ListN.{length}
+use lib.Seq.{length-take-le}
+use Rattle.stage_tables.proofs.Laws.{table_passed, taken_few, taken_places, taken-count}
+use Rattle.sections.specs.Sections.{sections_of}
+use Rattle.tables.specs.Records.{sections_in}
+use Rattle.entry_split_obj.specs.Lines.{from_symbols}
+use Rattle.pieces.proofs.Same.{lent_same}
+use Rattle.stage_walk.proofs.Lines.{gives_as, gives_stops, gives_goes}
+use Rattle.entry_split_obj.proofs.Lines.{tables_as}
+use Rattle.entry_split_obj.proofs.Passed.{relocs_taken}
+use Rattle.stage_symbols.proofs.Laws.{tables-taken, symbols_sound}
+use Rattle.obj.proofs.Laws.{length-stage_places}
+use Rattle.entry_split_obj.proofs.with_symbols.Goals as goal
+
+pub returns-in_err-ordered : goal.returns-in_err-ordered
+unfolding from_symbols
+returns-in_err-ordered c =
+    let p = err_from_is_err_and c.from_residual.result c.from_residual.ensures.1 in
+    gives_stops _ (p.1 ∙ ap (λ (x : Refusal). Err x) p.2) c.in_err-ordered.ensures.said lent_same
+
+pub slice_bounds-places-end : goal.slice_bounds-places-end
+slice_bounds-places-end c = omega (arith, (table_passed 20 4096 c.args.lent.now.symbols.now _ (sym c.in_ok-ordered.ensures.said)).1)
+
+pub slice_bounds-obj-end : goal.slice_bounds-obj-end
+slice_bounds-obj-end c =
+    sym (ap length (c.in_ok-ordered.ensures.placed (sym c.in_ok-ordered.ensures.said)) ∙ length-stage_places 20 (length c.args.lent.now.symbols.now / 20))
+
+pub slice_bounds-order-end : goal.slice_bounds-order-end
+slice_bounds-order-end c = omega (arith, c.in_ok-ordered.ensures.small, (table_passed 20 4096 c.args.lent.now.symbols.now _ (sym c.in_ok-ordered.ensures.said)).1)
+
+pub slice_bounds-obj-end-2 : goal.slice_bounds-obj-end-2
+slice_bounds-obj-end-2 c =
+    let inside : c.in_ok-ordered.ordered ≤ length c.take_symbol_order.new.order = omega (arith, c.in_ok-ordered.ensures.small, (table_passed 20 4096 c.args.lent.now.symbols.now _ (sym c.in_ok-ordered.ensures.said)).1) in
+    sym (length-take-le _ _ inside)
+
+pub returns-in_err-take_relocs : goal.returns-in_err-take_relocs
+unfolding from_symbols
+returns-in_err-take_relocs c =
+    let p = err_from_is_err_and c.from_residual-in_err-take_relocs.result c.from_residual-in_err-take_relocs.ensures.1 in
+    gives_goes (sym c.in_ok-ordered.ensures.said) (gives_stops _ (p.1 ∙ ap (λ (x : Refusal). Err x) p.2) c.in_err-take_relocs.ensures.said lent_same)
+
+pub slice_bounds-reloc_places-end : goal.slice_bounds-reloc_places-end
+slice_bounds-reloc_places-end c = omega (arith, taken_few 23 4096 c.args.lent.now.relocs.now _ _ c.take_relocs.ensures (ap meaning c.in_ok-take_relocs.was))
+
+pub slice_bounds-relocs-end : goal.slice_bounds-relocs-end
+slice_bounds-relocs-end c = sym (taken-count 23 4096 c.args.lent.now.relocs.now _ _ c.take_relocs.ensures (ap meaning c.in_ok-take_relocs.was))
+
+pub with_splits-requires : goal.with_splits-requires
+with_splits-requires c =
+    let a = c.args in
+    let heads = sections_in a.heads.now.bytes.now a.heads.now.places.now in
+    let names = length a.names.now.lengths.now in
+    let passed = sym c.in_ok-ordered.ensures.said in
+    let placed = c.in_ok-ordered.ensures.placed passed in
+    let taken = ap meaning c.in_ok-take_relocs.was in (
+      record {
+        tables = tables-taken 4096 names heads a.lent.now.symbols.now passed (omega arith) _ _ _ _ _ (Ok c.in_ok-ordered.ordered) c.in_ok-ordered.ensures (sym c.requires.0.paired) c.requires.0.named;
+        sound = rw (placed, length-stage_places) (symbols_sound 4096 names heads a.lent.now.symbols.now passed);
+      },
+      c.requires.1,
+      relocs_taken heads (length a.lent.now.symbols.now / 20) a.lent.now.relocs.now (sym c.take_relocs.ensures.said ∙ taken) _ (taken_places 23 4096 a.lent.now.relocs.now _ _ c.take_relocs.ensures taken),
+      c.requires.2,
+      rw (placed, length-stage_places) (table_passed 20 4096 a.lent.now.symbols.now _ passed).1,
+      c.requires.3,
+    )
+
+pub returns : goal.returns
+unfolding from_symbols
+returns c =
+    let a = c.args in
+    let passed = sym c.in_ok-ordered.ensures.said in
+    let taken = ap meaning c.in_ok-take_relocs.was in
+    gives_goes passed
+    (gives_goes (sym c.take_relocs.ensures.said ∙ taken)
+    (gives_as
+    (tables_as a.names.now.bytes.now a.names.now.places.now a.names.now.lengths.now (sections_in a.heads.now.bytes.now a.heads.now.places.now)
+    (sections_of a.heads.now.bytes.now a.heads.now.places.now a.image.now.bytes.now a.image.now.places.now) a.lent.now.symbols.now _ a.lent.now.relocs.now _ a.lent.now.splits.now a.lent.now.units.now a.tables.now.room
+    (c.in_ok-ordered.ensures.placed passed) (taken_places 23 4096 a.lent.now.relocs.now _ _ c.take_relocs.ensures taken))
+    c.with_splits.ensures))
