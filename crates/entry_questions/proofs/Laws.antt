@@ -16,9 +16,10 @@ use Rattle.obj.specs.declared.Split.{Split}
 use Rattle.obj.proofs.Laws.{length-stage_places}
 use Rattle.tables.specs.Tables.{main_ceilings, size_check}
 use Rattle.tables.specs.Records.{image_places_of, split_fault}
+use Rattle.tables.specs.Records as records
 use Rattle.tables.proofs.Laws.{records_pass}
 use Rattle.name_table.specs.NameTable.{names_check}
-use Rattle.name_table.specs.Stored.{stage_lengths}
+use Rattle.name_table.specs.Stored.{name_starts, stage_lengths}
 use Rattle.stage_tables.specs.StageTables.{stage_sections, stage_splits, image_check, symbols_check, splits_check, table_check}
 use Rattle.sections.specs.Image.{Image, image_of}
 use Rattle.sections.specs.Bytes.{bytes_of}
@@ -30,6 +31,8 @@ use Rattle.sections.specs.declared.Short.{Short}
 use Rattle.entry_questions.specs.declared.Question.{Question}
 use Rattle.entry_questions.specs.declared.Question.TheVariants as questions
 use Rattle.entry_questions.specs.Entry.{end_of, alignment_at, question_of, image_in, sections_in, split_in, split_of, answer_of, end_answer}
+use Rattle.entry_questions.specs.Lines.{from_symbols}
+use Rattle.entry_questions.proofs.Passed.{length-stage_lengths}
 
 -- ---- the splitting end
 module _ (g : Image) (sections : Sections) (section : ℕ) where
@@ -101,26 +104,55 @@ module _ (g : Image) (head : ℕ → Section) (count : ℕ) (split : ℕ → Spl
     alignment_refused said = alignment_found (refused 11 s.section s.start) said
 
 -- ---- the question over the columns is that over the lent tables
-pub question_as : (b heads image splits places name_bytes name_places name_lengths P H I S : List ℕ) (question : Question)
-    → P ≡ stage_places 20 (length b / 20) → H ≡ stage_places 15 (length heads / 15) → S ≡ stage_places split_width (length splits / split_width)
-    → ((n : ℕ) → n < length heads / 15 → get_or I n 0 ≡ get_or (image_places_of places) n 0)
-    → question_of (image_of b P name_bytes name_places name_lengths) (sections_of heads H image I) (length S) (split_of splits S) question
-    ≡ question_of (image_of b (stage_places 20 (length b / 20)) name_bytes name_places name_lengths) (sections_in heads places image) (length splits / split_width) (split_in splits) question
-unfolding question_of
-question_as b heads image splits places name_bytes name_places name_lengths P H I S question p h s same =
-    ap₂ (λ (x y : List ℕ). question_of (image_of b x name_bytes name_places name_lengths) (sections_of heads y image I) (length S) (split_of splits S) question) p h
-    ∙ ap (λ (z : List ℕ). question_of g (sections_of heads (stage_places 15 (length heads / 15)) image I) (length z) (split_of splits z) question) s
-    ∙ ap (λ (n : ℕ). question_of g (sections_of heads (stage_places 15 (length heads / 15)) image I) n (split_in splits) question) (length-stage_places split_width (length splits / split_width))
-    ∙ go question
-  where
-    g : Image
-    g = image_of b (stage_places 20 (length b / 20)) name_bytes name_places name_lengths
 
-    go : (q : Question)
-        → question_of g (sections_of heads (stage_places 15 (length heads / 15)) image I) (length splits / split_width) (split_in splits) q
-        ≡ question_of g (sections_in heads places image) (length splits / split_width) (split_in splits) q
-    go (questions.End section) = end_as g heads (stage_places 15 (length heads / 15)) image I (image_places_of places) section (λ n k. same n (rw length-stage_places at k))
-    go (questions.Alignment which) = refl
+-- symbols and splits that passed
+pub question_as : (sections : Sections) (b splits name_bytes name_places name_lengths P S : List ℕ) (question : Question)
+    → P ≡ stage_places 20 (length b / 20) → S ≡ stage_places split_width (length splits / split_width)
+    → question_of (image_of b P name_bytes name_places name_lengths) sections (length S) (split_of splits S) question
+    ≡ question_of (image_of b (stage_places 20 (length b / 20)) name_bytes name_places name_lengths) sections (length splits / split_width) (split_in splits) question
+question_as sections b splits name_bytes name_places name_lengths P S question p s =
+    (λ d. question_of (image_of b (p d) name_bytes name_places name_lengths) sections (length (s d)) (split_of splits (s d)) question)
+    ∙ ap (λ (n : ℕ). question_of (image_of b (stage_places 20 (length b / 20)) name_bytes name_places name_lengths) sections n (split_in splits) question)
+    (length-stage_places split_width (length splits / split_width))
+
+-- .. and so is the definition from the symbols on
+pub asked_as : (heads : List Section) (sections : Sections) (b splits name_bytes name_places name_lengths P S : List ℕ) (question : Question) {q : Question}
+    → symbols_check 4096 (length name_lengths) heads b ≡ accepted tt → splits_check 1024 name_lengths heads splits ≡ accepted tt
+    → P ≡ stage_places 20 (length b / 20) → S ≡ stage_places split_width (length splits / split_width) → question ≡ q
+    → question_of (image_of b P name_bytes name_places name_lengths) sections (length S) (split_of splits S) q
+    ≡ from_symbols name_bytes name_places name_lengths heads sections b splits question
+unfolding from_symbols
+asked_as heads sections b splits name_bytes name_places name_lengths P S question y l p s e =
+    ap (question_of (image_of b P name_bytes name_places name_lengths) sections (length S) (split_of splits S)) (sym e)
+    ∙ question_as sections b splits name_bytes name_places name_lengths P S question p s
+    ∙ then_goes refl _ l
+    ∙ then_goes refl _ y
+
+-- names and sections that passed
+module _ (ends bytes heads image places symbols splits : List ℕ) (question : Question) where
+  -- the lines after the sections, with the question of these
+  abbrev lines : (names : ℕ) → Sections → Outcome ℕ
+  lines names sections =
+      symbols_check 4096 names (stage_sections heads) symbols
+      >> (splits_check 1024 (stage_lengths ends bytes) (stage_sections heads) splits
+      >> question_of (image_in ends bytes symbols) sections (length splits / split_width) (split_in splits) question)
+
+  pub symbols_as : (name_bytes name_places name_lengths head_places I : List ℕ)
+      → name_bytes ≡ bytes → name_places ≡ name_starts ends (length ends / 2) → name_lengths ≡ stage_lengths ends bytes
+      → head_places ≡ stage_places 15 (length heads / 15) → ((n : ℕ) → n < length heads / 15 → get_or I n 0 ≡ get_or (image_places_of places) n 0)
+      → from_symbols name_bytes name_places name_lengths (records.sections_in heads head_places) (sections_of heads head_places image I) symbols splits question
+      ≡ lines (length ends / 2) (sections_in heads places image)
+  unfolding from_symbols question_of
+  symbols_as name_bytes name_places name_lengths head_places I eb ep el there same =
+      (λ d. from_symbols (eb d) (ep d) (el d) (records.sections_in heads (there d)) (sections_of heads (there d) image I) symbols splits question)
+      ∙ ap (λ (m : Outcome ℕ). symbols_check 4096 (length (stage_lengths ends bytes)) (stage_sections heads) symbols >> (splits_check 1024 (stage_lengths ends bytes) (stage_sections heads) splits >> m)) (go question)
+      ∙ ap (λ (n : ℕ). lines n (sections_in heads places image)) (length-stage_lengths ends bytes)
+    where
+      go : (q : Question)
+          → question_of (image_in ends bytes symbols) (sections_of heads (stage_places 15 (length heads / 15)) image I) (length splits / split_width) (split_in splits) q
+          ≡ question_of (image_in ends bytes symbols) (sections_in heads places image) (length splits / split_width) (split_in splits) q
+      go (questions.End section) = end_as (image_in ends bytes symbols) heads (stage_places 15 (length heads / 15)) image I (image_places_of places) section (λ n k. same n (rw length-stage_places at k))
+      go (questions.Alignment which) = refl
 
 -- ---- `end_for_section` takes no splits
 

@@ -1,3 +1,3 @@
+pub mod Passed
 pub mod Laws
 pub mod Numbers
-pub mod Passed

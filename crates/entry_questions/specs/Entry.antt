@@ -1,21 +1,20 @@
 -- The entries `end_for_section` and `split_alignment` on their lent bytes: the tables in the order of their kinds, and then the question; what they
 -- answer for every input, and every byte of the output.
-use Rattle.std.specs.Prelude.{ℕ, ◌/◌, ◌<◌, ◌≡◌, List, [], cond, length, get_or, leb}
+use Rattle.std.specs.Prelude.{ℕ, ◌/◌, ◌≡◌, List, [], cond, length, get_or, leb}
 use Rattle.lists.specs.Outcome.{Outcome, accepted, refused, refuse, ◌>>◌, ◌>>=◌}
 use Rattle.lists.specs.Tables.{laid}
 use Rattle.fields.specs.Fields.{enc32}
 use Rattle.obj.specs.Answers.{outcome_word}
-use Rattle.obj.specs.Records.{split_at, stage_places, Held, split_width}
+use Rattle.obj.specs.Records.{split_at, stage_places, split_width}
 use Rattle.obj.specs.declared.Section.{Section}
 use Rattle.obj.specs.declared.Split.{Split}
-use Rattle.names.specs.Names.{Named}
 use Rattle.tables.specs.Tables.{main_ceilings}
 use Rattle.tables.specs.Records.{image_places_of}
 use Rattle.name_table.specs.NameTable.{names_check}
 use Rattle.name_table.specs.Stored.{stage_lengths, name_starts}
 use Rattle.stage_tables.specs.StageTables.{stage_sections, image_check, symbols_check, splits_check}
 use Rattle.sections.specs.Image.{Image, image_of}
-use Rattle.sections.specs.Sections.{Sections, sections_of, head_of}
+use Rattle.sections.specs.Sections.{Sections, sections_of}
 use Rattle.sections.specs.Ends.{splitting_end}
 use Rattle.sections.specs.Alignment.{default_alignment, alignment_of}
 use Rattle.entry_questions.specs.declared.Question.{Question}
@@ -52,8 +51,12 @@ image_in ends bytes symbols =
 abbrev pub sections_in : (sections places image : List ℕ) → Sections
 sections_in sections places image = sections_of sections (stage_places 15 (length sections / 15)) image (image_places_of places)
 
+-- split k of a table at places
+abbrev pub split_of : (b places : List ℕ) → ℕ → Split
+split_of b places k = split_at b (get_or places k 0)
+
 abbrev pub split_in : (splits : List ℕ) → ℕ → Split
-split_in splits k = split_at splits (get_or (stage_places split_width (length splits / split_width)) k 0)
+split_in splits = split_of splits (stage_places split_width (length splits / split_width))
 
 -- the tables, "stage tables by kind", and then the question
 unfoldable pub answer_of : (ends bytes sections places image symbols splits : List ℕ) → Question → Outcome ℕ
@@ -86,41 +89,3 @@ number_bytes size (refused number section address) = laid size []
 pub record Leaves (o : Outcome ℕ) (size answer : ℕ) (out : List ℕ) : Type 0 where
   pub said : answer ≡ outcome_word o
   pub number : out ≡ number_bytes size o
-
--- ---- inside the entries
-
--- split k of a table at places
-abbrev pub split_of : (b places : List ℕ) → ℕ → Split
-split_of b places k = split_at b (get_or places k 0)
-
--- from kind 2 on, over names in columns
-unfoldable pub from_sections : (name_bytes name_places name_lengths sections places image symbols splits : List ℕ) → Question → Outcome ℕ
-from_sections name_bytes name_places name_lengths sections places image symbols splits question = do
-  image_check main_ceilings.sections name_lengths places (length image) sections
-  symbols_check main_ceilings.symbols (length name_lengths) (stage_sections sections) symbols
-  splits_check main_ceilings.splits name_lengths (stage_sections sections) splits
-  question_of (image_of symbols (stage_places 20 (length symbols / 20)) name_bytes name_places name_lengths) (sections_in sections places image) (length splits / split_width) (split_in splits) question
-
--- the names are in columns of one length
-pub record Names (name_bytes name_places name_lengths : List ℕ) : Type 0 where
-  pub named : Named name_bytes name_places name_lengths (length name_places)
-  pub paired : length name_lengths ≡ length name_places
-
--- each section's record can be read, and its name is there
-pub record Headed (heads head_places name_places : List ℕ) : Type 0 where
-  pub held : (n : ℕ) → n < length head_places → Held 15 heads head_places n
-  pub named : (n : ℕ) → n < length head_places → (head_of heads head_places n).name < length name_places
-
--- every split's section is there
-pub record Homes (b places head_places : List ℕ) : Type 0 where
-  pub held : (k : ℕ) → k < length places → Held split_width b places k
-  pub home : (k : ℕ) → k < length places → (split_of b places k).section < length head_places
-
--- the lent columns are long enough
-pub record Scratch (head_places image_places symbol_places order scratch split_places : List ℕ) : Type 0 where
-  pub heads_long : length head_places ≡ 64
-  pub image_long : length image_places ≡ 64
-  pub symbols_long : length symbol_places ≡ 4096
-  pub order_long : length order ≡ 4096
-  pub scratch_long : length scratch ≡ 4096
-  pub splits_long : length split_places ≡ 1024

@@ -1,24 +1,23 @@
 // The entries `end_for_section` and `split_alignment` behind their C names: the tables, "stage tables by kind", and then one question. The columns
-// that the checks fill are local; each function lends them on whole.
+// that the checks fill are local.
 #![tactic(auto)]
 
 ghost use Rattle.std.specs.Prelude.{◌≡◌, length};
 ghost use Rattle.obj.specs.Answers.{meaning};
 ghost use Rattle.sections.specs.Image.{image_in, TablesIn};
-ghost use Rattle.sections.specs.Sections.{sections_of, head_of, Kept};
-ghost use Rattle.name_table.specs.Stored as stored;
-ghost use Rattle.entry_questions.specs.Entry.{end_of, alignment_at, question_of, answer_of, end_answer, alignment_answer, from_sections, split_of, Names as NamesRead, Headed, Homes, Scratch, Leaves};
+ghost use Rattle.name_table.specs.Columns.{ReadableIn};
+ghost use Rattle.entry_questions.specs.Entry.{end_of, alignment_at, end_answer, alignment_answer, Leaves};
+ghost use Rattle.entry_questions.specs.Lines.{answer_in, from_symbols_in, sections_lent, head_in, split_at_in, KeptIn, HeadsIn, HomesIn};
 
 use fields::put32;
 use lent_tables::StageTables;
-use name_table::check_names;
+use name_table::NameArrays;
 use names::{Names, name_at};
 use obj::{Refusal, SPLIT_BYTES, Table, refuse, section_at, split_at, word_of};
 use outputs::clear_from;
 use sections::{Obj, alignment_of, default_alignment, section_bytes};
 use stage_symbols::{take_image_places, take_symbol_order};
 use stage_tables::{take_image, take_splits};
-use tables::main_ceilings;
 
 // What is asked: the splitting end of a section, or the alignment of a split of the table.
 #[derive(Clone, Copy)]
@@ -29,8 +28,8 @@ pub enum Question {
 
 // The splitting end of a section: "10 `.ctors` or `.dtors` with 1 to 3 bytes"; 20 where the section is not there.
 fn splitting_end(obj: &Obj, image: &Table, section: u16) -> Result<u32, Refusal>
-    requires { TablesIn obj.now × Kept obj.now.heads.bytes.now obj.now.heads.places.now image.now.bytes.now image.now.places.now obj.now.names.places.now }
-    ensures { meaning result ≡ end_of (image_in obj.now) (sections_of obj.now.heads.bytes.now obj.now.heads.places.now image.now.bytes.now image.now.places.now) section }
+    requires { TablesIn obj.now × KeptIn obj.now.heads image.now obj.now.names }
+    ensures { meaning result ≡ end_of (image_in obj.now) (sections_lent obj.now.heads image.now) section }
 {
     let n = section as usize;
     if obj.heads.places.len() <= n {
@@ -47,8 +46,8 @@ fn splitting_end(obj: &Obj, image: &Table, section: u16) -> Result<u32, Refusal>
 
 // The alignment of a split of the table: "11 start above end"; 20 where the split is not there.
 fn alignment(obj: &Obj, splits: &Table, which: u16) -> Result<u32, Refusal>
-    requires { TablesIn obj.now × Headed obj.now.heads.bytes.now obj.now.heads.places.now obj.now.names.places.now × Homes splits.now.bytes.now splits.now.places.now obj.now.heads.places.now }
-    ensures { meaning result ≡ alignment_at (image_in obj.now) (head_of obj.now.heads.bytes.now obj.now.heads.places.now) (length splits.now.places.now) (split_of splits.now.bytes.now splits.now.places.now) which }
+    requires { TablesIn obj.now × HeadsIn obj.now × HomesIn splits.now obj.now.heads }
+    ensures { meaning result ≡ alignment_at (image_in obj.now) (head_in obj.now.heads) (length splits.now.places.now) (split_at_in splits.now) which }
 {
     let k = which as usize;
     if splits.places.len() <= k {
@@ -73,161 +72,81 @@ fn alignment(obj: &Obj, splits: &Table, which: u16) -> Result<u32, Refusal>
     Ok(chosen.value())
 }
 
-// The question, of tables that passed.
-fn ask(obj: &Obj, image: &Table, splits: &Table, question: Question) -> Result<u32, Refusal>
-    requires { TablesIn obj.now × Kept obj.now.heads.bytes.now obj.now.heads.places.now image.now.bytes.now image.now.places.now obj.now.names.places.now × Homes splits.now.bytes.now splits.now.places.now obj.now.heads.places.now }
-    ensures { meaning result ≡ question_of (image_in obj.now) (sections_of obj.now.heads.bytes.now obj.now.heads.places.now image.now.bytes.now image.now.places.now) (length splits.now.places.now) (split_of splits.now.bytes.now splits.now.places.now) question }
+// The symbols with their order, the splits, and then the question.
+fn with_symbols(
+    names: &Names,
+    heads: &Table,
+    image: &Table,
+    lent: &StageTables,
+    question: Question,
+) -> Result<u32, Refusal>
+    requires { ReadableIn names.now × KeptIn heads.now image.now names.now }
+    ensures { meaning result ≡ from_symbols_in names.now heads.now image.now lent.now question }
 {
+    let mut places = [0u32; 4096];
+    let mut order = [0u16; 4096];
+    let mut scratch = [0u16; 4096];
+    let ordered = take_symbol_order(
+        names.lengths.len(),
+        heads,
+        lent.symbols,
+        4096,
+        &mut places,
+        &mut order,
+        &mut scratch,
+    )?;
+    let obj = Obj {
+        symbols: Table {
+            bytes: lent.symbols,
+            places: &places[..lent.symbols.len() / 20],
+        },
+        order: &order[..ordered],
+        names: *names,
+        heads: *heads,
+    };
+    let mut split_places = [0u32; 1024];
+    take_splits(names.lengths, heads, lent.splits, 1024, &mut split_places)?;
+    let splits = Table {
+        bytes: lent.splits,
+        places: &split_places[..lent.splits.len() / SPLIT_BYTES],
+    };
     match question {
-        Question::End { section } => splitting_end(obj, image, section),
-        Question::Alignment { split } => alignment(obj, splits, split),
+        Question::End { section } => splitting_end(&obj, image, section),
+        Question::Alignment { split } => alignment(&obj, &splits, split),
     }
 }
 
-// The tables from the sections on, and the question; the names stand in columns.
-fn from_sections(
-    names: &Names,
-    lent: &StageTables,
-    question: Question,
-    heads: &mut [u32],
-    images: &mut [u32],
-    places: &mut [u32],
-    order: &mut [u16],
-    scratch: &mut [u16],
-    split_places: &mut [u32],
-) -> Result<u32, Refusal>
-    requires { NamesRead names.now.bytes.now names.now.places.now names.now.lengths.now × Scratch heads.old images.old places.old order.old scratch.old split_places.old }
-    ensures { meaning result ≡ from_sections names.now.bytes.now names.now.places.now names.now.lengths.now lent.now.sections.now lent.now.section_places.now lent.now.image.now lent.now.symbols.now lent.now.splits.now question }
+// All tables, and the question: the names, the sections with the places of their bytes, and what comes after them.
+fn answered(lent: &StageTables, question: Question) -> Result<u32, Refusal>
+    ensures { meaning result ≡ answer_in lent.now question }
 {
-    let most = main_ceilings();
+    let mut columns = NameArrays::new();
+    columns.check(lent.name_ends, lent.name_bytes, 4096)?;
+    let names = columns.names(lent.name_ends, lent.name_bytes);
+    let mut heads = [0u32; 64];
     take_image(
         names.lengths,
         lent.section_places,
         lent.image.len(),
         lent.sections,
-        most.sections,
-        heads,
+        64,
+        &mut heads,
     )?;
     let n = lent.sections.len() / 15;
-    let head_table = Table {
-        bytes: lent.sections,
-        places: &heads[..n],
-    };
-    let ordered = take_symbol_order(
-        names.lengths.len(),
-        &head_table,
-        lent.symbols,
-        most.symbols,
-        places,
-        order,
-        scratch,
-    )?;
-    take_splits(
-        names.lengths,
-        &head_table,
-        lent.splits,
-        most.splits,
-        split_places,
-    )?;
-    let p = take_image_places(lent.section_places, images);
-    ask(
-        &Obj {
-            symbols: Table {
-                bytes: lent.symbols,
-                places: &places[..lent.symbols.len() / 20],
-            },
-            order: &order[..ordered],
-            names: *names,
-            heads: Table {
-                bytes: lent.sections,
-                places: &heads[..n],
-            },
+    let mut images = [0u32; 64];
+    let p = take_image_places(lent.section_places, &mut images);
+    with_symbols(
+        &names,
+        &Table {
+            bytes: lent.sections,
+            places: &heads[..n],
         },
         &Table {
             bytes: lent.image,
             places: &images[..p],
         },
-        &Table {
-            bytes: lent.splits,
-            places: &split_places[..lent.splits.len() / SPLIT_BYTES],
-        },
-        question,
-    )
-}
-
-// The same, with columns of its own.
-fn with_columns(names: &Names, lent: &StageTables, question: Question) -> Result<u32, Refusal>
-    requires { NamesRead names.now.bytes.now names.now.places.now names.now.lengths.now }
-    ensures { meaning result ≡ from_sections names.now.bytes.now names.now.places.now names.now.lengths.now lent.now.sections.now lent.now.section_places.now lent.now.image.now lent.now.symbols.now lent.now.splits.now question }
-{
-    let mut heads = [0u32; 64];
-    let mut images = [0u32; 64];
-    let mut places = [0u32; 4096];
-    let mut order = [0u16; 4096];
-    let mut scratch = [0u16; 4096];
-    let mut split_places = [0u32; 1024];
-    from_sections(
-        names,
         lent,
         question,
-        &mut heads,
-        &mut images,
-        &mut places,
-        &mut order,
-        &mut scratch,
-        &mut split_places,
-    )
-}
-
-// All tables, with the names in lent columns.
-fn from_names(
-    lent: &StageTables,
-    question: Question,
-    places: &mut [u32],
-    lengths: &mut [u8],
-    heads: &mut [u16],
-    chain: &mut [u16],
-) -> Result<u32, Refusal>
-    requires { stored.Room 4096 places.old lengths.old heads.old chain.old }
-    ensures { meaning result ≡ answer_of lent.now.name_ends.now lent.now.name_bytes.now lent.now.sections.now lent.now.section_places.now lent.now.image.now lent.now.symbols.now lent.now.splits.now question }
-{
-    let most = main_ceilings();
-    check_names(
-        lent.name_ends,
-        lent.name_bytes,
-        most.names,
-        places,
-        lengths,
-        heads,
-        chain,
-    )?;
-    let n = lent.name_ends.len() / 2;
-    with_columns(
-        &Names {
-            bytes: lent.name_bytes,
-            places: &places[..n],
-            lengths: &lengths[..n],
-        },
-        lent,
-        question,
-    )
-}
-
-// All tables, with columns of its own for the names: their places and lengths, and the index.
-fn answered(lent: &StageTables, question: Question) -> Result<u32, Refusal>
-    ensures { meaning result ≡ answer_of lent.now.name_ends.now lent.now.name_bytes.now lent.now.sections.now lent.now.section_places.now lent.now.image.now lent.now.symbols.now lent.now.splits.now question }
-{
-    let mut places = [0u32; 4096];
-    let mut lengths = [0u8; 4096];
-    let mut heads = [0u16; 8192];
-    let mut chain = [0u16; 4096];
-    from_names(
-        lent,
-        question,
-        &mut places,
-        &mut lengths,
-        &mut heads,
-        &mut chain,
     )
 }
 
