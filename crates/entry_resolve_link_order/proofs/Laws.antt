@@ -7,7 +7,7 @@ use mathlib.Core.Logic.{◌⊎◌, inl, inr}
 use native.Mathlib.Nat.{zero-add}
 use native.Mathlib.Omega.{arith}
 use lib.ListN.{length, get_or, take, length-map, get_or-eq_default}
-use lib.Seq.{length-take-le, get_or-take}
+use lib.Seq.{get_or-take}
 use Rattle.lists.specs.Rows.{clear_from}
 use Rattle.lists.specs.Outcome.{Outcome, accepted, refused, ◌>>◌}
 use Rattle.lists.proofs.Rows.{get_d_map, get_d_tabulate, length-tabulate}
@@ -33,7 +33,8 @@ use Rattle.tables.specs.Records.{no_section, no_split, no_unit, sections_in, uni
 use Rattle.tables.proofs.Laws as tables
 use Rattle.tables.proofs.Laws.{size_passed}
 use Rattle.name_table.specs.NameTable.{name_in, stage_names, names_check}
-use Rattle.name_table.specs.Stored.{Stored, stage_lengths}
+use Rattle.name_table.specs.Stored.{Stored, Readable, name_starts, name_lengths, stage_lengths}
+use Rattle.name_table.proofs.Laws.{length-stage_names}
 use Rattle.stage_tables.specs.StageTables.{stage_sections, stage_splits, stage_units, sections_check, splits_check, units_check, Filled}
 use Rattle.stage_tables.proofs.Laws.{table_passed, taken_places, taken-count, taken-held}
 use Rattle.stage_splits.specs.StageSplits.{Taken}
@@ -50,7 +51,8 @@ use Rattle.order.proofs.Errors.{refused_as}
 use Rattle.order.proofs.Bytes.{length-units_bytes}
 use Rattle.order.proofs.Stage.{same_pointers, resolves_as, length_records}
 use Rattle.entry_resolve_link_order.proofs.Refusals.{Low}
-use Rattle.entry_resolve_link_order.specs.Entry.{given_in, resolve_of, from_units, from_splits, from_sections, NamesTaken, SectionsTaken, Leaves}
+use Rattle.entry_resolve_link_order.specs.Entry.{given_in, resolve_of, Leaves}
+use Rattle.entry_resolve_link_order.specs.Lines.{from_splits, SectionsTaken}
 
 -- ---- one table after another
 
@@ -73,35 +75,21 @@ known l v h = go (lt_or_ge v (length l))
     go (inr q) = absurd (omega (arith, get_or-eq_default l 0 q))
 
 -- ---- names
-module _ (ends bytes places lengths heads chain : List ℕ) (n : ℕ) (s : Stored ends bytes places lengths heads chain n) where
-  places_long : length (take n places) ≡ n
-  places_long = length-take-le n places s.named.placed
+pub length-stage_lengths : (ends bytes : List ℕ) → length (stage_lengths ends bytes) ≡ length ends / 2
+unfolding name_lengths
+length-stage_lengths ends bytes = length-map (stage_names ends bytes (length ends / 2)) length ∙ length-stage_names ends bytes (length ends / 2)
 
-  lengths_long : length (take n lengths) ≡ n
-  lengths_long = length-take-le n lengths s.named.measured
-
-  pub names-taken : n ≤ 4096 → NamesTaken bytes (take n places) (take n lengths)
-  names-taken few = record {
-    named = record {
-      placed = omega arith;
-      measured = omega (arith, places_long, lengths_long);
-      inside = λ k h.
-          let q : k < n = omega (arith, places_long) in
-          rw (get_or-take n places k 0 q, get_or-take n lengths k 0 q) (s.named.inside k q);
-    };
-    same = lengths_long ∙ sym places_long;
-    few = omega (arith, lengths_long);
-  }
-
-  -- the names in the columns are those of the table
-  name_is : (k : ℕ) → k < n → name_at bytes (take n places) (take n lengths) k ≡ name_in ends bytes k
-  unfolding name_at names_of stage_names
-  name_is k h =
-      let there : get_or (names_of bytes places lengths n) k [] ≡ get_or (stage_names ends bytes n) k [] = ap (λ (l : List (List ℕ)). get_or l k []) s.names in
-      ap₂ (λ (i j : ℕ). name_at bytes (i ∷ []) (j ∷ []) 0) (get_or-take n places k 0 h) (get_or-take n lengths k 0 h)
-      ∙ sym (get_d_tabulate (name_at bytes places lengths) 0 n k [] h ∙ ap (name_at bytes places lengths) (zero-add k))
-      ∙ there
-      ∙ get_d_tabulate (name_in ends bytes) 0 n k [] h ∙ ap (name_in ends bytes) (zero-add k)
+-- the names that are read in the columns are those of the table
+name_is : (ends bytes places lengths heads chain : List ℕ) (n : ℕ) → Stored ends bytes places lengths heads chain n → (k : ℕ) → k < n
+    → name_at bytes (name_starts ends n) (name_lengths ends bytes n) k ≡ name_in ends bytes k
+unfolding name_at names_of stage_names
+name_is ends bytes places lengths heads chain n s k h =
+    let there : get_or (names_of bytes places lengths n) k [] ≡ get_or (stage_names ends bytes n) k [] = ap (λ (l : List (List ℕ)). get_or l k []) s.names in
+    ap₂ (λ (p l : List ℕ). name_at bytes p l k) (sym s.starts) (sym s.sizes)
+    ∙ ap₂ (λ (i j : ℕ). name_at bytes (i ∷ []) (j ∷ []) 0) (get_or-take n places k 0 h) (get_or-take n lengths k 0 h)
+    ∙ sym (get_d_tabulate (name_at bytes places lengths) 0 n k [] h ∙ ap (name_at bytes places lengths) (zero-add k))
+    ∙ there
+    ∙ get_d_tabulate (name_in ends bytes) 0 n k [] h ∙ ap (name_in ends bytes) (zero-add k)
 
 -- ---- sections
 module _ (lengths b : List ℕ) (e : sections_check 64 lengths b ≡ accepted tt) where
@@ -118,8 +106,8 @@ module _ (lengths b : List ℕ) (e : sections_check 64 lengths b ≡ accepted tt
       rw (sym (ap (λ (s : Section). s.name) (head_at k h))) (known lengths (get_or (stage_sections b) k no_section).name named)
 
 pub sections_taken : (lengths b places name_bytes name_places : List ℕ) {answer : Outcome (Unit {0})} → Filled answer (sections_check 64 lengths b) 15 (length b) places
-    → answer ≡ accepted tt → NamesTaken name_bytes name_places lengths → SectionsTaken b (take (length b / 15) places) name_bytes name_places lengths
-sections_taken lengths b places name_bytes name_places f e names =
+    → answer ≡ accepted tt → Readable name_bytes name_places lengths → length lengths ≤ 4096 → SectionsTaken b (take (length b / 15) places) name_bytes name_places lengths
+sections_taken lengths b places name_bytes name_places f e names few =
     let fault = section_fault lengths (stage_sections b) in
     let check : sections_check 64 lengths b ≡ accepted tt = sym f.said ∙ e in
     let held = taken-held 15 64 b places fault f e (omega arith) in
@@ -132,9 +120,9 @@ sections_taken lengths b places name_bytes name_places f e names =
         names = names.named;
         named = λ k h.
             let q : k < length b / 15 = omega arith in
-            omega (arith, names.same, subst (λ (l : List ℕ). (section_at b (get_or l k 0)).name < length lengths) (sym where-they-are) (head_named lengths b check k q));
+            omega (arith, names.paired, subst (λ (l : List ℕ). (section_at b (get_or l k 0)).name < length lengths) (sym where-they-are) (head_named lengths b check k q));
       };
-      few = names.few;
+      few = few;
     }
 
 -- ---- splits
@@ -201,33 +189,16 @@ stops number section address m n = refl
 
 -- ---- each table that passed, and then the rest of the entry
 
--- the units at their places are those of the table
-pub from_units_as : {r : Result ℕ Unlinked} {before after : List ℕ} (S : List Split) (P : ℕ → Bool) (lengths ub : List ℕ) (size : ℕ) (places : List ℕ)
-    → places ≡ stage_places 8 (length ub / 8) → units_check 1024 lengths ub ≡ accepted tt
+-- the rows in the columns and the units at their places are those of the tables
+pub from_splits_as : {r : Result ℕ Unlinked} {before after : List ℕ} (S : List Split) (P : ℕ → Bool) (lengths : List ℕ) (heads : List Section) (sb ub : List ℕ) (size : ℕ) (places : List ℕ)
+    → S ≡ stage_splits sb → splits_check 1024 lengths heads sb ≡ accepted tt → places ≡ stage_places 8 (length ub / 8) → units_check 1024 lengths ub ≡ accepted tt
     → Resolves S (units_in ub places) (link_order (record { splits = S; units = units_in ub places; pointers = P }) (size / 8)) r before after
-    → Resolves S (stage_units ub) (from_units lengths S P ub size) r before after
-unfolding from_units
-from_units_as {r} {before} {after} S P lengths ub size places e passed w =
-    resolves_as (then_goes refl _ passed)
-    (subst (λ (l : List ℕ). Resolves S (units_in ub l) (link_order (record { splits = S; units = units_in ub l; pointers = P }) (size / 8)) r before after) e w)
-
--- the rows in the columns are those of the table
-pub from_splits_as : {r : Result ℕ Unlinked} {before after : List ℕ} (S : List Split) (P : ℕ → Bool) (lengths : List ℕ) (heads : List Section) (sb ub : List ℕ) (size : ℕ)
-    → S ≡ stage_splits sb → splits_check 1024 lengths heads sb ≡ accepted tt → Resolves S (stage_units ub) (from_units lengths S P ub size) r before after
     → Resolves (stage_splits sb) (stage_units ub) (from_splits lengths heads P sb ub size) r before after
 unfolding from_splits
-from_splits_as {r} {before} {after} S P lengths heads sb ub size e passed w =
-    resolves_as (then_goes refl _ passed) (subst (λ (l : List Split). Resolves l (stage_units ub) (from_units lengths l P ub size) r before after) e w)
-
--- the heads at their places are those of the table
-pub from_sections_as : {S : List Split} {us : List units.Unit} {r : Result ℕ Unlinked} {before after : List ℕ} (lengths sections name_bytes name_places sb ub : List ℕ) (size : ℕ)
-    (places : List ℕ) → places ≡ stage_places 15 (length sections / 15) → sections_check 64 lengths sections ≡ accepted tt
-    → Resolves S us (from_splits lengths (sections_in sections places) (pointers_in sections places name_bytes name_places lengths) sb ub size) r before after
-    → Resolves S us (from_sections lengths sections (pointers_in sections (stage_places 15 (length sections / 15)) name_bytes name_places lengths) sb ub size) r before after
-unfolding from_sections
-from_sections_as {S} {us} {r} {before} {after} lengths sections name_bytes name_places sb ub size places e passed w =
-    resolves_as (then_goes refl _ passed)
-    (subst (λ (l : List ℕ). Resolves S us (from_splits lengths (sections_in sections l) (pointers_in sections l name_bytes name_places lengths) sb ub size) r before after) e w)
+from_splits_as {r} {before} {after} S P lengths heads sb ub size places rows sp there up w =
+    resolves_as (then_goes refl _ up ∙ then_goes refl _ sp)
+    (subst (λ (l : List Split). Resolves l (stage_units ub) (link_order (record { splits = l; units = stage_units ub; pointers = P }) (size / 8)) r before after) rows
+    (subst (λ (l : List ℕ). Resolves S (units_in ub l) (link_order (record { splits = S; units = units_in ub l; pointers = P }) (size / 8)) r before after) there w))
 
 -- the names within their ceiling
 pub names_few : (ends bytes : List ℕ) → names_check 4096 ends bytes ≡ accepted tt → length ends / 2 ≤ 4096
@@ -235,9 +206,9 @@ unfolding names_check
 names_few ends bytes e = (size_passed 2 4096 (length ends) (then_both _ _ _ e).0).1
 
 -- ---- which sections are named `.ctors` or `.dtors`
-pub pointers_splits : (lengths : List ℕ) (heads : List Section) (p q : ℕ → Bool) (splits us : List ℕ) (size : ℕ) → ((k : ℕ) → k < length heads → p k ≡ q k)
+pointers_splits : (lengths : List ℕ) (heads : List Section) (p q : ℕ → Bool) (splits us : List ℕ) (size : ℕ) → ((k : ℕ) → k < length heads → p k ≡ q k)
     → from_splits lengths heads p splits us size ≡ from_splits lengths heads q splits us size
-unfolding from_splits from_units
+unfolding from_splits
 pointers_splits lengths heads p q splits us size agree = by_check (splits_check 1024 lengths heads splits) refl
   where
     same : splits_check 1024 lengths heads splits ≡ accepted tt
@@ -256,48 +227,36 @@ pointers_splits lengths heads p q splits us size agree = by_check (splits_check 
     by_check (accepted u) e = ap (λ (x : Outcome End). accepted u >> (units_check 1024 lengths us >> x)) (same e)
     by_check (refused number section address) e = stops number section address _ _
 
-pub pointers_sections : (lengths sections : List ℕ) (p q : ℕ → Bool) (splits us : List ℕ) (size : ℕ)
-    → (sections_check 64 lengths sections ≡ accepted tt → (k : ℕ) → k < length sections / 15 → p k ≡ q k)
-    → from_sections lengths sections p splits us size ≡ from_sections lengths sections q splits us size
-unfolding from_sections
-pointers_sections lengths sections p q splits us size agree = by_check (sections_check 64 lengths sections) refl
-  where
-    by_check : (o : Outcome (Unit {0})) → sections_check 64 lengths sections ≡ o
-        → (o >> from_splits lengths (stage_sections sections) p splits us size) ≡ (o >> from_splits lengths (stage_sections sections) q splits us size)
-    by_check (accepted u) e =
-        ap (λ (x : Outcome End). accepted u >> x)
-        (pointers_splits lengths (stage_sections sections) p q splits us size
-        (λ k h. agree e k (omega (arith, length-map (stage_places 15 (length sections / 15)) (section_at sections), length-stage_places 15 (length sections / 15)))))
-    by_check (refused number section address) e = stops number section address _ _
-
 -- the names in the columns are those of the table, so both say the same of a section that is there
-pub pointers_named : (ends bytes places lengths heads chain sections splits us : List ℕ) → Stored ends bytes places lengths heads chain (length ends / 2)
-    → (l : List ℕ) → l ≡ take (length ends / 2) lengths → sections_check 64 l sections ≡ accepted tt → (k : ℕ) → k < length sections / 15
-    → pointers_in sections (stage_places 15 (length sections / 15)) bytes (take (length ends / 2) places) l k ≡ (given_in ends bytes sections splits us).pointers k
-pointers_named ends bytes places lengths heads chain sections splits us s l e check k h =
+pointers_named : (ends bytes places lengths heads chain sections splits us : List ℕ) → Stored ends bytes places lengths heads chain (length ends / 2)
+    → sections_check 64 (stage_lengths ends bytes) sections ≡ accepted tt → (k : ℕ) → k < length sections / 15
+    → pointers_in sections (stage_places 15 (length sections / 15)) bytes (name_starts ends (length ends / 2)) (stage_lengths ends bytes) k ≡ (given_in ends bytes sections splits us).pointers k
+pointers_named ends bytes places lengths heads chain sections splits us s check k h =
     let n = length ends / 2 in
     let named : (section_at sections (get_or (stage_places 15 (length sections / 15)) k 0)).name < n =
-    omega (arith, head_named l sections check k h, ap length e, lengths_long ends bytes places lengths heads chain n s) in
-    ap (λ (m : List ℕ). is_pointer_list (name_at bytes (take n places) m (section_at sections (get_or (stage_places 15 (length sections / 15)) k 0)).name)) e
-    ∙ ap is_pointer_list (name_is ends bytes places lengths heads chain n s (section_at sections (get_or (stage_places 15 (length sections / 15)) k 0)).name named)
-    ∙ ap (λ (x : Section). is_pointer_list (name_in ends bytes x.name)) (sym (head_at l sections check k h))
+    omega (arith, head_named (stage_lengths ends bytes) sections check k h, length-stage_lengths ends bytes) in
+    ap is_pointer_list (name_is ends bytes places lengths heads chain n s (section_at sections (get_or (stage_places 15 (length sections / 15)) k 0)).name named)
+    ∙ ap (λ (x : Section). is_pointer_list (name_in ends bytes x.name)) (sym (head_at (stage_lengths ends bytes) sections check k h))
 
--- the names in the columns are those of the table, and so the rest is that of the entry
+-- the names in the columns and the heads at their places are those of the tables, and so the rest is that of the entry
 pub from_names_as : {S : List Split} {us : List units.Unit} {r : Result ℕ Unlinked} {before after : List ℕ} (ends bytes places lengths heads chain sections sb ub : List ℕ) (size : ℕ)
-    → Stored ends bytes places lengths heads chain (length ends / 2) → names_check 4096 ends bytes ≡ accepted tt
-    → Resolves S us
-    (from_sections (take (length ends / 2) lengths) sections
-    (pointers_in sections (stage_places 15 (length sections / 15)) bytes (take (length ends / 2) places) (take (length ends / 2) lengths)) sb ub size) r before after
+    (name_bytes name_places name_lengths head_places : List ℕ)
+    → Stored ends bytes places lengths heads chain (length ends / 2) → names_check 4096 ends bytes ≡ accepted tt → sections_check 64 (stage_lengths ends bytes) sections ≡ accepted tt
+    → name_bytes ≡ bytes → name_places ≡ name_starts ends (length ends / 2) → name_lengths ≡ stage_lengths ends bytes → head_places ≡ stage_places 15 (length sections / 15)
+    → Resolves S us (from_splits name_lengths (sections_in sections head_places) (pointers_in sections head_places name_bytes name_places name_lengths) sb ub size) r before after
     → Resolves S us (resolve_of ends bytes sections sb ub size) r before after
-unfolding resolve_of from_sections from_splits from_units
-from_names_as {S} {us} {r} {before} {after} ends bytes places lengths heads chain sections sb ub size s passed w =
-    let n = length ends / 2 in
+unfolding resolve_of from_splits
+from_names_as {S} {us} {r} {before} {after} ends bytes places lengths heads chain sections sb ub size name_bytes name_places name_lengths head_places s np sp eb ep el eh w =
+    let L = stage_lengths ends bytes in
     let Q = (given_in ends bytes sections sb ub).pointers in
     resolves_as
-    (pointers_sections (take n lengths) sections (pointers_in sections (stage_places 15 (length sections / 15)) bytes (take n places) (take n lengths)) Q sb ub size
-    (λ check k h. pointers_named ends bytes places lengths heads chain sections sb ub s (take n lengths) refl check k h)
-    ∙ ap (λ (l : List ℕ). from_sections l sections Q sb ub size) s.sizes
-    ∙ then_goes refl (from_sections (stage_lengths ends bytes) sections Q sb ub size) passed)
+    ((λ d. from_splits (el d) (sections_in sections (eh d)) (pointers_in sections (eh d) (eb d) (ep d) (el d)) sb ub size)
+    ∙ pointers_splits L (stage_sections sections) (pointers_in sections (stage_places 15 (length sections / 15)) bytes (name_starts ends (length ends / 2)) L) Q sb ub size
+    (λ k h.
+    pointers_named ends bytes places lengths heads chain sections sb ub s sp k
+    (omega (arith, h, length-map (stage_places 15 (length sections / 15)) (section_at sections), length-stage_places 15 (length sections / 15))))
+    ∙ then_goes refl (from_splits L (stage_sections sections) Q sb ub size) sp
+    ∙ then_goes refl _ np)
     w
 
 -- ---- the outputs after the clearing

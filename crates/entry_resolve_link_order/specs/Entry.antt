@@ -1,26 +1,23 @@
 -- The entry `resolve_link_order` on its lent bytes: what it answers, and what is left in the unit table and in the counts, for every input. Document 01,
 -- "Refused, by place": the tables, "stage tables by kind", each for 1, 2, then its kind's number; then the place Order.
 -- The theorems about what it answers, over these bytes: proofs/Theorems.antt.
-use Rattle.std.specs.Prelude.{ℕ, ◌*◌, ◌/◌, ◌≤◌, ◌<◌, ◌≡◌, List, [], ◌∷◌, map, ◌≢◌, Bool, length, get_or}
+use Rattle.std.specs.Prelude.{ℕ, ◌*◌, ◌/◌, ◌≤◌, ◌<◌, ◌≡◌, List, [], ◌∷◌, map, ◌≢◌, length, get_or}
 use Rattle.lists.specs.Rows.{tabulate}
 use Rattle.lists.specs.Outcome.{Outcome, accepted, ◌>>◌}
 use Rattle.lists.specs.Tables.{laid}
 use Rattle.obj.specs.Answers.{outcome_word}
 use Rattle.obj.specs.Records.{unit_at}
 use Rattle.obj.specs.declared.Split.{Split}
-use Rattle.obj.specs.declared.Section.{Section}
 use Rattle.obj.specs.declared.Unit as units
 use Rattle.outputs.specs.Outputs.{counts_of}
-use Rattle.names.specs.Names.{Named}
 use Rattle.names.specs.Fixed.{is_pointer_list}
-use Rattle.tables.specs.Tables.{main_ceilings, AllHeld}
+use Rattle.tables.specs.Tables.{main_ceilings}
 use Rattle.tables.specs.Records.{no_section, no_unit}
 use Rattle.name_table.specs.NameTable.{name_in, names_check}
 use Rattle.name_table.specs.Stored.{stage_lengths}
 use Rattle.stage_tables.specs.StageTables.{stage_sections, stage_splits, stage_units, sections_check, splits_check, units_check}
 use Rattle.toposort.specs.Search.{End}
 use Rattle.link_graph.specs.Graph.{Given, nodes}
-use Rattle.link_graph.specs.Columns.{SectionNames}
 use Rattle.link_graph.specs.Joined.{InOrder, IsCycle}
 use Rattle.order.specs.LinkOrder.{link_order, nodes_left, record_of, records_of}
 use Rattle.order.specs.Bytes.{units_bytes}
@@ -88,37 +85,3 @@ pub record Good (ends bytes sections splits us : List ℕ) (size : ℕ) : Type 0
   pub numbers : (i j : ℕ) → i < j → j < length (stage_units us) → (get_or (stage_units us) i no_unit).has_order ≡ 1 → (get_or (stage_units us) j no_unit).has_order ≡ 1
       → (get_or (stage_units us) i no_unit).order ≢ (get_or (stage_units us) j no_unit).order
   pub room : 8 * length (nodes (stage_splits splits)) ≤ size
-
--- ---- inside the entry: the tables from one kind on, over what the tables before it leave
-
--- from kind 6 on
-unfoldable pub from_units : (lengths : List ℕ) → (splits : List Split) → (pointers : ℕ → Bool) → (us : List ℕ) → (size : ℕ) → Outcome End
-from_units lengths splits pointers us size = do
-  units_check main_ceilings.units lengths us
-  link_order (record { splits = splits; units = stage_units us; pointers = pointers }) (size / 8)
-
--- from kind 5 on
-unfoldable pub from_splits : (lengths : List ℕ) → (heads : List Section) → (pointers : ℕ → Bool) → (splits us : List ℕ) → (size : ℕ) → Outcome End
-from_splits lengths heads pointers splits us size = do
-  splits_check main_ceilings.splits lengths heads splits
-  from_units lengths (stage_splits splits) pointers us size
-
--- from kind 2 on
-unfoldable pub from_sections : (lengths sections : List ℕ) → (pointers : ℕ → Bool) → (splits us : List ℕ) → (size : ℕ) → Outcome End
-from_sections lengths sections pointers splits us size = do
-  sections_check main_ceilings.sections lengths sections
-  from_splits lengths (stage_sections sections) pointers splits us size
-
--- ---- what the tables before leave
-
--- the names stand in columns, no more than 4,096
-pub record NamesTaken (name_bytes name_places lengths : List ℕ) : Type 0 where
-  pub named : Named name_bytes name_places lengths (length name_places)
-  pub same : length lengths ≡ length name_places
-  pub few : length lengths ≤ 4096
-
--- the sections' heads are there, and so are their names
-pub record SectionsTaken (heads head_places name_bytes name_places lengths : List ℕ) : Type 0 where
-  pub held : AllHeld 15 heads head_places
-  pub sections : SectionNames heads head_places name_bytes name_places lengths
-  pub few : length lengths ≤ 4096
