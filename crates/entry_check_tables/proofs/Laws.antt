@@ -1,20 +1,23 @@
--- The columns of the entry have room for every table within the ceilings, and what the tables before leave in them is what the definition asks.
+-- The ceilings that the tables are asked with, and what the tables before leave in the columns is what the definition asks.
 -- Assumes nothing.
-use Prim.Native.Nat.{ℕ, ◌≤◌}
-use mathlib.Core.Path.{◌≡◌, refl, ap, ap₂, ◌∙◌}
+use Prim.Native.Nat.{ℕ, ◌/◌, ◌≤◌}
+use mathlib.Core.Path.{◌≡◌, refl, ap, ◌∙◌}
 use mathlib.Core.List.{List}
 use native.Mathlib.Omega.{arith}
-use lib.ListN.{length}
-use Rattle.lists.specs.Outcome.{Outcome}
+use lib.ListN.{length, length-map}
+use Rattle.lists.specs.Outcome.{Outcome, ◌>>◌}
 use Rattle.obj.specs.Answers.{word, outcome_word, meaning}
 use Rattle.obj.specs.Answers.{Answer}
 use Rattle.std.specs.Prelude.{Ok, Err}
 use Rattle.tables.specs.Tables.{main_ceilings}
+use Rattle.obj.specs.Records.{stage_places}
 use Rattle.tables.specs.Records.{sections_in}
 use Rattle.tables.specs.declared.Ceilings.{Ceilings}
-use Rattle.name_table.specs.Stored as names
-use Rattle.stage_tables.specs.StageTables.{table_check, Room}
-use Rattle.entry_check_tables.specs.Entry.{from_sections, from_symbols}
+use Rattle.name_table.specs.NameTable.{stage_names}
+use Rattle.name_table.specs.Stored.{name_lengths, stage_lengths}
+use Rattle.name_table.proofs.Laws.{length-stage_names}
+use Rattle.stage_tables.specs.StageTables.{table_check, stage_sections, symbols_check, relocs_check, splits_check, units_check}
+use Rattle.entry_check_tables.specs.Lines.{from_symbols}
 
 -- no ceiling is above 4,096, and that of sections is 64
 pub record Few (most : Ceilings) : Type 0 where
@@ -41,24 +44,25 @@ pub below : (width ceiling most : ℕ) (b : List ℕ) (fault : ℕ → ℕ) {ans
     → answer ≡ table_check width most b fault
 below width ceiling most b fault e q = e ∙ ap (λ (k : ℕ). table_check width k b fault) q
 
-pub room : {ceiling : ℕ} (places : List ℕ) → ceiling ≤ 4096 → length places ≡ 4096 → Room ceiling places
-room places h e = record { few = h; long = omega arith }
+-- ---- how many names there are
+pub length-stage_lengths : (ends bytes : List ℕ) → length (stage_lengths ends bytes) ≡ length ends / 2
+unfolding name_lengths
+length-stage_lengths ends bytes = length-map (stage_names ends bytes (length ends / 2)) length ∙ length-stage_names ends bytes (length ends / 2)
 
-pub names_room_lem : {most : Ceilings} {places lengths heads chain : List ℕ} → most ≡ main_ceilings → names.Room 4096 places lengths heads chain
-    → names.Room most.names places lengths heads chain
-names_room_lem e r = rw (ap (λ (m : Ceilings). m.names) e) r
-
--- the sections at their places are those of the table
-pub heads_as : (names : ℕ) (lengths b : List ℕ) {p q : List ℕ} (symbols relocations splits units : List ℕ) → p ≡ q
-    → from_symbols names lengths (sections_in b p) symbols relocations splits units ≡ from_symbols names lengths (sections_in b q) symbols relocations splits units
-heads_as names lengths b symbols relocations splits units e =
-    ap (λ (l : List ℕ). from_symbols names lengths (sections_in b l) symbols relocations splits units) e
-
--- the lengths in the column are those of the names
-pub lengths_as : {l m : List ℕ} (names : ℕ) (sections places : List ℕ) (image : ℕ) (symbols relocations splits units : List ℕ) → length l ≡ names → l ≡ m
-    → from_sections (length l) l sections places image symbols relocations splits units ≡ from_sections names m sections places image symbols relocations splits units
-lengths_as names sections places image symbols relocations splits units n e =
-    ap₂ (λ (k : ℕ) (x : List ℕ). from_sections k x sections places image symbols relocations splits units) n e
+-- the lengths in the columns are those of the names, and the sections at their places those of the table
+pub symbols_as : (ends bytes b symbols relocations splits units lengths places : List ℕ) → lengths ≡ stage_lengths ends bytes → places ≡ stage_places 15 (length b / 15)
+    → from_symbols lengths (sections_in b places) symbols relocations splits units
+    ≡ (symbols_check 4096 (length ends / 2) (stage_sections b) symbols
+    >> (relocs_check 4096 (stage_sections b) (length symbols / 20) relocations
+    >> (splits_check 1024 (stage_lengths ends bytes) (stage_sections b) splits >> units_check 1024 (stage_lengths ends bytes) units)))
+unfolding from_symbols
+symbols_as ends bytes b symbols relocations splits units lengths places el ep =
+    (λ d. from_symbols (el d) (sections_in b (ep d)) symbols relocations splits units)
+    ∙ ap (λ (n : ℕ).
+    symbols_check 4096 n (stage_sections b) symbols
+    >> (relocs_check 4096 (stage_sections b) (length symbols / 20) relocations
+    >> (splits_check 1024 (stage_lengths ends bytes) (stage_sections b) splits >> units_check 1024 (stage_lengths ends bytes) units)))
+    (length-stage_lengths ends bytes)
 
 -- the word of an answer is that of its meaning
 pub word_means : (a : Answer) → word a ≡ outcome_word (meaning a)

@@ -1,9 +1,8 @@
 -- The entry `check_tables` on its lent bytes: all stage tables, each for 1, 2, then its kind's number, in the order of their kinds; what it answers
 -- for every input (DECISIONS.md, 9 and 10). What tables that passed are: `names_passed` of name_table, `table_passed` of stage_tables, and the laws of
 -- `tables` on the records of each kind.
-use Rattle.std.specs.Prelude.{ℕ, ◌/◌, ◌≡◌, List, length}
+use Rattle.std.specs.Prelude.{ℕ, ◌/◌, List, length}
 use Rattle.lists.specs.Outcome.{Outcome, ◌>>◌}
-use Rattle.obj.specs.declared.Section.{Section}
 use Rattle.tables.specs.Tables.{main_ceilings}
 use Rattle.name_table.specs.NameTable.{names_check}
 use Rattle.name_table.specs.Stored.{stage_lengths}
@@ -24,25 +23,3 @@ tables_of ends bytes sections places image symbols relocations splits units = do
   splits_check main_ceilings.splits (stage_lengths ends bytes) (stage_sections sections) splits
   -- "6 unit"
   units_check main_ceilings.units (stage_lengths ends bytes) units
-
--- ---- inside the entry: the tables from one kind on, over what the tables before it leave
-
--- from kind 3 on
-unfoldable pub from_symbols : (names : ℕ) → (lengths : List ℕ) → (heads : List Section) → (symbols relocations splits units : List ℕ) → Outcome (Unit {0})
-from_symbols names lengths heads symbols relocations splits units = do
-  symbols_check main_ceilings.symbols names heads symbols
-  relocs_check main_ceilings.relocations heads (length symbols / 20) relocations
-  splits_check main_ceilings.splits lengths heads splits
-  units_check main_ceilings.units lengths units
-
--- from kind 2 on
-unfoldable pub from_sections : (names : ℕ) → (lengths sections places : List ℕ) → (image : ℕ) → (symbols relocations splits units : List ℕ) → Outcome (Unit {0})
-from_sections names lengths sections places image symbols relocations splits units = do
-  image_check main_ceilings.sections lengths places image sections
-  from_symbols names lengths (stage_sections sections) symbols relocations splits units
-
--- the lent columns are long enough
-pub record Scratch (heads places floors : List ℕ) : Type 0 where
-  pub heads_long : length heads ≡ 64
-  pub places_long : length places ≡ 4096
-  pub floors_long : length floors ≡ 64

@@ -4,9 +4,9 @@ use Rattle.lists.proofs.Outcomes.{then_stops, then_goes}
 use Rattle.obj.specs.Answers.{meaning}
 use Rattle.obj.proofs.Errors.{same_err}
 use Rattle.tables.specs.declared.Ceilings.{Ceilings}
-use Rattle.entry_check_tables.specs.Entry.{from_symbols}
+use Rattle.entry_check_tables.specs.Lines.{from_symbols}
 use Rattle.entry_check_tables.proofs.Laws.{below}
-use Rattle.entry_check_tables.proofs.from_symbols.Goals as goal
+use Rattle.entry_check_tables.proofs.with_symbols.Goals as goal
 
 pub returns-in_err-take_symbols : goal.returns-in_err-take_symbols
 unfolding from_symbols
