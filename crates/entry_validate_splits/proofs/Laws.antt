@@ -1,27 +1,31 @@
 -- What tables that passed leave to the check: the symbol order over the columns, and lines of the definition over the columns that are those over the lent
 -- tables. Assumes nothing.
 use Prim.Native.Nat.{ℕ, ◌/◌, ◌≤◌}
-use mathlib.Core.Path.{◌≡◌, refl, sym, ap, ap₂, ◌∙◌}
+use mathlib.Core.Path.{◌≡◌, refl, sym, ap, ◌∙◌}
 use mathlib.Core.List.{List}
 use native.Mathlib.Omega.{arith}
-use lib.ListN.{length, take}
-use lib.Seq.{length-take-le}
+use lib.ListN.{length, take, length-map}
 use Rattle.lists.specs.Outcome.{accepted, ◌>>◌}
 use Rattle.obj.specs.Answers.{word, outcome_word, meaning}
 use Rattle.obj.specs.Records.{stage_places}
 use Rattle.obj.specs.Answers.{Answer}
 use Rattle.std.specs.Prelude.{Result, Ok, Err}
 use Rattle.obj.specs.declared.Section.{Section}
+use Rattle.obj.specs.declared.Split.{Split}
 use Rattle.obj.proofs.Laws.{length-stage_places}
-use Rattle.name_table.specs.Stored.{stage_lengths, Stored}
-use Rattle.stage_tables.specs.StageTables.{stage_sections, sections_check, symbols_check}
+use Rattle.name_table.specs.NameTable.{stage_names}
+use Rattle.name_table.specs.Stored.{name_lengths, stage_lengths}
+use Rattle.name_table.proofs.Laws.{length-stage_names}
+use Rattle.tables.specs.Records.{sections_in}
+use Rattle.stage_tables.specs.StageTables.{stage_sections, stage_splits, symbols_check, splits_check}
 use Rattle.stage_tables.proofs.Laws.{table_passed}
 use Rattle.symbol_order.specs.Order.{symbol_of, order_of, Order}
 use Rattle.symbols.specs.Sound.{Sound}
 use Rattle.stage_symbols.specs.StageSymbols.{answered, ordered, Ordered}
 use Rattle.obj.specs.declared.Refusal.{Refusal}
 use Rattle.stage_symbols.proofs.Laws.{symbol_whole, symbols_sound}
-use Rattle.entry_validate_splits.specs.Entry.{from_splits, from_symbols, from_sections}
+use Rattle.validate.specs.Check.{validate}
+use Rattle.entry_validate_splits.specs.Lines.{from_symbols}
 
 -- ---- symbols that passed
 module _ (names : ℕ) (sections : List Section) (b places order : List ℕ) (r : Result ℕ Refusal) (o : Ordered (symbols_check 4096 names sections b) b places order r)
@@ -32,8 +36,11 @@ module _ (names : ℕ) (sections : List Section) (b places order : List ℕ) (r 
   pub symbols_few : length b / 20 ≤ 4096
   symbols_few = (table_passed 20 4096 b _ passed).1
 
-  pub places_are : take (length b / 20) places ≡ stage_places 20 (length b / 20)
+  places_are : take (length b / 20) places ≡ stage_places 20 (length b / 20)
   places_are = o.placed passed
+
+  pub symbols_count : length (take (length b / 20) places) ≡ length b / 20
+  symbols_count = ap length places_are ∙ length-stage_places 20 (length b / 20)
 
   -- the column of numbers is the symbol order
   pub order_taken : Order b (take (length b / 20) places) (take (ordered r) order)
@@ -47,26 +54,32 @@ module _ (names : ℕ) (sections : List Section) (b places order : List ℕ) (r 
   pub sound_taken : Sound (symbol_of b (take (length b / 20) places)) (length (take (length b / 20) places))
   sound_taken = rw (places_are, length-stage_places) (symbols_sound 4096 names sections b passed)
 
-  -- the splits are asked with them
-  pub symbols_as : (lengths splits : List ℕ)
-      → from_splits lengths sections (symbol_of b (take (length b / 20) places)) (length (take (length b / 20) places)) splits
-      ≡ from_splits lengths sections (symbol_of b (stage_places 20 (length b / 20))) (length b / 20) splits
-  symbols_as lengths splits =
-      ap (λ (l : List ℕ). from_splits lengths sections (symbol_of b l) (length l) splits) places_are
-      ∙ ap (λ (n : ℕ). from_splits lengths sections (symbol_of b (stage_places 20 (length b / 20))) n splits) (length-stage_places 20 (length b / 20))
+  -- the check is asked with them, and with the rows of the splits
+  pub checked_as : (rows : List Split) (splits : List ℕ) → rows ≡ stage_splits splits
+      → validate (symbol_of b (take (length b / 20) places)) (length (take (length b / 20) places)) rows
+      ≡ validate (symbol_of b (stage_places 20 (length b / 20))) (length b / 20) (stage_splits splits)
+  checked_as rows splits rows_are =
+      (λ d. validate (symbol_of b (places_are d)) (length (places_are d)) (rows_are d))
+      ∙ ap (λ (n : ℕ). validate (symbol_of b (stage_places 20 (length b / 20))) n (stage_splits splits)) (length-stage_places 20 (length b / 20))
 
--- ---- names that passed
-pub names_as : (ends bytes places lengths heads chain sections symbols splits : List ℕ) → Stored ends bytes places lengths heads chain (length ends / 2)
-    → from_sections (take (length ends / 2) lengths) sections symbols splits
-    ≡ (sections_check 64 (stage_lengths ends bytes) sections
-    >> (symbols_check 4096 (length ends / 2) (stage_sections sections) symbols
-    >> from_splits (stage_lengths ends bytes) (stage_sections sections) (symbol_of symbols (stage_places 20 (length symbols / 20))) (length symbols / 20) splits))
-unfolding from_sections from_symbols
-names_as ends bytes places lengths heads chain sections symbols splits s =
-    ap₂ (λ (l : List ℕ) (n : ℕ). sections_check 64 l sections
-    >> (symbols_check 4096 n (stage_sections sections) symbols
-    >> from_splits l (stage_sections sections) (symbol_of symbols (stage_places 20 (length symbols / 20))) (length symbols / 20) splits))
-    s.sizes (length-take-le (length ends / 2) lengths s.named.measured)
+-- ---- names and sections that passed
+length-stage_lengths : (ends bytes : List ℕ) → length (stage_lengths ends bytes) ≡ length ends / 2
+unfolding name_lengths
+length-stage_lengths ends bytes = length-map (stage_names ends bytes (length ends / 2)) length ∙ length-stage_names ends bytes (length ends / 2)
+
+pub symbols_as : (ends bytes b symbols splits lengths places : List ℕ) → lengths ≡ stage_lengths ends bytes → places ≡ stage_places 15 (length b / 15)
+    → from_symbols lengths (sections_in b places) symbols splits
+    ≡ (symbols_check 4096 (length ends / 2) (stage_sections b) symbols
+    >> (splits_check 1024 (stage_lengths ends bytes) (stage_sections b) splits
+    >> validate (symbol_of symbols (stage_places 20 (length symbols / 20))) (length symbols / 20) (stage_splits splits)))
+unfolding from_symbols
+symbols_as ends bytes b symbols splits lengths places el ep =
+    (λ d. from_symbols (el d) (sections_in b (ep d)) symbols splits)
+    ∙ ap (λ (n : ℕ).
+    symbols_check 4096 n (stage_sections b) symbols
+    >> (splits_check 1024 (stage_lengths ends bytes) (stage_sections b) splits
+    >> validate (symbol_of symbols (stage_places 20 (length symbols / 20))) (length symbols / 20) (stage_splits splits)))
+    (length-stage_lengths ends bytes)
 
 -- the word of an answer is that of its meaning
 pub word_means : (a : Answer) → word a ≡ outcome_word (meaning a)

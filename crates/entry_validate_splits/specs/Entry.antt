@@ -3,8 +3,6 @@
 use Rattle.std.specs.Prelude.{ℕ, ◌/◌, List, length}
 use Rattle.lists.specs.Outcome.{Outcome, ◌>>◌}
 use Rattle.obj.specs.Records.{stage_places}
-use Rattle.obj.specs.declared.Section.{Section}
-use Rattle.obj.specs.declared.Symbol.{Symbol}
 use Rattle.tables.specs.Tables.{main_ceilings}
 use Rattle.name_table.specs.NameTable.{names_check}
 use Rattle.name_table.specs.Stored.{stage_lengths}
@@ -24,23 +22,3 @@ validate_of ends bytes sections symbols splits = do
   splits_check main_ceilings.splits (stage_lengths ends bytes) (stage_sections sections) splits
   -- "**Check.** .."
   validate (symbol_of symbols (stage_places 20 (length symbols / 20))) (length symbols / 20) (stage_splits splits)
-
--- ---- inside the entry: the tables from one kind on, over what the tables before it leave
-
--- from the splits on, over symbols that passed
-unfoldable pub from_splits : (lengths : List ℕ) → (sections : List Section) → (symbol : ℕ → Symbol) → (count : ℕ) → (splits : List ℕ) → Outcome (Unit {0})
-from_splits lengths sections symbol count splits = do
-  splits_check main_ceilings.splits lengths sections splits
-  validate symbol count (stage_splits splits)
-
--- from the symbols on, over sections that passed
-unfoldable pub from_symbols : (lengths : List ℕ) → (sections : List Section) → (symbols splits : List ℕ) → Outcome (Unit {0})
-from_symbols lengths sections symbols splits = do
-  symbols_check main_ceilings.symbols (length lengths) sections symbols
-  from_splits lengths sections (symbol_of symbols (stage_places 20 (length symbols / 20))) (length symbols / 20) splits
-
--- from the sections on, over names that passed
-unfoldable pub from_sections : (lengths sections symbols splits : List ℕ) → Outcome (Unit {0})
-from_sections lengths sections symbols splits = do
-  sections_check main_ceilings.sections lengths sections
-  from_symbols lengths (stage_sections sections) symbols splits
