@@ -1,53 +1,24 @@
 -- The ceilings that the tables are asked with, and what the tables before leave in the columns is what the definition asks.
 -- Assumes nothing.
-use Prim.Native.Nat.{ℕ, ◌/◌, ◌≤◌}
+use Prim.Native.Nat.{ℕ, ◌/◌}
 use mathlib.Core.Path.{◌≡◌, refl, ap, ◌∙◌}
 use mathlib.Core.List.{List}
-use native.Mathlib.Omega.{arith}
-use lib.ListN.{length, length-map}
+use lib.ListN.{length}
 use Rattle.lists.specs.Outcome.{Outcome, ◌>>◌}
 use Rattle.obj.specs.Answers.{word, outcome_word, meaning}
 use Rattle.obj.specs.Answers.{Answer}
 use Rattle.std.specs.Prelude.{Ok, Err}
-use Rattle.tables.specs.Tables.{main_ceilings}
 use Rattle.obj.specs.Records.{stage_places}
 use Rattle.tables.specs.Records.{sections_in}
-use Rattle.tables.specs.declared.Ceilings.{Ceilings}
-use Rattle.name_table.specs.NameTable.{stage_names}
-use Rattle.name_table.specs.Stored.{name_lengths, stage_lengths}
-use Rattle.name_table.proofs.Laws.{length-stage_names}
+use Rattle.name_table.specs.Stored.{stage_lengths}
+use Rattle.name_table.proofs.Laws.{length-stage_lengths}
 use Rattle.stage_tables.specs.StageTables.{table_check, stage_sections, symbols_check, relocs_check, splits_check, units_check}
 use Rattle.entry_check_tables.specs.Lines.{from_symbols}
-
--- no ceiling is above 4,096, and that of sections is 64
-pub record Few (most : Ceilings) : Type 0 where
-  pub of_names : most.names ≤ 4096
-  pub of_sections : most.sections ≤ 64
-  pub of_symbols : most.symbols ≤ 4096
-  pub of_relocations : most.relocations ≤ 4096
-  pub of_splits : most.splits ≤ 4096
-  pub of_units : most.units ≤ 4096
-
-pub few : {most : Ceilings} → most ≡ main_ceilings → Few most
-few e =
-    rw e record {
-      of_names = omega arith;
-      of_sections = omega arith;
-      of_symbols = omega arith;
-      of_relocations = omega arith;
-      of_splits = omega arith;
-      of_units = omega arith;
-    }
 
 -- a table was asked with this ceiling
 pub below : (width ceiling most : ℕ) (b : List ℕ) (fault : ℕ → ℕ) {answer : Outcome (Unit {0})} → answer ≡ table_check width ceiling b fault → ceiling ≡ most
     → answer ≡ table_check width most b fault
 below width ceiling most b fault e q = e ∙ ap (λ (k : ℕ). table_check width k b fault) q
-
--- ---- how many names there are
-pub length-stage_lengths : (ends bytes : List ℕ) → length (stage_lengths ends bytes) ≡ length ends / 2
-unfolding name_lengths
-length-stage_lengths ends bytes = length-map (stage_names ends bytes (length ends / 2)) length ∙ length-stage_names ends bytes (length ends / 2)
 
 -- the lengths in the columns are those of the names, and the sections at their places those of the table
 pub symbols_as : (ends bytes b symbols relocations splits units lengths places : List ℕ) → lengths ≡ stage_lengths ends bytes → places ≡ stage_places 15 (length b / 15)

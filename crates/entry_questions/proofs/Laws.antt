@@ -20,6 +20,7 @@ use Rattle.tables.specs.Records as records
 use Rattle.tables.proofs.Laws.{records_pass}
 use Rattle.name_table.specs.NameTable.{names_check}
 use Rattle.name_table.specs.Stored.{name_starts, stage_lengths}
+use Rattle.name_table.proofs.Laws.{length-stage_lengths}
 use Rattle.stage_tables.specs.StageTables.{stage_sections, stage_splits, image_check, symbols_check, splits_check, table_check}
 use Rattle.sections.specs.Image.{Image, image_of}
 use Rattle.sections.specs.Bytes.{bytes_of}
@@ -32,7 +33,6 @@ use Rattle.entry_questions.specs.declared.Question.{Question}
 use Rattle.entry_questions.specs.declared.Question.TheVariants as questions
 use Rattle.entry_questions.specs.Entry.{end_of, alignment_at, question_of, image_in, sections_in, split_in, split_of, answer_of, end_answer}
 use Rattle.entry_questions.specs.Lines.{from_symbols}
-use Rattle.entry_questions.proofs.Passed.{length-stage_lengths}
 
 -- ---- the splitting end
 module _ (g : Image) (sections : Sections) (section : ℕ) where

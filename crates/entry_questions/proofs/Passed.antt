@@ -1,10 +1,10 @@
 -- What tables that passed are to the questions: each split's section is there; and a refused table is the answer.
 -- Assumes nothing.
 use Prim.Native.Nat.{ℕ, ◌/◌, ◌%◌, ◌<◌, ◌≤◌}
-use mathlib.Core.Path.{◌≡◌, sym, ap, ◌∙◌}
+use mathlib.Core.Path.{◌≡◌, sym, ap}
 use mathlib.Core.List.{List}
 use native.Mathlib.Omega.{arith}
-use lib.ListN.{length, get_or, length-map}
+use lib.ListN.{length, get_or}
 use Rattle.lists.specs.Outcome.{Outcome, accepted, refused, ◌>>◌}
 use Rattle.lists.proofs.Rows.{get_d_map}
 use Rattle.obj.specs.Records.{split_at, stage_places, split_width}
@@ -15,9 +15,6 @@ use Rattle.tables.specs.Tables.{records_check, AllHeld}
 use Rattle.tables.specs.Records.{no_split, split_fault}
 use Rattle.tables.proofs.Laws.{splits_section}
 use Rattle.tables.proofs.Lookups.{held, stage_held}
-use Rattle.name_table.specs.NameTable.{stage_names}
-use Rattle.name_table.specs.Stored.{name_lengths, stage_lengths}
-use Rattle.name_table.proofs.Laws.{length-stage_names}
 use Rattle.stage_tables.specs.StageTables.{stage_splits, splits_check}
 use Rattle.stage_tables.proofs.Laws.{table_passed}
 use Rattle.sections.specs.Sections.{Kept}
@@ -52,8 +49,3 @@ homes_taken ceiling lengths sections b passed low {places} {head_places} there c
 
     split_is : (k : ℕ) → k < length b / split_width → split_of b (stage_places split_width (length b / split_width)) k ≡ get_or (stage_splits b) k no_split
     split_is k h = sym (get_d_map (split_at b) (stage_places split_width (length b / split_width)) k 0 no_split (rw length-stage_places h))
-
--- ---- how many names there are
-pub length-stage_lengths : (ends bytes : List ℕ) → length (stage_lengths ends bytes) ≡ length ends / 2
-unfolding name_lengths
-length-stage_lengths ends bytes = length-map (stage_names ends bytes (length ends / 2)) length ∙ length-stage_names ends bytes (length ends / 2)

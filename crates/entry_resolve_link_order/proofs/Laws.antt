@@ -12,7 +12,7 @@ use Rattle.lists.specs.Rows.{clear_from}
 use Rattle.lists.specs.Outcome.{Outcome, accepted, refused, ◌>>◌}
 use Rattle.lists.proofs.Rows.{get_d_map, get_d_tabulate, length-tabulate}
 use Rattle.lists.proofs.Compare.{lt_or_ge}
-use Rattle.lists.proofs.Outcomes.{then_goes, then_both}
+use Rattle.lists.proofs.Outcomes.{then_goes}
 use Rattle.lists.proofs.Clear.{clear_all}
 use Rattle.obj.specs.Answers.{word, outcome_word, meaning}
 use Rattle.obj.specs.Records.{section_at, split_at, unit_at, stage_places, split_width}
@@ -31,10 +31,9 @@ use Rattle.names.specs.Fixed.{is_pointer_list}
 use Rattle.tables.specs.Tables.{records_check}
 use Rattle.tables.specs.Records.{no_section, no_split, no_unit, sections_in, units_in, section_fault, split_fault, unit_fault}
 use Rattle.tables.proofs.Laws as tables
-use Rattle.tables.proofs.Laws.{size_passed}
 use Rattle.name_table.specs.NameTable.{name_in, stage_names, names_check}
 use Rattle.name_table.specs.Stored.{Stored, Readable, name_starts, name_lengths, stage_lengths}
-use Rattle.name_table.proofs.Laws.{length-stage_names}
+use Rattle.name_table.proofs.Laws.{length-stage_lengths}
 use Rattle.stage_tables.specs.StageTables.{stage_sections, stage_splits, stage_units, sections_check, splits_check, units_check, Filled}
 use Rattle.stage_tables.proofs.Laws.{table_passed, taken_places, taken-count, taken-held}
 use Rattle.stage_splits.specs.StageSplits.{Taken}
@@ -75,10 +74,6 @@ known l v h = go (lt_or_ge v (length l))
     go (inr q) = absurd (omega (arith, get_or-eq_default l 0 q))
 
 -- ---- names
-pub length-stage_lengths : (ends bytes : List ℕ) → length (stage_lengths ends bytes) ≡ length ends / 2
-unfolding name_lengths
-length-stage_lengths ends bytes = length-map (stage_names ends bytes (length ends / 2)) length ∙ length-stage_names ends bytes (length ends / 2)
-
 -- the names that are read in the columns are those of the table
 name_is : (ends bytes places lengths heads chain : List ℕ) (n : ℕ) → Stored ends bytes places lengths heads chain n → (k : ℕ) → k < n
     → name_at bytes (name_starts ends n) (name_lengths ends bytes n) k ≡ name_in ends bytes k
@@ -178,10 +173,6 @@ units_taken lengths b places f e few =
           subst (λ (l : List ℕ). (unit_at b (get_or l k 0)).name < 4096) (sym there) m;
     }
 
--- the records at the places are the table's
-pub units_there : (b places : List ℕ) → places ≡ stage_places 8 (length b / 8) → units_in b places ≡ stage_units b
-units_there b places e = ap (units_in b) e
-
 -- after a refusal nothing is asked
 stops : (number section address : ℕ) (m n : Outcome End) → (refused number section address >> m) ≡ (refused number section address >> n)
 unfolding ◌>>◌
@@ -199,11 +190,6 @@ from_splits_as {r} {before} {after} S P lengths heads sb ub size places rows sp 
     resolves_as (then_goes refl _ up ∙ then_goes refl _ sp)
     (subst (λ (l : List Split). Resolves l (stage_units ub) (link_order (record { splits = l; units = stage_units ub; pointers = P }) (size / 8)) r before after) rows
     (subst (λ (l : List ℕ). Resolves S (units_in ub l) (link_order (record { splits = S; units = units_in ub l; pointers = P }) (size / 8)) r before after) there w))
-
--- the names within their ceiling
-pub names_few : (ends bytes : List ℕ) → names_check 4096 ends bytes ≡ accepted tt → length ends / 2 ≤ 4096
-unfolding names_check
-names_few ends bytes e = (size_passed 2 4096 (length ends) (then_both _ _ _ e).0).1
 
 -- ---- which sections are named `.ctors` or `.dtors`
 pointers_splits : (lengths : List ℕ) (heads : List Section) (p q : ℕ → Bool) (splits us : List ℕ) (size : ℕ) → ((k : ℕ) → k < length heads → p k ≡ q k)

@@ -17,11 +17,11 @@ use Rattle.lists.specs.Rows.{tabulate, keep_if, some}
 use Rattle.lists.specs.Members.{In}
 use Rattle.lists.specs.Outcome.{Outcome, accepted, refused, ◌>>◌}
 use Rattle.lists.specs.Tables.{laid}
-use Rattle.lists.proofs.Rows.{get_d_map, get_or_same, length-tabulate}
+use Rattle.lists.proofs.Rows.{get_d_map, get_or_same}
 use Rattle.lists.proofs.Parts.{tabulate_list}
 use Rattle.lists.proofs.FirstIn.{first_in_passes}
 use Rattle.lists.proofs.Compare.{never}
-use Rattle.lists.proofs.Outcomes.{then_goes, then_both}
+use Rattle.lists.proofs.Outcomes.{then_goes}
 use Rattle.obj.specs.Answers.{refusal_word, outcome_word}
 use Rattle.obj.specs.Records.{split_at, unit_at, stage_places, split_width}
 use Rattle.obj.specs.declared.Split.{Split}
@@ -32,8 +32,9 @@ use Rattle.tables.specs.Records.{no_split, no_unit, split_fault, unit_fault}
 use Rattle.tables.specs.Tables.{records_check}
 use Rattle.tables.proofs.Laws as tables
 use Rattle.tables.proofs.Laws.{size_passed}
-use Rattle.name_table.specs.NameTable.{name_in, stage_names, names_check}
-use Rattle.name_table.specs.Stored.{stage_lengths, name_lengths}
+use Rattle.name_table.specs.NameTable.{names_check}
+use Rattle.name_table.specs.Stored.{stage_lengths}
+use Rattle.name_table.proofs.Laws.{length-stage_lengths, names_passed}
 use Rattle.stage_tables.specs.StageTables.{stage_sections, stage_splits, stage_units, sections_check, splits_check, units_check}
 use Rattle.stage_tables.proofs.Laws.{table_passed}
 use Rattle.toposort.specs.Search.{End, all, cyclic}
@@ -113,10 +114,7 @@ own_fits S U fits v small = by_record (ltb (first_record U v) (length U)) refl (
 -- ---- what tables that passed give
 
 lengths_few : (ends bytes : List ℕ) → names_check 4096 ends bytes ≡ accepted tt → length (stage_lengths ends bytes) ≤ 4096
-unfolding names_check name_lengths stage_names
-lengths_few ends bytes e =
-    let few = (size_passed 2 4096 (length ends) (then_both _ _ _ e).0).1 in
-    omega (arith, length-map (tabulate (name_in ends bytes) 0 (length ends / 2)) (length {A = ℕ}), length-tabulate (name_in ends bytes) 0 (length ends / 2))
+lengths_few ends bytes e = rw length-stage_lengths (names_passed 4096 ends bytes e).few
 
 module _ (ends bytes sections splits us : List ℕ) (p : Passed ends bytes sections splits us) where
   abbrev S : List Split

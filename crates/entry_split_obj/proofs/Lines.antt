@@ -9,6 +9,7 @@ use Rattle.obj.specs.declared.Section.{Section}
 use Rattle.obj.proofs.Laws.{length-stage_places}
 use Rattle.tables.specs.Records.{sections_in, image_places_of}
 use Rattle.name_table.specs.Stored.{name_starts, stage_lengths}
+use Rattle.name_table.proofs.Laws.{length-stage_lengths}
 use Rattle.stage_tables.specs.StageTables.{stage_sections, stage_splits, symbols_check, relocs_check, splits_check, units_check}
 use Rattle.sections.specs.Image.{image_of}
 use Rattle.sections.specs.Sections.{Sections, sections_of}
@@ -20,7 +21,6 @@ use Rattle.stage_walk.specs.Lines.{from_units, from_splits}
 use Rattle.entry_split_obj.specs.Entry.{input_in}
 use Rattle.entry_split_obj.specs.Lines.{from_symbols}
 use Rattle.entry_split_obj.proofs.Alike.{walk_alike}
-use Rattle.entry_split_obj.proofs.Passed.{length-stage_lengths}
 
 -- ---- symbols and relocations that passed: the splits are asked with their places
 pub tables_as : (name_bytes name_places name_lengths : List ℕ) (heads : List Section) (sections : Sections) (symbols symbol_places relocs places splits units : List ℕ) (room : Counts)

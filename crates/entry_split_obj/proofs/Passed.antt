@@ -1,4 +1,4 @@
--- What tables that passed leave to the next: relocations that rise, and how many names there are. Assumes nothing.
+-- What relocations that passed leave to the next tables: they rise in each section. Assumes nothing.
 use Prim.Native.Nat.{ℕ, ◌/◌, ◌≤◌, ◌<◌}
 use mathlib.Core.Path.{◌≡◌, sym, ap, subst, ◌∙◌}
 use mathlib.Core.List.{List}
@@ -6,7 +6,6 @@ use native.Mathlib.Nat.{mul-div-le}
 use native.Mathlib.Omega.{arith}
 use lib.ListN.{length, get_or, length-map}
 use Rattle.lists.specs.Outcome.{accepted}
-use Rattle.lists.proofs.Outcomes.{then_both}
 use Rattle.lists.proofs.Rows.{get_d_map}
 use Rattle.obj.specs.Records.{reloc_at, stage_places}
 use Rattle.obj.specs.declared.Section.{Section}
@@ -18,12 +17,8 @@ use Rattle.tables.proofs.Lookups.{stage_held}
 use Rattle.stage_tables.specs.StageTables.{stage_relocs, relocs_check}
 use Rattle.stage_tables.proofs.Laws.{table_passed}
 use Rattle.relocs.specs.Relocs.{reloc_of}
-use Rattle.name_table.specs.NameTable.{names_check, stage_names}
-use Rattle.name_table.specs.Stored.{name_lengths, stage_lengths}
-use Rattle.name_table.proofs.Laws.{length-stage_names}
 use Rattle.stage_walk.specs.Lines.{Relocated}
 
--- ---- relocations
 module _ (heads : List Section) (symbols : ℕ) (b : List ℕ) (passed : relocs_check 4096 heads symbols b ≡ accepted tt) where
   abbrev count : ℕ
   count = length b / 23
@@ -54,12 +49,3 @@ module _ (heads : List Section) (symbols : ℕ) (b : List ℕ) (passed : relocs_
         rising = record { each = λ i j q h z. rises i j q (rw length-stage_places at h) z };
         few = omega (arith, relocs_few, length-stage_places 23 count);
       })
-
--- ---- names
-pub names_few : (ceiling : ℕ) (ends bytes : List ℕ) → names_check ceiling ends bytes ≡ accepted tt → length ends / 2 ≤ ceiling
-unfolding names_check
-names_few ceiling ends bytes passed = (tables.size_passed 2 ceiling (length ends) (then_both _ _ _ passed).0).1
-
-pub length-stage_lengths : (ends bytes : List ℕ) → length (stage_lengths ends bytes) ≡ length ends / 2
-unfolding name_lengths
-length-stage_lengths ends bytes = length-map (stage_names ends bytes (length ends / 2)) length ∙ length-stage_names ends bytes (length ends / 2)

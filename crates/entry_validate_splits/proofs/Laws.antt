@@ -4,7 +4,7 @@ use Prim.Native.Nat.{ℕ, ◌/◌, ◌≤◌}
 use mathlib.Core.Path.{◌≡◌, refl, sym, ap, ◌∙◌}
 use mathlib.Core.List.{List}
 use native.Mathlib.Omega.{arith}
-use lib.ListN.{length, take, length-map}
+use lib.ListN.{length, take}
 use Rattle.lists.specs.Outcome.{accepted, ◌>>◌}
 use Rattle.obj.specs.Answers.{word, outcome_word, meaning}
 use Rattle.obj.specs.Records.{stage_places}
@@ -13,9 +13,8 @@ use Rattle.std.specs.Prelude.{Result, Ok, Err}
 use Rattle.obj.specs.declared.Section.{Section}
 use Rattle.obj.specs.declared.Split.{Split}
 use Rattle.obj.proofs.Laws.{length-stage_places}
-use Rattle.name_table.specs.NameTable.{stage_names}
-use Rattle.name_table.specs.Stored.{name_lengths, stage_lengths}
-use Rattle.name_table.proofs.Laws.{length-stage_names}
+use Rattle.name_table.specs.Stored.{stage_lengths}
+use Rattle.name_table.proofs.Laws.{length-stage_lengths}
 use Rattle.tables.specs.Records.{sections_in}
 use Rattle.stage_tables.specs.StageTables.{stage_sections, stage_splits, symbols_check, splits_check}
 use Rattle.stage_tables.proofs.Laws.{table_passed}
@@ -63,10 +62,6 @@ module _ (names : ℕ) (sections : List Section) (b places order : List ℕ) (r 
       ∙ ap (λ (n : ℕ). validate (symbol_of b (stage_places 20 (length b / 20))) n (stage_splits splits)) (length-stage_places 20 (length b / 20))
 
 -- ---- names and sections that passed
-length-stage_lengths : (ends bytes : List ℕ) → length (stage_lengths ends bytes) ≡ length ends / 2
-unfolding name_lengths
-length-stage_lengths ends bytes = length-map (stage_names ends bytes (length ends / 2)) length ∙ length-stage_names ends bytes (length ends / 2)
-
 pub symbols_as : (ends bytes b symbols splits lengths places : List ℕ) → lengths ≡ stage_lengths ends bytes → places ≡ stage_places 15 (length b / 15)
     → from_symbols lengths (sections_in b places) symbols splits
     ≡ (symbols_check 4096 (length ends / 2) (stage_sections b) symbols

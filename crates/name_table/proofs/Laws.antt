@@ -10,7 +10,7 @@ use native.Mathlib.Numerals.{add-one}
 use native.Mathlib.Omega.{arith}
 use borrow.Author.Tests.{ltb-false, eqb-true, eqb-false}
 use lib.Dec.{eqb, ltb}
-use lib.ListN.{length, get_or, take, drop, set, length-set, length-take, length-drop}
+use lib.ListN.{length, get_or, take, drop, set, length-set, length-take, length-drop, length-map}
 use lib.Seq.{take-suc-set, get_or-set_same, get_or-set_other, get_or-take, length-take-le}
 use Rattle.lists.specs.Outcome.{Outcome, accepted, refused}
 use Rattle.lists.specs.Rows.{tabulate, any_of}
@@ -25,7 +25,7 @@ use Rattle.names.proofs.Indexes.{indexed_entered}
 use Rattle.tables.specs.Tables.{records_check}
 use Rattle.tables.proofs.Laws.{size_passed, records_passed}
 use Rattle.name_table.specs.NameTable.{start_of, end_of, name_in, stage_names, name_cut, name_wrong, name_fault, names_check}
-use Rattle.name_table.specs.Stored.{name_starts, name_lengths, Stored, Stores, Readable, Passed}
+use Rattle.name_table.specs.Stored.{name_starts, name_lengths, stage_lengths, Stored, Stores, Readable, Passed}
 
 -- ---- a name without a fault
 pub record Sound (ends bytes : List ℕ) (k : ℕ) : Type 0 where
@@ -75,6 +75,10 @@ module _ (ends bytes : List ℕ) where
   pub length-stage_names : (n : ℕ) → length (stage_names ends bytes n) ≡ n
   unfolding stage_names
   length-stage_names n = length-tabulate (name_in ends bytes) 0 n
+
+  pub length-stage_lengths : length (stage_lengths ends bytes) ≡ length ends / 2
+  unfolding name_lengths
+  length-stage_lengths = length-map (stage_names ends bytes (length ends / 2)) length ∙ length-stage_names (length ends / 2)
 
   -- ---- the fault of name k, as the code asks for it
   module _ (k : ℕ) {start end : ℕ} (es : start ≡ start_of ends k) (ee : end ≡ end_of ends k) where

@@ -9,7 +9,7 @@ use Rattle.name_table.specs.NameTable.{names_check}
 use Rattle.stage_tables.specs.StageTables.{image_check}
 use Rattle.stage_tables.proofs.Laws.{taken_few, taken_places, taken-count, taken-held}
 use Rattle.entry_check_tables.specs.Entry.{tables_of}
-use Rattle.entry_check_tables.proofs.Laws.{few, below, symbols_as}
+use Rattle.entry_check_tables.proofs.Laws.{below, symbols_as}
 use Rattle.entry_check_tables.proofs.checked.Goals as goal
 
 pub returns-in_err-check : goal.returns-in_err-check
@@ -33,7 +33,7 @@ returns-in_err-take_image c =
 pub slice_bounds-places-end : goal.slice_bounds-places-end
 slice_bounds-places-end c =
     let n = taken_few 15 _ c.args.lent.now.sections.now _ _ c.take_image.ensures (ap meaning c.in_ok-take_image.was) in
-    omega (arith, (few c.main_ceilings-most.ensures).of_sections)
+    omega (arith, ap (λ (m : Ceilings). m.sections) c.main_ceilings-most.ensures)
 
 pub slice_bounds-heads-end : goal.slice_bounds-heads-end
 slice_bounds-heads-end c = sym (taken-count 15 _ c.args.lent.now.sections.now _ _ c.take_image.ensures (ap meaning c.in_ok-take_image.was))
@@ -41,11 +41,11 @@ slice_bounds-heads-end c = sym (taken-count 15 _ c.args.lent.now.sections.now _ 
 pub with_symbols-requires : goal.with_symbols-requires
 with_symbols-requires c =
     let t = c.take_image in
-    let f = few c.main_ceilings-most.ensures in
+    let f = ap (λ (m : Ceilings). m.sections) c.main_ceilings-most.ensures in
     let e = ap meaning c.in_ok-take_image.was in
     let n = taken_few 15 _ c.args.lent.now.sections.now _ _ t.ensures e in (
-      taken-held 15 _ c.args.lent.now.sections.now _ _ t.ensures e (omega (arith, f.of_sections)),
-      rw (taken-count 15 _ c.args.lent.now.sections.now _ _ t.ensures e) (omega (arith, f.of_sections)),
+      taken-held 15 _ c.args.lent.now.sections.now _ _ t.ensures e (omega (arith, f)),
+      rw (taken-count 15 _ c.args.lent.now.sections.now _ _ t.ensures e) (omega (arith, f)),
     )
 
 pub returns : goal.returns

@@ -7,11 +7,12 @@ use lib.ListN.{length}
 use Rattle.lists.proofs.Outcomes.{then_goes}
 use Rattle.obj.specs.Answers.{meaning}
 use Rattle.name_table.specs.Stored.{stage_lengths}
+use Rattle.name_table.proofs.Laws.{length-stage_lengths, names_passed}
 use Rattle.stage_tables.specs.StageTables.{sections_check}
 use Rattle.stage_tables.proofs.Laws.{taken_few, taken_places, taken-count}
 use Rattle.order.proofs.Stage.{resolves_as}
 use Rattle.entry_resolve_link_order.specs.Entry.{resolve_of}
-use Rattle.entry_resolve_link_order.proofs.Laws.{refused_table, length-stage_lengths, names_few, sections_taken, from_names_as}
+use Rattle.entry_resolve_link_order.proofs.Laws.{refused_table, sections_taken, from_names_as}
 use Rattle.entry_resolve_link_order.proofs.Refusals.{low_names, low_sections}
 use Rattle.entry_resolve_link_order.proofs.checked.Goals as goal
 
@@ -40,7 +41,7 @@ with_splits-requires c =
     let t = c.args.lent.now in
     let names = c.names-names in
     sections_taken names.result.lengths.now t.sections.now _ names.result.bytes.now names.result.places.now c.take_sections.ensures (ap meaning c.in_ok-take_sections.was) names.ensures.readable
-    (rw (names.ensures.lengths, length-stage_lengths) (names_few t.name_ends.now t.name_bytes.now (sym c.check.ensures.said ∙ ap meaning c.in_ok-check.was)))
+    (rw (names.ensures.lengths, length-stage_lengths) (names_passed 4096 t.name_ends.now t.name_bytes.now (sym c.check.ensures.said ∙ ap meaning c.in_ok-check.was)).few)
 
 pub returns : goal.returns
 returns c =

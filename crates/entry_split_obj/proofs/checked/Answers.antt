@@ -11,13 +11,13 @@ use Prim.Native.Nat.{ℕ}
 use native.Mathlib.Omega.{arith}
 use lib.ListN.{length}
 use Rattle.pieces.proofs.Same.{lent_same}
+use Rattle.name_table.proofs.Laws.{length-stage_lengths, names_passed}
 use Rattle.stage_tables.specs.StageTables.{image_check}
 use Rattle.stage_tables.proofs.Laws.{taken_few, taken_places, taken-count, taken-held}
 use Rattle.stage_symbols.proofs.Laws.{sections_kept, place_is}
 use Rattle.stage_walk.proofs.Lines.{gives_as, gives_stops, gives_goes}
 use Rattle.entry_split_obj.specs.Entry.{split_obj_of}
 use Rattle.entry_split_obj.proofs.Lines.{symbols_as}
-use Rattle.entry_split_obj.proofs.Passed.{names_few, length-stage_lengths}
 use Rattle.entry_split_obj.proofs.checked.Goals as goal
 
 pub returns-in_err-check : goal.returns-in_err-check
@@ -53,7 +53,7 @@ with_symbols-requires c =
             sections_kept 64 names.result.lengths.now t.section_places.now t.image.now t.sections.now (sym c.take_image.ensures.said ∙ e) (omega arith) _ _ _ _
             (taken_places 15 64 t.sections.now _ _ c.take_image.ensures e) names.ensures.readable.paired c.take_image_places-p.ensures (omega arith);
       },
-      rw (names.ensures.lengths, length-stage_lengths) (names_few 4096 t.name_ends.now t.name_bytes.now (sym c.check.ensures.said ∙ ap meaning c.in_ok-check.was)),
+      rw (names.ensures.lengths, length-stage_lengths) (names_passed 4096 t.name_ends.now t.name_bytes.now (sym c.check.ensures.said ∙ ap meaning c.in_ok-check.was)).few,
       c.requires,
     )
 
