@@ -10,7 +10,7 @@ ghost use Rattle.entry_questions.specs.Entry.{end_of, alignment_at, end_answer, 
 ghost use Rattle.entry_questions.specs.Lines.{answer_in, from_symbols_in, sections_lent, head_in, split_at_in, KeptIn, HeadsIn, HomesIn};
 
 use fields::put32;
-use lent_tables::StageTables;
+use lent_tables::{NO_TABLES, StageTables};
 use name_table::NameArrays;
 use names::{Names, name_at};
 use obj::{Refusal, SPLIT_BYTES, Table, refuse, section_at, split_at, word_of};
@@ -186,10 +186,7 @@ pub fn end_for_section(
             section_places,
             image,
             symbols,
-            relocs: &[],
-            partials: &[],
-            splits: b"",
-            units: &[],
+            ..NO_TABLES
         },
         Question::End { section },
     );
@@ -218,10 +215,8 @@ pub fn split_alignment(
             section_places,
             image,
             symbols,
-            relocs: &[],
-            partials: &[],
             splits,
-            units: &[],
+            ..NO_TABLES
         },
         Question::Alignment { split: which },
     );

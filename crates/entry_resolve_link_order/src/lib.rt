@@ -7,7 +7,7 @@ ghost use Rattle.stage_tables.specs.StageTables.{stage_splits, stage_units};
 ghost use Rattle.entry_resolve_link_order.specs.Entry.{resolve_of, Leaves};
 ghost use Rattle.entry_resolve_link_order.specs.Lines.{from_splits_in, resolve_in, ResolvesIn, SectionsTakenIn};
 
-use lent_tables::StageTables;
+use lent_tables::{NO_TABLES, StageTables};
 use link_graph::LinkTables;
 use name_table::NameArrays;
 use names::Names;
@@ -96,13 +96,9 @@ pub fn resolve_link_order(
             name_ends,
             name_bytes,
             sections,
-            section_places: &[],
-            image: &[],
-            symbols: &[],
-            relocs: &[],
-            partials: &[],
             splits,
             units,
+            ..NO_TABLES
         },
         out,
     );

@@ -7,7 +7,7 @@ ghost use Rattle.tables.specs.Tables.{AllHeld};
 ghost use Rattle.entry_validate_splits.specs.Entry.{validate_of};
 ghost use Rattle.entry_validate_splits.specs.Lines.{from_symbols_in, validate_in};
 
-use lent_tables::StageTables;
+use lent_tables::{NO_TABLES, StageTables};
 use name_table::NameArrays;
 use obj::{Refusal, Table, word_of};
 use splits::SplitTable;
@@ -85,12 +85,8 @@ pub fn validate_splits(
         name_ends,
         name_bytes,
         sections,
-        section_places: &[],
-        image: &[],
         symbols,
-        relocs: &[],
-        partials: &[],
         splits,
-        units: &[],
+        ..NO_TABLES
     }))
 }

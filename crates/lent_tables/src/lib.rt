@@ -15,3 +15,28 @@ pub struct StageTables<'e, 'n, 's, 'p, 'i, 'y, 'r, 'l, 't, 'u> {
     pub splits: &'t [u8],
     pub units: &'u [u8],
 }
+
+// No table at all: an entry names those that it is lent, and takes the others from here.
+pub const NO_TABLES: StageTables<
+    'static,
+    'static,
+    'static,
+    'static,
+    'static,
+    'static,
+    'static,
+    'static,
+    'static,
+    'static,
+> = StageTables {
+    name_ends: &[],
+    name_bytes: &[],
+    sections: &[],
+    section_places: &[],
+    image: &[],
+    symbols: &[],
+    relocs: &[],
+    partials: &[],
+    splits: &[],
+    units: &[],
+};
