@@ -11,7 +11,6 @@ use Rattle.obj.specs.Records.{stage_places}
 use Rattle.obj.specs.Answers.{Answer}
 use Rattle.std.specs.Prelude.{Result, Ok, Err}
 use Rattle.obj.specs.declared.Section.{Section}
-use Rattle.obj.specs.declared.Split.{Split}
 use Rattle.obj.proofs.Laws.{length-stage_places}
 use Rattle.name_table.specs.Stored.{stage_lengths}
 use Rattle.name_table.proofs.Laws.{length-stage_lengths}
@@ -24,7 +23,7 @@ use Rattle.stage_symbols.specs.StageSymbols.{answered, ordered, Ordered}
 use Rattle.obj.specs.declared.Refusal.{Refusal}
 use Rattle.stage_symbols.proofs.Laws.{symbol_whole, symbols_sound}
 use Rattle.validate.specs.Check.{validate}
-use Rattle.entry_validate_splits.specs.Lines.{from_symbols}
+use Rattle.entry_validate_splits.specs.Lines.{from_splits, from_symbols}
 
 -- ---- symbols that passed
 module _ (names : ℕ) (sections : List Section) (b places order : List ℕ) (r : Result ℕ Refusal) (o : Ordered (symbols_check 4096 names sections b) b places order r)
@@ -53,13 +52,13 @@ module _ (names : ℕ) (sections : List Section) (b places order : List ℕ) (r 
   pub sound_taken : Sound (symbol_of b (take (length b / 20) places)) (length (take (length b / 20) places))
   sound_taken = rw (places_are, length-stage_places) (symbols_sound 4096 names sections b passed)
 
-  -- the check is asked with them, and with the rows of the splits
-  pub checked_as : (rows : List Split) (splits : List ℕ) → rows ≡ stage_splits splits
-      → validate (symbol_of b (take (length b / 20) places)) (length (take (length b / 20) places)) rows
-      ≡ validate (symbol_of b (stage_places 20 (length b / 20))) (length b / 20) (stage_splits splits)
-  checked_as rows splits rows_are =
-      (λ d. validate (symbol_of b (places_are d)) (length (places_are d)) (rows_are d))
-      ∙ ap (λ (n : ℕ). validate (symbol_of b (stage_places 20 (length b / 20))) n (stage_splits splits)) (length-stage_places 20 (length b / 20))
+  -- the splits are asked with them
+  pub splits_as : (lengths splits : List ℕ)
+      → from_splits lengths sections (symbol_of b (take (length b / 20) places)) (length (take (length b / 20) places)) splits
+      ≡ from_splits lengths sections (symbol_of b (stage_places 20 (length b / 20))) (length b / 20) splits
+  splits_as lengths splits =
+      ap (λ (l : List ℕ). from_splits lengths sections (symbol_of b l) (length l) splits) places_are
+      ∙ ap (λ (n : ℕ). from_splits lengths sections (symbol_of b (stage_places 20 (length b / 20))) n splits) (length-stage_places 20 (length b / 20))
 
 -- ---- names and sections that passed
 pub symbols_as : (ends bytes b symbols splits lengths places : List ℕ) → lengths ≡ stage_lengths ends bytes → places ≡ stage_places 15 (length b / 15)
@@ -67,7 +66,7 @@ pub symbols_as : (ends bytes b symbols splits lengths places : List ℕ) → len
     ≡ (symbols_check 4096 (length ends / 2) (stage_sections b) symbols
     >> (splits_check 1024 (stage_lengths ends bytes) (stage_sections b) splits
     >> validate (symbol_of symbols (stage_places 20 (length symbols / 20))) (length symbols / 20) (stage_splits splits)))
-unfolding from_symbols
+unfolding from_symbols from_splits
 symbols_as ends bytes b symbols splits lengths places el ep =
     (λ d. from_symbols (el d) (sections_in b (ep d)) symbols splits)
     ∙ ap (λ (n : ℕ).

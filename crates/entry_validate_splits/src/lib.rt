@@ -1,11 +1,13 @@
 // The entry `validate_splits` behind its C name: the checks of its tables, then the check of the splits. The columns that the checks fill are local.
 #![tactic(auto)]
 
-ghost use Rattle.std.specs.Prelude.{◌≡◌};
+ghost use Rattle.std.specs.Prelude.{◌≡◌, length};
 ghost use Rattle.obj.specs.Answers.{meaning, outcome_word};
 ghost use Rattle.tables.specs.Tables.{AllHeld};
+ghost use Rattle.symbol_order.specs.Order.{symbol_of, Order};
+ghost use Rattle.symbols.specs.Sound.{Sound};
 ghost use Rattle.entry_validate_splits.specs.Entry.{validate_of};
-ghost use Rattle.entry_validate_splits.specs.Lines.{from_symbols_in, validate_in};
+ghost use Rattle.entry_validate_splits.specs.Lines.{from_splits_in, from_symbols_in, validate_in};
 
 use lent_tables::{NO_TABLES, StageTables};
 use name_table::NameArrays;
@@ -16,7 +18,37 @@ use stage_symbols::take_symbol_order;
 use stage_tables::take_sections;
 use validate::validate;
 
-// The symbols with their order, the splits, and the check. `lengths` are those of the names, `heads` the sections at their places.
+// The splits, and the check. `lengths` are those of the names, `heads` the sections at their places.
+fn with_splits(
+    lengths: &[u8],
+    heads: &Table,
+    symbols: &Table,
+    order: &[u16],
+    splits: &[u8],
+) -> Result<(), Refusal>
+    requires { AllHeld 15 heads.now.bytes.now heads.now.places.now
+        × Order symbols.now.bytes.now symbols.now.places.now order.now
+        × Sound (symbol_of symbols.now.bytes.now symbols.now.places.now) (length symbols.now.places.now) }
+    ensures { meaning result ≡ from_splits_in lengths.now heads.now symbols.now splits.now }
+{
+    let mut places = [0u32; 1024];
+    let mut starts = [0u32; 1024];
+    let mut ends = [0u32; 1024];
+    let mut units = [0u16; 1024];
+    let mut rest = [0u64; 1024];
+    let mut table = SplitTable {
+        starts: &mut starts,
+        ends: &mut ends,
+        units: &mut units,
+        rest: &mut rest,
+        count: 0,
+        room: 1024,
+    };
+    take_split_columns(lengths, heads, splits, &mut places, &mut table)?;
+    validate(symbols, order, &table.columns())
+}
+
+// The symbols with their order, and the tables after them.
 fn with_symbols(lengths: &[u8], heads: &Table, lent: &StageTables) -> Result<(), Refusal>
     requires { AllHeld 15 heads.now.bytes.now heads.now.places.now }
     ensures { meaning result ≡ from_symbols_in lengths.now heads.now lent.now }
@@ -37,21 +69,8 @@ fn with_symbols(lengths: &[u8], heads: &Table, lent: &StageTables) -> Result<(),
         bytes: lent.symbols,
         places: &places[..lent.symbols.len() / 20],
     };
-    let mut split_places = [0u32; 1024];
-    let mut starts = [0u32; 1024];
-    let mut ends = [0u32; 1024];
-    let mut units = [0u16; 1024];
-    let mut rest = [0u64; 1024];
-    let mut table = SplitTable {
-        starts: &mut starts,
-        ends: &mut ends,
-        units: &mut units,
-        rest: &mut rest,
-        count: 0,
-        room: 1024,
-    };
-    take_split_columns(lengths, heads, lent.splits, &mut split_places, &mut table)?;
-    validate(&symbols, &order[..ordered], &table.columns())
+    // a function of its own, so that the order is made without the columns of the splits on the stack
+    with_splits(lengths, heads, &symbols, &order[..ordered], lent.splits)
 }
 
 // All tables: the names, the sections, and what comes after them.
