@@ -6,6 +6,9 @@ use Rattle.tables.specs.Tables.{main_ceilings}
 use Rattle.load.specs.Load.{Loaded}
 use Rattle.load.specs.Good.{AllGood, Good}
 use Rattle.loaded.specs.declared.Loaded.{Loaded as Lent}
+use Rattle.names.specs.declared.Names.{Names}
+use Rattle.obj.specs.declared.Table.{Table}
+use Rattle.sections.specs.declared.Obj.{Obj}
 use Rattle.names.specs.Names.{names_of}
 use Rattle.sections.specs.Image.{Image, image_of}
 use Rattle.sections.specs.Sections.{Sections, sections_of}
@@ -38,6 +41,20 @@ byte_places places = map (λ place. place + 15) places
 
 abbrev pub sections_from : (file : List ℕ) → Loaded → Sections
 sections_from file t = sections_of file t.sections file (byte_places t.sections)
+
+-- ---- the tables of its bytes, as the stages take them
+
+abbrev pub names_in : Lent → Names
+names_in l = record { bytes = l.file; places = l.names; lengths = l.lengths }
+
+abbrev pub heads_in : Lent → Table
+heads_in l = record { bytes = l.file; places = l.sections }
+
+abbrev pub image_in : Lent → Table
+image_in l = record { bytes = l.file; places = l.images }
+
+abbrev pub obj_in : Lent → Obj
+obj_in l = record { symbols = record { bytes = l.file; places = l.symbols }; order = l.order; names = names_in l; heads = heads_in l }
 
 -- ---- what is known of it
 

@@ -1,8 +1,12 @@
-// The tables of a loaded file: where the sections' bytes are. The laws say that what the loader found is what each stage asks.
+// The tables of a loaded file: where the sections' bytes are, and the tables that a stage takes of them. The laws say that what the loader found is what each stage asks.
 #![tactic(auto)]
 
 ghost use Rattle.std.specs.Prelude.{◌≡◌, ℕ, ◌+◌, ◌≤◌, ◌<◌, length, get_or, take};
-ghost use Rattle.loaded.specs.Tables.{byte_places};
+ghost use Rattle.loaded.specs.Tables.{byte_places, names_in, heads_in, image_in, obj_in};
+
+use names::Names;
+use obj::Table;
+use sections::Obj;
 
 // The tables of a loaded file: the places of their records in it, the lengths of its names, the places of the sections' bytes, and the symbols' order by
 // address.
@@ -18,6 +22,53 @@ pub struct Loaded<'a> {
     pub relocs: &'a [u32],
     pub partials: &'a [u32],
     pub units: &'a [u32],
+}
+
+impl Loaded<'_> {
+    pub fn names(&self) -> Names<'_, '_, '_>
+        ensures { result ≡ names_in self.now }
+    {
+        Names {
+            bytes: self.file,
+            places: self.names,
+            lengths: self.lengths,
+        }
+    }
+
+    // The heads of the sections.
+    pub fn heads(&self) -> Table<'_, '_>
+        ensures { result ≡ heads_in self.now }
+    {
+        Table {
+            bytes: self.file,
+            places: self.sections,
+        }
+    }
+
+    // The bytes of the sections.
+    pub fn image(&self) -> Table<'_, '_>
+        ensures { result ≡ image_in self.now }
+    {
+        Table {
+            bytes: self.file,
+            places: self.images,
+        }
+    }
+
+    // The guest as the stages ask it.
+    pub fn obj(&self) -> Obj<'_, '_, '_, '_, '_, '_, '_, '_>
+        ensures { result ≡ obj_in self.now }
+    {
+        Obj {
+            symbols: Table {
+                bytes: self.file,
+                places: self.symbols,
+            },
+            order: self.order,
+            names: self.names(),
+            heads: self.heads(),
+        }
+    }
 }
 
 // The places of the sections' bytes, at the front of a column: each behind its 15 bytes of head.

@@ -15,7 +15,6 @@ ghost use Rattle.run_merge.specs.Merging.{marked_in};
 use common::update_common_splits;
 use loaded::Loaded;
 use merge::add_splits;
-use names::Names;
 use obj::{Refusal, Table};
 use splits::SplitTable;
 
@@ -29,10 +28,7 @@ pub fn merge_partials(loaded: &Loaded, table: &mut SplitTable) -> Result<(), Ref
         (merge_all (given (sections_in loaded.now.file.now loaded.now.sections.now) table.old.room) [] (partials_in loaded.now.file.now loaded.now.partials.now)) }
     ensures room { table.new.room ≡ table.old.room }
 {
-    let heads = Table {
-        bytes: loaded.file,
-        places: loaded.sections,
-    };
+    let heads = loaded.heads();
     table.count = 0;
     add_splits(
         table,
@@ -43,15 +39,6 @@ pub fn merge_partials(loaded: &Loaded, table: &mut SplitTable) -> Result<(), Ref
         },
     )?;
     // without a start nothing is refused
-    let _ = update_common_splits(
-        &Names {
-            bytes: loaded.file,
-            places: loaded.names,
-            lengths: loaded.lengths,
-        },
-        &heads,
-        table,
-        None,
-    );
+    let _ = update_common_splits(&loaded.names(), &heads, table, None);
     Ok(())
 }

@@ -11,9 +11,7 @@ ghost use Rattle.trim.specs.Steps.{AllPlaced, seen};
 ghost use Rattle.run_trim.specs.Checking.{checked_table};
 
 use loaded::Loaded;
-use names::Names;
-use obj::{Refusal, Table};
-use sections::Obj;
+use obj::Refusal;
 use splits::SplitTable;
 use trim::trim;
 use validate::validate;
@@ -35,36 +33,7 @@ pub fn check_and_trim(
         (rows_in table.old) }
     ensures others { OnlyEnds table.old table.new }
 {
-    validate(
-        &Table {
-            bytes: loaded.file,
-            places: loaded.symbols,
-        },
-        loaded.order,
-        &table.columns(),
-    )?;
-    trim(
-        &Obj {
-            symbols: Table {
-                bytes: loaded.file,
-                places: loaded.symbols,
-            },
-            order: loaded.order,
-            names: Names {
-                bytes: loaded.file,
-                places: loaded.names,
-                lengths: loaded.lengths,
-            },
-            heads: Table {
-                bytes: loaded.file,
-                places: loaded.sections,
-            },
-        },
-        &Table {
-            bytes: loaded.file,
-            places: loaded.images,
-        },
-        table,
-        falls,
-    )
+    let obj = loaded.obj();
+    validate(&obj.symbols, obj.order, &table.columns())?;
+    trim(&obj, &loaded.image(), table, falls)
 }

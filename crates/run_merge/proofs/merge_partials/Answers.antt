@@ -13,12 +13,13 @@ unfolding tabulate
 returns-in_err-add_splits-clause-rows c =
     let m = c.add_splits in
     let p = err_from_is_err_and c.from_residual.result c.from_residual.ensures.1 in
-    let said = sym m.ensures.rows ∙ ap (λ (r : Answer). merged r (rows_in m.new.table)) c.in_err-add_splits.was in
+    let said = sym (rw c.heads-heads.ensures at m.ensures.rows) ∙ ap (λ (r : Answer). merged r (rows_in m.new.table)) c.in_err-add_splits.was in
     rw (p.1, p.2) (marked_refused _ said)
 
 pub returns-clause-rows : goal.returns-clause-rows
 unfolding tabulate
 returns-clause-rows c =
     let m = c.add_splits in
-    let said = sym m.ensures.rows ∙ ap (λ (r : Answer). merged r (rows_in m.new.table)) c.in_ok-add_splits.was in
-    marked_left _ said (common_left c.update_common_splits.result _ _ _ c.update_common_splits.ensures.rows)
+    let said = sym (rw c.heads-heads.ensures at m.ensures.rows) ∙ ap (λ (r : Answer). merged r (rows_in m.new.table)) c.in_ok-add_splits.was in
+    let marked = rw (c.names.ensures, c.heads-heads.ensures) at c.update_common_splits.ensures.rows in
+    marked_left _ said (common_left c.update_common_splits.result _ _ _ marked)
