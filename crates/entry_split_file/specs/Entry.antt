@@ -9,6 +9,8 @@ use Rattle.walk.specs.Walk.{nothing}
 use Rattle.stage_walk.specs.Room.{room_in}
 use Rattle.run.specs.Run.{Result, Ended, done, cycle, run_of}
 use Rattle.run_outputs.specs.Laid.{Sizes, Laid}
+use Rattle.run_outputs.specs.Outputs.{sizes_in}
+use Rattle.run_outputs.specs.declared.RunOutputs.{RunOutputs}
 use Rattle.run_file.specs.RunFile.{rooms_in}
 
 -- the run of the file, with the room that these outputs give
@@ -32,3 +34,9 @@ word_by (refused number section address) = refusal_word number section address
 pub record Leaves (o : Outcome Ended) (sizes : Sizes) (answer : ℕ) (ends bytes splits units pieces symbols relocs counts : List ℕ) : Type 0 where
   pub said : answer ≡ word_by o
   pub left : Laid (left_by o) sizes ends bytes splits units pieces symbols relocs counts
+
+-- .. in outputs that were `before` and are `after`
+abbrev pub LeavesIn : Outcome Ended → (answer : ℕ) → (before after : RunOutputs) → Type 0
+LeavesIn o answer before after =
+    Leaves o (sizes_in before) answer after.ends.now after.bytes.now after.splits.now after.units.now after.pieces.now after.entries.now
+    after.offsets.now after.counts.now

@@ -3,68 +3,101 @@
 
 ghost use Rattle.std.specs.Prelude.{◌≡◌, length};
 ghost use Rattle.run_outputs.specs.Kept.{sizes_of};
+ghost use Rattle.run_outputs.specs.Outputs.{sizes_in, SameOutputs};
 ghost use Rattle.stage_splits.specs.StageSplits.{room_of};
-ghost use Rattle.run_file.specs.RunFile.{Lent, Loader};
-ghost use Rattle.entry_split_file.specs.Entry.{split_file_of, Leaves};
+ghost use Rattle.run_file.specs.RunFile.{Lent};
+ghost use Rattle.entry_split_file.specs.Entry.{split_file_of, Leaves, LeavesIn};
 
 use gap_splits::AddedNames;
+use run::RunTables;
 use run_file::run_file;
-use run_outputs::{kept_of, lay, word_for};
+use run_load::FileColumns;
+use run_outputs::{RunOutputs, kept_of, lay, word_for};
 use splits::SplitTable;
 use stage_splits::room_of;
 
 // The run in lent columns, and its outputs.
 fn in_columns(
     file: &[u8],
-    places: &mut [u32],
-    lengths: &mut [u8],
-    heads: &mut [u16],
-    chain: &mut [u16],
-    images: &mut [u32],
-    order: &mut [u16],
+    columns: &mut FileColumns,
     table: &mut SplitTable,
     added: &mut AddedNames,
-    out_ends: &mut [u8],
-    out_bytes: &mut [u8],
-    out_splits: &mut [u8],
-    out_units: &mut [u8],
-    pieces: &mut [u8],
-    entries: &mut [u8],
-    offsets: &mut [u8],
-    counts: &mut [u8],
+    outputs: &mut RunOutputs,
 ) -> u64
-    requires { Loader places.old lengths.old heads.old chain.old images.old order.old
-        × Lent table.old added.old
-        × (table.old.room ≡ room_of (length out_splits.old)) }
-    ensures { Leaves
-        (split_file_of file.now (sizes_of out_ends.old out_bytes.old out_splits.old out_units.old pieces.old entries.old offsets.old counts.old))
-        (sizes_of out_ends.old out_bytes.old out_splits.old out_units.old pieces.old entries.old offsets.old counts.old)
-        result out_ends.new out_bytes.new out_splits.new out_units.new pieces.new entries.new offsets.new counts.new }
+    requires { Lent table.old added.old
+        × (table.old.room ≡ room_of (length outputs.old.splits.now)) }
+    ensures leaves { LeavesIn (split_file_of file.now (sizes_in outputs.old)) result outputs.old outputs.new }
+    ensures lent { SameOutputs outputs.old outputs.new }
 {
-    let most = out_ends.len() / 2;
-    let most_bytes = out_bytes.len();
-    let r = run_file(
-        file, places, lengths, heads, chain, images, order, table, added, most, most_bytes,
-        out_units, pieces, entries, offsets,
-    );
+    let most = outputs.ends.len() / 2;
+    let most_bytes = outputs.bytes.len();
+    let mut tables = RunTables {
+        units: &mut *outputs.units,
+        pieces: &mut *outputs.pieces,
+        entries: &mut *outputs.entries,
+        offsets: &mut *outputs.offsets,
+    };
+    let r = run_file(file, columns, table, added, most, most_bytes, &mut tables);
     let ran = r.ran;
     let kept = kept_of(ran);
     // none after a refusal
     table.count = kept.splits;
-    lay(
-        kept,
-        &added.names(),
-        &table.columns(),
-        out_ends,
-        out_bytes,
-        out_splits,
-        out_units,
-        pieces,
-        entries,
-        offsets,
-        counts,
-    );
+    lay(kept, &added.names(), &table.columns(), outputs);
     word_for(ran)
+}
+
+// The same, with columns of its own for the split table and the names that are added.
+fn with_tables(file: &[u8], columns: &mut FileColumns, outputs: &mut RunOutputs) -> u64
+    ensures leaves { LeavesIn (split_file_of file.now (sizes_in outputs.old)) result outputs.old outputs.new }
+    ensures lent { SameOutputs outputs.old outputs.new }
+{
+    let mut starts = [0u32; 1024];
+    let mut ends = [0u32; 1024];
+    let mut units = [0u16; 1024];
+    let mut rest = [0u64; 1024];
+    let mut added_bytes = [0u8; 65535];
+    let mut added_places = [0u32; 4096];
+    let mut added_lengths = [0u8; 4096];
+    let mut table = SplitTable {
+        starts: &mut starts,
+        ends: &mut ends,
+        units: &mut units,
+        rest: &mut rest,
+        count: 0,
+        room: room_of(outputs.splits.len()),
+    };
+    let mut added = AddedNames {
+        bytes: &mut added_bytes,
+        places: &mut added_places,
+        lengths: &mut added_lengths,
+        count: 0,
+        used: 0,
+        most: 4096,
+        most_bytes: 65535,
+    };
+    in_columns(file, columns, &mut table, &mut added, outputs)
+}
+
+// The same, with columns of its own for the file.
+fn with_columns(file: &[u8], outputs: &mut RunOutputs) -> u64
+    ensures leaves { LeavesIn (split_file_of file.now (sizes_in outputs.old)) result outputs.old outputs.new }
+    ensures lent { SameOutputs outputs.old outputs.new }
+{
+    let mut places = [0u32; 14464];
+    let mut lengths = [0u8; 4096];
+    let mut heads = [0u16; 8192];
+    let mut chain = [0u16; 4096];
+    let mut images = [0u32; 64];
+    let mut order = [0u16; 4096];
+    let mut columns = FileColumns {
+        places: &mut places,
+        lengths: &mut lengths,
+        heads: &mut heads,
+        chain: &mut chain,
+        images: &mut images,
+        order: &mut order,
+    };
+    with_tables(file, &mut columns, outputs)
 }
 
 // The entry: the run's outputs or a refusal, and every byte of them.
@@ -84,53 +117,15 @@ pub fn split_file(
         (sizes_of out_ends.old out_bytes.old out_splits.old out_units.old pieces.old entries.old offsets.old counts.old)
         result out_ends.new out_bytes.new out_splits.new out_units.new pieces.new entries.new offsets.new counts.new }
 {
-    let mut places = [0u32; 14464];
-    let mut lengths = [0u8; 4096];
-    let mut heads = [0u16; 8192];
-    let mut chain = [0u16; 4096];
-    let mut images = [0u32; 64];
-    let mut order = [0u16; 4096];
-    let mut starts = [0u32; 1024];
-    let mut ends = [0u32; 1024];
-    let mut units = [0u16; 1024];
-    let mut rest = [0u64; 1024];
-    let mut added_bytes = [0u8; 65535];
-    let mut added_places = [0u32; 4096];
-    let mut added_lengths = [0u8; 4096];
-    let mut table = SplitTable {
-        starts: &mut starts,
-        ends: &mut ends,
-        units: &mut units,
-        rest: &mut rest,
-        count: 0,
-        room: room_of(out_splits.len()),
-    };
-    let mut added = AddedNames {
-        bytes: &mut added_bytes,
-        places: &mut added_places,
-        lengths: &mut added_lengths,
-        count: 0,
-        used: 0,
-        most: 4096,
-        most_bytes: 65535,
-    };
-    in_columns(
-        file,
-        &mut places,
-        &mut lengths,
-        &mut heads,
-        &mut chain,
-        &mut images,
-        &mut order,
-        &mut table,
-        &mut added,
-        out_ends,
-        out_bytes,
-        out_splits,
-        out_units,
+    let mut outputs = RunOutputs {
+        ends: out_ends,
+        bytes: out_bytes,
+        splits: out_splits,
+        units: out_units,
         pieces,
         entries,
         offsets,
         counts,
-    )
+    };
+    with_columns(file, &mut outputs)
 }

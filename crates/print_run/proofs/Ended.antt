@@ -50,8 +50,8 @@ module _ (file places lengths : List ℕ) (counts : load.Counts) (c : Beside) (t
       ≡ run_of file (rooms_in file 4096 65535 1024 units-room (room_in a b d))
       → Holds 4096 65535 1024 (room_in a b d) c units ran
       → ((e : Ended) → ran_in c table units pieces entries offsets ran ≡ accepted e → load_of main_ceilings file ≡ accepted (tables_in counts places lengths))
-      → length places ≡ 14464
-      → length lengths ≡ 4096
+      → 14464 ≤ length places
+      → 4096 ≤ length lengths
       → length pieces ≡ a
       → length entries ≡ b
       → length offsets ≡ d
@@ -86,8 +86,8 @@ module _ (file places lengths : List ℕ) (counts : load.Counts) (c : Beside) (t
 -- THEOREM: what the run of a file left can be printed
 pub runs_printable : {file places lengths : List ℕ} {c : Beside} {table : Columns} {units pieces entries offsets : List ℕ} {units-room a b d : ℕ} (r : RanFile)
     → Runs file 4096 65535 1024 units-room (room_in a b d) r places lengths c table units pieces entries offsets
-    → length places ≡ 14464
-    → length lengths ≡ 4096
+    → 14464 ≤ length places
+    → 4096 ≤ length lengths
     → length pieces ≡ a
     → length entries ≡ b
     → length offsets ≡ d

@@ -1,6 +1,6 @@
 -- What the functions that print a run are given, which makes each read and each line safe, and what they write. What is listed is `listing` of
 -- listing/specs/Listing.antt, a line at a time from its first cursor on (`lines_listing` of listing/proofs/Whole.antt).
-use Rattle.std.specs.Prelude.{ℕ, ◌≤◌, ◌≡◌, List, length}
+use Rattle.std.specs.Prelude.{ℕ, ◌≤◌, List, length}
 use Rattle.std.specs.declared.option.Option.{Option}
 use Rattle.std.specs.Io.KnownBytes.{Appends}
 use Rattle.names.specs.Append.{Columns as Beside}
@@ -23,8 +23,8 @@ use Rattle.run_listing.specs.Tables.{listed_tables}
 
 -- a run that was done, in its tables: n units, and what the walk made. The loader's columns have a place for each record.
 pub record Printable (file : List ℕ) (counts : load.Counts) (places lengths : List ℕ) (added : Beside) (units : List ℕ) (n : ℕ) (pieces entries offsets : List ℕ) (made : Counts) : Type 0 where
-  pub places_long : length places ≡ 14464
-  pub lengths_long : length lengths ≡ 4096
+  pub places_long : 14464 ≤ length places
+  pub lengths_long : 4096 ≤ length lengths
   pub names : counts.names ≤ 4096
   pub symbols : counts.symbols ≤ 4096
   pub relocations : counts.relocations ≤ 4096

@@ -8,8 +8,8 @@ ghost use Rattle.lines.specs.Lines.{refused_line};
 ghost use Rattle.listing.specs.Listing.{listing};
 ghost use Rattle.listing.specs.Tables.{Readable, run_of};
 ghost use Rattle.listing.specs.Lent.{columns_of, tables_of};
-ghost use Rattle.stage_walk.specs.Room.{room_in};
-ghost use Rattle.run_file.specs.RunFile.{Lent, Loader};
+ghost use Rattle.run.specs.Outputs.{room_lent};
+ghost use Rattle.run_file.specs.RunFile.{Lent};
 ghost use Rattle.print_run.specs.Printed.{PrintableLists, lists_text, PrintableIf, text_of, main_room, Prints};
 
 use gap_splits::AddedNames;
@@ -19,8 +19,9 @@ use load::{Counts, NAMES, RELOCATIONS, SYMBOLS};
 use names::Names;
 use obj::Table;
 use order::Unlinked;
-use run::Ran;
+use run::{Ran, RunTables};
 use run_file::run_file;
+use run_load::FileColumns;
 use splits::SplitTable;
 use std::io;
 use std::io::Write;
@@ -54,7 +55,7 @@ fn print_lines<'a, W: Write>(
     }
 }
 
-// The listing of a run that was done, of n units, for which the lent table has room and may have more: the parts of the column of places are the tables of names, symbols and relocations.
+// The listing of a run that was done, of n units: the parts of the column of places are the tables of names, symbols and relocations.
 fn print_done<'a, W: Write>(
     out: &mut W,
     file: &'a [u8],
@@ -118,32 +119,28 @@ fn print_ran<'a, W: Write>(
     ran: Result<Ran, Unlinked>,
     file: &'a [u8],
     counts: Counts,
-    places: &[u32],
-    lengths: &[u8],
+    columns: &FileColumns,
     added: &Names<'a, '_, '_>,
-    units: &[u8],
-    pieces: &[u8],
-    entries: &[u8],
-    offsets: &[u8],
+    tables: &RunTables,
 ) -> io::Result<()>
-    requires { PrintableIf file.now counts places.now lengths.now (columns_of added.now) units.now pieces.now entries.now offsets.now ran }
+    requires { PrintableIf file.now counts columns.now.places.now columns.now.lengths.now (columns_of added.now) tables.now.units.now tables.now.pieces.now tables.now.entries.now tables.now.offsets.now ran }
     ensures { OnOk result (Appends (W.contents out.old) (W.contents out.new)
-        (text_of file.now counts places.now lengths.now (columns_of added.now) units.now pieces.now entries.now offsets.now ran)) }
+        (text_of file.now counts columns.now.places.now columns.now.lengths.now (columns_of added.now) tables.now.units.now tables.now.pieces.now tables.now.entries.now tables.now.offsets.now ran)) }
 {
     match ran {
         Ok(done) => print_done(
             out,
             file,
             counts,
-            places,
-            lengths,
+            &*columns.places,
+            &*columns.lengths,
             added,
-            units,
+            &*tables.units,
             done.units,
             &PieceLists {
-                pieces,
-                symbols: entries,
-                relocs: offsets,
+                pieces: &*tables.pieces,
+                symbols: &*tables.entries,
+                relocs: &*tables.offsets,
                 made: done.made,
             },
         ),
@@ -156,69 +153,45 @@ fn print_ran<'a, W: Write>(
 fn print_in<'a, W: Write>(
     out: &mut W,
     file: &'a [u8],
-    places: &mut [u32],
-    lengths: &mut [u8],
-    heads: &mut [u16],
-    chain: &mut [u16],
-    images: &mut [u32],
-    order: &mut [u16],
+    columns: &mut FileColumns,
     table: &mut SplitTable,
     added: &'a mut AddedNames,
-    out_units: &mut [u8],
-    pieces: &mut [u8],
-    entries: &mut [u8],
-    offsets: &mut [u8],
+    tables: &mut RunTables,
 ) -> io::Result<()>
-    requires { Loader places.old lengths.old heads.old chain.old images.old order.old
-        × Lent table.old added.old
+    requires { Lent table.old added.old
         × (table.old.room ≡ 1024) }
-    ensures { OnOk result (Prints file.now (length out_units.old / 8) (room_in (length pieces.old) (length entries.old) (length offsets.old))
-        (W.contents out.old) (W.contents out.new)) }
+    ensures { OnOk result (Prints file.now (length tables.old.units.now / 8) (room_lent tables.old) (W.contents out.old) (W.contents out.new)) }
 {
-    let r = run_file(
-        file, places, lengths, heads, chain, images, order, table, added, 4096, 65535, out_units,
-        pieces, entries, offsets,
-    );
+    let r = run_file(file, columns, table, added, 4096, 65535, tables);
     let ran = r.ran;
     let counts = r.counts;
-    print_ran(
-        out,
-        ran,
-        file,
-        counts,
-        places,
-        lengths,
-        &added.names(),
-        out_units,
-        pieces,
-        entries,
-        offsets,
-    )
+    print_ran(out, ran, file, counts, columns, &added.names(), tables)
 }
 
-// The same, with the added names and the outputs in columns of its own: "4,096 names of 65,535 bytes in all" and "Outputs: 1,024 pieces, 4,096 piece symbols, 4,096 piece
-// relocations".
-fn print_split<'a, W: Write>(
+// The same, with columns of its own for the split table and the names that are added.
+fn print_with_tables<W: Write>(
     out: &mut W,
-    file: &'a [u8],
-    places: &mut [u32],
-    lengths: &mut [u8],
-    heads: &mut [u16],
-    chain: &mut [u16],
-    images: &mut [u32],
-    order: &mut [u16],
-    table: &mut SplitTable,
+    file: &[u8],
+    columns: &mut FileColumns,
+    tables: &mut RunTables,
 ) -> io::Result<()>
-    requires { Loader places.old lengths.old heads.old chain.old images.old order.old × (table.old.room ≡ 1024) }
-    ensures { OnOk result (Prints file.now 1024 main_room (W.contents out.old) (W.contents out.new)) }
+    ensures { OnOk result (Prints file.now (length tables.old.units.now / 8) (room_lent tables.old) (W.contents out.old) (W.contents out.new)) }
 {
+    let mut starts = [0u32; 1024];
+    let mut ends = [0u32; 1024];
+    let mut units = [0u16; 1024];
+    let mut rest = [0u64; 1024];
     let mut added_bytes = [0u8; 65535];
     let mut added_places = [0u32; 4096];
     let mut added_lengths = [0u8; 4096];
-    let mut out_units = [0u8; 8192];
-    let mut pieces = [0u8; 30720];
-    let mut entries = [0u8; 49152];
-    let mut offsets = [0u8; 32768];
+    let mut table = SplitTable {
+        starts: &mut starts,
+        ends: &mut ends,
+        units: &mut units,
+        rest: &mut rest,
+        count: 0,
+        room: 1024,
+    };
     let mut added = AddedNames {
         bytes: &mut added_bytes,
         places: &mut added_places,
@@ -228,26 +201,11 @@ fn print_split<'a, W: Write>(
         most: 4096,
         most_bytes: 65535,
     };
-    print_in(
-        out,
-        file,
-        places,
-        lengths,
-        heads,
-        chain,
-        images,
-        order,
-        table,
-        &mut added,
-        &mut out_units,
-        &mut pieces,
-        &mut entries,
-        &mut offsets,
-    )
+    print_in(out, file, columns, &mut table, &mut added, tables)
 }
 
-// The run of the file, printed, in columns of document 01's ceilings: "64 sections, 4,096 symbols, 4,096 relocations, 1,024 splits, 1,024 units, 4,096 names". Where all was
-// written, the writer took the text of the answer of the file's run.
+// The run of the file, printed, in columns of document 01's ceilings: "64 sections, 4,096 symbols, 4,096 relocations, 1,024 splits, 1,024 units, 4,096 names of 65,535
+// bytes in all" and "Outputs: 1,024 pieces, 4,096 piece symbols, 4,096 piece relocations". Where all was written, the writer took the text of the answer of the file's run.
 pub fn print_run<W: Write>(out: &mut W, file: &[u8]) -> io::Result<()>
     ensures { OnOk result (Prints file.now 1024 main_room (W.contents out.old) (W.contents out.new)) }
 {
@@ -257,27 +215,23 @@ pub fn print_run<W: Write>(out: &mut W, file: &[u8]) -> io::Result<()>
     let mut chain = [0u16; 4096];
     let mut images = [0u32; 64];
     let mut order = [0u16; 4096];
-    let mut starts = [0u32; 1024];
-    let mut ends = [0u32; 1024];
-    let mut units = [0u16; 1024];
-    let mut rest = [0u64; 1024];
-    let mut table = SplitTable {
-        starts: &mut starts,
-        ends: &mut ends,
-        units: &mut units,
-        rest: &mut rest,
-        count: 0,
-        room: 1024,
+    let mut units = [0u8; 8192];
+    let mut pieces = [0u8; 30720];
+    let mut entries = [0u8; 49152];
+    let mut offsets = [0u8; 32768];
+    let mut columns = FileColumns {
+        places: &mut places,
+        lengths: &mut lengths,
+        heads: &mut heads,
+        chain: &mut chain,
+        images: &mut images,
+        order: &mut order,
     };
-    print_split(
-        out,
-        file,
-        &mut places,
-        &mut lengths,
-        &mut heads,
-        &mut chain,
-        &mut images,
-        &mut order,
-        &mut table,
-    )
+    let mut tables = RunTables {
+        units: &mut units,
+        pieces: &mut pieces,
+        entries: &mut entries,
+        offsets: &mut offsets,
+    };
+    print_with_tables(out, file, &mut columns, &mut tables)
 }

@@ -10,18 +10,15 @@ ghost use Rattle.splits.specs.Table.{columns_of, rows_of};
 ghost use Rattle.gap_splits.specs.Added.{added};
 ghost use Rattle.gap_splits.specs.Answers as entering;
 ghost use Rattle.stage_walk.specs.Room.{room_in};
-ghost use Rattle.stage_walk.specs.Lines.{Gives, UnitScratch};
 ghost use Rattle.run.specs.Run.{walked};
-ghost use Rattle.run.specs.Answers.{units_at, ran_in, PreparedIn, Tabled, Units, Keeps, WalkGives, walked_tables, walked_after};
-ghost use Rattle.pieces.specs.Room.{Ceilings};
+ghost use Rattle.run.specs.Answers.{units_at, PreparedIn, Tabled, Units, Keeps, WalkGives, walked_tables, walked_after};
+ghost use Rattle.run.specs.Outputs.{room_lent, ran_to, SameLent};
 
 use link_graph::LinkTables;
 use loaded::Loaded;
-use names::Names;
 use obj::{Refusal, Table};
 use order::{Unlinked, ordered};
 use pieces::{Counts, PieceTables};
-use sections::Obj;
 use splits::SplitColumns;
 use stage_walk::{room_of, walk_columns};
 use tables::fill_places;
@@ -37,118 +34,44 @@ pub struct Ran {
     pub made: Counts,
 }
 
-// The walk of the rows. The records of k units, in link order, stand at the front of the unit table.
-fn walk_units(
-    loaded: &Loaded,
-    splits: &SplitColumns,
-    unit_table: &[u8],
-    k: usize,
-    places: &mut [u32],
-    unit_numbers: &mut [u16],
-    tables: &mut PieceTables,
-) -> Result<(), Refusal>
-    requires { PreparedIn loaded.now
-        × Tabled (length loaded.now.sections.now) (columns_of splits.now) splits.now.count
-        × Units unit_table.now k
-        × All (λ (u : unit_records.Unit). u.name < 4096) (units_at unit_table.now k)
-        × UnitScratch places.old unit_numbers.old
-        × Ceilings tables.old.room }
-    ensures { Gives
-        (walked loaded.now.file.now (walked_tables loaded.now)
-        tables.old.room
-        (rows_of splits.now) (units_at unit_table.now k))
-        tables.old tables.new result }
-{
-    fill_places(places, 8, k);
-    let unit_records = Table {
-        bytes: unit_table,
-        places: &places[..k],
-    };
-    number_units(&unit_records, unit_numbers);
-    walk_columns(
-        &Obj {
-            symbols: Table {
-                bytes: loaded.file,
-                places: loaded.symbols,
-            },
-            order: loaded.order,
-            names: Names {
-                bytes: loaded.file,
-                places: loaded.names,
-                lengths: loaded.lengths,
-            },
-            heads: Table {
-                bytes: loaded.file,
-                places: loaded.sections,
-            },
-        },
-        &Table {
-            bytes: loaded.file,
-            places: loaded.images,
-        },
-        &Table {
-            bytes: loaded.file,
-            places: loaded.relocs,
-        },
-        splits,
-        &unit_records,
-        unit_numbers,
-        tables,
-    )
+// What the end of a run writes: the units in link order, and the walk's pieces, piece symbols and piece relocations.
+#[derive(Drop)]
+pub struct RunTables<'u, 'p, 'e, 'o> {
+    pub units: &'u mut [u8],
+    pub pieces: &'p mut [u8],
+    pub entries: &'e mut [u8],
+    pub offsets: &'o mut [u8],
 }
 
-// The same, with columns of its own for the units.
-fn walk_with_columns(
-    loaded: &Loaded,
-    splits: &SplitColumns,
-    unit_table: &[u8],
-    k: usize,
-    tables: &mut PieceTables,
-) -> Result<(), Refusal>
-    requires { PreparedIn loaded.now
-        × Tabled (length loaded.now.sections.now) (columns_of splits.now) splits.now.count
-        × Units unit_table.now k
-        × All (λ (u : unit_records.Unit). u.name < 4096) (units_at unit_table.now k)
-        × Ceilings tables.old.room }
-    ensures { Gives
-        (walked loaded.now.file.now (walked_tables loaded.now)
-        tables.old.room
-        (rows_of splits.now) (units_at unit_table.now k))
-        tables.old tables.new result }
-{
-    let mut places = [0u32; 1024];
-    let mut unit_numbers = [0u16; 4096];
-    walk_units(
-        loaded,
-        splits,
-        unit_table,
-        k,
-        &mut places,
-        &mut unit_numbers,
-        tables,
-    )
-}
-
-// The same, over lent bytes: how many records are made.
+// The walk of the rows into the lent tables, with columns of its own for the units: how many records are made. The first `count` records of the unit table are the units
+// in link order. The tables are lent one by one, since of a slice that is lent alone it is known that it keeps its length; they become one struct here.
 fn walk_lent(
     loaded: &Loaded,
     splits: &SplitColumns,
     unit_table: &[u8],
-    k: usize,
+    count: usize,
     pieces: &mut [u8],
     entries: &mut [u8],
     offsets: &mut [u8],
 ) -> Result<Counts, Refusal>
     requires { PreparedIn loaded.now
         × Tabled (length loaded.now.sections.now) (columns_of splits.now) splits.now.count
-        × Units unit_table.now k
-        × All (λ (u : unit_records.Unit). u.name < 4096) (units_at unit_table.now k) }
+        × Units unit_table.now count
+        × All (λ (u : unit_records.Unit). u.name < 4096) (units_at unit_table.now count) }
     ensures { WalkGives
         (walked loaded.now.file.now (walked_tables loaded.now)
         (room_in (length pieces.old) (length entries.old) (length offsets.old))
-        (rows_of splits.now) (units_at unit_table.now k))
+        (rows_of splits.now) (units_at unit_table.now count))
         (room_in (length pieces.old) (length entries.old) (length offsets.old)) result pieces.new entries.new offsets.new }
 {
+    let mut places = [0u32; 1024];
+    let mut unit_numbers = [0u16; 4096];
+    fill_places(&mut places, 8, count);
+    let unit_records = Table {
+        bytes: unit_table,
+        places: &places[..count],
+    };
+    number_units(&unit_records, &mut unit_numbers);
     let mut tables = PieceTables {
         room: room_of(pieces.len(), entries.len(), offsets.len()),
         made: Counts {
@@ -160,7 +83,19 @@ fn walk_lent(
         symbols: &mut *entries,
         relocs: &mut *offsets,
     };
-    walk_with_columns(loaded, splits, unit_table, k, &mut tables)?;
+    let relocs = Table {
+        bytes: loaded.file,
+        places: loaded.relocs,
+    };
+    walk_columns(
+        &loaded.obj(),
+        &loaded.image(),
+        &relocs,
+        splits,
+        &unit_records,
+        &unit_numbers,
+        &mut tables,
+    )?;
     Ok(tables.made)
 }
 
@@ -171,43 +106,43 @@ pub fn order_and_walk(
     names: usize,
     used: usize,
     splits: &SplitColumns,
-    out_units: &mut [u8],
-    pieces: &mut [u8],
-    entries: &mut [u8],
-    offsets: &mut [u8],
+    out: &mut RunTables,
 ) -> Result<Ran, Unlinked>
     requires { PreparedIn loaded.now
         × (filled ≡ Ok tt → Tabled (length loaded.now.sections.now) (columns_of splits.now) splits.now.count) }
-    ensures { ((base : List (List ℕ)) → (c : Beside)
-        → ran_in c (columns_of splits.now) out_units.new pieces.new entries.new offsets.new result
+    ensures run { ((base : List (List ℕ)) → (c : Beside)
+        → ran_to c (columns_of splits.now) out.new result
         ≡ walked_after loaded.now.file.now
         (walked_tables loaded.now)
-        (length out_units.old / 8) (room_in (length pieces.old) (length entries.old) (length offsets.old)) (length base)
+        (length out.old.units.now / 8) (room_lent out.old) (length base)
         (entering.meant base (added c names) (rows_of splits.now) filled))
-        × Keeps names used splits.now.count (room_in (length pieces.old) (length entries.old) (length offsets.old)) out_units.new result }
+        × Keeps names used splits.now.count (room_lent out.old) out.new.units.now result }
+    ensures lent { SameLent out.old out.new }
 {
     filled?;
     let linked = ordered(
         &LinkTables {
             splits: *splits,
-            heads: Table {
-                bytes: loaded.file,
-                places: loaded.sections,
-            },
-            names: Names {
-                bytes: loaded.file,
-                places: loaded.names,
-                lengths: loaded.lengths,
-            },
+            heads: loaded.heads(),
+            names: loaded.names(),
             units: Table {
                 bytes: loaded.file,
                 places: loaded.units,
             },
         },
-        out_units,
+        out.units,
     );
     let k = linked?;
-    let made = walk_lent(loaded, splits, out_units, k, pieces, entries, offsets)?;
+    let unit_table = &mut *out.units;
+    let made = walk_lent(
+        loaded,
+        splits,
+        unit_table,
+        k,
+        out.pieces,
+        out.entries,
+        out.offsets,
+    )?;
     Ok(Ran {
         names,
         used,

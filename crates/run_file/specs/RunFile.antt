@@ -1,5 +1,5 @@
 -- The run of a record file over lent columns: what room the lent tables give it, what its functions are given, and what they leave. The run is `run_of` of run/specs/Run.antt.
-use Rattle.std.specs.Prelude.{ℕ, ◌-◌, ◌≤◌, ◌≡◌, List, length}
+use Rattle.std.specs.Prelude.{ℕ, ◌-◌, ◌/◌, ◌≤◌, ◌≡◌, List, length}
 use Rattle.lists.specs.Outcome.{accepted}
 use Rattle.names.specs.Names.{names_of}
 use Rattle.names.specs.Index.{Indexed}
@@ -10,7 +10,10 @@ use Rattle.load.specs.Columns as columns
 use Rattle.load.specs.Columns.{tables_in}
 use Rattle.load.specs.declared.Counts as load
 use Rattle.run_load.specs.Prepared.{Ordered}
-use Rattle.loaded.specs.Tables.{byte_places, tables_with, Usable}
+use Rattle.run_load.specs.Lent.{ShowsIndex}
+use Rattle.run_load.specs.declared.Prepared.{Prepared}
+use Rattle.run_load.specs.declared.file_columns.FileColumns.{FileColumns}
+use Rattle.loaded.specs.Tables.{byte_places, tables_with, tables_of, Usable}
 use Rattle.loaded.specs.declared.Loaded as loaded
 use Rattle.names.specs.declared.NameIndex.{NameIndex}
 use Rattle.symbol_order.specs.Order.{symbol_of, order_of}
@@ -23,7 +26,9 @@ use Rattle.splits.specs.declared.split_table.SplitTable.{SplitTable}
 use Rattle.pieces.specs.declared.Counts.{Counts}
 use Rattle.run.specs.Run.{Rooms, Ended, run_of}
 use Rattle.run.specs.Answers.{ran_in, Names, Units, Within}
+use Rattle.run.specs.Outputs.{room_lent}
 use Rattle.run.specs.declared.Ran.{Ran}
+use Rattle.run.specs.declared.RunTables.{RunTables}
 use Rattle.std.specs.Prelude.{Result, Ok, Err}
 use Rattle.order.specs.declared.Unlinked.{Unlinked}
 use Rattle.order.specs.declared.Unlinked.TheVariants.{Refused, Cycle}
@@ -66,21 +71,21 @@ pub record Lent (t : SplitTable) (a : AddedNames) : Type 0 where
 abbrev pub beside_in : AddedNames → Beside
 beside_in a = beside a.bytes.now a.places.now a.lengths.now
 
--- lent columns for the loader, the places of the sections' bytes and the symbol order
-pub record Loader (places lengths heads chain images order : List ℕ) : Type 0 where
-  pub places_long : length places ≡ 14464
-  pub lengths_long : length lengths ≡ 4096
-  pub heads_long : length heads ≡ 8192
-  pub chain_long : length chain ≡ 4096
-  pub images_long : length images ≡ 64
-  pub order_long : length order ≡ 4096
-
 -- what was loaded, in the loader's columns, with the places of the sections' bytes and the symbol order
 pub record Stored (file : List ℕ) (n : load.Counts) (ordered : ℕ) (places lengths heads chain images order : List ℕ) : Type 0 where
   pub usable : Usable file (tables_in n places lengths)
   pub ready : columns.Ready main_ceilings file n places lengths heads chain
   pub done : Ordered file (tables_in n places lengths) images order ordered
   pub images_long : 64 ≤ length images
+
+abbrev pub StoredIn : (file : List ℕ) → Prepared → FileColumns → Type 0
+StoredIn file p c = Stored file p.counts p.ordered c.places.now c.lengths.now c.heads.now c.chain.now c.images.now c.order.now
+
+-- these tables are what was loaded, and are ready for the stages with the index that is in the columns
+pub record LoadedIn (file : List ℕ) (p : Prepared) (c : FileColumns) (l : loaded.Loaded) : Type 0 where
+  pub file_is : l.file.now ≡ file
+  pub tables_are : tables_of l ≡ tables_in p.counts c.places.now c.lengths.now
+  pub ready : (index : NameIndex) → ShowsIndex c index → ReadyIn l index
 
 -- ---- what they leave
 
@@ -97,3 +102,12 @@ pub record Runs (file : List ℕ) (names bytes cap : ℕ) (units-room : ℕ) (ro
   pub holds : Holds names bytes cap room c units r.ran
   -- the columns hold what was loaded
   pub loaded : (e : Ended) → ran_in c table units pieces entries offsets r.ran ≡ accepted e → load_of main_ceilings file ≡ accepted (tables_in r.counts places lengths)
+
+-- .. in output tables that were `before` and are `after`
+abbrev pub HoldsIn : (most most_bytes cap : ℕ) → (before : RunTables) → Beside → (after : RunTables) → Result Ran Unlinked → Type 0
+HoldsIn most most_bytes cap before c after r = Holds most most_bytes cap (room_lent before) c after.units.now r
+
+abbrev pub RunsIn : (file : List ℕ) → (names bytes cap : ℕ) → (before : RunTables) → RanFile → FileColumns → Beside → Columns → (after : RunTables) → Type 0
+RunsIn file names bytes cap before r columns c table after =
+    Runs file names bytes cap (length before.units.now / 8) (room_lent before) r columns.places.now columns.lengths.now c table
+    after.units.now after.pieces.now after.entries.now after.offsets.now

@@ -1,11 +1,10 @@
 -- What the loader's answer gives to the places and the order: an accepted file is usable, and its parts of the column are the sections and the symbols.
 -- Assumes nothing.
-use Prim.Native.Nat.{ℕ, ◌+◌, ◌-◌, ◌≤◌, ◌<◌}
+use Prim.Native.Nat.{ℕ, ◌+◌, ◌≤◌, ◌<◌}
 use mathlib.Core.Path.{◌≡◌, refl, sym, ap, subst, ◌∙◌}
 use mathlib.Core.List.{List}
 use native.Mathlib.Omega.{arith}
-use lib.ListN.{length, get_or, take, drop}
-use lib.Seq.{length-take-le}
+use lib.ListN.{length, get_or, take, drop, length-take}
 use Rattle.lists.specs.Outcome.{Outcome}
 use Rattle.std.specs.Prelude.{Result, Ok}
 use Rattle.obj.specs.declared.Refusal.{Refusal}
@@ -14,7 +13,6 @@ use Rattle.tables.specs.declared.Ceilings.{Ceilings}
 use Rattle.tables.specs.Tables.{main_ceilings}
 use Rattle.load.specs.Load.{Loaded, load_of}
 use Rattle.load.specs.Columns.{part, tables_in, loaded_as, Room, Ready, Loads}
-use Rattle.load.proofs.Parts.{part-lent}
 use Rattle.loaded.specs.Tables.{byte_places, Usable}
 use Rattle.loaded.proofs.Bytes.{loaded_usable}
 use Rattle.loaded.proofs.Laws.{few_symbols, places_small, symbols_whole, order_room}
@@ -44,41 +42,38 @@ module _ (file : List ℕ) (r : Result Counts Refusal) (n : Counts) (places leng
   few_counted : n.symbols ≤ 4096
   few_counted = let t = (l.ready n told).tabled in omega (arith, t.few.symbols, t.allowed.symbols)
 
-  pub sections_inside : n.sections ≤ length places
+  pub sections_inside : 0 + n.sections ≤ length places
   sections_inside = omega (arith, few_sections, (l.ready n told).tabled.long_places)
 
-  pub sections_counted : n.sections ≡ length (take n.sections places)
-  sections_counted = sym (length-take-le n.sections places sections_inside)
+  sections_counted : length (part 0 n.sections places) ≤ n.sections
+  unfolding part
+  sections_counted = omega (arith, length-take n.sections (drop 0 places))
 
-  sections_are : take n.sections places ≡ loaded.sections
-  unfolding tables_in part
+  sections_are : part 0 n.sections places ≡ loaded.sections
+  unfolding tables_in
   sections_are = refl
 
-  pub images_room : (images : List ℕ) → 64 ≤ length images → length (take n.sections places) ≤ length images
+  pub images_room : (images : List ℕ) → 64 ≤ length images → length (part 0 n.sections places) ≤ length images
   images_room images h = omega (arith, h, few_sections, sections_counted)
 
-  pub images_small : (k : ℕ) → k < length (take n.sections places) → get_or (take n.sections places) k 0 + 15 ≤ 65536
+  pub images_small : (k : ℕ) → k < length (part 0 n.sections places) → get_or (part 0 n.sections places) k 0 + 15 ≤ 65536
   images_small = subst (λ (s : List ℕ). (k : ℕ) → k < length s → get_or s k 0 + 15 ≤ 65536) (sym sections_are) (places_small usable)
 
   pub symbols_inside : 64 + n.symbols ≤ length places
   symbols_inside = omega (arith, few_counted, (l.ready n told).tabled.long_places)
 
-  pub symbols_low : 64 + n.symbols ≤ 4160
-  symbols_low = omega (arith, few_counted)
-
-  symbols_are : take (64 + n.symbols - 64) (drop 64 places) ≡ loaded.symbols
+  symbols_are : part 64 n.symbols places ≡ loaded.symbols
   unfolding tables_in
-  symbols_are = part-lent 64 n.symbols places
+  symbols_are = refl
 
   pub symbols_room : (order scratch : List ℕ) → 4096 ≤ length order → 4096 ≤ length scratch
-      → orders.Room (take (64 + n.symbols - 64) (drop 64 places)) order scratch × orders.Whole file (take (64 + n.symbols - 64) (drop 64 places))
+      → orders.Room (part 64 n.symbols places) order scratch × orders.Whole file (part 64 n.symbols places)
   symbols_room order scratch h k =
       subst (λ (s : List ℕ). orders.Room s order scratch × orders.Whole file s) (sym symbols_are) (order_room usable order scratch h k, symbols_whole usable)
 
   pub all_ordered : (images order : List ℕ) (k : ℕ)
-      → take (length (take n.sections places)) images ≡ byte_places (take n.sections places)
-      → orders.Leads order (orders.order_of (orders.symbol_of file (take (64 + n.symbols - 64) (drop 64 places))) (length (take (64 + n.symbols - 64) (drop 64 places))))
-      (take (64 + n.symbols - 64) (drop 64 places)) k
+      → take (length (part 0 n.sections places)) images ≡ byte_places (part 0 n.sections places)
+      → orders.Leads order (orders.order_of (orders.symbol_of file (part 64 n.symbols places)) (length (part 64 n.symbols places))) (part 64 n.symbols places) k
       → 4096 ≤ length order → Ordered file loaded images order k
   all_ordered images order k a b h =
       let q = subst (λ (s : List ℕ). orders.Leads order (orders.order_of (orders.symbol_of file s) (length s)) s k) symbols_are b in

@@ -1,1 +1,3 @@
 pub mod Prepared
+pub mod Room
+pub mod Lent

@@ -1,17 +1,22 @@
 // A record file made ready for the stages: loaded into lent columns, with the places of the sections' bytes and the symbol order.
 #![tactic(auto)]
 
-ghost use Rattle.std.specs.Prelude.{◌≡◌, ◌≤◌, length};
+ghost use Rattle.std.specs.Prelude.{◌≡◌, ◌+◌, ◌≤◌, length};
 ghost use Rattle.tables.specs.Tables.{main_ceilings};
 ghost use Rattle.load.specs.Load.{load_of};
-ghost use Rattle.load.specs.Columns.{Room};
-ghost use Rattle.run_load.specs.Prepared.{Prepares};
+ghost use Rattle.load.specs.Columns.{part};
+ghost use Rattle.run_load.specs.Lent.{PreparesIn, ShowsIndex, SameColumns};
 
-use load::{Counts, SYMBOLS, load_file};
+use load::{Counts, SECTIONS, SYMBOLS, load_file};
 use loaded::image_places;
+use names::NameIndex;
 use obj::{Refusal, Table};
 use symbol_order::make_order;
 use tables::main_ceilings;
+
+mod file_columns;
+
+pub use file_columns::FileColumns;
 
 // How many records of each kind there are, and how many symbols the order has: it is `order[..ordered]`.
 #[derive(Clone, Copy)]
@@ -20,31 +25,50 @@ pub struct Prepared {
     pub ordered: usize,
 }
 
-// The file loaded, the places of its sections' bytes at the front of `images`, and its symbol order.
-pub fn prepare(
-    file: &[u8],
-    places: &mut [u32],
-    lengths: &mut [u8],
-    heads: &mut [u16],
-    chain: &mut [u16],
-    images: &mut [u32],
-    order: &mut [u16],
-    scratch: &mut [u16],
-) -> Result<Prepared, Refusal>
-    requires { Room main_ceilings places.old lengths.old heads.old chain.old
-        × (64 ≤ length images.old) × (4096 ≤ length order.old) × (4096 ≤ length scratch.old) }
-    ensures { Prepares file.now (load_of main_ceilings file.now) result places.new lengths.new heads.new chain.new images.new order.new }
+impl FileColumns<'_, '_, '_, '_, '_, '_> {
+    // The index of the names, to read.
+    pub fn index(&self) -> NameIndex<'_, '_>
+        ensures { ShowsIndex self.now result }
+    {
+        NameIndex {
+            heads: &*self.heads,
+            chain: &*self.chain,
+        }
+    }
+}
+
+// So many places of the column, from a base on.
+fn part(places: &[u32], base: usize, n: usize) -> &[u32]
+    requires { base + n ≤ length places.now }
+    ensures { result.now ≡ part base n places.now }
 {
-    let counts = load_file(file, main_ceilings(), places, lengths, heads, chain)?;
-    image_places(&places[..counts.sections], images);
-    let end = SYMBOLS + counts.symbols;
+    let end = base + n;
+    &places[base..end]
+}
+
+// The file loaded, the places of its sections' bytes at the front of `images`, and its symbol order.
+pub fn prepare(file: &[u8], columns: &mut FileColumns) -> Result<Prepared, Refusal>
+    ensures ready { PreparesIn file.now (load_of main_ceilings file.now) result columns.new }
+    ensures lent { SameColumns columns.old columns.new }
+{
+    let mut scratch = [0u16; 4096];
+    let places = &mut *columns.places;
+    let counts = load_file(
+        file,
+        main_ceilings(),
+        places,
+        columns.lengths,
+        columns.heads,
+        columns.chain,
+    )?;
+    image_places(part(places, SECTIONS, counts.sections), columns.images);
     let ordered = make_order(
         &Table {
             bytes: file,
-            places: &places[SYMBOLS..end],
+            places: part(places, SYMBOLS, counts.symbols),
         },
-        order,
-        scratch,
+        columns.order,
+        &mut scratch,
     );
     Ok(Prepared { counts, ordered })
 }

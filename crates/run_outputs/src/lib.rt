@@ -1,16 +1,15 @@
 // What a run leaves in the outputs: of each table the records that its answer keeps, zeros after them, and their numbers in the counts.
 #![tactic(auto)]
 
-ghost use Rattle.std.specs.Prelude.{◌≡◌, [], ◌∷◌, ◌*◌, ◌≤◌, length};
+ghost use Rattle.std.specs.Prelude.{◌≡◌, ◌*◌, ◌≤◌, length};
 ghost use Rattle.lists.specs.Tables.{laid};
 ghost use Rattle.outputs.specs.Outputs.{halves, counts_of};
 ghost use Rattle.stage_names.specs.StageNames.{ends_from, flat};
-ghost use Rattle.splits.specs.Table.{columns_of};
 ghost use Rattle.gap_splits.specs.Added as entering;
 ghost use Rattle.walk.specs.Giving.{output_in};
 ghost use Rattle.run.specs.Answers.{Names as NamesRead};
-ghost use Rattle.run_outputs.specs.Laid.{Laid};
-ghost use Rattle.run_outputs.specs.Kept.{kept_by, word_of, left_in, Fits, OutputFits, OutputLaid, Countable, listed, sizes_of};
+ghost use Rattle.run_outputs.specs.Kept.{kept_by, word_of, OutputFits, OutputLaid, Countable, listed};
+ghost use Rattle.run_outputs.specs.Outputs.{beside_of, left_to, FitsIn, LaidIn, SameOutputs};
 
 use names::Names;
 use obj::{refuse, word_of};
@@ -21,6 +20,19 @@ use run::Ran;
 use splits::SplitColumns;
 use stage_names::put_names;
 use stage_splits::put_splits;
+
+// The outputs that are lent to a run: the ends and the bytes of the names that are added, the splits, the tables of its end, and the counts of all of them.
+#[derive(Drop)]
+pub struct RunOutputs<'e, 'b, 's, 'u, 'p, 'y, 'o, 'c> {
+    pub ends: &'e mut [u8],
+    pub bytes: &'b mut [u8],
+    pub splits: &'s mut [u8],
+    pub units: &'u mut [u8],
+    pub pieces: &'p mut [u8],
+    pub entries: &'y mut [u8],
+    pub offsets: &'o mut [u8],
+    pub counts: &'c mut [u8],
+}
 
 // How many records are kept in each table.
 #[derive(Clone, Copy)]
@@ -73,19 +85,19 @@ pub fn word_for(r: Result<Ran, Unlinked>) -> u64
     }
 }
 
-// The added names with their ends, and zeros after them.
+// The added names with their ends, and zeros after them. The two outputs are lent alone, as C lends them: they are no columns of one table.
 fn lay_names(added: &Names, names: usize, used: usize, out_ends: &mut [u8], out_bytes: &mut [u8])
-    requires { NamesRead (entering.beside added.now.bytes.now added.now.places.now added.now.lengths.now) names used (length out_ends.old) (length out_bytes.old)
+    requires { NamesRead (beside_of added.now) names used (length out_ends.old) (length out_bytes.old)
         × (2 * names ≤ length out_ends.old) }
-    ensures { (out_ends.new ≡ laid (length out_ends.old) (halves (ends_from 0 (entering.added (entering.beside added.now.bytes.now added.now.places.now added.now.lengths.now) names))))
-        × (out_bytes.new ≡ laid (length out_bytes.old) (flat (entering.added (entering.beside added.now.bytes.now added.now.places.now added.now.lengths.now) names))) }
+    ensures { (out_ends.new ≡ laid (length out_ends.old) (halves (ends_from 0 (entering.added (beside_of added.now) names))))
+        × (out_bytes.new ≡ laid (length out_bytes.old) (flat (entering.added (beside_of added.now) names))) }
 {
     put_names(added, names, 0, 0, out_ends, out_bytes);
     clear_from(out_ends, 2 * names);
     clear_from(out_bytes, used);
 }
 
-// Zeros after the records of the walk.
+// Zeros after the records of the walk. The tables are lent one by one: only of what is lent so is it known that its numbers are bytes.
 fn lay_output(made: Counts, pieces: &mut [u8], entries: &mut [u8], offsets: &mut [u8])
     requires { OutputFits made (length pieces.old) (length entries.old) (length offsets.old) }
     ensures { OutputLaid (output_in pieces.old entries.old offsets.old made)
@@ -113,31 +125,15 @@ fn put_counts(counts: &mut [u8], k: Kept)
 }
 
 // What is kept in each table, and zeros after it.
-pub fn lay(
-    k: Kept,
-    added: &Names,
-    splits: &SplitColumns,
-    out_ends: &mut [u8],
-    out_bytes: &mut [u8],
-    out_splits: &mut [u8],
-    out_units: &mut [u8],
-    pieces: &mut [u8],
-    entries: &mut [u8],
-    offsets: &mut [u8],
-    counts: &mut [u8],
-)
-    requires { Fits (entering.beside added.now.bytes.now added.now.places.now added.now.lengths.now) out_units.old
-        (sizes_of out_ends.old out_bytes.old out_splits.old out_units.old pieces.old entries.old offsets.old counts.old) k
+pub fn lay(k: Kept, added: &Names, splits: &SplitColumns, outputs: &mut RunOutputs)
+    requires { FitsIn added.now outputs.old k
         × (k.splits ≤ splits.now.count) }
-    ensures { Laid
-        (left_in (entering.beside added.now.bytes.now added.now.places.now added.now.lengths.now)
-        (columns_of splits.now) out_units.old pieces.old entries.old offsets.old k)
-        (sizes_of out_ends.old out_bytes.old out_splits.old out_units.old pieces.old entries.old offsets.old counts.old)
-        out_ends.new out_bytes.new out_splits.new out_units.new pieces.new entries.new offsets.new counts.new }
+    ensures laid { LaidIn (left_to added.now splits.now outputs.old k) outputs.old outputs.new }
+    ensures lent { SameOutputs outputs.old outputs.new }
 {
-    lay_names(added, k.names, k.used, out_ends, out_bytes);
-    put_splits(&splits.first(k.splits), out_splits);
-    clear_from(out_units, 8 * k.units);
-    lay_output(k.made, pieces, entries, offsets);
-    put_counts(counts, k);
+    lay_names(added, k.names, k.used, outputs.ends, outputs.bytes);
+    put_splits(&splits.first(k.splits), outputs.splits);
+    clear_from(outputs.units, 8 * k.units);
+    lay_output(k.made, outputs.pieces, outputs.entries, outputs.offsets);
+    put_counts(outputs.counts, k);
 }

@@ -6,8 +6,9 @@ use Rattle.lists.specs.Outcome.{Outcome, accepted, ◌>>◌, ◌>>=◌}
 use Rattle.obj.specs.declared.Split.{Split}
 use Rattle.tables.specs.Records.{sections_in, partials_in}
 use Rattle.load.specs.Load.{Loaded, names_in}
-use Rattle.loaded.specs.Tables.{image_from, sections_from, tables_with}
+use Rattle.loaded.specs.Tables.{image_from, sections_from, tables_with, file_names}
 use Rattle.loaded.specs.declared.Loaded.{Loaded as Lent}
+use Rattle.sections.specs.Sections.{sections_of}
 use Rattle.merge.specs.Merge.{given, merge_all}
 use Rattle.common.specs.Common.{common_of}
 use Rattle.common.specs.Sections.{bss_in}
@@ -48,6 +49,12 @@ module _ (file : List ℕ) (t : Loaded) (room : ℕ) (names : Ceilings) where
 -- the tables of a loaded file that this reads: no relocations, and no unit records
 abbrev pub split_tables : Lent → Loaded
 split_tables l = tables_with l.names.now l.lengths.now l.sections.now l.symbols.now [] l.partials.now []
+
+-- .. and the gaps of a table of its rows filled
+abbrev pub gaps_in : Lent → (room : ℕ) → Ceilings → List Split → Outcome Filled
+gaps_in l room names rows =
+    gaps_filled (image_from l.file.now (split_tables l)) (sections_of l.file.now l.sections.now l.file.now l.images.now)
+    (given (sections_in l.file.now l.sections.now) room) names (record { names = file_names l; rows = rows })
 
 -- ---- the rows
 

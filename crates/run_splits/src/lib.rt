@@ -7,20 +7,57 @@ ghost use Rattle.names.specs.Index.{Indexed};
 ghost use Rattle.loaded.specs.Tables.{byte_places, file_names, Usable};
 ghost use Rattle.symbol_order.specs.Order.{symbol_of, order_of};
 ghost use Rattle.splits.specs.Table.{rows_in};
-ghost use Rattle.gaps.specs.Found.{Clean};
 ghost use Rattle.gap_splits.specs.Answers as entering;
-ghost use Rattle.run_splits.specs.Table.{split_table, split_tables};
+ghost use Rattle.run_splits.specs.Table.{split_table, split_tables, gaps_in};
 
 use create_gap_splits::create_gap_splits;
 use gap_columns::GapTable;
 use gap_splits::AddedNames;
 use loaded::Loaded;
-use names::{NameIndex, Names};
-use obj::{Refusal, Table};
+use names::NameIndex;
+use obj::Refusal;
 use run_merge::merge_partials;
 use run_trim::check_and_trim;
-use sections::Obj;
 use splits::SplitTable;
+
+// The gaps of the table filled, with columns of its own for those that are found. `index` is that of the file's names.
+fn fill_gaps(
+    loaded: &Loaded,
+    index: &NameIndex,
+    table: &mut SplitTable,
+    added: &mut AddedNames,
+) -> Result<(), Refusal>
+    requires { Usable loaded.now.file.now (split_tables loaded.now)
+        × (loaded.now.images.now ≡ byte_places loaded.now.sections.now)
+        × (loaded.now.order.now ≡ order_of (symbol_of loaded.now.file.now loaded.now.symbols.now) (length loaded.now.symbols.now))
+        × Indexed (file_names loaded.now) index.now.heads.now index.now.chain.now
+        × (table.old.room ≤ 1024) }
+    ensures tables { entering.meant (file_names loaded.now)
+        (entering.added_in added.new) (rows_in table.new) result
+        ≡ gaps_in loaded.now table.old.room
+        (entering.ceilings (file_names loaded.now) added.old.most added.old.most_bytes) (rows_in table.old) }
+    ensures ceilings { entering.SameCeilings added.old added.new }
+    ensures room { table.new.room ≡ table.old.room }
+{
+    let mut marks = [0u8; 4096];
+    let mut keys = [0u64; 6208];
+    let mut ends = [0u32; 6208];
+    let mut found = GapTable {
+        keys: &mut keys,
+        ends: &mut ends,
+        count: 0,
+        room: 6208,
+    };
+    create_gap_splits(
+        &loaded.obj(),
+        index,
+        &loaded.image(),
+        table,
+        added,
+        &mut marks,
+        &mut found,
+    )
+}
 
 // The split table of a loaded file, with its gaps: at most as many rows and added names as there is room for. `index` is that of the file's names.
 pub fn split_table(
@@ -28,18 +65,12 @@ pub fn split_table(
     index: &NameIndex,
     table: &mut SplitTable,
     added: &mut AddedNames,
-    marks: &mut [u8],
-    found: &mut GapTable,
-    falls: &mut [u32],
 ) -> Result<(), Refusal>
     requires { Usable loaded.now.file.now (split_tables loaded.now)
         × (loaded.now.images.now ≡ byte_places loaded.now.sections.now)
         × (loaded.now.order.now ≡ order_of (symbol_of loaded.now.file.now loaded.now.symbols.now) (length loaded.now.symbols.now))
         × Indexed (file_names loaded.now) index.now.heads.now index.now.chain.now
-        × (table.old.room ≤ 1024)
-        × Clean marks.old × (length loaded.now.names.now ≤ length marks.old)
-        × (6208 ≤ found.old.room)
-        × (table.old.room ≤ length falls.old) }
+        × (table.old.room ≤ 1024) }
     ensures tables { entering.meant (file_names loaded.now)
         (entering.added_in added.new) (rows_in table.new) result
         ≡ split_table loaded.now.file.now (split_tables loaded.now) table.old.room
@@ -48,32 +79,7 @@ pub fn split_table(
     ensures room { table.new.room ≡ table.old.room }
 {
     merge_partials(loaded, table)?;
-    create_gap_splits(
-        &Obj {
-            symbols: Table {
-                bytes: loaded.file,
-                places: loaded.symbols,
-            },
-            order: loaded.order,
-            names: Names {
-                bytes: loaded.file,
-                places: loaded.names,
-                lengths: loaded.lengths,
-            },
-            heads: Table {
-                bytes: loaded.file,
-                places: loaded.sections,
-            },
-        },
-        index,
-        &Table {
-            bytes: loaded.file,
-            places: loaded.images,
-        },
-        table,
-        added,
-        marks,
-        found,
-    )?;
-    check_and_trim(loaded, table, falls)
+    fill_gaps(loaded, index, table, added)?;
+    let mut falls = [0u32; 1024];
+    check_and_trim(loaded, table, &mut falls)
 }

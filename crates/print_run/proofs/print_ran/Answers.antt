@@ -7,8 +7,9 @@ use Rattle.print_run.proofs.print_ran.Goals as goal
 pub print_done-requires : goal.print_done-requires
 print_done-requires g c =
     let a = c.args in
+    let t = a.tables.now in
     let q =
-    subst (PrintableIf a.file.now a.counts a.places.now a.lengths.now (columns_of a.added.now) a.units.now a.pieces.now a.entries.now a.offsets.now)
+    subst (PrintableIf a.file.now a.counts a.columns.now.places.now a.columns.now.lengths.now (columns_of a.added.now) t.units.now t.pieces.now t.entries.now t.offsets.now)
     c.in-Ok.is c.requires
     in
     q.1

@@ -3,33 +3,34 @@ use Prim.Native.Nat.{◌/◌}
 use mathlib.Core.List.{[]}
 use lib.ListN.{length}
 use Rattle.std.proofs.lemmas.Result.{err_from_is_err_and}
-use Rattle.load.specs.Load.{Loaded}
-use Rattle.loaded.specs.Tables.{tables_with}
-use Rattle.loaded.specs.declared.Loaded.{Loaded as Lent}
 use Rattle.splits.specs.Table.{columns_of}
-use Rattle.stage_walk.specs.Room.{room_in}
+use Rattle.link_graph.specs.Columns.{Splits}
 use Rattle.loaded.proofs.Laws.{few_units}
+use Rattle.run.specs.Answers.{walked_tables}
+use Rattle.run.specs.Outputs.{room_lent}
 use Rattle.run.proofs.Linking.{splits_held, units_whole, rows_below, records_below}
 use Rattle.run.proofs.Answering.{unlinked_right, order_whole, order_named, refused_right, made_right, refused_before, entered_before}
 use Rattle.run.proofs.order_and_walk.Goals as goal
 
--- the tables that the run walks; the partial list has had its part
-abbrev tables_of : Lent → Loaded
-tables_of l = tables_with l.names.now l.lengths.now l.sections.now l.symbols.now l.relocs.now [] l.units.now
-
-pub returns-in_err-filled : goal.returns-in_err-filled
-returns-in_err-filled c =
+pub returns-in_err-filled-clause-run : goal.returns-in_err-filled-clause-run
+returns-in_err-filled-clause-run c =
     let p = err_from_is_err_and c.from_residual.result c.from_residual.ensures.1 in
     let a = c.args in
-    let t = tables_of a.loaded.now in
-    let room = room_in (length a.pieces.now) (length a.entries.now) (length a.offsets.now) in
+    let t = walked_tables a.loaded.now in
+    let out = a.out.now in
     let table = columns_of a.splits.now in
-    rw (p.1, p.2) (refused_before a.loaded.now.file.now t room table a.names a.used a.splits.now.count a.out_units.now a.pieces.now a.entries.now a.offsets.now (length a.out_units.now / 8) a.filled c.in_err-filled.was)
+    rw (p.1, p.2) (refused_before a.loaded.now.file.now t (room_lent out) table a.names a.used a.splits.now.count out.units.now out.pieces.now out.entries.now out.offsets.now (length out.units.now / 8) a.filled c.in_err-filled.was)
 
 pub invariant_of-ordered : goal.invariant_of-ordered
 invariant_of-ordered c =
+    let a = c.args in
     let q = c.requires in
-    record { held = splits_held q.0.usable _ _ (q.1 c.in_ok-filled.was); whole = units_whole q.0.usable; few_units = few_units q.0.usable }
+    let h = c.heads.result in
+    let n = c.names.result in
+    let held : Splits (columns_of a.splits.now) a.splits.now.count h.bytes.now h.places.now n.bytes.now n.places.now n.lengths.now =
+    rw (c.heads.ensures, c.names.ensures) (splits_held q.0.usable _ _ (q.1 c.in_ok-filled.was))
+    in
+    record { held = held; whole = units_whole q.0.usable; few_units = few_units q.0.usable }
 
 pub ordered-linked-requires : goal.ordered-linked-requires
 ordered-linked-requires c =
@@ -40,54 +41,58 @@ pub walk_lent-requires : goal.walk_lent-requires
 walk_lent-requires c =
     let a = c.args in
     let q = c.requires in
-    let t = tables_of a.loaded.now in
-    let room = room_in (length a.pieces.now) (length a.entries.now) (length a.offsets.now) in
+    let t = walked_tables a.loaded.now in
+    let out = a.out.now in
     let table = columns_of a.splits.now in
     let w = q.1 c.in_ok-filled.was in
     let o = c.ordered-linked in
+    let linked = rw (c.heads.ensures, c.names.ensures) at o.ensures in
     let is = c.in_ok-k.was in
-    (q.0, w, order_whole a.loaded.now.file.now t room table a.names a.used a.splits.now.count o.new.out [] [] [] q.0.usable w (length a.out_units.now) o.ensures _ is, order_named a.loaded.now.file.now t room table a.names a.used a.splits.now.count o.new.out [] [] [] q.0.usable w (length a.out_units.now) o.ensures _ is)
+    (q.0, w, order_whole a.loaded.now.file.now t (room_lent out) table a.names a.used a.splits.now.count o.new.out [] [] [] q.0.usable w (length out.units.now) linked _ is, order_named a.loaded.now.file.now t (room_lent out) table a.names a.used a.splits.now.count o.new.out [] [] [] q.0.usable w (length out.units.now) linked _ is)
 
-pub returns-in_err-k : goal.returns-in_err-k
-returns-in_err-k c =
+pub returns-in_err-k-clause-run : goal.returns-in_err-k-clause-run
+returns-in_err-k-clause-run c =
     let r = c.from_residual-in_err-k in
     let p = err_from_is_err_and r.result r.ensures.1 in
     let a = c.args in
     let q = c.requires in
-    let t = tables_of a.loaded.now in
-    let room = room_in (length a.pieces.now) (length a.entries.now) (length a.offsets.now) in
+    let t = walked_tables a.loaded.now in
+    let out = a.out.now in
     let table = columns_of a.splits.now in
     let w = q.1 c.in_ok-filled.was in
     let o = c.ordered-linked in
+    let linked = rw (c.heads.ensures, c.names.ensures) at o.ensures in
     rw (p.1, p.2)
-    (entered_before a.loaded.now.file.now t room table a.names a.used a.splits.now.count o.new.out a.pieces.now a.entries.now a.offsets.now (length a.out_units.now / 8) a.filled c.in_ok-filled.was
-    (unlinked_right a.loaded.now.file.now t room table a.names a.used a.splits.now.count o.new.out a.pieces.now a.entries.now a.offsets.now q.0.usable w (length a.out_units.now) o.ensures _ c.in_err-k.was))
+    (entered_before a.loaded.now.file.now t (room_lent out) table a.names a.used a.splits.now.count o.new.out out.pieces.now out.entries.now out.offsets.now (length out.units.now / 8) a.filled c.in_ok-filled.was
+    (unlinked_right a.loaded.now.file.now t (room_lent out) table a.names a.used a.splits.now.count o.new.out out.pieces.now out.entries.now out.offsets.now q.0.usable w (length out.units.now) linked _ c.in_err-k.was))
 
-pub returns-in_err-made : goal.returns-in_err-made
-returns-in_err-made c =
+pub returns-in_err-made-clause-run : goal.returns-in_err-made-clause-run
+returns-in_err-made-clause-run c =
     let r = c.from_residual-in_err-made in
     let p = err_from_is_err_and r.result r.ensures.1 in
     let a = c.args in
     let q = c.requires in
-    let t = tables_of a.loaded.now in
-    let room = room_in (length a.pieces.now) (length a.entries.now) (length a.offsets.now) in
+    let t = walked_tables a.loaded.now in
+    let out = a.out.now in
     let table = columns_of a.splits.now in
     let w = q.1 c.in_ok-filled.was in
     let o = c.ordered-linked in
-    let k = c.walk_lent.new in
+    let linked = rw (c.heads.ensures, c.names.ensures) at o.ensures in
+    let n = c.walk_lent.new in
     rw (p.1, p.2)
-    (entered_before a.loaded.now.file.now t room table a.names a.used a.splits.now.count o.new.out k.pieces k.entries k.offsets (length a.out_units.now / 8) a.filled c.in_ok-filled.was
-    (refused_right a.loaded.now.file.now t room table a.names a.used a.splits.now.count o.new.out k.pieces k.entries k.offsets q.0.usable w (length a.out_units.now) o.ensures _ c.in_ok-k.was _ c.in_err-made.ensures))
+    (entered_before a.loaded.now.file.now t (room_lent out) table a.names a.used a.splits.now.count o.new.out n.pieces n.entries n.offsets (length out.units.now / 8) a.filled c.in_ok-filled.was
+    (refused_right a.loaded.now.file.now t (room_lent out) table a.names a.used a.splits.now.count o.new.out n.pieces n.entries n.offsets q.0.usable w (length out.units.now) linked _ c.in_ok-k.was _ c.in_err-made.ensures))
 
-pub returns : goal.returns
-returns c =
+pub returns-clause-run : goal.returns-clause-run
+returns-clause-run c =
     let a = c.args in
     let q = c.requires in
-    let t = tables_of a.loaded.now in
-    let room = room_in (length a.pieces.now) (length a.entries.now) (length a.offsets.now) in
+    let t = walked_tables a.loaded.now in
+    let out = a.out.now in
     let table = columns_of a.splits.now in
     let w = q.1 c.in_ok-filled.was in
     let o = c.ordered-linked in
-    let k = c.walk_lent.new in
-    entered_before a.loaded.now.file.now t room table a.names a.used a.splits.now.count o.new.out k.pieces k.entries k.offsets (length a.out_units.now / 8) a.filled c.in_ok-filled.was
-    (made_right a.loaded.now.file.now t room table a.names a.used a.splits.now.count o.new.out k.pieces k.entries k.offsets q.0.usable w (length a.out_units.now) o.ensures _ c.in_ok-k.was _ c.in_ok-made.ensures)
+    let linked = rw (c.heads.ensures, c.names.ensures) at o.ensures in
+    let n = c.walk_lent.new in
+    entered_before a.loaded.now.file.now t (room_lent out) table a.names a.used a.splits.now.count o.new.out n.pieces n.entries n.offsets (length out.units.now / 8) a.filled c.in_ok-filled.was
+    (made_right a.loaded.now.file.now t (room_lent out) table a.names a.used a.splits.now.count o.new.out n.pieces n.entries n.offsets q.0.usable w (length out.units.now) linked _ c.in_ok-k.was _ c.in_ok-made.ensures)

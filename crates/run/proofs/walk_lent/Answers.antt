@@ -1,31 +1,51 @@
--- The tables are still those that were lent, and what was made is within their room.
+-- The units have their places and each name the number of its unit, and the sections are walked. The tables are still those that were lent, and what was made is within
+-- their room.
 use mathlib.Core.Path.{refl, sym, ap, ◌∙◌}
-use mathlib.Core.List.{[]}
 use native.Mathlib.Omega.{arith}
+use lib.ListN.{take}
+use lib.Seq.{length-take-le}
 use Rattle.std.proofs.lemmas.Result.{err_from_is_err_and}
 use Rattle.lists.specs.Outcome.{accepted}
+use Rattle.loaded.proofs.Laws.{few_symbols}
 use Rattle.pieces.specs.declared.Counts.{Counts}
-use Rattle.loaded.specs.Tables.{tables_with}
-use Rattle.splits.specs.Columns.{rows}
-use Rattle.splits.specs.Table.{columns_of}
+use Rattle.splits.specs.Table.{columns_of, rows_of}
 use Rattle.walk.specs.Giving.{output_in}
 use Rattle.stage_walk.proofs.Room.{fits_none, room_low_all}
 use Rattle.run.specs.Run.{walked}
-use Rattle.run.specs.Answers.{units_at}
+use Rattle.run.specs.Answers.{units_at, walked_tables}
+use Rattle.run.proofs.Walking.{units_listed, ready, walked_as}
 use Rattle.run.proofs.walk_lent.Goals as goal
+
+pub number_units-requires : goal.number_units-requires
+number_units-requires c =
+    let q = c.requires in
+    units_listed c.args.unit_table.now _ _ c.args.count c.fill_places.ensures q.2 q.3 (omega arith)
 
 pub invariant_of-tables : goal.invariant_of-tables
 invariant_of-tables c = record { fits = fits_none c.args.pieces.now c.args.entries.now c.args.offsets.now _ _ c.room_of.ensures refl }
 
-pub returns-in_err-walk_with_columns : goal.returns-in_err-walk_with_columns
-returns-in_err-walk_with_columns c =
+pub walk_columns-requires : goal.walk_columns-requires
+walk_columns-requires c =
+    let a = c.args in
+    let q = c.requires in
+    let n = c.number_units in
+    let count = length-take-le a.count c.fill_places.new.places (omega (arith, q.2.few, c.fill_places.auto.places)) in
+    rw (c.obj.ensures, c.image.ensures) (
+      ready q.0 a.unit_table.now (take a.count c.fill_places.new.places) n.new.column (columns_of a.splits.now) a.splits.now.count q.1 n.ensures
+          (omega (arith, count, q.2.few)) (omega (arith, n.auto.column)),
+      few_symbols q.0.usable,
+      room_low_all a.pieces.now a.entries.now a.offsets.now _ c.room_of.ensures,
+    )
+
+pub returns-in_err-walk_columns : goal.returns-in_err-walk_columns
+returns-in_err-walk_columns c =
     let a = c.args in
     let l = a.loaded.now in
     let p = err_from_is_err_and c.from_residual.result c.from_residual.ensures.1 in
+    let w = walked_as c.requires.0 (rows_of a.splits.now) a.unit_table.now _ a.count _ c.fill_places.ensures (rw (c.obj.ensures, c.image.ensures) at c.in_err-walk_columns.ensures) in
     rw (p.1, p.2)
     (record {
-      is = c.in_err-walk_with_columns.ensures.is
-          ∙ ap (λ (room : Counts). walked l.file.now (tables_with l.names.now l.lengths.now l.sections.now l.symbols.now l.relocs.now [] l.units.now) room (rows (columns_of a.splits.now) a.splits.now.count) (units_at a.unit_table.now a.k)) c.room_of.ensures;
+      is = w.is ∙ ap (λ (room : Counts). walked l.file.now (walked_tables l) room (rows_of a.splits.now) (units_at a.unit_table.now a.count)) c.room_of.ensures;
       within = tt;
     })
 
@@ -33,8 +53,8 @@ pub returns : goal.returns
 returns c =
     let a = c.args in
     let l = a.loaded.now in
-    let t = c.walk_with_columns.new.tables in
-    let w = c.in_ok-walk_with_columns.ensures in
+    let t = c.walk_columns.new.tables in
+    let w = walked_as c.requires.0 (rows_of a.splits.now) a.unit_table.now _ a.count _ c.fill_places.ensures (rw (c.obj.ensures, c.image.ensures) at c.in_ok-walk_columns.ensures) in
     let room = w.lent.room ∙ c.room_of.ensures in
     let pieces = c.pieces-2-1.given.1.1 (sym w.lent.pieces) in
     let entries = c.entries-2-1.given.1.1 (sym w.lent.symbols) in
@@ -42,15 +62,10 @@ returns c =
     record {
       is = (λ d. accepted (output_in (pieces d) (entries d) (offsets d) t.made))
           ∙ w.is
-          ∙ ap (λ (room : Counts). walked l.file.now (tables_with l.names.now l.lengths.now l.sections.now l.symbols.now l.relocs.now [] l.units.now) room (rows (columns_of a.splits.now) a.splits.now.count) (units_at a.unit_table.now a.k)) c.room_of.ensures;
+          ∙ ap (λ (room : Counts). walked l.file.now (walked_tables l) room (rows_of a.splits.now) (units_at a.unit_table.now a.count)) c.room_of.ensures;
       within = record {
         pieces = omega (arith, t.fits.few_pieces, ap (λ (m : Counts). m.pieces) room);
         symbols = omega (arith, t.fits.few_symbols, ap (λ (m : Counts). m.symbols) room);
         relocs = omega (arith, t.fits.few_relocs, ap (λ (m : Counts). m.relocs) room);
       };
     }
-
-pub walk_with_columns-requires : goal.walk_with_columns-requires
-walk_with_columns-requires c =
-    let q = c.requires in
-    (q.0, q.1, q.2, q.3, room_low_all c.args.pieces.now c.args.entries.now c.args.offsets.now _ c.room_of.ensures)

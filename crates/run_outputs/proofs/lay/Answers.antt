@@ -5,18 +5,17 @@ use Prim.Native.Nat.{◌*◌}
 use lib.ListN.{length}
 use Rattle.outputs.specs.Outputs.{counts_of}
 use Rattle.splits.specs.Table.{columns_of}
-use Rattle.gap_splits.specs.Added.{beside}
 use Rattle.stage_walk.proofs.Room.{cleared}
+use Rattle.run_outputs.specs.Outputs.{beside_of}
 use Rattle.run_outputs.proofs.Laws.{kept-listed}
 use Rattle.run_outputs.proofs.lay.Goals as goal
 
-pub returns : goal.returns
-returns c =
+pub returns-clause-laid : goal.returns-clause-laid
+returns-clause-laid c =
     let a = c.args in
     let q = c.requires.0 in
     let k = a.k in
-    let beside' = beside a.added.now.bytes.now a.added.now.places.now a.added.now.lengths.now in
-    let table = columns_of a.splits.now in
+    let o = a.outputs.now in
     let names = c.lay_names.ensures in
     let output = c.lay_output.ensures in
     let s = c.first.ensures in
@@ -24,10 +23,10 @@ returns c =
       ends_are = names.0;
       bytes_are = names.1;
       splits_are = rw (s.columns.starts, s.columns.ends, s.columns.units, s.columns.rest, s.count) at c.put_splits.ensures;
-      units_are = c.clear_from.ensures ∙ cleared a.out_units.now _ (8 * k.units) (sym q.units_there.written) q.units_there.fit;
+      units_are = c.clear_from.ensures ∙ cleared o.units.now _ (8 * k.units) (sym q.units_there.written) q.units_there.fit;
       pieces_are = output.pieces_are;
       symbols_are = output.symbols_are;
       relocs_are = output.relocs_are;
       counted = c.put_counts.ensures
-          ∙ ap (counts_of (length a.counts.now)) (kept-listed beside' table a.out_units.now a.pieces.now a.entries.now a.offsets.now k q.names.sum);
+          ∙ ap (counts_of (length o.counts.now)) (kept-listed (beside_of a.added.now) (columns_of a.splits.now) o.units.now o.pieces.now o.entries.now o.offsets.now k q.names.sum);
     }

@@ -12,7 +12,7 @@ use Rattle.names.specs.Names.{names_of}
 use Rattle.splits.specs.Table.{rows_in}
 use Rattle.gap_splits.specs.Answers.{ceilings, added_in, meant}
 use Rattle.run_splits.proofs.Steps.{gaps_given, merge_refused, gaps_refused, ends_so}
-use Rattle.run_splits.proofs.Needs.{sections_common, images_kept, section_short, gaps_roomy, rows-placed}
+use Rattle.run_splits.proofs.Needs.{sections_common, images_kept, rows-placed}
 use Rattle.run_splits.proofs.split_table.Goals as goal
 
 -- the tables that make the split table; relocations and units have no part in it
@@ -37,31 +37,21 @@ returns-in_err-merge_partials-clause-tables c =
     let refused = sym (ap (λ (r : Answer). merged r (rows_in m.new.table)) c.in_err-merge_partials.was) ∙ m.ensures.rows in
     rw (p.1, p.2) (merge_refused a.loaded.now.file.now (tables_of a.loaded.now) a.table.now.room room a.loaded.now.images.now c.requires.1 refused)
 
-pub create_gap_splits-requires : goal.create_gap_splits-requires
-create_gap_splits-requires c =
+pub fill_gaps-requires : goal.fill_gaps-requires
+fill_gaps-requires c =
     let q = c.requires in
-    let m = c.merge_partials in
-    let t = m.new.table in (
-      tables-ordered q.0 _ q.2,
-      images_kept q.0 _ q.1,
-      symbols_sound q.0,
-      q.5,
-      q.6,
-      gaps_roomy q.0 t.count t.room _ t.fits (omega (arith, m.ensures.room, q.4)) q.7,
-      q.3,
-      section_short q.0,
-    )
+    (q.0, q.1, q.2, q.3, omega (arith, c.merge_partials.ensures.room, q.4))
 
-pub returns-in_err-create_gap_splits-clause-tables : goal.returns-in_err-create_gap_splits-clause-tables
-returns-in_err-create_gap_splits-clause-tables c =
+pub returns-in_err-fill_gaps-clause-tables : goal.returns-in_err-fill_gaps-clause-tables
+returns-in_err-fill_gaps-clause-tables c =
     let a = c.args in
     let room = ceilings (base_of a.loaded.now) a.added.now.most a.added.now.most_bytes in
     let m = c.merge_partials in
     let merges = sym (ap (λ (r : Answer). merged r (rows_in m.new.table)) c.in_ok-merge_partials.was) ∙ m.ensures.rows in
-    let g = c.create_gap_splits in
-    let p = err_from_is_err_and c.from_residual-in_err-create_gap_splits.result c.from_residual-in_err-create_gap_splits.ensures.1 in
+    let g = c.fill_gaps in
+    let p = err_from_is_err_and c.from_residual-in_err-fill_gaps.result c.from_residual-in_err-fill_gaps.ensures.1 in
     let e = rw m.ensures.room at g.ensures.tables in
-    let refused = sym (ap (meant (base_of a.loaded.now) (added_in g.new.added) (rows_in g.new.table)) c.in_err-create_gap_splits.was) ∙ e in
+    let refused = sym (ap (meant (base_of a.loaded.now) (added_in g.new.added) (rows_in g.new.table)) c.in_err-fill_gaps.was) ∙ e in
     rw (p.1, p.2) (gaps_refused a.loaded.now.file.now (tables_of a.loaded.now) a.table.now.room room a.loaded.now.images.now c.requires.1 merges refused)
 
 pub check_and_trim-requires : goal.check_and_trim-requires
@@ -72,15 +62,15 @@ check_and_trim-requires c =
     let room = ceilings (base_of a.loaded.now) a.added.now.most a.added.now.most_bytes in
     let m = c.merge_partials in
     let merges = sym (ap (λ (r : Answer). merged r (rows_in m.new.table)) c.in_ok-merge_partials.was) ∙ m.ensures.rows in
-    let g = c.create_gap_splits in
+    let g = c.fill_gaps in
     let e = rw m.ensures.room at g.ensures.tables in
-    let filled = sym (ap (meant (base_of a.loaded.now) (added_in g.new.added) (rows_in g.new.table)) c.in_ok-create_gap_splits.was) ∙ e in
+    let filled = sym (ap (meant (base_of a.loaded.now) (added_in g.new.added) (rows_in g.new.table)) c.in_ok-fill_gaps.was) ∙ e in
     let u = g.new.table in (
       tables-ordered q.0 _ q.2,
       symbols_sound q.0,
       images_kept q.0 _ q.1,
       rows-placed q.0 a.table.now.room room a.loaded.now.images.now q.1 _ (gaps_given a.loaded.now.file.now t a.table.now.room room a.loaded.now.images.now q.1 merges filled) _ _ refl,
-      omega (arith, u.fits, g.ensures.room, m.ensures.room, q.8),
+      omega (arith, u.fits, g.ensures.room, m.ensures.room, q.4),
     )
 
 pub returns-clause-tables : goal.returns-clause-tables
@@ -90,7 +80,7 @@ returns-clause-tables c =
     let room = ceilings (base_of a.loaded.now) a.added.now.most a.added.now.most_bytes in
     let m = c.merge_partials in
     let merges = sym (ap (λ (r : Answer). merged r (rows_in m.new.table)) c.in_ok-merge_partials.was) ∙ m.ensures.rows in
-    let g = c.create_gap_splits in
+    let g = c.fill_gaps in
     let e = rw m.ensures.room at g.ensures.tables in
-    let filled = sym (ap (meant (base_of a.loaded.now) (added_in g.new.added) (rows_in g.new.table)) c.in_ok-create_gap_splits.was) ∙ e in
+    let filled = sym (ap (meant (base_of a.loaded.now) (added_in g.new.added) (rows_in g.new.table)) c.in_ok-fill_gaps.was) ∙ e in
     ends_so a.loaded.now.file.now t a.table.now.room room a.loaded.now.images.now c.requires.1 (base_of a.loaded.now) (added_in g.new.added) (rows_in c.check_and_trim.new.table) c.check_and_trim.result merges filled c.check_and_trim.ensures.rows

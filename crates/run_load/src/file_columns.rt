@@ -1,0 +1,14 @@
+// The columns that a file is loaded into. A struct with a ghost field imports all that its file does, so it stands in a file of its own.
+ghost use Rattle.run_load.specs.Room.{Long};
+
+// What is loaded of a file: the places of its records, the lengths of its names and their index, the places of the sections' bytes, and the symbols' order by address.
+#[derive(Drop)]
+pub struct FileColumns<'p, 'l, 'h, 'c, 'i, 'o> {
+    pub places: &'p mut [u32],
+    pub lengths: &'l mut [u8],
+    pub heads: &'h mut [u16],
+    pub chain: &'c mut [u16],
+    pub images: &'i mut [u32],
+    pub order: &'o mut [u16],
+    pub ghost long: { Long places.now lengths.now heads.now chain.now images.now order.now },
+}
