@@ -1,6 +1,6 @@
 -- From the loader's answer and counts to the entry's word and the bytes of its counts: what the loader ensures says both, and the six counts
 -- are stored one after another into cleared bytes. Assumes nothing.
-use Prim.Native.Nat.{ℕ, suc, ◌+◌, ◌*◌}
+use Prim.Native.Nat.{ℕ, suc, ◌+◌, ◌*◌, ◌≤◌}
 use mathlib.Core.Path.{◌≡◌, refl, sym, ap, subst, ◌∙◌}
 use mathlib.Core.List.{List, [], ◌∷◌}
 use mathlib.Core.Bool.{Bool, true, false, cond}
@@ -23,7 +23,7 @@ use Rattle.load.specs.declared.Counts.{Counts}
 use Rattle.load.specs.Load.{Loaded, load_of}
 use Rattle.load.specs.Columns.{tables_in, no_counts, Allowed, Room, Loads}
 use Rattle.load.proofs.Keeping.{counted}
-use Rattle.entry_check_file.specs.Entry.{listed, Lent, Leaves, Accepted, Answers}
+use Rattle.entry_check_file.specs.Entry.{listed, Leaves, Accepted, Answers}
 
 -- ---- the loader's columns
 
@@ -37,14 +37,9 @@ allowed = record {
   units = omega arith;
 }
 
-pub room : {c : Ceilings} {places lengths heads chain : List ℕ} → c ≡ main_ceilings → Lent places lengths heads chain → Room c places lengths heads chain
-room e l = rw e (record {
-  allowed = allowed;
-  long_places = omega (arith, l.long_places);
-  long_lengths = omega (arith, l.long_lengths);
-  long_heads = l.long_heads;
-  long_chain = omega (arith, l.long_chain);
-})
+pub room : {c : Ceilings} {places lengths heads chain : List ℕ} → c ≡ main_ceilings → 14464 ≤ length places → 4096 ≤ length lengths → length heads ≡ 8192 → 4096 ≤ length chain
+    → Room c places lengths heads chain
+room e p l h n = rw e (record { allowed = allowed; long_places = p; long_lengths = l; long_heads = h; long_chain = n })
 
 -- ---- the loader's answer
 

@@ -1,7 +1,7 @@
 -- The entry `check_file` on its lent bytes: the loader's answer for a record file under document 01's ceilings, `load_of main_ceilings file`,
 -- and the counts of what it loaded, for every input.
 -- What an accepted file is: `loaded_good` of load's laws.
-use Rattle.std.specs.Prelude.{ℕ, ◌≡◌, List, [], ◌∷◌, length, Result, Ok, Err}
+use Rattle.std.specs.Prelude.{ℕ, ◌≡◌, List, [], ◌∷◌, Result, Ok, Err}
 use Rattle.lists.specs.Outcome.{Outcome, accepted, refused}
 use Rattle.obj.specs.declared.Refusal.{Refusal}
 use Rattle.obj.specs.Answers.{outcome_word}
@@ -20,13 +20,6 @@ pub record Leaves (o : Outcome Loaded) (size answer : ℕ) (counts : List ℕ) :
   pub counted : counts ≡ counts_of size (listed (counts_in o))
 
 -- ---- inside the entry
-
--- the loader's columns are as long as it asks
-pub record Lent (places lengths heads chain : List ℕ) : Type 0 where
-  pub long_places : length places ≡ 14464
-  pub long_lengths : length lengths ≡ 4096
-  pub long_heads : length heads ≡ 8192
-  pub long_chain : length chain ≡ 4096
 
 -- so many records were loaded
 pub record Accepted (o : Outcome Loaded) (n : Counts) : Type 0 where

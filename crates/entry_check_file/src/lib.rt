@@ -6,27 +6,14 @@ ghost use Rattle.tables.specs.Tables.{main_ceilings};
 ghost use Rattle.outputs.specs.Outputs.{store_counts};
 ghost use Rattle.load.specs.Load.{load_of};
 ghost use Rattle.load.specs.Columns.{Counted};
-ghost use Rattle.entry_check_file.specs.Entry.{listed, Lent, Answers, Leaves};
+ghost use Rattle.entry_check_file.specs.Entry.{listed, Answers, Leaves};
 
 use load::{Counts, load_file};
 use obj::{Refusal, word_of};
 use outputs::{clear_from, put_count};
 use tables::main_ceilings;
 
-// The loader under document 01's ceilings, in lent columns.
-fn load_in(
-    file: &[u8],
-    places: &mut [u32],
-    lengths: &mut [u8],
-    heads: &mut [u16],
-    chain: &mut [u16],
-) -> Result<Counts, Refusal>
-    requires { Lent places.old lengths.old heads.old chain.old }
-    ensures { Answers (load_of main_ceilings file.now) result }
-{
-    load_file(file, main_ceilings(), places, lengths, heads, chain)
-}
-
+// The loader under document 01's ceilings, in columns of its own.
 fn answer_of(file: &[u8]) -> Result<Counts, Refusal>
     ensures { Answers (load_of main_ceilings file.now) result }
 {
@@ -34,7 +21,14 @@ fn answer_of(file: &[u8]) -> Result<Counts, Refusal>
     let mut lengths = [0u8; 4096];
     let mut heads = [0u16; 8192];
     let mut chain = [0u16; 4096];
-    load_in(file, &mut places, &mut lengths, &mut heads, &mut chain)
+    load_file(
+        file,
+        main_ceilings(),
+        &mut places,
+        &mut lengths,
+        &mut heads,
+        &mut chain,
+    )
 }
 
 // The six counts, as many as fit.
