@@ -20,7 +20,7 @@ use obj::{Refusal, Table};
 use outputs::{clear_from, put_count};
 use sections::Obj;
 use splits::{SplitColumns, SplitTable};
-use stage_names::give_names;
+use stage_names::{NameOutput, first_names, give_names};
 use stage_splits::{put_splits, room_of, take_split_columns};
 
 mod passed_tables;
@@ -58,13 +58,12 @@ fn give_filled(names: &Names, added: &AddedNames, splits: &SplitColumns, outputs
     ensures laid { LaidIn (record { names = names_in names.now ++ added_in added.now; rows = rows_of splits.now }) outputs.old outputs.new }
     ensures lent { SameLent outputs.old outputs.new }
 {
-    let bytes = give_names(
-        names,
-        &added.names(),
-        added.count,
-        outputs.ends,
-        outputs.bytes,
-    );
+    let more = first_names(&added.names(), added.count);
+    let mut table = NameOutput {
+        ends: &mut *outputs.ends,
+        bytes: &mut *outputs.bytes,
+    };
+    let bytes = give_names(names, &more, &mut table);
     put_splits(splits, outputs.splits);
     let count = names.places.len() + added.count;
     give_counts(outputs.counts, count, bytes, splits.count);
@@ -143,28 +142,7 @@ fn with_added(
     fill_rows(tables, table, &mut added, &mut marks, &mut found, outputs)
 }
 
-// The splits in lent columns, and the filling.
-fn from_splits(
-    tables: &PassedTables,
-    splits: &[u8],
-    places: &mut [u32],
-    table: &mut SplitTable,
-    outputs: &mut GapOutputs,
-) -> Result<(), Refusal>
-    requires { SpaceIn tables.now.obj.names tables.now.most tables.now.most_bytes outputs.old
-        × (length places.old ≡ 1024)
-        × (table.old.room ≡ room_of (length outputs.old.splits.now)) }
-    ensures gives { GivesIn
-        (stage_of tables.now.obj tables.now.image (ceilings (names_in tables.now.obj.names) tables.now.most tables.now.most_bytes) splits.now (length outputs.old.splits.now))
-        result outputs.old outputs.new }
-    ensures lent { SameLent outputs.old outputs.new }
-{
-    let obj = &tables.obj;
-    take_split_columns(obj.names.lengths, &obj.heads, splits, places, table)?;
-    with_added(tables, table, outputs)
-}
-
-// The same, with columns of its own for the splits.
+// The splits, and the filling.
 pub fn with_splits(
     obj: &Obj,
     index: &NameIndex,
@@ -193,6 +171,13 @@ pub fn with_splits(
         count: 0,
         room: room_of(outputs.splits.len()),
     };
+    take_split_columns(
+        obj.names.lengths,
+        &obj.heads,
+        splits,
+        &mut places,
+        &mut table,
+    )?;
     let tables = PassedTables {
         obj: *obj,
         index: *index,
@@ -200,5 +185,5 @@ pub fn with_splits(
         most,
         most_bytes,
     };
-    from_splits(&tables, splits, &mut places, &mut table, outputs)
+    with_added(&tables, &mut table, outputs)
 }

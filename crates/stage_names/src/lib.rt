@@ -5,6 +5,7 @@ mod output;
 
 ghost use Rattle.std.specs.Prelude.{◌≡◌, ◌||◌, ◌++◌, ◌+◌, ◌*◌, ◌/◌, ◌≤◌, ◌<◌, length, leb, ltb};
 ghost use Rattle.obj.specs.Answers.{meaning};
+ghost use Rattle.names.specs.Names.{Named, names_of};
 ghost use Rattle.name_table.specs.NameTable.{end_of};
 ghost use Rattle.stage_names.specs.StageNames.{names_room, bytes_room, beyond, fit_check, flat};
 ghost use Rattle.stage_names.specs.Output.{names_in, NamedIn, FitsIn, PutIn, GivenIn, SameLent};
@@ -55,6 +56,20 @@ pub fn fit_names(ends: &[u8], most: usize, most_bytes: usize) -> Result<(), Refu
         }
     }
     Ok(())
+}
+
+// The first n names of columns that may hold more.
+pub fn first_names<'b, 'p, 'l>(names: &Names<'b, 'p, 'l>, n: usize) -> Names<'b, 'p, 'l>
+    requires { Named names.now.bytes.now names.now.places.now names.now.lengths.now n }
+    ensures named { NamedIn result }
+    ensures names { names_in result ≡ names_of names.now.bytes.now names.now.places.now names.now.lengths.now n }
+    ensures count { length result.places.now ≡ n }
+{
+    Names {
+        bytes: names.bytes,
+        places: &names.places[..n],
+        lengths: &names.lengths[..n],
+    }
 }
 
 // Names behind those that are there: `first` of them, which end at `at`. Gives where the last ends.

@@ -1,16 +1,20 @@
 -- Both tables that the filling left are given.
-use Rattle.std.proofs.Common.{arith, length}
+use Rattle.std.proofs.Common.{arith, length, sym}
 use Rattle.names.proofs.Laws.{length-names}
 use Rattle.gap_splits.specs.Answers.{names_in}
 use Rattle.stage_gaps.proofs.Laws.{names_fit, names_few, bytes_few, filled_laid}
 use Rattle.stage_gaps.proofs.give_filled.Goals as goal
+
+pub first_names-more-requires : goal.first_names-more-requires
+first_names-more-requires c = let e = c.names.ensures in rw (e.bytes, e.places, e.lengths) c.args.added.now.stand.packed.named
 
 pub give_names-bytes-requires : goal.give_names-bytes-requires
 give_names-bytes-requires c =
     let a = c.args in
     let q = c.requires in
     let e = c.names.ensures in
-    rw (e.bytes, e.places, e.lengths) (q.0, a.added.now.stand.packed.named, names_fit (names_in a.names.now) a.added.now q.1)
+    let more = rw (e.bytes, e.places, e.lengths) at c.first_names-more.ensures.names in
+    (q.0, c.first_names-more.ensures.named, rw more (names_fit (names_in a.names.now) a.added.now q.1))
 
 pub give_counts-requires : goal.give_counts-requires
 give_counts-requires c =
@@ -18,7 +22,8 @@ give_counts-requires c =
     let q = c.requires in
     let base = names_in a.names.now in
     let e = c.names.ensures in
-    let given = rw (e.bytes, e.places, e.lengths) at c.give_names-bytes.ensures in (
+    let more = rw (e.bytes, e.places, e.lengths) at c.first_names-more.ensures.names in
+    let given = rw more at c.give_names-bytes.ensures.given in (
       omega (arith, names_few base a.added.now q.1 (length-names a.names.now.bytes.now a.names.now.places.now a.names.now.lengths.now (length a.names.now.places.now))),
       bytes_few base a.added.now q.1 given,
       omega (arith, q.3),
@@ -29,5 +34,9 @@ returns-clause-laid c =
     let a = c.args in
     let n = a.names.now in
     let e = c.names.ensures in
-    let given = rw (e.bytes, e.places, e.lengths) at c.give_names-bytes.ensures in
-    filled_laid (names_in n) a.added.now a.splits.now given c.put_splits.ensures (length-names n.bytes.now n.places.now n.lengths.now (length n.places.now)) c.give_counts.ensures
+    let more = rw (e.bytes, e.places, e.lengths) at c.first_names-more.ensures.names in
+    let given = rw more at c.give_names-bytes.ensures.given in
+    let lent = c.give_names-bytes.ensures.lent in
+    let ends = c.outputs-2-1.given.1 (sym lent.ends) in
+    let bytes = c.outputs-1.given.1 (sym lent.bytes) in
+    rw (ends, bytes) (filled_laid (names_in n) a.added.now a.splits.now given c.put_splits.ensures (length-names n.bytes.now n.places.now n.lengths.now (length n.places.now)) c.give_counts.ensures)
