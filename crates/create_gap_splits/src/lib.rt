@@ -11,7 +11,8 @@ ghost use Rattle.sections.specs.Sections.{sections_of, Kept};
 ghost use Rattle.splits.specs.Table.{rows_in};
 ghost use Rattle.merge.specs.Merge.{given};
 ghost use Rattle.gaps.specs.Found.{Clean};
-ghost use Rattle.gap_splits.specs.Answers.{names_in, added_in, SameCeilings, ceilings_in, meant};
+ghost use Rattle.gap_splits.specs.Answers.{added_in, SameCeilings, ceilings_in, meant};
+ghost use Rattle.names.specs.Listed.{names_in};
 ghost use Rattle.create_gap_splits.specs.Create.{gaps_filled, Short};
 
 use gap_columns::GapTable;

@@ -20,7 +20,8 @@ use Rattle.sections.specs.Sections.{Sections, sections_of}
 use Rattle.stage_splits.specs.StageSplits.{room_of}
 use Rattle.merge.specs.Merge.{given}
 use Rattle.gap_splits.specs.Entering.{Filled, Ceilings}
-use Rattle.gap_splits.specs.Answers.{names_in, ceilings}
+use Rattle.gap_splits.specs.Answers.{ceilings}
+use Rattle.names.specs.Listed.{names_in}
 use Rattle.create_gap_splits.specs.Create.{gaps_filled}
 use Rattle.stage_gaps.specs.StageGaps.{filled_of, Laid, from_splits}
 use Rattle.stage_gaps.specs.declared.GapOutputs.{GapOutputs}

@@ -8,6 +8,7 @@ use Rattle.obj.specs.declared.Table.{Table}
 use Rattle.names.specs.Names.{name_at, names_of, Named as NamedColumns, same_name, number_of}
 use Rattle.names.specs.Index.{Indexed}
 use Rattle.names.specs.declared.Names.{Names}
+use Rattle.names.specs.Listed.{names_in}
 use Rattle.names.specs.declared.NameIndex.{NameIndex}
 use Rattle.sections.specs.Sections.{head_of, Heads}
 use Rattle.gap_columns.specs.Columns.{Gap, key_of}
@@ -19,12 +20,9 @@ use Rattle.gap_splits.specs.declared.added_names.AddedNames.{AddedNames}
 abbrev pub section_names : (heads head_places name_bytes name_places name_lengths : List ℕ) → ℕ → List ℕ
 section_names heads head_places name_bytes name_places name_lengths n = name_at name_bytes name_places name_lengths (head_of heads head_places n).name
 
--- .. of lent tables, and all names of a table
+-- .. of lent tables
 abbrev pub sections_named : Table → Names → ℕ → List ℕ
 sections_named heads names = section_names heads.bytes.now heads.places.now names.bytes.now names.places.now names.lengths.now
-
-abbrev pub names_in : Names → List (List ℕ)
-names_in names = names_of names.bytes.now names.places.now names.lengths.now (length names.places.now)
 
 -- ---- the names that are added
 

@@ -13,7 +13,8 @@ ghost use Rattle.merge.specs.Merge.{given};
 ghost use Rattle.gap_columns.specs.Columns.{gap};
 ghost use Rattle.gap_columns.specs.Table.{found_of};
 ghost use Rattle.gap_splits.specs.Entering.{gap_split, entered, filled, unit_name};
-ghost use Rattle.gap_splits.specs.Answers.{sections_named, names_in, added_in, Shows, SameCeilings, ceilings_in, Absent, Adds, Numbered, meant, TablesIn, Gaps, Enters};
+ghost use Rattle.gap_splits.specs.Answers.{sections_named, added_in, Shows, SameCeilings, ceilings_in, Absent, Adds, Numbered, meant, TablesIn, Gaps, Enters};
+ghost use Rattle.names.specs.Listed.{names_in};
 
 use gap_columns::GapColumns;
 use merge::add_split;

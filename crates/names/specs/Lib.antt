@@ -3,3 +3,4 @@ pub mod Fixed
 pub mod Index
 pub mod GapName
 pub mod Append
+pub mod Listed

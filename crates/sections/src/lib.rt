@@ -2,7 +2,8 @@
 #![tactic(auto)]
 
 ghost use Rattle.std.specs.Prelude.{◌≡◌, reverse, ◌-◌, ◌<◌, ◌≤◌, length, drop};
-ghost use Rattle.names.specs.Names.{name_at, Named};
+ghost use Rattle.names.specs.Names.{name_at};
+ghost use Rattle.names.specs.Listed.{NamedIn};
 ghost use Rattle.symbol_order.specs.Order.{symbol_of, Order};
 ghost use Rattle.sections.specs.Image.{image_of, Tables, Part, Whole, Lies, image_in, TablesIn};
 ghost use Rattle.sections.specs.Bytes.{bytes_of, all_zero};
@@ -179,7 +180,7 @@ pub fn alignment_of(
 
 // The default alignment of section k.
 fn default_of(names: &Names, heads: &Table, k: usize) -> u32
-    requires { Named names.now.bytes.now names.now.places.now names.now.lengths.now (length names.now.places.now) × Heads heads.now.bytes.now heads.now.places.now names.now.places.now × (k < length heads.now.places.now) }
+    requires { NamedIn names.now × Heads heads.now.bytes.now heads.now.places.now names.now.places.now × (k < length heads.now.places.now) }
     ensures { result ≡ default_alignment (head_of heads.now.bytes.now heads.now.places.now k) (name_at names.now.bytes.now names.now.places.now names.now.lengths.now (head_of heads.now.bytes.now heads.now.places.now k).name) }
 {
     let head = section_at(heads, k);

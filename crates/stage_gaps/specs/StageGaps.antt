@@ -26,7 +26,7 @@ use Rattle.splits.specs.Bytes.{table_bytes}
 use Rattle.stage_splits.specs.StageSplits.{room_of, said}
 use Rattle.merge.specs.Merge.{given}
 use Rattle.gap_splits.specs.Entering.{Filled, Ceilings}
-use Rattle.gap_splits.specs.Answers.{names_in}
+use Rattle.names.specs.Listed.{names_in}
 use Rattle.create_gap_splits.specs.Create.{gaps_filled, Short}
 use Rattle.stage_gaps.specs.declared.GapOutputs.{GapOutputs}
 

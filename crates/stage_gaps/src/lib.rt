@@ -4,9 +4,9 @@
 
 ghost use Rattle.std.specs.Prelude.{◌≡◌, [], ◌∷◌, ◌++◌, ◌*◌, ◌≤◌, ◌<◌, length};
 ghost use Rattle.outputs.specs.Outputs.{counts_of};
-ghost use Rattle.names.specs.Names.{Named};
 ghost use Rattle.splits.specs.Table.{rows_of, rows_in};
-ghost use Rattle.gap_splits.specs.Answers.{names_in, added_in, ceilings, ceilings_in};
+ghost use Rattle.gap_splits.specs.Answers.{added_in, ceilings, ceilings_in};
+ghost use Rattle.names.specs.Listed.{names_in, NamedIn};
 ghost use Rattle.stage_splits.specs.StageSplits.{room_of};
 ghost use Rattle.obj.specs.Records.{split_width};
 ghost use Rattle.gaps.specs.Found.{Clean};
@@ -51,7 +51,7 @@ fn give_counts(counts: &mut [u8], names: usize, bytes: usize, splits: usize)
 
 // What the filling left in the columns, in the outputs.
 fn give_filled(names: &Names, added: &AddedNames, splits: &SplitColumns, outputs: &mut GapOutputs)
-    requires { (Named names.now.bytes.now names.now.places.now names.now.lengths.now (length names.now.places.now))
+    requires { NamedIn names.now
         × SpaceIn names.now added.now.most added.now.most_bytes outputs.old
         × (split_width * splits.now.count ≤ length outputs.old.splits.now)
         × (splits.now.count ≤ 1024) }

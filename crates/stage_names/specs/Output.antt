@@ -1,18 +1,8 @@
--- Names that are given, and the lent name table: the definitions of `StageNames` over the structs.
+-- The lent name table: the definitions of `StageNames` over the struct.
 use Rattle.std.specs.Prelude.{ℕ, ◌≡◌, List, length}
-use Rattle.names.specs.Names.{Named, names_of}
-use Rattle.names.specs.declared.Names.{Names}
 use Rattle.stage_names.specs.declared.output.NameOutput.{NameOutput}
 use Rattle.stage_names.specs.StageNames.{Fits, Put, Given}
 
--- all names of the columns
-abbrev pub names_in : Names → List (List ℕ)
-names_in n = names_of n.bytes.now n.places.now n.lengths.now (length n.places.now)
-
-abbrev pub NamedIn : Names → Type 0
-NamedIn n = Named n.bytes.now n.places.now n.lengths.now (length n.places.now)
-
--- ---- the lent name table
 abbrev pub FitsIn : (base more : List (List ℕ)) → NameOutput → Type 0
 FitsIn base more o = Fits base more (length o.ends.now) (length o.bytes.now)
 

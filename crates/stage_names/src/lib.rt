@@ -8,7 +8,8 @@ ghost use Rattle.obj.specs.Answers.{meaning};
 ghost use Rattle.names.specs.Names.{Named, names_of};
 ghost use Rattle.name_table.specs.NameTable.{end_of};
 ghost use Rattle.stage_names.specs.StageNames.{names_room, bytes_room, beyond, fit_check, flat};
-ghost use Rattle.stage_names.specs.Output.{names_in, NamedIn, FitsIn, PutIn, GivenIn, SameLent};
+ghost use Rattle.names.specs.Listed.{names_in, NamedIn};
+ghost use Rattle.stage_names.specs.Output.{FitsIn, PutIn, GivenIn, SameLent};
 
 use fields::{get16, put16};
 use names::{Names, name_at, put_bytes};

@@ -6,7 +6,8 @@ use Rattle.sections.specs.Image.{image_in}
 use Rattle.sections.specs.Sections.{sections_of}
 use Rattle.splits.specs.Table.{rows_in}
 use Rattle.merge.specs.Merge.{given}
-use Rattle.gap_splits.specs.Answers.{names_in, ceilings_in}
+use Rattle.gap_splits.specs.Answers.{ceilings_in}
+use Rattle.names.specs.Listed.{names_in}
 use Rattle.create_gap_splits.proofs.Laws.{all_held, named_tables, found_gaps_lem, filled_found, filled_refused}
 use Rattle.create_gap_splits.proofs.create_gap_splits.Goals as goal
 

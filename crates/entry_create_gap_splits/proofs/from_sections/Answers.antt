@@ -4,7 +4,8 @@ use Rattle.obj.specs.Answers.{meaning}
 use Rattle.obj.proofs.Errors.{same_err}
 use Rattle.stage_tables.proofs.Laws.{taken_few, taken_places, taken-count, taken-held}
 use Rattle.stage_symbols.proofs.Laws.{sections_kept, place_is}
-use Rattle.gap_splits.specs.Answers.{names_in, ceilings}
+use Rattle.gap_splits.specs.Answers.{ceilings}
+use Rattle.names.specs.Listed.{names_in}
 use Rattle.entry_create_gap_splits.specs.Entry.{from_sections}
 use Rattle.stage_gaps.proofs.Laws.{gives_as, gives_stops, gives_goes}
 use Rattle.entry_create_gap_splits.proofs.Passed.{sections_as, sections_short}

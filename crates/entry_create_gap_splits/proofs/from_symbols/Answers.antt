@@ -8,7 +8,8 @@ use Rattle.obj.proofs.Laws.{length-stage_places}
 use Rattle.sections.specs.Image.{image_of}
 use Rattle.sections.specs.Sections.{sections_of}
 use Rattle.tables.specs.Records.{sections_in}
-use Rattle.gap_splits.specs.Answers.{names_in, ceilings}
+use Rattle.gap_splits.specs.Answers.{ceilings}
+use Rattle.names.specs.Listed.{names_in}
 use Rattle.stage_symbols.proofs.Laws.{tables-taken, symbols_sound}
 use Rattle.stage_gaps.specs.StageGaps.{from_splits}
 use Rattle.entry_create_gap_splits.specs.Entry.{from_symbols}

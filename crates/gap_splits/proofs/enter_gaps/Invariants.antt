@@ -3,7 +3,8 @@ use Rattle.std.proofs.Common.{◌≡◌}
 use Rattle.tables.specs.Records.{sections_in}
 use Rattle.splits.specs.Table.{rows_in}
 use Rattle.merge.specs.Merge.{given}
-use Rattle.gap_splits.specs.Answers.{sections_named, names_in, added_in, ceilings_in, SameCeilings}
+use Rattle.gap_splits.specs.Answers.{sections_named, added_in, ceilings_in, SameCeilings}
+use Rattle.names.specs.Listed.{names_in}
 use Rattle.gap_splits.proofs.Turns.{Going}
 use Rattle.gap_splits.proofs.enter_gaps.Given as goal
 

@@ -4,7 +4,8 @@ use mathlib.Core.Path.{refl}
 use native.Mathlib.Omega.{arith}
 use lib.ListN.{length}
 use Rattle.names.proofs.Laws.{length-names}
-use Rattle.gap_splits.specs.Answers.{names_in, added_in, ceilings_in}
+use Rattle.gap_splits.specs.Answers.{added_in, ceilings_in}
+use Rattle.names.specs.Listed.{names_in}
 use Rattle.gap_splits.proofs.Naming.{numbered_there, numbered_new, numbered-full, far_away}
 use Rattle.gap_splits.proofs.number_of_name.Goals as goal
 

@@ -1,7 +1,7 @@
 -- Both tables that the filling left are given.
 use Rattle.std.proofs.Common.{arith, length, sym}
 use Rattle.names.proofs.Laws.{length-names}
-use Rattle.gap_splits.specs.Answers.{names_in}
+use Rattle.names.specs.Listed.{names_in}
 use Rattle.stage_gaps.proofs.Laws.{names_fit, names_few, bytes_few, filled_laid}
 use Rattle.stage_gaps.proofs.give_filled.Goals as goal
 
