@@ -146,11 +146,7 @@ fn any_unlike(pieces: &WholePieces, out: &[u8]) -> bool
     requires { held (stage_sections pieces.now.sections.now) ≤ length out.now }
     ensures { result ≡ some_unlike (stage_sections pieces.now.sections.now) out.now (parts_at pieces.now.count pieces.now.bytes.now 0) }
 {
-    any_piece(
-        pieces.bytes,
-        pieces.count,
-        |at| is_unlike(pieces, at, out),
-    )
+    any_piece(pieces.bytes, pieces.count, |at| is_unlike(pieces, at, out))
 }
 
 // ---- the joiner

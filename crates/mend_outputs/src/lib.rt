@@ -1,4 +1,5 @@
-// The outputs of `mend_splits`, slices of their own as C lends them: the mended rows and the counts where the mending was accepted, zeros throughout after a refusal; what is lent beyond stays.
+// The outputs of `mend_splits`, slices of their own as C lends them: the mended rows and the counts where the mending was accepted, zeros throughout after a refusal; what is
+// lent beyond stays.
 #![tactic(auto)]
 
 ghost use Rattle.std.specs.Prelude.{◌*◌, ◌≤◌, length};
