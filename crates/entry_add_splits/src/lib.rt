@@ -8,7 +8,7 @@ ghost use Rattle.stage_splits.specs.Output.{GivesIn, SameLent};
 ghost use Rattle.entry_add_splits.specs.Entry.{add_splits_of};
 ghost use Rattle.entry_add_splits.specs.Lent.{tables_outcome, splits_outcome, HeadsHeld};
 
-use lent_tables::StageTables;
+use lent_tables::{NO_TABLES, StageTables};
 use name_table::NameArrays;
 use obj::{PARTIAL_BYTES, Refusal, Table};
 use splits::SplitTable;
@@ -89,13 +89,9 @@ pub fn add_splits(
         name_ends,
         name_bytes,
         sections,
-        section_places: &[],
-        image: &[],
-        symbols: &[],
-        relocs: &[],
         partials,
         splits,
-        units: &[],
+        ..NO_TABLES
     };
     let mut output = SplitOutput {
         splits: out_splits,

@@ -8,7 +8,7 @@ ghost use Rattle.gap_splits.specs.Entering.{Filled};
 ghost use Rattle.stage_gaps.specs.StageGaps.{NamesIn, HeadedIn, SpaceIn, GivesIn, SameLent};
 ghost use Rattle.entry_create_gap_splits.specs.Entry.{gap_splits_of, tables_outcome, symbols_outcome, sections_outcome, Leaves, LeavesIn};
 
-use lent_tables::StageTables;
+use lent_tables::{NO_TABLES, StageTables};
 use name_table::{NameArrays, start_of};
 use names::{NameIndex, Names};
 use obj::{Refusal, Table, word_of};
@@ -179,10 +179,8 @@ pub fn create_gap_splits(
             section_places,
             image,
             symbols,
-            relocs: &[],
-            partials: &[],
             splits,
-            units: &[],
+            ..NO_TABLES
         },
         &mut outputs,
     );

@@ -13,7 +13,7 @@ ghost use Rattle.trim.specs.Lent.{KeptIn};
 ghost use Rattle.entry_trim_splits.specs.Entry.{trim_of};
 ghost use Rattle.entry_trim_splits.specs.Lent.{tables_outcome, splits_outcome, symbols_outcome, sections_outcome, HeadsHeld, HeadedIn};
 
-use lent_tables::StageTables;
+use lent_tables::{NO_TABLES, StageTables};
 use name_table::NameArrays;
 use names::Names;
 use obj::{Refusal, Table};
@@ -175,10 +175,8 @@ pub fn trim_splits(
         section_places,
         image,
         symbols,
-        relocs: &[],
-        partials: &[],
         splits,
-        units: &[],
+        ..NO_TABLES
     };
     let mut output = SplitOutput {
         splits: out,

@@ -11,7 +11,7 @@ ghost use Rattle.entry_update_common_splits.specs.Entry.{update_of};
 ghost use Rattle.entry_update_common_splits.specs.Lent.{tables_outcome, splits_outcome, sections_outcome, HeadsHeld};
 
 use common::update_common_records;
-use lent_tables::StageTables;
+use lent_tables::{NO_TABLES, StageTables};
 use name_table::NameArrays;
 use names::Names;
 use obj::{Refusal, Table};
@@ -114,13 +114,8 @@ pub fn update_common_splits(
         name_ends,
         name_bytes,
         sections,
-        section_places: &[],
-        image: &[],
-        symbols: &[],
-        relocs: &[],
-        partials: &[],
         splits,
-        units: &[],
+        ..NO_TABLES
     };
     let mut output = SplitOutput {
         splits: out,

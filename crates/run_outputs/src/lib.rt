@@ -5,6 +5,7 @@ ghost use Rattle.std.specs.Prelude.{◌≡◌, ◌*◌, ◌≤◌, length};
 ghost use Rattle.lists.specs.Tables.{laid};
 ghost use Rattle.outputs.specs.Outputs.{halves, counts_of};
 ghost use Rattle.stage_names.specs.StageNames.{ends_from, flat};
+ghost use Rattle.stage_names.specs.Output.{SameLent as SameTable};
 ghost use Rattle.gap_splits.specs.Added as entering;
 ghost use Rattle.walk.specs.Giving.{output_in};
 ghost use Rattle.run.specs.Answers.{Names as NamesRead};
@@ -18,7 +19,7 @@ use outputs::{clear_from, put_count};
 use pieces::{Counts, PIECE_BYTES};
 use run::Ran;
 use splits::SplitColumns;
-use stage_names::put_names;
+use stage_names::{NameOutput, first_names, put_names};
 use stage_splits::put_splits;
 
 // The outputs that are lent to a run: the ends and the bytes of the names that are added, the splits, the tables of its end, and the counts of all of them.
@@ -86,15 +87,16 @@ pub fn word_for(r: Result<Ran, Unlinked>) -> u64
 }
 
 // The added names with their ends, and zeros after them. The two outputs are lent alone, as C lends them: they are no columns of one table.
-fn lay_names(added: &Names, names: usize, used: usize, out_ends: &mut [u8], out_bytes: &mut [u8])
-    requires { NamesRead (beside_of added.now) names used (length out_ends.old) (length out_bytes.old)
-        × (2 * names ≤ length out_ends.old) }
-    ensures { (out_ends.new ≡ laid (length out_ends.old) (halves (ends_from 0 (entering.added (beside_of added.now) names))))
-        × (out_bytes.new ≡ laid (length out_bytes.old) (flat (entering.added (beside_of added.now) names))) }
+fn lay_names(added: &Names, names: usize, used: usize, output: &mut NameOutput)
+    requires { NamesRead (beside_of added.now) names used (length output.old.ends.now) (length output.old.bytes.now)
+        × (2 * names ≤ length output.old.ends.now) }
+    ensures laid { (output.new.ends.now ≡ laid (length output.old.ends.now) (halves (ends_from 0 (entering.added (beside_of added.now) names))))
+        × (output.new.bytes.now ≡ laid (length output.old.bytes.now) (flat (entering.added (beside_of added.now) names))) }
+    ensures lent { SameTable output.old output.new }
 {
-    put_names(added, names, 0, 0, out_ends, out_bytes);
-    clear_from(out_ends, 2 * names);
-    clear_from(out_bytes, used);
+    put_names(&first_names(added, names), 0, 0, output);
+    clear_from(output.ends, 2 * names);
+    clear_from(output.bytes, used);
 }
 
 // Zeros after the records of the walk. The tables are lent one by one: only of what is lent so is it known that its numbers are bytes.
@@ -131,7 +133,11 @@ pub fn lay(k: Kept, added: &Names, splits: &SplitColumns, outputs: &mut RunOutpu
     ensures laid { LaidIn (left_to added.now splits.now outputs.old k) outputs.old outputs.new }
     ensures lent { SameOutputs outputs.old outputs.new }
 {
-    lay_names(added, k.names, k.used, outputs.ends, outputs.bytes);
+    let mut table = NameOutput {
+        ends: &mut *outputs.ends,
+        bytes: &mut *outputs.bytes,
+    };
+    lay_names(added, k.names, k.used, &mut table);
     put_splits(&splits.first(k.splits), outputs.splits);
     clear_from(outputs.units, 8 * k.units);
     lay_output(k.made, outputs.pieces, outputs.entries, outputs.offsets);

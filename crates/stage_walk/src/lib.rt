@@ -146,6 +146,12 @@ pub fn with_splits(
         count: 0,
         room: 1024,
     };
-    take_split_columns(obj.names.lengths, &obj.heads, splits, &mut places, &mut table)?;
+    take_split_columns(
+        obj.names.lengths,
+        &obj.heads,
+        splits,
+        &mut places,
+        &mut table,
+    )?;
     with_units(obj, image, relocs, &table.columns(), unit_table, tables)
 }
