@@ -64,13 +64,15 @@ with_splits-requires c =
     let placed = c.in_ok-ordered.ensures.placed passed in
     let taken = ap meaning c.in_ok-take_relocs.was in (
       record {
-        tables = tables-taken 4096 names heads a.lent.now.symbols.now passed (omega arith) _ _ _ _ _ (Ok c.in_ok-ordered.ordered) c.in_ok-ordered.ensures (sym c.requires.0.paired) c.requires.0.named;
-        sound = rw (placed, length-stage_places) (symbols_sound 4096 names heads a.lent.now.symbols.now passed);
+        asked = record {
+          tables = tables-taken 4096 names heads a.lent.now.symbols.now passed (omega arith) _ _ _ _ _ (Ok c.in_ok-ordered.ordered) c.in_ok-ordered.ensures (sym c.requires.0.paired) c.requires.0.named;
+          sound = rw (placed, length-stage_places) (symbols_sound 4096 names heads a.lent.now.symbols.now passed);
+        };
+        headed = c.requires.1;
+        relocated = relocs_taken heads (length a.lent.now.symbols.now / 20) a.lent.now.relocs.now (sym c.take_relocs.ensures.said ∙ taken) _ (taken_places 23 4096 a.lent.now.relocs.now _ _ c.take_relocs.ensures taken);
+        few_names = c.requires.2;
+        few_symbols = rw (placed, length-stage_places) (table_passed 20 4096 a.lent.now.symbols.now _ passed).1;
       },
-      c.requires.1,
-      relocs_taken heads (length a.lent.now.symbols.now / 20) a.lent.now.relocs.now (sym c.take_relocs.ensures.said ∙ taken) _ (taken_places 23 4096 a.lent.now.relocs.now _ _ c.take_relocs.ensures taken),
-      c.requires.2,
-      rw (placed, length-stage_places) (table_passed 20 4096 a.lent.now.symbols.now _ passed).1,
       c.requires.3,
     )
 
