@@ -4,3 +4,4 @@ pub mod Blocks
 pub mod Bytes
 pub mod Rising
 pub mod Meeting
+pub mod Lent

@@ -1,9 +1,13 @@
--- The columns that are lent together, and the rows that they mean: `columns_of` and `rows_of` of columns to read, `columns_in` and `rows_in` of a table to write.
+-- The columns that are lent together, and the rows that they mean: `columns_of` and `rows_of` of columns to read, `columns_in` and `rows_in` of a table to write,
+-- and the like of a table of which one column is written.
 use Rattle.std.specs.Prelude.{◌+◌, ◌≤◌, ◌≡◌, List, length}
 use Rattle.obj.specs.declared.Split.{Split}
 use Rattle.splits.specs.Columns.{Columns, columns, rows}
 use Rattle.splits.specs.declared.split_table.SplitColumns.{SplitColumns}
 use Rattle.splits.specs.declared.split_table.SplitTable.{SplitTable}
+use Rattle.splits.specs.declared.one_column.SplitEnds.{SplitEnds}
+use Rattle.splits.specs.declared.one_column.SplitUnits.{SplitUnits}
+use Rattle.splits.specs.declared.one_column.SplitRest.{SplitRest}
 
 abbrev pub columns_of : SplitColumns → Columns
 columns_of s = columns s.starts.now s.ends.now s.units.now s.rest.now
@@ -34,52 +38,86 @@ pub record SameColumns (s r : SplitColumns) : Type 0 where
   pub units : r.units.now ≡ s.units.now
   pub rest : r.rest.now ≡ s.rest.now
 
--- as many rows, and room for as many
+-- the same columns are lent, of the same lengths, with the same room
+pub record SameLent (t u : SplitTable) : Type 0 where
+  pub room : u.room ≡ t.room
+  pub starts : u.starts.ghost_name ≡ t.starts.ghost_name
+  pub ends : u.ends.ghost_name ≡ t.ends.ghost_name
+  pub units : u.units.ghost_name ≡ t.units.ghost_name
+  pub rest : u.rest.ghost_name ≡ t.rest.ghost_name
+  pub starts_size : length u.starts.now ≡ length t.starts.now
+  pub ends_size : length u.ends.now ≡ length t.ends.now
+  pub units_size : length u.units.now ≡ length t.units.now
+  pub rest_size : length u.rest.now ≡ length t.rest.now
+
+-- as many rows
 pub record SameSize (t u : SplitTable) : Type 0 where
   pub count : u.count ≡ t.count
-  pub room : u.room ≡ t.room
+  pub lent : SameLent t u
 
 -- one row more
 pub record Larger (t u : SplitTable) : Type 0 where
   pub count : u.count ≡ t.count + 1
-  pub room : u.room ≡ t.room
+  pub lent : SameLent t u
 
 -- not more rows
 pub record Smaller (t u : SplitTable) : Type 0 where
   pub count : u.count ≤ t.count
-  pub room : u.room ≡ t.room
+  pub lent : SameLent t u
 
 -- from t to u nothing changed
 pub record Unchanged (t u : SplitTable) : Type 0 where
   pub columns : columns_in u ≡ columns_in t
   pub count : u.count ≡ t.count
-  pub room : u.room ≡ t.room
+  pub lent : SameLent t u
 
+-- ---- a table of which one column is written
 -- Three records, for three columns: one over the column would have to call the others first, second and third, and these names are what callers cite.
 
--- from t to u only the ends of rows changed
-pub record OnlyEnds (t u : SplitTable) : Type 0 where
+abbrev pub ends_columns : SplitEnds → Columns
+ends_columns t = columns t.starts.now t.ends.now t.units.now t.rest.now
+
+-- the table
+abbrev pub ends_rows : SplitEnds → List Split
+ends_rows t = rows (ends_columns t) t.count
+
+-- from t to u only the ends of rows changed, and the column is the one that was lent
+pub record OnlyEnds (t u : SplitEnds) : Type 0 where
   pub starts : u.starts.now ≡ t.starts.now
   pub units : u.units.now ≡ t.units.now
   pub rest : u.rest.now ≡ t.rest.now
-  pub held : length u.ends.now ≡ length t.ends.now
+  pub ends : u.ends.ghost_name ≡ t.ends.ghost_name
+  pub size : length u.ends.now ≡ length t.ends.now
   pub count : u.count ≡ t.count
-  pub room : u.room ≡ t.room
 
--- from t to u only the units of rows changed
-pub record OnlyUnits (t u : SplitTable) : Type 0 where
+abbrev pub units_columns : SplitUnits → Columns
+units_columns t = columns t.starts.now t.ends.now t.units.now t.rest.now
+
+-- the table
+abbrev pub units_rows : SplitUnits → List Split
+units_rows t = rows (units_columns t) t.count
+
+-- from t to u only the units of rows changed, and the column is the one that was lent
+pub record OnlyUnits (t u : SplitUnits) : Type 0 where
   pub starts : u.starts.now ≡ t.starts.now
   pub ends : u.ends.now ≡ t.ends.now
   pub rest : u.rest.now ≡ t.rest.now
-  pub held : length u.units.now ≡ length t.units.now
+  pub units : u.units.ghost_name ≡ t.units.ghost_name
+  pub size : length u.units.now ≡ length t.units.now
   pub count : u.count ≡ t.count
-  pub room : u.room ≡ t.room
 
--- from t to u only the rest of rows changed
-pub record OnlyRest (t u : SplitTable) : Type 0 where
+abbrev pub rest_columns : SplitRest → Columns
+rest_columns t = columns t.starts.now t.ends.now t.units.now t.rest.now
+
+-- the table
+abbrev pub rest_rows : SplitRest → List Split
+rest_rows t = rows (rest_columns t) t.count
+
+-- from t to u only the rest of rows changed, and the column is the one that was lent
+pub record OnlyRest (t u : SplitRest) : Type 0 where
   pub starts : u.starts.now ≡ t.starts.now
   pub ends : u.ends.now ≡ t.ends.now
   pub units : u.units.now ≡ t.units.now
-  pub held : length u.rest.now ≡ length t.rest.now
+  pub rest : u.rest.ghost_name ≡ t.rest.ghost_name
+  pub size : length u.rest.now ≡ length t.rest.now
   pub count : u.count ≡ t.count
-  pub room : u.room ≡ t.room

@@ -7,7 +7,7 @@ ghost use Rattle.std.proofs.lemmas.List.Edits.{sets};
 ghost use Rattle.lists.specs.Rows.{tabulate, some};
 ghost use Rattle.obj.specs.Records.{split_at, partial_width, split_width};
 ghost use Rattle.splits.specs.Columns.{alignment_of, Good, row_of, row_at};
-ghost use Rattle.splits.specs.Table.{columns_of, rows_of, columns_in, rows_in, Shows, SameColumns, OnlyEnds};
+ghost use Rattle.splits.specs.Table.{columns_of, rows_of, columns_in, rows_in, Shows, SameColumns, SameLent, ends_columns, ends_rows, OnlyEnds};
 ghost use Rattle.splits.specs.Updates.{with_end};
 ghost use Rattle.splits.specs.Questions.{in_range, of_unit, NextHit, Meets};
 ghost use Rattle.splits.specs.Bytes.{partial_bytes, split_bytes, table_bytes, Loadable};
@@ -15,8 +15,11 @@ ghost use Rattle.splits.specs.Bytes.{partial_bytes, split_bytes, table_bytes, Lo
 use fields::{put16, put32};
 use obj::{PARTIAL_BYTES, SPLIT_BYTES, Split, Table, split_at};
 
+mod one_column;
+mod one_column_read;
 mod split_table;
 
+pub use one_column::{SplitEnds, SplitRest, SplitUnits};
 pub use split_table::{SplitColumns, SplitTable};
 
 impl SplitColumns<'_, '_, '_, '_> {
@@ -152,9 +155,9 @@ pub fn row(splits: &SplitColumns, i: usize) -> Split
 }
 
 // Row i with another end.
-pub fn set_end(table: &mut SplitTable, i: usize, end: u32)
+pub fn set_end(table: &mut SplitEnds, i: usize, end: u32)
     requires { i < table.old.count }
-    ensures rows { rows_in table.new ≡ set (rows_in table.old) i (with_end end (row_at (columns_in table.old) i)) }
+    ensures rows { ends_rows table.new ≡ set (ends_rows table.old) i (with_end end (row_at (ends_columns table.old) i)) }
     ensures others { OnlyEnds table.old table.new }
 {
     table.ends[i] = end;
@@ -166,7 +169,7 @@ pub fn set_end(table: &mut SplitTable, i: usize, end: u32)
 pub fn load(lent: &Table, table: &mut SplitTable)
     requires { Loadable lent.now.bytes.now lent.now.places.now × (length lent.now.places.now ≤ table.old.room) }
     ensures rows { rows_in table.new ≡ map (split_at lent.now.bytes.now) lent.now.places.now }
-    ensures room { table.new.room ≡ table.old.room }
+    ensures lent { SameLent table.old table.new }
 {
     for i in 0..lent.places.len() {
         let s = split_at(lent, i);
