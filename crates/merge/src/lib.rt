@@ -9,7 +9,7 @@ ghost use Rattle.obj.specs.Records.{section_at, Held};
 ghost use Rattle.tables.specs.Tables.{AllHeld};
 ghost use Rattle.tables.specs.Records.{sections_in, partials_in};
 ghost use Rattle.splits.specs.Columns.{Good};
-ghost use Rattle.splits.specs.Table.{rows_of, rows_in, Unchanged};
+ghost use Rattle.splits.specs.Table.{rows_of, rows_in, SameLent, Unchanged};
 ghost use Rattle.splits.specs.Questions.{of_unit};
 ghost use Rattle.splits.specs.Bytes.{Partials};
 ghost use Rattle.split_joins.specs.Joins.{joined_by};
@@ -172,7 +172,7 @@ fn join_at_once(table: &mut SplitTable, heads: &HeldHeads, joint: Split) -> bool
         → accepted (rows_in table.new)
         ≡ merge_one (given (sections_in heads.now.table.bytes.now heads.now.table.places.now) room) (joined_by joint (rows_in table.old)) joint) }
     ensures none { result ≡ false → Unchanged table.old table.new }
-    ensures room { table.new.room ≡ table.old.room }
+    ensures lent { SameLent table.old table.new }
 {
     let section = joint.section as usize;
     if heads.table.places.len() <= section {
@@ -190,7 +190,7 @@ pub fn add_split(table: &mut SplitTable, heads: &Table, new: Split) -> Result<()
     requires { AllHeld 15 heads.now.bytes.now heads.now.places.now × Good new.alignment }
     ensures rows { merged result (rows_in table.new)
         ≡ merge_one (given (sections_in heads.now.bytes.now heads.now.places.now) table.old.room) (rows_in table.old) new }
-    ensures room { table.new.room ≡ table.old.room }
+    ensures lent { SameLent table.old table.new }
 {
     let room = table.room;
     let held = HeldHeads { table: *heads };
@@ -219,7 +219,7 @@ pub fn add_splits(table: &mut SplitTable, heads: &Table, partials: &Table) -> Re
     ensures rows { merged result (rows_in table.new)
         ≡ merge_all (given (sections_in heads.now.bytes.now heads.now.places.now) table.old.room) (rows_in table.old)
         (partials_in partials.now.bytes.now partials.now.places.now) }
-    ensures room { table.new.room ≡ table.old.room }
+    ensures lent { SameLent table.old table.new }
 {
     for i in 0..partials.places.len() {
         let new = partial_at(partials, i);

@@ -5,7 +5,7 @@
 ghost use Rattle.std.specs.Prelude.{◌≡◌, true, false, eqb, ℕ, ◌-◌, ◌≤◌, length, get_or, MatchOption};
 ghost use Rattle.lists.specs.Rows.{tabulate, some};
 ghost use Rattle.splits.specs.Columns.{Good};
-ghost use Rattle.splits.specs.Table.{columns_of, columns_in, Unchanged};
+ghost use Rattle.splits.specs.Table.{columns_of, columns_in, SameLent, Unchanged};
 ghost use Rattle.split_joins.specs.Joins.{Apart, Between, TakesPlace, AtOnce};
 
 use obj::Split;
@@ -95,7 +95,7 @@ pub fn join_and_push(table: &mut SplitTable, s: Split) -> bool
     requires { Good s.alignment }
     ensures made { result ≡ true → AtOnce s (columns_in table.old) (columns_in table.new) table.old.count table.new.count }
     ensures none { result ≡ false → Unchanged table.old table.new }
-    ensures room { table.new.room ≡ table.old.room }
+    ensures lent { SameLent table.old table.new }
 {
     let n = table.count;
     let splits = table.columns();

@@ -6,6 +6,7 @@ use Rattle.lists.specs.Outcome.{accepted}
 use Rattle.obj.specs.declared.Split.{Split}
 use Rattle.tables.specs.Records.{sections_in}
 use Rattle.splits.specs.Table.{rows_in, columns_in}
+use Rattle.splits.proofs.Lent.{lent_still}
 use Rattle.splits.proofs.Rows.{unchanged_rows}
 use Rattle.split_joins.specs.Joins.{joined_by}
 use Rattle.merge.specs.Merge.{given, push, join, decide, merge_one}
@@ -35,7 +36,7 @@ push-requires c =
     let g = given (sections_in a.heads.now.bytes.now a.heads.now.places.now) a.table.now.room in
     let pushes : decide g (rows_in t) l.s ≡ accepted push =
     sym (rw c.columns.ensures.rows at c.decide_round.ensures.0) ∙ ap decided (c.in_ok-decide_round.was ∙ ap Ok c.in-Push.is) in
-    (omega (arith, push_below g (columns_in t) t.count l.s pushes, l.invariant.room), l.invariant.good)
+    (omega (arith, push_below g (columns_in t) t.count l.s pushes, l.invariant.lent.room), l.invariant.good)
 
 pub returns-in-Push-clause-rows : goal.returns-in-Push-clause-rows
 returns-in-Push-clause-rows c =
@@ -54,7 +55,7 @@ returns-then-join_at_once-clause-rows c =
     let g = given (sections_in a.heads.now.bytes.now a.heads.now.places.now) a.table.now.room in
     let joins : decide g (rows_in t) l.s ≡ accepted (join c.in-Join.joint) =
     sym (rw c.columns.ensures.rows at c.decide_round.ensures.0) ∙ ap decided (c.in_ok-decide_round.was ∙ ap Ok c.in-Join.is) in
-    c.join_at_once.ensures.made c.if-join_at_once.true a.table.now.room (omega (arith, t.fits, l.invariant.room)) ∙ sym (round_join _ _ l.s _ joins) ∙ l.invariant.merges
+    c.join_at_once.ensures.made c.if-join_at_once.true a.table.now.room (omega (arith, t.fits, l.invariant.lent.room)) ∙ sym (round_join _ _ l.s _ joins) ∙ l.invariant.merges
 
 pub loop-table-smaller : goal.loop-table-smaller
 loop-table-smaller c =
@@ -84,7 +85,7 @@ loop-table-preserved c =
     let done : rows_in c.join.new.table ≡ joined_by c.in-Join.joint (rows_in x) =
     rw (r.section, r.from, r.to) at c.join.ensures.rows ∙ ap (joined_by c.in-Join.joint) (unchanged_rows _ _ same) in
     record {
-      room = c.join.ensures.size.room ∙ same.room ∙ l.invariant.room;
+      lent = lent_still (lent_still l.invariant.lent same.lent) c.join.ensures.size.lent;
       good = handed _ _ (c.in_ok-decide_round.was ∙ ap Ok c.in-Join.is) c.decide_round.ensures.1;
       merges = ap (λ (r : List Split). merge_one g r c.in-Join.joint) done ∙ sym (round_join _ _ l.s _ joins) ∙ l.invariant.merges;
     }

@@ -1,11 +1,12 @@
 -- Each split is merged as the definition merges it, and the rows that it leaves are those of the next one.
-use Rattle.std.proofs.Common.{refl, ◌∙◌, sym, ap}
+use Rattle.std.proofs.Common.{◌∙◌, sym, ap}
 use Rattle.std.proofs.lemmas.Result.{err_from_is_err_and}
 use Rattle.lists.proofs.Parts.{tabulate_all}
 use Rattle.align.specs.Align.{bad_align}
 use Rattle.obj.specs.Answers.{Answer}
 use Rattle.obj.specs.declared.Split.{Split}
 use Rattle.splits.specs.Table.{rows_in}
+use Rattle.splits.proofs.Lent.{lent_same, lent_still}
 use Rattle.splits.proofs.Alignment.{good_alignment}
 use Rattle.merge.specs.Merge.{merge_all}
 use Rattle.merge.specs.Answers.{merged}
@@ -13,7 +14,7 @@ use Rattle.merge.proofs.Rounds.{places_refused, places_on, places_done}
 use Rattle.merge.proofs.add_splits.Goals as goal
 
 pub loop-i-init : goal.loop-i-init
-loop-i-init c = record { room = refl; merges = ap (merge_all _ _) (tabulate_all _ _) }
+loop-i-init c = record { lent = lent_same; merges = ap (merge_all _ _) (tabulate_all _ _) }
 
 pub add_split-requires : goal.add_split-requires
 add_split-requires c =
@@ -32,7 +33,7 @@ returns-in_err-add_split-clause-rows c =
     let p = err_from_is_err_and c.from_residual.result c.from_residual.ensures.1 in
     rw (p.1, p.2)
     (sym (places_refused a.partials.now.bytes.now a.partials.now.places.now _ _ l.i c.loop-i-test.true _ c.partial_at-new.ensures
-    (sym (rw l.invariant.room at o.ensures.rows) ∙ ap (λ (r : Answer). merged r (rows_in o.new.table)) c.in_err-add_split.was))
+    (sym (rw l.invariant.lent.room at o.ensures.rows) ∙ ap (λ (r : Answer). merged r (rows_in o.new.table)) c.in_err-add_split.was))
     ∙ l.invariant.merges)
 
 pub loop-i-preserved : goal.loop-i-preserved
@@ -41,9 +42,9 @@ loop-i-preserved c =
     let a = c.args in
     let o = c.add_split in
     record {
-      room = o.ensures.room ∙ l.invariant.room;
+      lent = lent_still l.invariant.lent o.ensures.lent;
       merges = sym (places_on a.partials.now.bytes.now a.partials.now.places.now _ _ l.i c.loop-i-test.true _ c.partial_at-new.ensures
-          (sym (rw l.invariant.room at o.ensures.rows) ∙ ap (λ (r : Answer). merged r (rows_in o.new.table)) c.in_ok-add_split.was))
+          (sym (rw l.invariant.lent.room at o.ensures.rows) ∙ ap (λ (r : Answer). merged r (rows_in o.new.table)) c.in_ok-add_split.was))
           ∙ l.invariant.merges;
     }
 
