@@ -17,6 +17,14 @@ pub record Shows (t : GapTable) (s : GapColumns) : Type 0 where
   pub ends : s.ends.now ≡ t.ends.now
   pub count : s.count ≡ t.count
 
+-- the same columns are lent, of the same lengths, with the same room
+pub record SameLent (t u : GapTable) : Type 0 where
+  pub room : u.room ≡ t.room
+  pub keys : u.keys.ghost_name ≡ t.keys.ghost_name
+  pub ends : u.ends.ghost_name ≡ t.ends.ghost_name
+  pub keys_size : length u.keys.now ≡ length t.keys.now
+  pub ends_size : length u.ends.now ≡ length t.ends.now
+
 -- the table has room for one gap among those found
 pub record Placing (t : GapTable) (key end : ℕ) : Type 0 where
   pub rising : Rising key_of (found_in t)
