@@ -1,5 +1,5 @@
 -- A turn of the search over a section's splits: the gaps before the next split enter, and those behind it are left. Assumes nothing.
-use mathlib.Core.Path.{◌≡◌, refl, sym, ap, subst, ◌∙◌}
+use mathlib.Core.Path.{◌≡◌, sym, ap, subst, ◌∙◌}
 use mathlib.Core.List.{List, [], ◌∷◌}
 use mathlib.Core.Bool.{true, false, cond}
 use Prim.Native.Nat.{ℕ, ◌+◌, ◌-◌, ◌≤◌, ◌<◌}
@@ -19,8 +19,9 @@ use Rattle.symbol_order.specs.Order.{key}
 use Rattle.symbols.specs.Sound.{Sound}
 use Rattle.splits.specs.Columns.{Columns, row_at, rows}
 use Rattle.splits.specs.Questions.{from_hit, Hit}
-use Rattle.gap_columns.specs.Table.{found_in}
+use Rattle.gap_columns.specs.Table.{found_in, SameLent}
 use Rattle.gap_columns.specs.declared.gap_table.GapTable.{GapTable}
+use Rattle.gap_columns.proofs.Lent.{lent_same, lent_still}
 use Rattle.gaps.specs.Gaps.{end_after, gaps_to, gaps_before, gaps_from, below, into}
 use Rattle.gaps.specs.Found.{Space}
 use Rattle.gaps.proofs.Gathered.{into-none, into_gathered}
@@ -29,7 +30,7 @@ use Rattle.gaps.proofs.Starts.{Known, known_rows, among_before, after_among, aft
 -- the gaps from `current` on, over the splits from place i on, enter after those found as all of the section after those that were there
 pub record Walking (symbol : ℕ → Symbol) (count n least end start : ℕ) (c : Columns) (m : ℕ) (found₀ found : GapTable) (current i : ℕ) : Type 0 where
   pub small : i ≤ m
-  pub same_room : found.room ≡ found₀.room
+  pub lent : SameLent found₀ found
   pub space : Space symbol count n current end (rows c m) found
   pub known : All (Known n end space.room) (from_hit (below n end) c m i)
   pub is : into (found_in found) (gaps_from symbol count n least end current (from_hit (below n end) c m i))
@@ -61,7 +62,7 @@ module _ (symbol : ℕ → Symbol) (count n least end start : ℕ) (c : Columns)
       let e : keep_if (below n end) (rows c m) ≡ from_hit (below n end) c m i = sym (ap (keep_if (below n end)) (tabulate_all (row_at c) m)) ∙ hit.is in
       record {
         small = hit.small;
-        same_room = refl;
+        lent = lent_same;
         space = s;
         known = subst (All (Known n end s.room)) e (known_rows n end s.room c m s.splits);
         is = ap (λ (l : List Split). into (found_in found₀) (gaps_from symbol count n least end start l)) (sym e);
@@ -117,7 +118,7 @@ module _ (symbol : ℕ → Symbol) (count n least end start : ℕ) (c : Columns)
             → refused x y z ≡ into (found_in found₀) (gaps_from symbol count n least end start (keep_if (below n end) (rows c m)))
         walk_refused x y z e = sym (from_refused symbol count n least sound good end current (found_in found) s (later i) before x y z (sym e)) ∙ next_is
 
-        pub walk_on : (found' : GapTable) (current' i' : ℕ) → found'.room ≡ found.room
+        pub walk_on : (found' : GapTable) (current' i' : ℕ) → SameLent found found'
             → accepted (found_in found') ≡ into (found_in found) (gaps_before symbol count n least current s)
             → Hit (below n end) c m (i + 1) i'
             → current' ≡ cond (eqb s.end 0) (cond (ltb i' m) (get_or c.starts i' 0) end) s.end
@@ -127,7 +128,7 @@ module _ (symbol : ℕ → Symbol) (count n least end start : ℕ) (c : Columns)
             let now : current' ≡ end_after end s (later i) = at ∙ sym (after_hit (below n end) c m i' end s) ∙ ap (end_after end s) (sym hit.is) in
             record {
               small = hit.small;
-              same_room = same ∙ w.same_room;
+              lent = lent_still w.lent same;
               space = record {
                 room = room;
                 gathered =
@@ -139,7 +140,7 @@ module _ (symbol : ℕ → Symbol) (count n least end start : ℕ) (c : Columns)
                     (after_among symbol count n least sound good room w.space.symbols end s (later i) first_known others_known);
                 splits = w.space.splits;
                 symbols = w.space.symbols;
-                fits = omega (arith, same, w.space.fits);
+                fits = omega (arith, same.room, w.space.fits);
               };
               known = subst (All (Known n end room)) hit.is others_known;
               is =

@@ -22,8 +22,9 @@ use Rattle.sections.specs.Ends.{splitting_end}
 use Rattle.sections.proofs.Good.{default_good}
 use Rattle.splits.specs.Columns.{Columns, row_at, rows}
 use Rattle.gap_columns.specs.Columns.{Gap, key_of}
-use Rattle.gap_columns.specs.Table.{found_in}
+use Rattle.gap_columns.specs.Table.{found_in, SameLent}
 use Rattle.gap_columns.specs.declared.gap_table.GapTable.{GapTable}
+use Rattle.gap_columns.proofs.Lent.{lent_still}
 use Rattle.gaps.specs.Gaps.{gaps_from, below, default_of, section_gaps, gaps_of, into, found_gaps}
 use Rattle.gaps.specs.Found.{starts, Gathered, SectionSpace}
 use Rattle.gaps.proofs.Gathered.{into_more, into_refused, into-none, into_gathered, gathered_none, gathered_few}
@@ -75,16 +76,16 @@ module _ (g : Image) (sections : Sections) (c : Columns) (m : ℕ) where
   -- the gaps of the sections from k on enter after those found as all
   pub record Searching (found₀ found : GapTable) (k : ℕ) : Type 0 where
     pub small : k ≤ sections.count
-    pub same_room : found.room ≡ found₀.room
+    pub lent : SameLent found₀ found
     pub gathered : Gathered room (found_in found)
     pub is : into (found_in found) (gaps_of g sections (sections.count - k) k (rows c m)) ≡ found_gaps g sections (rows c m)
 
   module _ (found₀ : GapTable) where
-    pub search_start : (found : GapTable) → found.count ≡ 0 → found.room ≡ found₀.room → Searching found₀ found 0
+    pub search_start : (found : GapTable) → found.count ≡ 0 → SameLent found₀ found → Searching found₀ found 0
     unfolding found_gaps tabulate
     search_start found empty same = record {
       small = omega arith;
-      same_room = same;
+      lent = same;
       gathered = rw empty (gathered_none room);
       is = rw empty (ap (λ (k : ℕ). into [] (gaps_of g sections k 0 (rows c m))) (sub-zero sections.count));
     }
@@ -105,7 +106,7 @@ module _ (g : Image) (sections : Sections) (c : Columns) (m : ℕ) where
           here = λ q. section_starts g sections (rows c m) k h;
           splits = split_starts g sections (rows c m);
           symbols = symbol_starts g sections (rows c m);
-          fits = omega (arith, fits, s.same_room, length-starts g sections (rows c m), length-tabulate (row_at c) 0 m);
+          fits = omega (arith, fits, s.lent.room, length-starts g sections (rows c m), length-tabulate (row_at c) 0 m);
         }
 
         next_is : into (found_in found) (section_gaps g sections k (rows c m) >>= λ gaps. gaps_of g sections (sections.count - (k + 1)) (k + 1) (rows c m) >>= λ more. accepted (gaps ++ more))
@@ -119,12 +120,12 @@ module _ (g : Image) (sections : Sections) (c : Columns) (m : ℕ) where
         search_refused x y z e =
             sym (into_refused (found_in found) (section_gaps g sections k (rows c m)) (gaps_of g sections (sections.count - (k + 1)) (k + 1) (rows c m)) x y z (sym e)) ∙ next_is
 
-        pub search_on : Sound g.symbol g.count → (found' : GapTable) → found'.room ≡ found.room
+        pub search_on : Sound g.symbol g.count → (found' : GapTable) → SameLent found found'
             → accepted (found_in found') ≡ into (found_in found) (section_gaps g sections k (rows c m))
             → Searching found₀ found' (k + 1)
         search_on sound found' same e = record {
           small = omega arith;
-          same_room = same ∙ s.same_room;
+          lent = lent_still s.lent same;
           gathered =
               into_gathered (found_in found) room (section_gaps g sections k (rows c m)) (found_in found') s.gathered
               (λ gaps q. among_section sound k h gaps q) (sym e);

@@ -10,8 +10,9 @@ use Rattle.align.specs.Align.{good_align, align_up}
 use Rattle.obj.specs.declared.Symbol.{Symbol}
 use Rattle.symbol_order.specs.Order.{key}
 use Rattle.gap_columns.specs.Columns.{Gap, placed, gap_of}
-use Rattle.gap_columns.specs.Table.{found_in, Placing}
+use Rattle.gap_columns.specs.Table.{found_in, SameLent, Placing}
 use Rattle.gap_columns.specs.declared.gap_table.GapTable.{GapTable}
+use Rattle.gap_columns.proofs.Lent.{lent_same, lent_still}
 use Rattle.gap_columns.proofs.Placed.{key_of_lem, gap_of_lem}
 use Rattle.gaps.specs.Gaps.{gap_end, gaps_to, into}
 use Rattle.gaps.specs.Found.{Gathered, Space}
@@ -21,13 +22,13 @@ use Rattle.gaps.proofs.Rounds.{gap_ended, round_done, round_refused, round_on, e
 -- the gaps from `at` on enter after those found as all from `current` on after those that were there
 pub record Turning (symbol : ℕ → Symbol) (count n current next alignment : ℕ) (found₀ found : GapTable) (at : ℕ) : Type 0 where
   pub small : at ≤ next
-  pub same_room : found.room ≡ found₀.room
+  pub lent : SameLent found₀ found
   pub space : Space symbol count n at next [] found
   pub is : into (found_in found) (gaps_to symbol count n at next alignment) ≡ into (found_in found₀) (gaps_to symbol count n current next alignment)
 
 module _ (symbol : ℕ → Symbol) (count n current next alignment : ℕ) (found₀ : GapTable) where
   pub turn_start : current ≤ next → Space symbol count n current next [] found₀ → Turning symbol count n current next alignment found₀ found₀ current
-  turn_start h s = record { small = h; same_room = refl; space = s; is = refl }
+  turn_start h s = record { small = h; lent = lent_same; space = s; is = refl }
 
   module _ (good : good_align alignment ≡ true) (found : GapTable) (at : ℕ) (t : Turning symbol count n current next alignment found₀ found at) where
     -- no gap is left
@@ -58,21 +59,21 @@ module _ (symbol : ℕ → Symbol) (count n current next alignment : ℕ) (found
         }
 
         -- .. which has entered
-        pub turn_on : (found' : GapTable) → at < 4294967296 → found'.room ≡ found.room
+        pub turn_on : (found' : GapTable) → at < 4294967296 → SameLent found found'
             → found_in found' ≡ placed (gap_of k e) (found_in found)
             → Turning symbol count n current next alignment found₀ found' e
         turn_on found' fits same p =
             let w = gap_ended symbol count n at next e ended in
             record {
               small = w.within;
-              same_room = same ∙ t.same_room;
+              lent = lent_still t.lent same;
               space = record {
                 room = t.space.room;
                 gathered = subst (Gathered t.space.room) (sym p) with_it;
                 here = end_among symbol count n next alignment good t.space.room t.space.symbols at e w;
                 splits = t.space.splits;
                 symbols = t.space.symbols;
-                fits = omega (arith, same, t.space.fits);
+                fits = omega (arith, same.room, t.space.fits);
               };
               is =
                   ap (λ (l : List Gap). into l (gaps_to symbol count n e next alignment))

@@ -12,7 +12,7 @@ ghost use Rattle.sections.specs.Image.{image_in, TablesIn};
 ghost use Rattle.sections.specs.Sections.{head_of, sections_of, Kept};
 ghost use Rattle.splits.specs.Table.{columns_of, rows_of};
 ghost use Rattle.splits.specs.Questions.{Hit};
-ghost use Rattle.gap_columns.specs.Table.{found_in};
+ghost use Rattle.gap_columns.specs.Table.{found_in, SameLent};
 ghost use Rattle.gaps.specs.Gaps.{gap_end, gaps_to, gaps_before, gaps_from, below, section_gaps, into, found_gaps};
 ghost use Rattle.gaps.specs.Search.{symbol_in, count_in, SameSearch};
 ghost use Rattle.gaps.specs.Found.{end_meaning, end_number, alignment_of_next, next_meaning, searched, Clean, Markable, Lent, Space, SectionSpace, Stopped, Unmarked, end_in};
@@ -163,7 +163,7 @@ fn gaps_to(
     ensures gaps { searched found.new result
         ≡ into (found_in found.old) (gaps_to (symbol_in search.old.here) (count_in search.old.here) search.old.here.section current next alignment) }
     ensures same { SameSearch search.old search.new }
-    ensures room { found.new.room ≡ found.old.room }
+    ensures lent { SameLent found.old found.new }
 {
     let section = search.here.section;
     let mut at = current;
@@ -214,7 +214,7 @@ fn gaps_before(
         ≡ into (found_in found.old)
         (gaps_before (symbol_in search.old.here) (count_in search.old.here) search.old.here.section search.old.here.least current s) }
     ensures same { SameSearch search.old search.new }
-    ensures room { found.new.room ≡ found.old.room }
+    ensures lent { SameLent found.old found.new }
 {
     let here = search.here;
     let Ok(alignment) = next_alignment(&here, s) else {
@@ -267,7 +267,7 @@ fn section_gaps(
         (gaps_from (symbol_in search.old.here) (count_in search.old.here) search.old.here.section search.old.here.least end start
         (keep_if (below search.old.here.section end) (rows_of splits.now))) }
     ensures same { SameSearch search.old search.new }
-    ensures room { found.new.room ≡ found.old.room }
+    ensures lent { SameLent found.old found.new }
 {
     let section = search.here.section;
     let least = search.here.least;
@@ -308,7 +308,7 @@ fn gaps_of(
         (sections_of obj.now.heads.bytes.now obj.now.heads.places.now image.now.bytes.now image.now.places.now)
         k (rows_of splits.now)) }
     ensures marks { Clean marks.new }
-    ensures room { found.new.room ≡ found.old.room }
+    ensures lent { SameLent found.old found.new }
 {
     let section = k as u16;
     let head = section_at(&obj.heads, k);
@@ -347,7 +347,7 @@ pub fn find_gaps(
         (sections_of obj.now.heads.bytes.now obj.now.heads.places.now image.now.bytes.now image.now.places.now)
         (rows_of splits.now) }
     ensures marks { Clean marks.new }
-    ensures room { found.new.room ≡ found.old.room }
+    ensures lent { SameLent found.old found.new }
 {
     found.count = 0;
     for k in 0..obj.heads.places.len() {

@@ -13,7 +13,7 @@ loop-k-init c =
     let a = c.args in
     let g = image_in a.obj.now in
     let sections = sections_of a.obj.now.heads.bytes.now a.obj.now.heads.places.now a.image.now.bytes.now a.image.now.places.now in
-    record { holds = search_start g sections (columns_of a.splits.now) a.splits.now.count _ _ refl refl; clean = c.requires.3 }
+    record { holds = search_start g sections (columns_of a.splits.now) a.splits.now.count _ _ refl (record { room = refl; keys = refl; ends = refl; keys_size = refl; ends_size = refl }); clean = c.requires.3 }
 
 pub gaps_of-requires : goal.gaps_of-requires
 gaps_of-requires c =
@@ -39,7 +39,7 @@ loop-k-preserved c =
     let l = c.loop-k in
     let g = c.gaps_of in
     record {
-      holds = search_on _ _ _ _ _ _ _ l.invariant.holds c.loop-k-test.true c.requires.2 g.new.found g.ensures.room (sym (ap (searched g.new.found) c.in_ok-gaps_of.was) ∙ g.ensures.gaps);
+      holds = search_on _ _ _ _ _ _ _ l.invariant.holds c.loop-k-test.true c.requires.2 g.new.found g.ensures.lent (sym (ap (searched g.new.found) c.in_ok-gaps_of.was) ∙ g.ensures.gaps);
       clean = g.ensures.marks;
     }
 

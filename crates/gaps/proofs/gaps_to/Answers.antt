@@ -52,7 +52,7 @@ loop-current-preserved c =
     let is = sym (rw l.invariant.same.here at c.gap_end.ensures.end) ∙ ap (end_meaning a.search.now.here.section l.at) c.in-Ok.is in
     record {
       holds = turn_on _ _ _ _ _ _ _ c.requires.3 _ _ l.invariant.holds follows _ _ is c.key_of-key.ensures.is
-          p.new.found (omega (arith, l.invariant.holds.small, c.requires.2)) p.ensures.room p.ensures.gaps;
+          p.new.found (omega (arith, l.invariant.holds.small, c.requires.2)) p.ensures.lent p.ensures.gaps;
       same = record { here = same.here ∙ l.invariant.same.here; marks = same.marks ∙ l.invariant.same.marks };
     }
 

@@ -67,7 +67,7 @@ loop-i-preserved c =
     let t = both (ltb l.i m) (ltb l.current a.end) c.loop-i-test.true in
     record {
       holds = walk_on _ _ _ _ _ _ _ _ _ h.sound h.good _ _ _ l.invariant.holds (ltb-true l.i m t.0) _ c.row-s.ensures (ltb-true l.current a.end t.1)
-          g.new.found c.end_after-current.result c.next_below-i-in-loop-i.result g.ensures.room
+          g.new.found c.end_after-current.result c.next_below-i-in-loop-i.result g.ensures.lent
           (sym (ap (searched g.new.found) c.in_ok-gaps_before.was) ∙ rw l.invariant.same.here at g.ensures.gaps)
           c.next_below-i-in-loop-i.ensures c.end_after-current.ensures;
       same = record { here = g.ensures.same.here ∙ l.invariant.same.here; marks = g.ensures.same.marks ∙ l.invariant.same.marks };
