@@ -16,24 +16,12 @@ use Rattle.sections.specs.Image.{Image}
 use Rattle.sections.specs.Sections.{Sections}
 use Rattle.sections.specs.Alignment.{alignment_of}
 use Rattle.symbols.specs.declared.Backwards.{Backwards}
-use Rattle.gaps.specs.declared.NoEnd.{NoEnd}
-use Rattle.gaps.specs.declared.NoEnd.TheVariants.{Unaligned, Nowhere}
 use Rattle.gap_columns.specs.Columns.{Gap, key_of}
 use Rattle.gap_columns.specs.Table.{found_in}
 use Rattle.gap_columns.specs.declared.gap_table.GapTable.{GapTable}
 use Rattle.gaps.specs.Gaps.{misses, end_from}
 
 -- ---- what the answers mean
-
--- "41 repeated name not at a multiple of 4", "42 gap would end where it starts"
-abbrev pub end_number : NoEnd → ℕ
-end_number Unaligned = 41
-end_number Nowhere = 42
-
--- of a gap of section n from `current` on
-abbrev pub end_meaning : (n current : ℕ) → Result ℕ NoEnd → Outcome ℕ
-end_meaning n current (Ok end) = accepted end
-end_meaning n current (Err why) = refused (end_number why) n current
 
 -- of a search that left these gaps
 abbrev pub searched : GapTable → Result (Unit {0}) Refusal → Outcome (List Gap)

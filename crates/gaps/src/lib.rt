@@ -2,9 +2,10 @@
 // is, and kept in a lent table in the order in which they enter.
 #![tactic(auto)]
 
-ghost use Rattle.std.specs.Prelude.{ℕ, ◌≡◌, [], true, false, cond, not, ◌&&◌, ◌+◌, ◌*◌, ◌%◌, ◌≤◌, ◌<◌, length, get_or, eqb, ltb};
+ghost use Rattle.std.specs.Prelude.{◌≡◌, [], true, false, cond, not, ◌&&◌, ◌+◌, ◌*◌, ◌%◌, ◌≤◌, ◌<◌, length, get_or, eqb, ltb};
 ghost use Rattle.lists.specs.Rows.{keep_if};
 ghost use Rattle.align.specs.Align.{good_align, bad_align};
+ghost use Rattle.obj.specs.Answers.{meaning};
 ghost use Rattle.symbol_order.specs.Order.{symbol_of, Readable, Order};
 ghost use Rattle.symbols.specs.Ranges.{stripped};
 ghost use Rattle.symbols.specs.Sound.{Sound};
@@ -15,7 +16,7 @@ ghost use Rattle.splits.specs.Questions.{Hit};
 ghost use Rattle.gap_columns.specs.Table.{found_in, SameLent};
 ghost use Rattle.gaps.specs.Gaps.{gap_end, gaps_to, gaps_before, gaps_from, below, section_gaps, into, found_gaps};
 ghost use Rattle.gaps.specs.Search.{symbol_in, count_in, SameSearch};
-ghost use Rattle.gaps.specs.Found.{end_meaning, end_number, alignment_of_next, next_meaning, searched, Clean, Markable, Lent, Space, SectionSpace, Stopped, Unmarked, end_in};
+ghost use Rattle.gaps.specs.Found.{alignment_of_next, next_meaning, searched, Clean, Markable, Lent, Space, SectionSpace, Stopped, Unmarked, end_in};
 
 use align::align_up;
 use gap_columns::{GapTable, place_gap};
@@ -29,22 +30,6 @@ use symbols::{Backwards, for_section_range};
 mod gap_search;
 
 use gap_search::{GapSearch, GapSection};
-
-// Why a gap ends nowhere: "41 repeated name not at a multiple of 4", "42 gap would end where it starts".
-#[derive(Clone, Copy, Debug, PartialEq, Eq)]
-pub enum NoEnd {
-    Unaligned,
-    Nowhere,
-}
-
-fn end_number(why: NoEnd) -> u16
-    ensures { result ≡ end_number why }
-{
-    match why {
-        NoEnd::Unaligned => 41,
-        NoEnd::Nowhere => 42,
-    }
-}
 
 // ---- where a gap ends
 
@@ -99,17 +84,19 @@ fn clear_marks(table: &Table, part: &[u16], marks: &mut [u8])
     }
 }
 
-// Where the gap ends that goes past j symbols of the part: at symbol j, or at the next start.
+// Where the gap ends that goes past j symbols of the part: at symbol j, or at the next start. "41 repeated name not at a multiple of 4", "42 gap would end where
+// it starts".
 fn end_at(
     table: &Table,
     part: &[u16],
     j: usize,
     marks: &[u8],
+    section: u16,
     current: u32,
     next: u32,
-) -> Result<u32, NoEnd>
+) -> Result<u32, Refusal>
     requires { Readable table.now.bytes.now table.now.places.now part.now × Markable (symbol_of table.now.bytes.now table.now.places.now) (length table.now.places.now) marks.now × Stopped (symbol_of table.now.bytes.now table.now.places.now) current part.now marks.now j × (current < next) }
-    ensures { (n : ℕ) → end_meaning n current result ≡ end_in (symbol_of table.now.bytes.now table.now.places.now) n current next part.now }
+    ensures { meaning result ≡ end_in (symbol_of table.now.bytes.now table.now.places.now) section current next part.now }
 {
     if part.len() <= j {
         return Ok(next);
@@ -117,18 +104,18 @@ fn end_at(
     let y = symbol_at(table, number(part, j));
     let k = y.name as usize;
     if (marks[k] != 0) & (y.address % 4 != 0) {
-        return Err(NoEnd::Unaligned);
+        return refuse(41, section, current);
     }
     if y.address <= current {
-        return Err(NoEnd::Nowhere);
+        return refuse(42, section, current);
     }
     Ok(y.address)
 }
 
 // Where a gap from `current` on ends, before or at the next start.
-fn gap_end(search: &mut GapSearch, current: u32, next: u32) -> Result<u32, NoEnd>
+fn gap_end(search: &mut GapSearch, current: u32, next: u32) -> Result<u32, Refusal>
     requires { current < next }
-    ensures end { end_meaning search.old.here.section current result
+    ensures end { meaning result
         ≡ gap_end (symbol_in search.old.here) (count_in search.old.here) search.old.here.section current next }
     ensures same { SameSearch search.old search.new }
 {
@@ -143,7 +130,7 @@ fn gap_end(search: &mut GapSearch, current: u32, next: u32) -> Result<u32, NoEnd
     );
     let marks = &mut *search.marks;
     let j = stop_of(&here.symbols, part, current, marks);
-    let end = end_at(&here.symbols, part, j, marks, current, next);
+    let end = end_at(&here.symbols, part, j, marks, here.section, current, next);
     clear_marks(&here.symbols, &part[..j], marks);
     end
 }
@@ -172,16 +159,9 @@ fn gaps_to(
         if next <= align_up(at, alignment) {
             return Ok(());
         }
-        match gap_end(search, at, next) {
-            Ok(e) => {
-                let key = key_of(section, at);
-                place_gap(found, key, e);
-                at = e;
-            }
-            Err(why) => {
-                return refuse(end_number(why), section, at);
-            }
-        }
+        let end = gap_end(search, at, next)?;
+        place_gap(found, key_of(section, at), end);
+        at = end;
     }
 }
 

@@ -41,4 +41,4 @@ invariant_of-search c =
     }
 
 pub returns-clause-end : goal.returns-clause-end
-returns-clause-end c = c.end_at-end.ensures c.args.search.now.here.section ∙ end_of_part _ _ _ _ _ _ c.for_section_range-part.ensures
+returns-clause-end c = c.end_at-end.ensures ∙ end_of_part _ _ _ _ _ _ c.for_section_range-part.ensures

@@ -1,10 +1,8 @@
 -- Each gap begins where the one before ends, and enters.
-use Rattle.std.proofs.Common.{◌≡◌, ◌<◌, ◌∙◌, refl, sym, ap, arith}
-use Rattle.lists.specs.Outcome.{refused}
+use Rattle.std.proofs.lemmas.Result.{err_from_is_err_and}
+use Rattle.std.proofs.Common.{◌<◌, ◌∙◌, refl, sym, ap, arith}
 use Rattle.align.specs.Align.{align_up}
-use Rattle.gaps.specs.Gaps.{gap_end}
-use Rattle.gaps.specs.Found.{end_meaning}
-use Rattle.gaps.specs.Search.{symbol_in, count_in}
+use Rattle.obj.specs.Answers.{meaning}
 use Rattle.gaps.proofs.Rounds.{gap_ended}
 use Rattle.gaps.proofs.Turns.{turn_start, turn_done, turn_refused, turn_room, turn_on, before_next}
 use Rattle.gaps.proofs.gaps_to.Goals as goal
@@ -31,15 +29,15 @@ place_gap-requires c =
     let a = c.args in
     let l = c.loop-current in
     let follows : align_up l.at a.alignment < a.next = omega (arith, c.if-next-align_up.false, c.align_up.ensures.is) in
-    let is = sym (rw l.invariant.same.here at c.gap_end.ensures.end) ∙ ap (end_meaning a.search.now.here.section l.at) c.in-Ok.is in
-    turn_room _ _ _ _ _ _ _ c.requires.3 _ _ l.invariant.holds follows _ _ is c.key_of-key.ensures.is
+    let is = sym (rw l.invariant.same.here at c.gap_end.ensures.end) ∙ ap meaning c.in_ok-end.was in
+    turn_room _ _ _ _ _ _ _ c.requires.3 _ _ l.invariant.holds follows _ _ is c.key_of.ensures.is
 
 pub loop-current-smaller : goal.loop-current-smaller
 loop-current-smaller c =
     let a = c.args in
     let l = c.loop-current in
     let follows : align_up l.at a.alignment < a.next = omega (arith, c.if-next-align_up.false, c.align_up.ensures.is) in
-    let is = sym (rw l.invariant.same.here at c.gap_end.ensures.end) ∙ ap (end_meaning a.search.now.here.section l.at) c.in-Ok.is in
+    let is = sym (rw l.invariant.same.here at c.gap_end.ensures.end) ∙ ap meaning c.in_ok-end.was in
     omega (arith, (gap_ended _ _ _ _ _ _ is).above, before_next _ _ _ _ _ _ _ c.requires.3 _ _ l.invariant.holds follows)
 
 pub loop-current-preserved : goal.loop-current-preserved
@@ -49,19 +47,18 @@ loop-current-preserved c =
     let p = c.place_gap in
     let same = c.gap_end.ensures.same in
     let follows : align_up l.at a.alignment < a.next = omega (arith, c.if-next-align_up.false, c.align_up.ensures.is) in
-    let is = sym (rw l.invariant.same.here at c.gap_end.ensures.end) ∙ ap (end_meaning a.search.now.here.section l.at) c.in-Ok.is in
+    let is = sym (rw l.invariant.same.here at c.gap_end.ensures.end) ∙ ap meaning c.in_ok-end.was in
     record {
-      holds = turn_on _ _ _ _ _ _ _ c.requires.3 _ _ l.invariant.holds follows _ _ is c.key_of-key.ensures.is
+      holds = turn_on _ _ _ _ _ _ _ c.requires.3 _ _ l.invariant.holds follows _ _ is c.key_of.ensures.is
           p.new.found (omega (arith, l.invariant.holds.small, c.requires.2)) p.ensures.lent p.ensures.gaps;
       same = record { here = same.here ∙ l.invariant.same.here; marks = same.marks ∙ l.invariant.same.marks };
     }
 
-pub returns-in-Err-clause-gaps : goal.returns-in-Err-clause-gaps
-returns-in-Err-clause-gaps c =
+pub returns-in_err-end-clause-gaps : goal.returns-in_err-end-clause-gaps
+returns-in_err-end-clause-gaps c =
     let a = c.args in
-    let h = a.search.now.here in
     let l = c.loop-current in
     let follows : align_up l.at a.alignment < a.next = omega (arith, c.if-next-align_up.false, c.align_up.ensures.is) in
-    let is : gap_end (symbol_in h) (count_in h) h.section l.at a.next ≡ refused c.end_number.result h.section l.at =
-    rw c.end_number.ensures (sym (rw l.invariant.same.here at c.gap_end.ensures.end) ∙ ap (end_meaning h.section l.at) c.in-Err.is) in
-    rw c.refuse.ensures (turn_refused _ _ _ _ _ _ _ c.requires.3 _ _ l.invariant.holds follows _ _ _ is)
+    let is = sym (rw l.invariant.same.here at c.gap_end.ensures.end) ∙ ap meaning c.in_err-end.was in
+    let e = err_from_is_err_and c.from_residual.result c.from_residual.ensures.1 in
+    rw (e.1, e.2) (turn_refused _ _ _ _ _ _ _ c.requires.3 _ _ l.invariant.holds follows _ _ _ is)
