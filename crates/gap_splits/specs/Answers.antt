@@ -36,10 +36,16 @@ pub record Shows (a : AddedNames) (s : Names) : Type 0 where
   pub places : s.places.now ≡ a.places.now
   pub lengths : s.lengths.now ≡ a.lengths.now
 
--- as many names and bytes may be added
-pub record SameCeilings (a b : AddedNames) : Type 0 where
+-- the same columns are lent, of the same lengths, and as many names and bytes may be added
+pub record SameLent (a b : AddedNames) : Type 0 where
   pub most : b.most ≡ a.most
   pub most_bytes : b.most_bytes ≡ a.most_bytes
+  pub bytes : b.bytes.ghost_name ≡ a.bytes.ghost_name
+  pub places : b.places.ghost_name ≡ a.places.ghost_name
+  pub lengths : b.lengths.ghost_name ≡ a.lengths.ghost_name
+  pub bytes_size : length b.bytes.now ≡ length a.bytes.now
+  pub places_size : length b.places.now ≡ length a.places.now
+  pub lengths_size : length b.lengths.now ≡ length a.lengths.now
 
 -- the ceilings: so many more names, and bytes, than the tables have
 abbrev pub ceilings : (base : List (List ℕ)) → (most most_bytes : ℕ) → Ceilings

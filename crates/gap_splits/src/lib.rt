@@ -8,12 +8,12 @@ ghost use Rattle.names.specs.Index.{Indexed};
 ghost use Rattle.names.specs.GapName.{gap_name};
 ghost use Rattle.tables.specs.Tables.{AllHeld};
 ghost use Rattle.tables.specs.Records.{sections_in};
-ghost use Rattle.splits.specs.Table.{rows_in};
+ghost use Rattle.splits.specs.Table.{rows_in, SameLent as SameTable};
 ghost use Rattle.merge.specs.Merge.{given};
 ghost use Rattle.gap_columns.specs.Columns.{gap};
 ghost use Rattle.gap_columns.specs.Table.{found_of};
 ghost use Rattle.gap_splits.specs.Entering.{gap_split, entered, filled, unit_name};
-ghost use Rattle.gap_splits.specs.Answers.{sections_named, added_in, Shows, SameCeilings, ceilings_in, Absent, Adds, Numbered, meant, TablesIn, Gaps, Enters};
+ghost use Rattle.gap_splits.specs.Answers.{sections_named, added_in, Shows, SameLent, ceilings_in, Absent, Adds, Numbered, meant, TablesIn, Gaps, Enters};
 ghost use Rattle.names.specs.Listed.{names_in};
 
 use gap_columns::GapColumns;
@@ -47,7 +47,7 @@ impl AddedNames<'_, '_, '_> {
 fn add_name(added: &mut AddedNames, x: &[u8]) -> bool
     requires { length x.now ≤ 128 }
     ensures names { Adds (added_in added.old) (added_in added.new) x.now added.old.most added.old.most_bytes result }
-    ensures ceilings { SameCeilings added.old added.new }
+    ensures added { SameLent added.old added.new }
 {
     let count = added.count;
     let used = added.used;
@@ -83,7 +83,7 @@ fn number_of_name(
         × Absent (added_in added.old) x.now
         × (length x.now ≤ 128) }
     ensures unit { Numbered (names_in table_names.now) (added_in added.old) x.now (ceilings_in table_names.now added.old) (added_in added.new) result }
-    ensures ceilings { SameCeilings added.old added.new }
+    ensures added { SameLent added.old added.new }
 {
     let n = table_names.places.len();
     if let Some(k) = find(table_names, n, index, x) {
@@ -103,7 +103,7 @@ fn unit_of(tables: &NamedTables, added: &mut AddedNames, section: u16, start: u3
     ensures unit { Numbered (names_in tables.now.names) (added_in added.old)
         (gap_name section start (sections_named tables.now.heads tables.now.names section))
         (ceilings_in tables.now.names added.old) (added_in added.new) result }
-    ensures ceilings { SameCeilings added.old added.new }
+    ensures added { SameLent added.old added.new }
 {
     let mut text = [0u8; 81];
     let head = section_at(&tables.heads, section as usize);
@@ -149,8 +149,8 @@ fn enter_gap(
         (names_in tables.now.names) (added_in added.old)
         (gap_name section start (sections_named tables.now.heads tables.now.names section))
         (added_in added.new) (rows_in table.new) result }
-    ensures ceilings { SameCeilings added.old added.new }
-    ensures room { table.new.room ≡ table.old.room }
+    ensures added { SameLent added.old added.new }
+    ensures lent { SameTable table.old table.new }
 {
     let Some(unit) = unit_of(tables, added, section, start) else {
         return refuse(28, section, start);
@@ -190,8 +190,8 @@ pub fn enter_gaps(
         (given (sections_in heads.now.bytes.now heads.now.places.now) table.old.room) (ceilings_in table_names.now added.old)
         (record { names = names_in table_names.now; rows = rows_in table.old })
         (found_of gaps.now) }
-    ensures ceilings { SameCeilings added.old added.new }
-    ensures room { table.new.room ≡ table.old.room }
+    ensures added { SameLent added.old added.new }
+    ensures lent { SameTable table.old table.new }
 {
     let tables = NamedTables {
         heads: *heads,

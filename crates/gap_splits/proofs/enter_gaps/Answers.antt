@@ -1,10 +1,12 @@
 -- Each gap enters as the definition lets it enter, and leaves the tables of the next one.
-use Rattle.std.proofs.Common.{◌∙◌, refl, arith, length}
+use Rattle.std.proofs.Common.{refl, arith, length}
 use Rattle.std.proofs.lemmas.Result.{err_from_is_err_and}
 use Rattle.tables.specs.Records.{sections_in}
+use Rattle.splits.proofs.Lent.{lent_same as table_same, lent_still as table_still}
 use Rattle.merge.specs.Merge.{given}
 use Rattle.gap_splits.specs.Added.{beside}
 use Rattle.gap_splits.specs.Answers.{sections_named, ceilings_in}
+use Rattle.gap_splits.proofs.Lent.{lent_still}
 use Rattle.gap_splits.proofs.Naming.{stand_none, none_added}
 use Rattle.gap_splits.proofs.Turns.{starts, goes_on, refused_here, all_entered, gap_here, section_here, absent_here}
 use Rattle.gap_splits.proofs.enter_gaps.Goals as goal
@@ -14,8 +16,11 @@ invariant_of-added c = let a = c.args.added.now in record { stand = stand_none (
 
 pub loop-i-init : goal.loop-i-init
 loop-i-init c =
-    let a = c.args.added.now in
-    (starts _ _ _ _ _ _ _ _ _ (none_added (beside a.bytes.now a.places.now a.lengths.now)), record { most = refl; most_bytes = refl }, refl)
+    let a = c.args.added.now in (
+      starts _ _ _ _ _ _ _ _ _ (none_added (beside a.bytes.now a.places.now a.lengths.now)),
+      record { most = refl; most_bytes = refl; bytes = refl; places = refl; lengths = refl; bytes_size = refl; places_size = refl; lengths_size = refl },
+      table_same,
+    )
 
 pub section_of-section-requires : goal.section_of-section-requires
 section_of-section-requires c =
@@ -46,7 +51,7 @@ returns-in_err-enter_gap-clause-tables c =
     let g = a.gaps.now in
     let here = gap_here g.keys.now g.ends.now l.i c.section_of-section.ensures c.start_of-start.ensures in
     let p = err_from_is_err_and c.from_residual.result c.from_residual.ensures.1 in
-    let e = rw (l.invariant.1.most, l.invariant.1.most_bytes, l.invariant.2) at o.ensures.tables in
+    let e = rw (l.invariant.1.most, l.invariant.1.most_bytes, l.invariant.2.room) at o.ensures.tables in
     rw (p.1, p.2) (refused_here _ _ _ _ _ _ _ _ _ _ l.i l.invariant.0 c.loop-i-test.true _ _ _ here e.is c.in_err-enter_gap.was)
 
 pub loop-i-preserved : goal.loop-i-preserved
@@ -58,10 +63,10 @@ loop-i-preserved c =
     let g = a.gaps.now in
     let same = l.invariant.1 in
     let here = gap_here g.keys.now g.ends.now l.i c.section_of-section.ensures c.start_of-start.ensures in
-    let e = rw (same.most, same.most_bytes, l.invariant.2) at o.ensures.tables in (
+    let e = rw (same.most, same.most_bytes, l.invariant.2.room) at o.ensures.tables in (
       goes_on _ _ _ _ _ _ _ _ _ _ l.i l.invariant.0 c.loop-i-test.true (length a.heads.now.places.now) q.2 q.1.few _ _ here e c.in_ok-enter_gap.was,
-      record { most = o.ensures.ceilings.most ∙ same.most; most_bytes = o.ensures.ceilings.most_bytes ∙ same.most_bytes },
-      o.ensures.room ∙ l.invariant.2,
+      lent_still same o.ensures.added,
+      table_still l.invariant.2 o.ensures.lent,
     )
 
 pub returns-clause-tables : goal.returns-clause-tables
