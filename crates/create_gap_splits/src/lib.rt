@@ -8,10 +8,11 @@ ghost use Rattle.symbol_order.specs.Order.{symbol_of};
 ghost use Rattle.symbols.specs.Sound.{Sound};
 ghost use Rattle.sections.specs.Image.{image_in, TablesIn};
 ghost use Rattle.sections.specs.Sections.{sections_of, Kept};
-ghost use Rattle.splits.specs.Table.{rows_in};
+ghost use Rattle.splits.specs.Table.{rows_in, SameLent as SameTable};
 ghost use Rattle.merge.specs.Merge.{given};
 ghost use Rattle.gaps.specs.Found.{Clean};
-ghost use Rattle.gap_splits.specs.Answers.{added_in, SameCeilings, ceilings_in, meant};
+ghost use Rattle.gap_columns.specs.Table.{SameLent as SameGaps};
+ghost use Rattle.gap_splits.specs.Answers.{added_in, SameLent as SameNames, ceilings_in, meant};
 ghost use Rattle.names.specs.Listed.{names_in};
 ghost use Rattle.create_gap_splits.specs.Create.{gaps_filled, Short};
 
@@ -47,8 +48,9 @@ pub fn create_gap_splits(
         (given (sections_in obj.now.heads.bytes.now obj.now.heads.places.now) table.old.room)
         (ceilings_in obj.now.names added.old)
         (record { names = names_in obj.now.names; rows = rows_in table.old }) }
-    ensures ceilings { SameCeilings added.old added.new }
-    ensures room { table.new.room ≡ table.old.room }
+    ensures lent { SameTable table.old table.new }
+    ensures added { SameNames added.old added.new }
+    ensures found { SameGaps found.old found.new }
 {
     find_gaps(obj, image, &table.columns(), marks, found)?;
     enter_gaps(
