@@ -12,7 +12,7 @@ ghost use Rattle.sections.specs.Image.{image_in, TablesIn};
 ghost use Rattle.sections.specs.Bytes.{bytes_of};
 ghost use Rattle.sections.specs.Ends.{splitting_end, end_meaning};
 ghost use Rattle.splits.specs.Columns.{row_at};
-ghost use Rattle.splits.specs.Table.{columns_of, rows_of, columns_in, rows_in, OnlyEnds};
+ghost use Rattle.splits.specs.Table.{columns_of, rows_of, ends_columns, ends_rows, OnlyEnds};
 ghost use Rattle.trim.specs.Trim.{end_of, ask_next, aligned_end, fall_of, falls_of, carry_one, carry_from, cut_last, cut_section, cut_from, trimmed};
 ghost use Rattle.trim.specs.Steps.{asked_meaning, seen, Placed, AllPlaced, Past, LastOf};
 ghost use Rattle.trim.specs.Lent.{head_in, sections_in, KeptIn, PlacedIn};
@@ -20,7 +20,7 @@ ghost use Rattle.trim.specs.Lent.{head_in, sections_in, KeptIn, PlacedIn};
 use align::align_up;
 use obj::{Refusal, Section, Split, Table, refuse, section_at, symbol_at};
 use sections::{Obj, Short, end_for_section, section_bytes, split_alignment};
-use splits::{SplitColumns, SplitTable, row, set_end};
+use splits::{SplitColumns, SplitEnds, row, set_end};
 use symbols::{Backwards, last_in};
 
 mod checked_tables;
@@ -142,9 +142,9 @@ fn past_start(splits: &SplitColumns, s: Split, from: usize) -> usize
 }
 
 // The fall of row k, 0 if it does not fall: "It falls in the last split at that start".
-fn carry_one(table: &mut SplitTable, k: usize, end: u32) -> Result<(), Refusal>
+fn carry_one(table: &mut SplitEnds, k: usize, end: u32) -> Result<(), Refusal>
     requires { k < table.old.count }
-    ensures rows { seen result (rows_in table.new) ≡ carry_one k end (rows_in table.old) }
+    ensures rows { seen result (ends_rows table.new) ≡ carry_one k end (ends_rows table.old) }
     ensures others { OnlyEnds table.old table.new }
 {
     if end == 0 {
@@ -162,9 +162,9 @@ fn carry_one(table: &mut SplitTable, k: usize, end: u32) -> Result<(), Refusal>
 }
 
 // The falls of all rows, one after another.
-fn carry_out(table: &mut SplitTable, falls: &[u32]) -> Result<(), Refusal>
+fn carry_out(table: &mut SplitEnds, falls: &[u32]) -> Result<(), Refusal>
     requires { table.old.count ≤ length falls.now }
-    ensures rows { seen result (rows_in table.new) ≡ carry_from 0 (take table.old.count falls.now) (rows_in table.old) }
+    ensures rows { seen result (ends_rows table.new) ≡ carry_from 0 (take table.old.count falls.now) (ends_rows table.old) }
     ensures others { OnlyEnds table.old table.new }
 {
     for k in 0..table.count {
@@ -191,8 +191,8 @@ fn last_of(splits: &SplitColumns, section: u16) -> Option<usize>
 }
 
 // "a last split that ends above it is cut to it"
-fn cut_last(table: &mut SplitTable, section: u16, end: u32)
-    ensures rows { rows_in table.new ≡ cut_last section end (rows_in table.old) }
+fn cut_last(table: &mut SplitEnds, section: u16, end: u32)
+    ensures rows { ends_rows table.new ≡ cut_last section end (ends_rows table.old) }
     ensures others { OnlyEnds table.old table.new }
 {
     let Some(k) = last_of(&table.columns(), section) else {
@@ -217,10 +217,10 @@ fn end_at(tables: &CheckedTables, k: usize, head: Section) -> Result<u32, Short>
 }
 
 // Section k: "where the splitting end isn't the section's end", its last split.
-fn cut_section(tables: &CheckedTables, table: &mut SplitTable, k: usize) -> Result<(), Refusal>
+fn cut_section(tables: &CheckedTables, table: &mut SplitEnds, k: usize) -> Result<(), Refusal>
     requires { k < length tables.now.obj.heads.places.now }
-    ensures rows { seen result (rows_in table.new)
-        ≡ cut_section (image_in tables.now.obj) (sections_in tables.now.obj tables.now.image) k (rows_in table.old) }
+    ensures rows { seen result (ends_rows table.new)
+        ≡ cut_section (image_in tables.now.obj) (sections_in tables.now.obj tables.now.image) k (ends_rows table.old) }
     ensures others { OnlyEnds table.old table.new }
 {
     let head = section_at(&tables.obj.heads, k);
@@ -238,9 +238,9 @@ fn cut_section(tables: &CheckedTables, table: &mut SplitTable, k: usize) -> Resu
 }
 
 // All sections, in their order.
-fn cut_sections(tables: &CheckedTables, table: &mut SplitTable) -> Result<(), Refusal>
-    ensures rows { seen result (rows_in table.new)
-        ≡ cut_from (image_in tables.now.obj) (sections_in tables.now.obj tables.now.image) (length tables.now.obj.heads.places.now) 0 (rows_in table.old) }
+fn cut_sections(tables: &CheckedTables, table: &mut SplitEnds) -> Result<(), Refusal>
+    ensures rows { seen result (ends_rows table.new)
+        ≡ cut_from (image_in tables.now.obj) (sections_in tables.now.obj tables.now.image) (length tables.now.obj.heads.places.now) 0 (ends_rows table.old) }
     ensures others { OnlyEnds table.old table.new }
 {
     for k in 0..tables.obj.heads.places.len() {
@@ -255,15 +255,15 @@ fn cut_sections(tables: &CheckedTables, table: &mut SplitTable) -> Result<(), Re
 pub fn trim(
     obj: &Obj,
     image: &Table,
-    table: &mut SplitTable,
+    table: &mut SplitEnds,
     falls: &mut [u32],
 ) -> Result<(), Refusal>
     requires { TablesIn obj.now
         × Sound (symbol_of obj.now.symbols.bytes.now obj.now.symbols.places.now) (length obj.now.symbols.places.now)
         × KeptIn obj.now image.now
-        × AllPlaced (length obj.now.heads.places.now) (columns_in table.old) table.old.count × (table.old.count ≤ length falls.old) }
-    ensures rows { seen result (rows_in table.new)
-        ≡ trimmed (image_in obj.now) (sections_in obj.now image.now) (rows_in table.old) }
+        × AllPlaced (length obj.now.heads.places.now) (ends_columns table.old) table.old.count × (table.old.count ≤ length falls.old) }
+    ensures rows { seen result (ends_rows table.new)
+        ≡ trimmed (image_in obj.now) (sections_in obj.now image.now) (ends_rows table.old) }
     ensures others { OnlyEnds table.old table.new }
 {
     let tables = CheckedTables {

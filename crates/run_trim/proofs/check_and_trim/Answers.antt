@@ -7,7 +7,7 @@ use Rattle.obj.proofs.Errors.{same_err}
 pub returns-in_err-validate-clause-rows : goal.returns-in_err-validate-clause-rows
 returns-in_err-validate-clause-rows c =
     rw (same_err c.from_residual.result c.validate.result c.from_residual.ensures.1 c.in_err-validate.was)
-    (check_refused _ _ _ _ c.in_err-validate.was (rw (c.columns.ensures.rows, c.obj-obj.ensures) at c.validate.ensures))
+    (check_refused _ _ _ _ c.in_err-validate.was (rw (c.columns.ensures.columns, c.columns.ensures.count, c.obj-obj.ensures) at c.validate.ensures))
 
 pub returns-clause-rows : goal.returns-clause-rows
-returns-clause-rows c = check_passed _ _ _ c.in_ok-validate.was (rw (c.columns.ensures.rows, c.obj-obj.ensures) at c.validate.ensures) (rw (c.obj-obj.ensures, c.image.ensures) at c.trim.ensures.rows)
+returns-clause-rows c = check_passed _ _ _ c.in_ok-validate.was (rw (c.columns.ensures.columns, c.columns.ensures.count, c.obj-obj.ensures) at c.validate.ensures) (rw (c.obj-obj.ensures, c.image.ensures) at c.trim.ensures.rows)

@@ -4,8 +4,8 @@ use Prim.Native.Nat.{◌-◌, ◌<◌}
 use native.Mathlib.Omega.{arith}
 use Rattle.lists.specs.Outcome.{accepted}
 use Rattle.obj.specs.Answers.{Answer}
-use Rattle.splits.specs.Columns.{row_at}
-use Rattle.splits.specs.Table.{columns_in, rows_in}
+use Rattle.splits.specs.Columns.{Columns, row_at}
+use Rattle.splits.specs.Table.{ends_columns, ends_rows}
 use Rattle.splits.proofs.Rows.{row_end}
 use Rattle.trim.specs.Steps.{seen}
 use Rattle.trim.proofs.Carry.{last_is, carry_not, carry_refused, carry_set}
@@ -18,23 +18,23 @@ pub returns-then-old-s-clause-rows : goal.returns-then-old-s-clause-rows
 returns-then-old-s-clause-rows c =
     let a = c.args in
     let n = a.table.now.count in
-    let row = row_at (columns_in a.table.now) in
-    let e = c.columns-splits.ensures.columns in
-    let s = rw (e.starts, e.ends, e.units, e.rest) at c.row-s.ensures in
-    let last = rw (e.starts, e.ends, e.units, e.rest, e.count) at c.past_start-last.ensures in
+    let row = row_at (ends_columns a.table.now) in
+    let e = c.columns-splits.ensures in
+    let s = c.row-s.ensures ∙ ap (λ (x : Columns). row_at x a.k) e.columns in
+    let last = rw (e.columns, e.count) at c.past_start-last.ensures in
     let inside : c.past_start-last.result - 1 < n = omega (arith, last.past, last.small) in
     let place = last_is row n a.k c.requires _ _ _ s last.is (omega (arith, last.past)) in
-    ap (λ (r : Answer). seen r (rows_in a.table.now)) c.refuse.ensures
+    ap (λ (r : Answer). seen r (ends_rows a.table.now)) c.refuse.ensures
     ∙ sym (carry_refused row n a.k c.requires a.end _ c.if-end-eq0.false place inside _ _ s (sym (row_end _ _ _ _)) c.if-old-s.true)
 
 pub returns-clause-rows : goal.returns-clause-rows
 returns-clause-rows c =
     let a = c.args in
     let n = a.table.now.count in
-    let row = row_at (columns_in a.table.now) in
-    let e = c.columns-splits.ensures.columns in
-    let s = rw (e.starts, e.ends, e.units, e.rest) at c.row-s.ensures in
-    let last = rw (e.starts, e.ends, e.units, e.rest, e.count) at c.past_start-last.ensures in
+    let row = row_at (ends_columns a.table.now) in
+    let e = c.columns-splits.ensures in
+    let s = c.row-s.ensures ∙ ap (λ (x : Columns). row_at x a.k) e.columns in
+    let last = rw (e.columns, e.count) at c.past_start-last.ensures in
     let inside : c.past_start-last.result - 1 < n = omega (arith, last.past, last.small) in
     let place = last_is row n a.k c.requires _ _ _ s last.is (omega (arith, last.past)) in
     ap accepted c.set_end.ensures.rows

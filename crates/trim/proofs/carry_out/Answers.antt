@@ -3,7 +3,7 @@ use mathlib.Core.Path.{sym, ◌∙◌}
 use Prim.Native.Nat.{◌+◌}
 use lib.ListN.{take, drop}
 use Rattle.obj.proofs.Errors.{same_err}
-use Rattle.splits.specs.Table.{rows_in}
+use Rattle.splits.specs.Table.{ends_rows}
 use Rattle.trim.specs.Trim.{carry_from}
 use Rattle.trim.proofs.Answers.{seen-stops, seen_goes}
 use Rattle.trim.proofs.Carry.{carry_turn, carry_ended}
@@ -16,7 +16,7 @@ returns-in_err-carry_one-clause-rows c =
     let l = c.loop-k in
     rw (same_err c.from_residual.result c.carry_one.result c.from_residual.ensures.1 c.in_err-carry_one.was)
     (seen-stops _ _ _ _ c.carry_one.ensures.rows _ c.in_err-carry_one.was
-    ∙ sym (carry_turn a.falls.now a.table.now.count l.k (rows_in l.table) c.loop-k-test.true c.requires)
+    ∙ sym (carry_turn a.falls.now a.table.now.count l.k (ends_rows l.table) c.loop-k-test.true c.requires)
     ∙ l.invariant.0)
 
 pub returns-in_err-carry_one-clause-others : goal.returns-in_err-carry_one-clause-others
@@ -28,7 +28,7 @@ loop-k-preserved c =
     let n = a.table.now.count in
     let l = c.loop-k in (
       sym (seen_goes _ _ _ (carry_from (l.k + 1) (drop (l.k + 1) (take n a.falls.now))) c.carry_one.ensures.rows c.in_ok-carry_one.was)
-          ∙ sym (carry_turn a.falls.now n l.k (rows_in l.table) c.loop-k-test.true c.requires)
+          ∙ sym (carry_turn a.falls.now n l.k (ends_rows l.table) c.loop-k-test.true c.requires)
           ∙ l.invariant.0,
       only_ends l.invariant.1 c.carry_one.ensures.others,
     )
@@ -37,4 +37,4 @@ pub returns-clause-rows : goal.returns-clause-rows
 returns-clause-rows c =
     let a = c.args in
     let l = c.loop-k in
-    sym (carry_ended a.falls.now a.table.now.count l.k (rows_in l.table) c.loop-k-test.false c.requires) ∙ l.invariant.0
+    sym (carry_ended a.falls.now a.table.now.count l.k (ends_rows l.table) c.loop-k-test.false c.requires) ∙ l.invariant.0

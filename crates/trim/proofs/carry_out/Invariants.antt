@@ -2,12 +2,12 @@
 -- only ends change.
 use mathlib.Core.Path.{◌≡◌}
 use lib.ListN.{take, drop}
-use Rattle.splits.specs.Table.{rows_in, OnlyEnds}
+use Rattle.splits.specs.Table.{ends_rows, OnlyEnds}
 use Rattle.trim.specs.Trim.{carry_from}
 use Rattle.trim.proofs.carry_out.Given as goal
 
 abbrev pub invariant-loop-k : goal.invariant-loop-k
 invariant-loop-k l =
-    (carry_from l.k (drop l.k (take l.initial.table.count l.falls)) (rows_in l.table)
-    ≡ carry_from 0 (take l.initial.table.count l.falls) (rows_in l.initial.table))
+    (carry_from l.k (drop l.k (take l.initial.table.count l.falls)) (ends_rows l.table)
+    ≡ carry_from 0 (take l.initial.table.count l.falls) (ends_rows l.initial.table))
     × OnlyEnds l.initial.table l.table

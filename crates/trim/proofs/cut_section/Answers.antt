@@ -7,7 +7,7 @@ use Rattle.obj.specs.declared.Section.{Section}
 use Rattle.sections.specs.Image.{image_in}
 use Rattle.sections.specs.Ends.{end_meaning}
 use Rattle.sections.proofs.Kept.{kept-held}
-use Rattle.splits.specs.Table.{rows_in}
+use Rattle.splits.specs.Table.{ends_rows}
 use Rattle.trim.specs.Steps.{seen}
 use Rattle.trim.proofs.Cut.{section_short, section_whole, section_cut}
 use Rattle.trim.specs.Lent.{sections_in}
@@ -40,5 +40,5 @@ returns-in-Err-clause-rows c =
     let g = image_in a.tables.now.obj in
     let sections = sections_in a.tables.now.obj a.tables.now.image in
     let head = c.section_at-head.result in
-    ap (λ (r : Answer). seen r (rows_in a.table.now)) c.refuse.ensures
+    ap (λ (r : Answer). seen r (ends_rows a.table.now)) c.refuse.ensures
     ∙ sym (section_short g sections a.k _ 10 a.k head.address (sym c.end_at-end.ensures ∙ ap (end_meaning a.k head.address) c.in-Err.is))

@@ -5,7 +5,7 @@ use native.Mathlib.Nat.{sub-zero}
 use lib.ListN.{length}
 use Rattle.obj.proofs.Errors.{same_err}
 use Rattle.sections.specs.Image.{image_in}
-use Rattle.splits.specs.Table.{rows_in}
+use Rattle.splits.specs.Table.{ends_rows}
 use Rattle.trim.specs.Trim.{cut_from}
 use Rattle.trim.proofs.Answers.{seen-stops, seen_goes}
 use Rattle.trim.proofs.Cut.{cut_turn, cut_ended}
@@ -18,7 +18,7 @@ loop-k-init c =
     let a = c.args in
     let g = image_in a.tables.now.obj in
     let sections = sections_in a.tables.now.obj a.tables.now.image in
-    (ap (λ (m : ℕ). cut_from g sections m 0 (rows_in a.table.now)) (sub-zero (length a.tables.now.obj.heads.places.now)), record { starts = refl; units = refl; rest = refl; held = refl; count = refl; room = refl })
+    (ap (λ (m : ℕ). cut_from g sections m 0 (ends_rows a.table.now)) (sub-zero (length a.tables.now.obj.heads.places.now)), record { starts = refl; units = refl; rest = refl; ends = refl; size = refl; count = refl })
 
 pub returns-in_err-cut_section-clause-rows : goal.returns-in_err-cut_section-clause-rows
 returns-in_err-cut_section-clause-rows c =
@@ -28,7 +28,7 @@ returns-in_err-cut_section-clause-rows c =
     let l = c.loop-k in
     rw (same_err c.from_residual.result c.cut_section.result c.from_residual.ensures.1 c.in_err-cut_section.was)
     (seen-stops _ _ _ _ c.cut_section.ensures.rows _ c.in_err-cut_section.was
-    ∙ sym (cut_turn g sections (length a.tables.now.obj.heads.places.now) l.k (rows_in l.table) c.loop-k-test.true)
+    ∙ sym (cut_turn g sections (length a.tables.now.obj.heads.places.now) l.k (ends_rows l.table) c.loop-k-test.true)
     ∙ l.invariant.0)
 
 pub returns-in_err-cut_section-clause-others : goal.returns-in_err-cut_section-clause-others
@@ -41,7 +41,7 @@ loop-k-preserved c =
     let sections = sections_in a.tables.now.obj a.tables.now.image in
     let l = c.loop-k in (
       sym (seen_goes _ _ _ (cut_from g sections (length a.tables.now.obj.heads.places.now - (l.k + 1)) (l.k + 1)) c.cut_section.ensures.rows c.in_ok-cut_section.was)
-          ∙ sym (cut_turn g sections (length a.tables.now.obj.heads.places.now) l.k (rows_in l.table) c.loop-k-test.true)
+          ∙ sym (cut_turn g sections (length a.tables.now.obj.heads.places.now) l.k (ends_rows l.table) c.loop-k-test.true)
           ∙ l.invariant.0,
       only_ends l.invariant.1 c.cut_section.ensures.others,
     )
@@ -52,4 +52,4 @@ returns-clause-rows c =
     let g = image_in a.tables.now.obj in
     let sections = sections_in a.tables.now.obj a.tables.now.image in
     let l = c.loop-k in
-    sym (cut_ended g sections (length a.tables.now.obj.heads.places.now) l.k (rows_in l.table) c.loop-k-test.false) ∙ l.invariant.0
+    sym (cut_ended g sections (length a.tables.now.obj.heads.places.now) l.k (ends_rows l.table) c.loop-k-test.false) ∙ l.invariant.0

@@ -7,7 +7,7 @@ use Rattle.obj.proofs.Errors.{same_err}
 use Rattle.obj.specs.declared.Split.{Split}
 use Rattle.sections.specs.Image.{image_in}
 use Rattle.sections.proofs.Kept.{kept_heads}
-use Rattle.splits.specs.Table.{rows_in}
+use Rattle.splits.specs.Table.{ends_rows}
 use Rattle.trim.specs.Trim.{falls_of, carry_from, cut_from, trimmed}
 use Rattle.trim.proofs.Answers.{seen-stops, seen_goes}
 use Rattle.trim.specs.Lent.{sections_in}
@@ -22,8 +22,8 @@ invariant_of-tables-clause-asks c =
 pub find_falls-requires : goal.find_falls-requires
 find_falls-requires c =
     let p = c.requires in
-    let e = c.columns.ensures.columns in
-    rw (e.starts, e.ends, e.units, e.rest, e.count) (p.3, p.4)
+    let e = c.columns.ensures in
+    rw (e.columns, e.count) (p.3, p.4)
 
 pub returns-in_err-find_falls-clause-rows : goal.returns-in_err-find_falls-clause-rows
 unfolding trimmed
@@ -31,10 +31,10 @@ returns-in_err-find_falls-clause-rows c =
     let a = c.args in
     let g = image_in a.obj.now in
     let sections = sections_in a.obj.now a.image.now in
-    let table = rows_in a.table.now in
+    let table = ends_rows a.table.now in
     let next = λ (falls : List ℕ). carry_from 0 falls table >>= λ fallen. cut_from g sections sections.count 0 fallen in
-    let e = c.columns.ensures.columns in
-    let found = rw (e.starts, e.ends, e.units, e.rest, e.count) at c.find_falls.ensures in
+    let e = c.columns.ensures in
+    let found = rw (e.columns, e.count) at c.find_falls.ensures in
     rw (same_err c.from_residual.result c.find_falls.result c.from_residual.ensures.1 c.in_err-find_falls.was)
     (seen-stops _ _ (falls_of g sections.head table) next found table c.in_err-find_falls.was)
 
@@ -44,10 +44,10 @@ returns-in_err-carry_out-clause-rows c =
     let a = c.args in
     let g = image_in a.obj.now in
     let sections = sections_in a.obj.now a.image.now in
-    let table = rows_in a.table.now in
+    let table = ends_rows a.table.now in
     let next = λ (falls : List ℕ). carry_from 0 falls table >>= λ fallen. cut_from g sections sections.count 0 fallen in
-    let e = c.columns.ensures.columns in
-    let found = rw (e.starts, e.ends, e.units, e.rest, e.count) at c.find_falls.ensures in
+    let e = c.columns.ensures in
+    let found = rw (e.columns, e.count) at c.find_falls.ensures in
     rw (same_err c.from_residual-in_err-carry_out.result c.carry_out.result c.from_residual-in_err-carry_out.ensures.1 c.in_err-carry_out.was)
     (seen-stops _ _ _ (λ (fallen : List Split). cut_from g sections sections.count 0 fallen) c.carry_out.ensures.rows _ c.in_err-carry_out.was
     ∙ sym (seen_goes _ _ (falls_of g sections.head table) next found c.in_ok-find_falls.was))
@@ -58,10 +58,10 @@ returns-clause-rows c =
     let a = c.args in
     let g = image_in a.obj.now in
     let sections = sections_in a.obj.now a.image.now in
-    let table = rows_in a.table.now in
+    let table = ends_rows a.table.now in
     let next = λ (falls : List ℕ). carry_from 0 falls table >>= λ fallen. cut_from g sections sections.count 0 fallen in
-    let e = c.columns.ensures.columns in
-    let found = rw (e.starts, e.ends, e.units, e.rest, e.count) at c.find_falls.ensures in
+    let e = c.columns.ensures in
+    let found = rw (e.columns, e.count) at c.find_falls.ensures in
     c.cut_sections.ensures.rows
     ∙ sym (seen_goes _ _ _ (λ (fallen : List Split). cut_from g sections sections.count 0 fallen) c.carry_out.ensures.rows c.in_ok-carry_out.was)
     ∙ sym (seen_goes _ _ (falls_of g sections.head table) next found c.in_ok-find_falls.was)
