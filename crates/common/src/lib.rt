@@ -6,14 +6,14 @@ ghost use Rattle.std.specs.Prelude.{◌≡◌, map, ◌&&◌, eqb, ℕ, ◌/◌,
 ghost use Rattle.lists.specs.Rows.{keep_if};
 ghost use Rattle.lists.specs.Outcome.{accepted};
 ghost use Rattle.splits.specs.Columns.{row_of, row_at};
-ghost use Rattle.splits.specs.Table.{columns_of, rows_of, columns_in, rows_in, OnlyRest};
+ghost use Rattle.splits.specs.Table.{columns_of, rows_of, rest_columns, rest_rows, OnlyRest};
 ghost use Rattle.common.specs.Common.{common_in, common_start, from_of, start_meaning, start_of, marked, common_of, answered, First};
 ghost use Rattle.common.specs.Records.{Kept};
 ghost use Rattle.common.specs.Sections.{has_bss_name, bss_numbers, bss_of, first_of, given_of, SectionsIn};
 
 use names::{Names, is_bss, name_at};
 use obj::{Refusal, Split, Table, refuse, section_at};
-use splits::{SplitColumns, SplitTable, rest_of, row};
+use splits::{SplitColumns, SplitRest, rest_of, row};
 
 mod named_sections;
 
@@ -154,8 +154,8 @@ fn marked_rest(start: u32, rest: u64, section: u16, address: u32) -> u64
 }
 
 // Every row of the section from the address on becomes common.
-pub fn mark_columns(table: &mut SplitTable, section: u16, address: u32)
-    ensures rows { rows_in table.new ≡ map (marked section address) (rows_in table.old) }
+pub fn mark_columns(table: &mut SplitRest, section: u16, address: u32)
+    ensures rows { rest_rows table.new ≡ map (marked section address) (rest_rows table.old) }
     ensures others { OnlyRest table.old table.new }
 {
     for i in 0..table.count {
@@ -195,7 +195,7 @@ pub fn marked_rows(rows: [Split; 1024], section: u16, address: u32) -> [Split; 1
     table
 }
 
-// The rows as split records. That they are at most 1,024 is asked by all that put rows into such an array; in `SplitTable` it would be asked of each table.
+// The rows as split records. That they are at most 1,024 is asked by all that put rows into such an array; in `SplitRest` it would be asked of each table.
 fn records(splits: &SplitColumns) -> [Split; 1024]
     requires { splits.now.count ≤ 1024 }
     ensures { take splits.now.count result ≡ rows_of splits.now }
@@ -218,9 +218,9 @@ fn records(splits: &SplitColumns) -> [Split; 1024]
 }
 
 // The records back into the column that may have changed.
-fn put_records(table: &mut SplitTable, records: [Split; 1024])
-    requires { (table.old.count ≤ 1024) × Kept (columns_in table.old) records table.old.count }
-    ensures rows { rows_in table.new ≡ take table.old.count records }
+fn put_records(table: &mut SplitRest, records: [Split; 1024])
+    requires { (table.old.count ≤ 1024) × Kept (rest_columns table.old) records table.old.count }
+    ensures rows { rest_rows table.new ≡ take table.old.count records }
     ensures others { OnlyRest table.old table.new }
 {
     for i in 0..table.count {
@@ -229,9 +229,9 @@ fn put_records(table: &mut SplitTable, records: [Split; 1024])
 }
 
 // What `mark_columns` does, on split records.
-pub fn mark_records(table: &mut SplitTable, section: u16, address: u32)
+pub fn mark_records(table: &mut SplitRest, section: u16, address: u32)
     requires { table.old.count ≤ 1024 }
-    ensures rows { rows_in table.new ≡ map (marked section address) (rows_in table.old) }
+    ensures rows { rest_rows table.new ≡ map (marked section address) (rest_rows table.old) }
     ensures others { OnlyRest table.old table.new }
 {
     let unmarked = records(&table.columns());
@@ -245,12 +245,12 @@ pub fn mark_records(table: &mut SplitTable, section: u16, address: u32)
 pub fn update_common_splits(
     names: &Names,
     heads: &Table,
-    table: &mut SplitTable,
+    table: &mut SplitRest,
     given: Option<u32>,
 ) -> Result<(), Refusal>
     requires { SectionsIn names.now heads.now }
-    ensures rows { answered result (rows_in table.new)
-        ≡ common_of (is_some given) (unwrap_or given 0) (bss_numbers names.now heads.now) (rows_in table.old) }
+    ensures rows { answered result (rest_rows table.new)
+        ≡ common_of (is_some given) (unwrap_or given 0) (bss_numbers names.now heads.now) (rest_rows table.old) }
     ensures others { OnlyRest table.old table.new }
 {
     let from = common_start(names, heads, &table.columns(), given)?;
@@ -264,12 +264,12 @@ pub fn update_common_splits(
 pub fn update_common_records(
     names: &Names,
     heads: &Table,
-    table: &mut SplitTable,
+    table: &mut SplitRest,
     given: Option<u32>,
 ) -> Result<(), Refusal>
     requires { SectionsIn names.now heads.now × (table.old.count ≤ 1024) }
-    ensures rows { answered result (rows_in table.new)
-        ≡ common_of (is_some given) (unwrap_or given 0) (bss_numbers names.now heads.now) (rows_in table.old) }
+    ensures rows { answered result (rest_rows table.new)
+        ≡ common_of (is_some given) (unwrap_or given 0) (bss_numbers names.now heads.now) (rest_rows table.old) }
     ensures others { OnlyRest table.old table.new }
 {
     let from = common_start(names, heads, &table.columns(), given)?;

@@ -7,7 +7,7 @@ use Rattle.common.proofs.Marking.{marking_start, marking_more, marking_done}
 use Rattle.common.proofs.mark_columns.Goals as goal
 
 pub loop-i-init : goal.loop-i-init
-loop-i-init c = (marking_start _ _ _ _, record { starts = refl; ends = refl; units = refl; held = refl; count = refl; room = refl })
+loop-i-init c = (marking_start _ _ _ _, record { starts = refl; ends = refl; units = refl; rest = refl; size = refl; count = refl })
 
 pub loop-i-preserved : goal.loop-i-preserved
 loop-i-preserved c =
@@ -21,9 +21,9 @@ loop-i-preserved c =
         starts = o.starts;
         ends = o.ends;
         units = o.units;
-        held = length-set l.table.rest.now l.i v ∙ o.held;
+        rest = o.rest;
+        size = length-set l.table.rest.now l.i v ∙ o.size;
         count = o.count;
-        room = o.room;
       },
     )
 

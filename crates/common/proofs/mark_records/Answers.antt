@@ -7,7 +7,7 @@ use mathlib.Core.List.{List}
 use lib.ListN.{length, take}
 use Rattle.lists.proofs.Rows.{unmapped}
 use Rattle.obj.specs.declared.Split.{Split}
-use Rattle.splits.specs.Table.{columns_in}
+use Rattle.splits.specs.Table.{rest_columns}
 use Rattle.common.specs.Records.{Kept}
 use Rattle.common.proofs.Written.{marked-kept, marked_front}
 use Rattle.common.proofs.mark_records.Goals as goal
@@ -17,19 +17,19 @@ put_records-requires c =
     let a = c.args in
     let t = a.table.now in
     let made = c.records-unmarked in
-    let e = c.columns.ensures.columns in
-    let are = rw (e.starts, e.ends, e.units, e.rest, e.count) at made.ensures in
+    let e = c.columns.ensures in
+    let are = rw (e.columns, e.count) at made.ensures in
     let long : length made.result ≡ 1024 = search (rules, unmapped) in
     let kept = marked-kept a.section a.address t.starts.now t.ends.now t.units.now t.rest.now made.result t.count (omega (arith, long, c.requires)) are in
-    (c.requires, subst (λ (l : List Split). Kept (columns_in t) l t.count) (sym c.marked_rows-marked.ensures) kept)
+    (c.requires, subst (λ (l : List Split). Kept (rest_columns t) l t.count) (sym c.marked_rows-marked.ensures) kept)
 
 pub returns-clause-rows : goal.returns-clause-rows
 returns-clause-rows c =
     let a = c.args in
     let t = a.table.now in
     let made = c.records-unmarked in
-    let e = c.columns.ensures.columns in
-    let are = rw (e.starts, e.ends, e.units, e.rest, e.count) at made.ensures in
+    let e = c.columns.ensures in
+    let are = rw (e.columns, e.count) at made.ensures in
     let long : length made.result ≡ 1024 = search (rules, unmapped) in
     c.put_records.ensures.rows
     ∙ ap (take t.count) c.marked_rows-marked.ensures

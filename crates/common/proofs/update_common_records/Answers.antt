@@ -5,7 +5,7 @@ use Prim.Native.Nat.{ℕ}
 use Rattle.std.specs.Prelude.{Option, is_some, unwrap_or}
 use Rattle.std.proofs.lemmas.Result.{err_from_is_err_and}
 use Rattle.lists.specs.Outcome.{accepted}
-use Rattle.splits.specs.Table.{rows_in}
+use Rattle.splits.specs.Table.{rest_rows}
 use Rattle.common.specs.Common.{from_of, start_meaning}
 use Rattle.common.specs.Sections.{bss_numbers}
 use Rattle.common.proofs.Laws.{common_nowhere, common_on, common_refused}
@@ -14,22 +14,22 @@ use Rattle.common.proofs.update_common_records.Goals as goal
 pub returns-in_err-from-clause-rows : goal.returns-in_err-from-clause-rows
 returns-in_err-from-clause-rows c =
     let a = c.args in
-    let start = rw c.columns.ensures.rows at c.common_start.ensures in
+    let start = rw (c.columns.ensures.columns, c.columns.ensures.count) at c.common_start.ensures in
     let p = err_from_is_err_and c.from_residual.result c.from_residual.ensures.1 in
     rw (p.1, p.2)
-    (common_refused (is_some a.given) (unwrap_or a.given 0) (bss_numbers a.names.now a.heads.now) (rows_in a.table.now) (sym (ap start_meaning c.in_err-from.was) ∙ start))
+    (common_refused (is_some a.given) (unwrap_or a.given 0) (bss_numbers a.names.now a.heads.now) (rest_rows a.table.now) (sym (ap start_meaning c.in_err-from.was) ∙ start))
 
 pub returns-in-Some-clause-rows : goal.returns-in-Some-clause-rows
 returns-in-Some-clause-rows c =
     let a = c.args in
-    let start = rw c.columns.ensures.rows at c.common_start.ensures in
+    let start = rw (c.columns.ensures.columns, c.columns.ensures.count) at c.common_start.ensures in
     let from = sym (ap start_meaning c.in_ok-from.was ∙ ap (λ (o : Option (ℕ × ℕ)). accepted (from_of o)) c.in-Some.is) ∙ start in
     ap accepted c.mark_records.ensures.rows
-    ∙ common_on (is_some a.given) (unwrap_or a.given 0) (bss_numbers a.names.now a.heads.now) (rows_in a.table.now) from
+    ∙ common_on (is_some a.given) (unwrap_or a.given 0) (bss_numbers a.names.now a.heads.now) (rest_rows a.table.now) from
 
 pub returns-in_default-clause-rows : goal.returns-in_default-clause-rows
 returns-in_default-clause-rows c =
     let a = c.args in
-    let start = rw c.columns.ensures.rows at c.common_start.ensures in
+    let start = rw (c.columns.ensures.columns, c.columns.ensures.count) at c.common_start.ensures in
     let from = sym (ap start_meaning c.in_ok-from.was ∙ ap (λ (o : Option (ℕ × ℕ)). accepted (from_of o)) c.in_default.is) ∙ start in
-    common_nowhere (is_some a.given) (unwrap_or a.given 0) (bss_numbers a.names.now a.heads.now) (rows_in a.table.now) from
+    common_nowhere (is_some a.given) (unwrap_or a.given 0) (bss_numbers a.names.now a.heads.now) (rest_rows a.table.now) from
