@@ -7,7 +7,7 @@ ghost use Rattle.lists.specs.Rows.{tabulate};
 ghost use Rattle.obj.specs.Answers.{meaning};
 ghost use Rattle.obj.specs.Records.{section_at};
 ghost use Rattle.splits.specs.Columns.{row_at};
-ghost use Rattle.splits.specs.Table.{columns_of, rows_of, columns_in, rows_in, OnlyEnds};
+ghost use Rattle.splits.specs.Table.{columns_of, rows_of, ends_columns, ends_rows, OnlyEnds};
 ghost use Rattle.lines.specs.Lines.{Written};
 ghost use Rattle.mend.specs.Mend.{section_ends_of, next_of, wrong_end, limit_of, replacement, mend_line, mend_check};
 ghost use Rattle.mend.specs.Steps.{Joins, Turned, Fills, Mends, LowHeads};
@@ -15,7 +15,7 @@ ghost use Rattle.mend.specs.Steps.{Joins, Turned, Fills, Mends, LowHeads};
 use lines::{put_decimal, put_hex8};
 use names::put_bytes;
 use obj::{Refusal, Table, refuse, section_at};
-use splits::{SplitColumns, SplitTable, row};
+use splits::{SplitColumns, SplitEnds, row};
 
 const SPACE: u8 = 32;
 
@@ -132,15 +132,15 @@ fn put_line(
 
 // Row i gets its end, and its line is put behind the lines so far, if it fits: where they end then.
 fn mend_row(
-    table: &mut SplitTable,
+    table: &mut SplitEnds,
     section_ends: &[u32],
     i: usize,
     lines: &mut [u8],
     at: usize,
 ) -> Option<usize>
     requires { (i < table.old.count) × (at ≤ length lines.old) }
-    ensures turned { Turned section_ends.now (row_at (columns_in table.old) i)
-        (tabulate (row_at (columns_in table.old)) (i + 1) (table.old.count - (i + 1)))
+    ensures turned { Turned section_ends.now (row_at (ends_columns table.old) i)
+        (tabulate (row_at (ends_columns table.old)) (i + 1) (table.old.count - (i + 1)))
         i table.old.ends.now table.new.ends.now lines.old lines.new at result }
     ensures others { OnlyEnds table.old table.new }
 {
@@ -156,8 +156,8 @@ fn mend_row(
 }
 
 // The rows get their ends, and the lines stand at the front of the lent bytes, if they fit: how many bytes of lines there are.
-pub fn mend_rows(table: &mut SplitTable, section_ends: &[u32], lines: &mut [u8]) -> Option<usize>
-    ensures filled { Fills section_ends.now (rows_in table.old) (rows_in table.new) lines.old lines.new result }
+pub fn mend_rows(table: &mut SplitEnds, section_ends: &[u32], lines: &mut [u8]) -> Option<usize>
+    ensures filled { Fills section_ends.now (ends_rows table.old) (ends_rows table.new) lines.old lines.new result }
     ensures others { OnlyEnds table.old table.new }
 {
     let mut at: usize = 0;
@@ -169,11 +169,11 @@ pub fn mend_rows(table: &mut SplitTable, section_ends: &[u32], lines: &mut [u8])
 
 // The stage: 86, then the ends and their lines, then 80. It answers how many bytes of lines there are.
 pub fn mend_table(
-    table: &mut SplitTable,
+    table: &mut SplitEnds,
     section_ends: &[u32],
     lines: &mut [u8],
 ) -> Result<usize, Refusal>
-    ensures mended { Mends section_ends.now (rows_in table.old) (rows_in table.new) lines.old lines.new result }
+    ensures mended { Mends section_ends.now (ends_rows table.old) (ends_rows table.new) lines.old lines.new result }
     ensures others { OnlyEnds table.old table.new }
 {
     check_ends(&table.columns(), section_ends)?;

@@ -6,7 +6,7 @@ use Rattle.mend.proofs.Turns.{going, pass_on, pass_full, pass_done}
 use Rattle.mend.proofs.mend_rows.Goals as goal
 
 pub loop-i-init : goal.loop-i-init
-loop-i-init c = (going _ _ _, record { starts = refl; units = refl; rest = refl; held = refl; count = refl; room = refl })
+loop-i-init c = (going _ _ _, record { starts = refl; units = refl; rest = refl; ends = refl; size = refl; count = refl })
 
 pub returns-in_err-at-clause-filled : goal.returns-in_err-at-clause-filled
 returns-in_err-at-clause-filled c =
@@ -25,9 +25,9 @@ returns-in_err-at-clause-others c =
       starts = o.starts ∙ p.starts;
       units = o.units ∙ p.units;
       rest = o.rest ∙ p.rest;
-      held = o.held ∙ p.held;
+      ends = o.ends ∙ p.ends;
+      size = o.size ∙ p.size;
       count = o.count ∙ p.count;
-      room = o.room ∙ p.room;
     }
 
 pub loop-i-preserved : goal.loop-i-preserved
@@ -44,9 +44,9 @@ loop-i-preserved c =
         starts = o.starts ∙ p.starts;
         units = o.units ∙ p.units;
         rest = o.rest ∙ p.rest;
-        held = o.held ∙ p.held;
+        ends = o.ends ∙ p.ends;
+        size = o.size ∙ p.size;
         count = o.count ∙ p.count;
-        room = o.room ∙ p.room;
       },
     )
 

@@ -7,16 +7,16 @@ use Rattle.mend.proofs.mend_table.Goals as goal
 
 pub returns-in_err-check_ends-clause-mended : goal.returns-in_err-check_ends-clause-mended
 returns-in_err-check_ends-clause-mended c =
-    let checked = rw c.columns.ensures.rows at c.check_ends.ensures in
+    let checked = rw (c.columns.ensures.columns, c.columns.ensures.count) at c.check_ends.ensures in
     let p = err_from_is_err_and c.from_residual.result c.from_residual.ensures.1 in
     rw (p.1, p.2) (mends_refused _ _ (sym (ap meaning c.in_err-check_ends.was) ∙ checked))
 
 pub returns-in-Some-clause-mended : goal.returns-in-Some-clause-mended
 returns-in-Some-clause-mended c =
-    let checked = rw c.columns.ensures.rows at c.check_ends.ensures in
+    let checked = rw (c.columns.ensures.columns, c.columns.ensures.count) at c.check_ends.ensures in
     mends_done _ _ (sym (ap meaning c.in_ok-check_ends.was) ∙ checked) c.mend_rows.ensures.filled _ c.in-Some.is
 
 pub returns-in-None-clause-mended : goal.returns-in-None-clause-mended
 returns-in-None-clause-mended c =
-    let checked = rw c.columns.ensures.rows at c.check_ends.ensures in
+    let checked = rw (c.columns.ensures.columns, c.columns.ensures.count) at c.check_ends.ensures in
     rw c.refuse.ensures (mends_full _ _ (sym (ap meaning c.in_ok-check_ends.was) ∙ checked) c.mend_rows.ensures.filled c.in-None.is)
