@@ -12,6 +12,7 @@ ghost use Rattle.obj.specs.declared.Split.{Split};
 ghost use Rattle.tables.specs.Tables.{AllHeld};
 ghost use Rattle.tables.specs.Records.{sections_in};
 ghost use Rattle.stage_tables.specs.StageTables.{splits_check, Room};
+ghost use Rattle.splits.specs.Table as columns;
 ghost use Rattle.splits.specs.Table.{rows_of as table_of, rows_in};
 ghost use Rattle.splits.specs.Bytes.{table_bytes};
 ghost use Rattle.obj.specs.Records.{split_width};
@@ -47,7 +48,7 @@ pub fn take_split_columns(
     requires { AllHeld 15 heads.now.bytes.now heads.now.places.now × Room table.old.room places.old }
     ensures taken { Taken (meaning result) (splits_check table.old.room lengths.now (sections_in heads.now.bytes.now heads.now.places.now) b.now) b.now
         (rows_in table.new) }
-    ensures room { table.new.room ≡ table.old.room }
+    ensures lent { columns.SameLent table.old table.new }
 {
     take_splits(lengths, heads, b, table.room, places)?;
     let n = b.len() / SPLIT_BYTES;
