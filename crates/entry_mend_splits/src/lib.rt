@@ -17,7 +17,7 @@ use mend_outputs::{finish, give_mended};
 use name_table::{NameColumns, check_names};
 use obj::{Refusal, Table};
 use output::MendOutput;
-use splits::SplitTable;
+use splits::{SplitEnds, SplitTable};
 use stage_splits::{room_of, take_split_columns};
 use stage_tables::take_sections;
 
@@ -69,8 +69,16 @@ fn from_splits(
         room: room_of(output.splits.len()),
     };
     take_split_columns(lengths, heads, splits, &mut places, &mut table)?;
-    let r = mend_table(&mut table, section_ends, output.lines);
-    give_mended(r, &table.columns(), output.splits, output.counts)
+    let count = table.count;
+    let mut mended = SplitEnds {
+        starts: &starts,
+        ends: &mut ends,
+        units: &units,
+        rest: &rest,
+        count,
+    };
+    let r = mend_table(&mut mended, section_ends, output.lines);
+    give_mended(r, &mended.columns(), output.splits, output.counts)
 }
 
 // The sections and where each ends, and the split table after them.

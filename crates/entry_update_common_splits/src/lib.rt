@@ -15,7 +15,7 @@ use lent_tables::{NO_TABLES, StageTables};
 use name_table::NameArrays;
 use names::Names;
 use obj::{Refusal, Table};
-use splits::SplitTable;
+use splits::{SplitRest, SplitTable};
 use stage_splits::{SplitOutput, finish, give_splits, room_of, take_split_columns};
 use stage_tables::take_sections;
 
@@ -45,8 +45,16 @@ fn from_splits(
         room: room_of(output.splits.len()),
     };
     take_split_columns(names.lengths, heads, splits, &mut places, &mut table)?;
-    update_common_records(names, heads, &mut table, given)?;
-    give_splits(&table.columns(), output);
+    let count = table.count;
+    let mut marked = SplitRest {
+        starts: &starts,
+        ends: &ends,
+        units: &units,
+        rest: &mut rest,
+        count,
+    };
+    update_common_records(names, heads, &mut marked, given)?;
+    give_splits(&marked.columns(), output);
     Ok(())
 }
 

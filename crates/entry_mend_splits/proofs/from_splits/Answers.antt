@@ -7,7 +7,7 @@ use lib.ListN.{length}
 use Rattle.obj.specs.Answers.{meaning}
 use Rattle.obj.proofs.Errors.{same_err}
 use Rattle.tables.specs.Records.{sections_in}
-use Rattle.splits.specs.Table.{columns_in}
+use Rattle.splits.specs.Table.{ends_columns}
 use Rattle.stage_splits.proofs.Laws.{room_low, room_fits}
 use Rattle.mend_outputs.proofs.Laws.{gives_as, gives_stops}
 use Rattle.entry_mend_splits.specs.Entry.{from_splits}
@@ -43,22 +43,30 @@ give_mended-requires c =
     let t = c.take_split_columns in
     let w = c.mend_table-r in
     let size = length c.args.output.now.splits.now in
-    let room = t.ensures.room ∙ c.room_of.ensures in
-    let n = c.columns.ensures.columns.count ∙ w.ensures.others.count in (
+    let room = t.ensures.lent.room ∙ c.room_of.ensures in
+    let n = c.columns.ensures.count ∙ w.ensures.others.count in (
       omega (arith, room, n, room_fits size),
       omega (arith, room, n, room_low size),
-      lines_low (columns_in t.new.table) t.new.table.count (omega (arith, room, room_low size)) w.ensures.mended,
+      lines_low _ t.new.table.count (omega (arith, room, room_low size)) w.ensures.mended,
     )
 
 pub returns-clause-gives : goal.returns-clause-gives
 returns-clause-gives c =
     let t = c.take_split_columns in
+    let k = t.ensures.lent in
     let w = c.mend_table-r in
     let a = c.args in
     let heads = sections_in a.heads.now.bytes.now a.heads.now.places.now in
     let told = ap meaning c.in_ok-take_split_columns.was in
-    let room = t.ensures.room ∙ c.room_of.ensures in
+    let room = k.room ∙ c.room_of.ensures in
+    -- the arrays hold what the table held
+    let starts = c.starts-2-1.given.1.1 (sym k.starts) in
+    let ends = c.ends-2-1.given.1.1 (sym k.ends) in
+    let units = c.units-2-1.given.1.1 (sym k.units) in
+    let rest = c.rest-2-1.given.1.1 (sym k.rest) in
+    let mended = rw (starts, ends, units, rest) at w.ensures.mended in
+    let e = c.columns.ensures in
     gives_as (ap (λ (room : ℕ). from_splits a.lengths.now heads a.splits.now room (length a.output.now.lines.now)) c.room_of.ensures)
-    (mended_gives a.lengths.now heads a.splits.now _ (columns_in w.new.table) w.new.table.count _ t.ensures.taken.said told
-    (omega (arith, room, w.ensures.others.count, room_fits (length a.output.now.splits.now))) c.requires.1 (t.ensures.taken.taken (sym t.ensures.taken.said ∙ told)) w.ensures.mended
-    (let e = c.columns.ensures in rw (e.rows, e.columns.count) at c.give_mended.ensures))
+    (mended_gives a.lengths.now heads a.splits.now _ (ends_columns w.new.table) w.new.table.count _ t.ensures.taken.said told
+    (omega (arith, room, w.ensures.others.count, room_fits (length a.output.now.splits.now))) c.requires.1 (t.ensures.taken.taken (sym t.ensures.taken.said ∙ told)) mended
+    (rw (e.columns, e.count) at c.give_mended.ensures))

@@ -41,31 +41,45 @@ returns-in_err-take_split_columns-clause-gives c =
 pub update_common_records-requires : goal.update_common_records-requires
 update_common_records-requires c =
     let t = c.take_split_columns in
-    (c.requires.0, omega (arith, t.new.table.fits, t.ensures.room, c.room_of.ensures, room_low (length c.args.output.now.splits.now)))
+    (c.requires.0, omega (arith, t.new.table.fits, t.ensures.lent.room, c.room_of.ensures, room_low (length c.args.output.now.splits.now)))
 
 pub returns-in_err-update_common_records-clause-gives : goal.returns-in_err-update_common_records-clause-gives
 returns-in_err-update_common_records-clause-gives c =
     let a = c.args in
     let t = c.take_split_columns in
     let u = c.update_common_records in
+    let k = t.ensures.lent in
     let passed = sym t.ensures.taken.said ∙ ap meaning c.in_ok-take_split_columns.was in
+    let starts = c.starts-2-1.given.1.1 (sym k.starts) in
+    let ends = c.ends-2-1.given.1.1 (sym k.ends) in
+    let units = c.units-2-1.given.1.1 (sym k.units) in
+    let rest = c.rest-2-1.given.1.1 (sym k.rest) in
     rw (same_err c.from_residual-in_err-update_common_records.result u.result c.from_residual-in_err-update_common_records.ensures.1 c.in_err-update_common_records.was)
     (update_goes a.names.now.lengths.now (sections_in a.heads.now.bytes.now a.heads.now.places.now) (bss_numbers a.names.now a.heads.now) a.splits.now (is_some a.given) (unwrap_or a.given 0)
-    (length a.output.now.splits.now) c.room_of.ensures passed (t.ensures.taken.taken passed) (gives_refused _ _ u.ensures.rows c.in_err-update_common_records.was))
+    (length a.output.now.splits.now) c.room_of.ensures passed (t.ensures.taken.taken passed)
+    (gives_refused _ _ (rw (starts, ends, units, rest) at u.ensures.rows) c.in_err-update_common_records.was))
 
 pub give_splits-requires : goal.give_splits-requires
 give_splits-requires c =
     let t = c.take_split_columns in
-    let n = c.columns.ensures.columns.count in
+    let n = c.columns.ensures.count in
     let m = c.update_common_records.ensures.others.count in
+    let room = t.ensures.lent.room in
     let size = length c.args.output.now.splits.now in
-    (omega (arith, n, m, t.new.table.fits, t.ensures.room, c.room_of.ensures, room_fits size), omega (arith, n, m, t.new.table.fits, t.ensures.room, c.room_of.ensures, room_low size))
+    (omega (arith, n, m, t.new.table.fits, room, c.room_of.ensures, room_fits size), omega (arith, n, m, t.new.table.fits, room, c.room_of.ensures, room_low size))
 
 pub returns-clause-gives : goal.returns-clause-gives
 returns-clause-gives c =
     let a = c.args in
     let t = c.take_split_columns in
+    let u = c.update_common_records in
+    let k = t.ensures.lent in
+    let e = c.columns.ensures in
     let passed = sym t.ensures.taken.said ∙ ap meaning c.in_ok-take_split_columns.was in
-    let w = gives_laid _ _ c.update_common_records.ensures.rows c.in_ok-update_common_records.was (rw c.columns.ensures.rows at c.give_splits.ensures.laid) in
+    let starts = c.starts-2-1.given.1.1 (sym k.starts) in
+    let ends = c.ends-2-1.given.1.1 (sym k.ends) in
+    let units = c.units-2-1.given.1.1 (sym k.units) in
+    let rest = c.rest-2-1.given.1.1 (sym k.rest) in
+    let w = gives_laid _ _ (rw (starts, ends, units, rest) at u.ensures.rows) c.in_ok-update_common_records.was (rw (e.columns, e.count) at c.give_splits.ensures.laid) in
     update_goes a.names.now.lengths.now (sections_in a.heads.now.bytes.now a.heads.now.places.now) (bss_numbers a.names.now a.heads.now) a.splits.now (is_some a.given) (unwrap_or a.given 0)
     (length a.output.now.splits.now) c.room_of.ensures passed (t.ensures.taken.taken passed) (rw c.in_ok-update_common_records.was at w)
