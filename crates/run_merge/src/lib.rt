@@ -5,7 +5,7 @@
 ghost use Rattle.std.specs.Prelude.{◌≡◌, []};
 ghost use Rattle.tables.specs.Tables.{AllHeld};
 ghost use Rattle.tables.specs.Records.{sections_in, partials_in};
-ghost use Rattle.splits.specs.Table.{rows_in};
+ghost use Rattle.splits.specs.Table.{rows_in, SameLent};
 ghost use Rattle.splits.specs.Bytes.{Partials};
 ghost use Rattle.merge.specs.Merge.{given, merge_all};
 ghost use Rattle.merge.specs.Answers.{merged};
@@ -16,7 +16,7 @@ use common::update_common_splits;
 use loaded::Loaded;
 use merge::add_splits;
 use obj::{Refusal, Table};
-use splits::SplitTable;
+use splits::{SplitRest, SplitTable};
 
 // The partial splits merged into a table that has none, and common marked.
 pub fn merge_partials(loaded: &Loaded, table: &mut SplitTable) -> Result<(), Refusal>
@@ -26,7 +26,7 @@ pub fn merge_partials(loaded: &Loaded, table: &mut SplitTable) -> Result<(), Ref
     ensures rows { merged result (rows_in table.new)
         ≡ marked_in (bss_in loaded.now.file.now loaded.now.names.now loaded.now.lengths.now loaded.now.file.now loaded.now.sections.now)
         (merge_all (given (sections_in loaded.now.file.now loaded.now.sections.now) table.old.room) [] (partials_in loaded.now.file.now loaded.now.partials.now)) }
-    ensures room { table.new.room ≡ table.old.room }
+    ensures lent { SameLent table.old table.new }
 {
     let heads = loaded.heads();
     table.count = 0;
@@ -38,7 +38,18 @@ pub fn merge_partials(loaded: &Loaded, table: &mut SplitTable) -> Result<(), Ref
             places: loaded.partials,
         },
     )?;
+    let starts = &mut *table.starts;
+    let ends = &mut *table.ends;
+    let units = &mut *table.units;
+    let rest = &mut *table.rest;
+    let mut marked = SplitRest {
+        starts: &*starts,
+        ends: &*ends,
+        units: &*units,
+        rest: &mut *rest,
+        count: table.count,
+    };
     // without a start nothing is refused
-    let _ = update_common_splits(&loaded.names(), &heads, table, None);
+    let _ = update_common_splits(&loaded.names(), &heads, &mut marked, None);
     Ok(())
 }

@@ -21,5 +21,8 @@ unfolding tabulate
 returns-clause-rows c =
     let m = c.add_splits in
     let said = sym (rw c.heads-heads.ensures at m.ensures.rows) ∙ ap (λ (r : Answer). merged r (rows_in m.new.table)) c.in_ok-add_splits.was in
-    let marked = rw (c.names.ensures, c.heads-heads.ensures) at c.update_common_splits.ensures.rows in
-    marked_left _ said (common_left c.update_common_splits.result _ _ _ marked)
+    let u = c.update_common_splits in
+    let marked = rw (c.names.ensures, c.heads-heads.ensures) at u.ensures.rows in
+    let o = u.ensures.others in
+    let written = c.rest-2-1.given.1.1 (sym o.rest) in
+    rw written (marked_left _ said (common_left u.result _ _ _ (rw (o.starts, o.ends, o.units, o.count) at marked)))
