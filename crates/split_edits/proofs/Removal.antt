@@ -49,6 +49,10 @@ module _ {A : Type 0} (p : A → Bool) (f : ℕ → A) (n : ℕ) where
       ∙ ap (λ (t : List A). f i ∷ t) (kept-rest d (i + 1) (omega arith) (λ k q l. stay k (omega arith) l))
       ∙ sym (rest-cons f i n (omega arith))
 
+  -- all rows stay
+  pub kept-all : ((k : ℕ) → k < n → p (f k) ≡ true) → keep_if p (tabulate f 0 n) ≡ tabulate f 0 n
+  kept-all stay = ap (keep_if p) (sym (tabulate_all f n)) ∙ kept-rest n 0 (omega arith) (λ k h l. stay k l) ∙ tabulate_all f n
+
 -- the rows from `first` up to `stop` go, and those from there on go down to `first`: those before and those behind are left
 pub lowered-parts : {A : Type 0} (f₀ f : ℕ → A) (n first stop : ℕ) → first ≤ stop → stop ≤ n → Lowered first stop (n - stop) f₀ f
     → tabulate f 0 (n - (stop - first)) ≡ tabulate f₀ 0 first ++ tabulate f₀ stop (n - stop)

@@ -81,7 +81,7 @@ fn takes_place(rows: &RowRun, s: Split) -> bool
     let other = next_within(splits, SectionRange::of(s), rows.stop);
     let own = next_of_unit(&splits.first(rows.first), s.section, s.unit, 0);
     let later = next_of_unit(splits, s.section, s.unit, rows.stop);
-    if (other < splits.count) | (own.is_some() | later.is_some()) {
+    if other.is_some() | (own.is_some() | later.is_some()) {
         return false;
     }
     if !keeps_units(rows, s.unit) {
@@ -100,7 +100,9 @@ pub fn join_and_push(table: &mut SplitTable, s: Split) -> bool
     let n = table.count;
     let splits = table.columns();
     let range = SectionRange::of(s);
-    let first = next_within(&splits, range, 0);
+    let Some(first) = next_within(&splits, range, 0) else {
+        return false;
+    };
     let stop = next_outside(&splits, range, first);
     let rows = RowRun {
         splits,

@@ -143,9 +143,3 @@ module _ {A : Type 0} (p : A → Bool) (f : ℕ → A) (n : ℕ) where
   some_skip i j h l none =
       let e : i + (j - i) ≡ j = omega arith in
       skip (j - i) i (omega arith) (λ k q m. none k q (omega arith)) ∙ ap (λ (x : ℕ). some p (tabulate f x (n - x))) e
-
-  -- row i, whose answer is `here`, then those from j on
-  pub some_jump : (seen here : Bool) (i j : ℕ) → i < n → i + 1 ≤ j → j ≤ n → p (f i) ≡ here → ((k : ℕ) → i + 1 ≤ k → k < j → p (f k) ≡ false)
-      → ((seen || here) || some p (tabulate f j (n - j))) ≡ (seen || some p (tabulate f i (n - i)))
-  some_jump seen here i j h m l e none =
-      ap₂ (λ (x y : Bool). (seen || x) || y) (sym e) (sym (some_skip (i + 1) j m l none)) ∙ some_row p f n i seen h

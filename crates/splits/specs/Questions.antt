@@ -1,6 +1,6 @@
 -- What is asked of a split table: the splits that start in a range of a section, and those of a unit in a section.
 -- The "joint range" of document 01, Merge, is from the joint start up to, and without, the joint end; a split is in it by its start.
-use Rattle.std.specs.Prelude.{ℕ, ◌+◌, ◌-◌, ◌/◌, ◌%◌, ◌≤◌, ◌≡◌, List, [], ◌∷◌, Bool, cond, not, ◌&&◌, eqb, leb, ltb, ◌<◌, Option, MatchOption}
+use Rattle.std.specs.Prelude.{ℕ, ◌+◌, ◌-◌, ◌/◌, ◌%◌, ◌≤◌, ◌≡◌, List, [], ◌∷◌, Bool, true, false, cond, not, ◌&&◌, eqb, leb, ltb, ◌<◌, Option, MatchOption}
 use Rattle.lists.specs.Rows.{tabulate, keep_if, some}
 use Rattle.obj.specs.declared.Split.{Split}
 use Rattle.splits.specs.declared.Met.{Met}
@@ -46,6 +46,21 @@ pub record Hit (p : Split → Bool) (c : Columns) (n from r : ℕ) : Type 0 wher
 -- r is the place of the first row from place `from` on that passes, if one does
 abbrev pub NextHit : (p : Split → Bool) (c : Columns) (n from : ℕ) → Option ℕ → Type 0
 NextHit p c n from r = MatchOption r (Hit p c n from n) (λ i. Hit p c n from i × (i < n))
+
+-- none of the rows from place `from` up to `to` passes
+abbrev pub NonePasses : (Split → Bool) → Columns → ℕ → ℕ → Type 0
+NonePasses p c from to = (k : ℕ) → from ≤ k → k < to → p (row_at c k) ≡ false
+
+-- row i is the first that passes, of those from place `from` up to `to`
+pub record FirstAt (p : Split → Bool) (c : Columns) (from to i : ℕ) : Type 0 where
+  pub past : from ≤ i
+  pub small : i < to
+  pub none : NonePasses p c from i
+  pub passes : p (row_at c i) ≡ true
+
+-- r is the place of the first row that passes, of those from place `from` up to `to`, if one does
+abbrev pub FirstPlace : (Split → Bool) → Columns → ℕ → ℕ → Option ℕ → Type 0
+FirstPlace p c from to r = MatchOption r (NonePasses p c from to) (FirstAt p c from to)
 
 -- a hand split among those that pass; one of another unit
 abbrev pub is_by_hand : (Split → Bool) → Split → Bool

@@ -9,7 +9,7 @@ ghost use Rattle.obj.specs.Records.{split_at, partial_width, split_width};
 ghost use Rattle.splits.specs.Columns.{alignment_of, Good, row_of, row_at};
 ghost use Rattle.splits.specs.Table.{columns_of, rows_of, columns_in, rows_in, Shows, SameColumns, SameLent, ends_columns, ends_rows, OnlyEnds};
 ghost use Rattle.splits.specs.Updates.{with_end};
-ghost use Rattle.splits.specs.Questions.{in_range, of_unit, NextHit, Meets};
+ghost use Rattle.splits.specs.Questions.{in_range, of_unit, NextHit, FirstPlace, Meets};
 ghost use Rattle.splits.specs.Bytes.{partial_bytes, split_bytes, table_bytes, Loadable};
 
 use fields::{put16, put32};
@@ -311,51 +311,40 @@ fn holds_start(starts: &[u32], at: usize, from: u32, to: u32) -> bool
     any
 }
 
-// The first row from `at` up to `stop` in the range, or `stop`: row by row.
-fn within_in_rows(splits: &SplitColumns, range: SectionRange, at: usize, stop: usize) -> usize
-    requires { (stop ≤ splits.now.count) × (at ≤ stop) }
-    ensures { (at ≤ result)
-        × (result ≤ stop)
-        × ((k : ℕ) → at ≤ k → k < result → in_range range (row_at (columns_of splits.now) k) ≡ false)
-        × (result < stop → in_range range (row_at (columns_of splits.now) result) ≡ true) }
+// The first row from `at` up to `to` in the range: row by row.
+fn within_in_rows(splits: &SplitColumns, range: SectionRange, at: usize, to: usize) -> Option<usize>
+    requires { (to ≤ splits.now.count) × (at ≤ to) }
+    ensures { FirstPlace (in_range range) (columns_of splits.now) at to result }
 {
-    for i in at..stop {
+    for i in at..to {
         if is_within(range, splits.starts[i], splits.rest[i]) {
-            return i;
+            return Some(i);
         }
     }
-    stop
+    None
 }
 
 // The same of the 32 rows from `at` on: row by row only where one starts in the range in some section.
-fn within_in_block(splits: &SplitColumns, range: SectionRange, at: usize) -> usize
+fn within_in_block(splits: &SplitColumns, range: SectionRange, at: usize) -> Option<usize>
     requires { at + 32 ≤ splits.now.count }
-    ensures { (at ≤ result)
-        × (result ≤ at + 32)
-        × ((k : ℕ) → at ≤ k → k < result → in_range range (row_at (columns_of splits.now) k) ≡ false)
-        × (result < at + 32 → in_range range (row_at (columns_of splits.now) result) ≡ true) }
+    ensures { FirstPlace (in_range range) (columns_of splits.now) at (at + 32) result }
 {
     if holds_start(splits.starts, at, range.from, range.to) {
         return within_in_rows(splits, range, at, at + 32);
     }
-    at + 32
+    None
 }
 
-// The first row from `at` on in the range, or the table's end: by blocks of 32 rows, then the rows that are left. Callers take that as the end of a range of rows
-// (split_edits `remove_rows`, `remove_range`, split_joins `join_and_push`), so it is no Option.
-pub fn next_within(splits: &SplitColumns, range: SectionRange, at: usize) -> usize
+// The first row from `at` on in the range: by blocks of 32 rows, then the rows that are left.
+pub fn next_within(splits: &SplitColumns, range: SectionRange, at: usize) -> Option<usize>
     requires { at ≤ splits.now.count }
-    ensures { (at ≤ result)
-        × (result ≤ splits.now.count)
-        × ((k : ℕ) → at ≤ k → k < result → in_range range (row_at (columns_of splits.now) k) ≡ false)
-        × (result < splits.now.count → in_range range (row_at (columns_of splits.now) result) ≡ true) }
+    ensures { FirstPlace (in_range range) (columns_of splits.now) at splits.now.count result }
 {
     // by blocks, and then what is left: no count of rows
     let mut i = at;
     while 32 <= splits.count - i {
-        let k = within_in_block(splits, range, i);
-        if k < i + 32 {
-            return k;
+        if let Some(k) = within_in_block(splits, range, i) {
+            return Some(k);
         }
         i += 32;
     }
@@ -370,15 +359,15 @@ pub fn meets(splits: &SplitColumns, range: SectionRange, unit: u16) -> Met
     let mut any = false;
     let mut hand = false;
     let mut other = false;
-    let mut i = next_within(splits, range, 0);
+    let mut next = next_within(splits, range, 0);
     // from one row in the range to the next: no count
-    while i < splits.count {
+    while let Some(i) = next {
         let by_hand = is_hand(splits.rest[i]);
         let of_other = splits.units[i] != unit;
         any = true;
         hand |= by_hand;
         other |= by_hand & of_other;
-        i = next_within(splits, range, i + 1);
+        next = next_within(splits, range, i + 1);
     }
     Met { any, hand, other }
 }

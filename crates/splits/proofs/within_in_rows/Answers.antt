@@ -12,7 +12,7 @@ pub returns-then-is_within : goal.returns-then-is_within
 unfolding row_of
 returns-then-is_within c =
     let l = c.loop-i in
-    (omega arith, omega arith, l.invariant.2, λ h. sym c.is_within.ensures ∙ c.if-is_within.true)
+    record { past = l.invariant.0; small = c.loop-i-test.true; none = l.invariant.2; passes = sym c.is_within.ensures ∙ c.if-is_within.true }
 
 pub loop-i-preserved : goal.loop-i-preserved
 unfolding row_of

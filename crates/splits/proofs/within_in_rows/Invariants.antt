@@ -11,5 +11,5 @@ use Rattle.splits.proofs.within_in_rows.Given as goal
 abbrev pub invariant-loop-i : goal.invariant-loop-i
 invariant-loop-i l =
     (l.at ≤ l.i)
-    × (l.i ≤ l.stop)
+    × (l.i ≤ l.to)
     × ((k : ℕ) → l.at ≤ k → k < l.i → in_range l.range (row_at (columns_of l.splits) k) ≡ false)

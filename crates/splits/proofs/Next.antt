@@ -1,0 +1,38 @@
+-- From one row that passes to the next one, until there is none. Assumes nothing.
+use mathlib.Core.Path.{◌≡◌, sym, ◌∙◌}
+use mathlib.Core.Bool.{Bool, true, false}
+use Prim.Native.Nat.{ℕ, ◌+◌, ◌-◌, ◌≤◌, ◌<◌}
+use native.Mathlib.Omega.{arith}
+use Rattle.std.specs.Prelude.{Option, Some, None, MatchOption, is_some, unwrap_or}
+use Rattle.obj.specs.declared.Split.{Split}
+use Rattle.splits.specs.Columns.{Columns, row_at}
+use Rattle.splits.specs.Questions.{NonePasses, FirstPlace}
+
+-- the next row passes, if there is one
+abbrev pub NextIn : (Split → Bool) → Columns → ℕ → Option ℕ → Type 0
+NextIn p c n next = MatchOption next (Unit {0}) (λ i. (i < n) × (p (row_at c i) ≡ true))
+
+pub next_in : (p : Split → Bool) (c : Columns) (n at : ℕ) (r : Option ℕ) → FirstPlace p c at n r → NextIn p c n r
+next_in p c n at None none = tt
+next_in p c n at (Some i) s = (s.small, s.passes)
+
+-- fewer rows are left
+pub fewer_left : (p : Split → Bool) (c : Columns) (n i : ℕ) (r : Option ℕ) → i < n → FirstPlace p c (i + 1) n r → n - unwrap_or r n < n - i
+fewer_left p c n i None h none = omega arith
+fewer_left p c n i (Some j) h s = omega (arith, s.past, s.small)
+
+-- none of the rows up to the next one passes
+pub none_before : (p : Split → Bool) (c : Columns) (n at : ℕ) (r : Option ℕ) → at ≤ n → FirstPlace p c at n r
+    → (at ≤ unwrap_or r n) × (unwrap_or r n ≤ n) × NonePasses p c at (unwrap_or r n)
+none_before p c n at None h none = (h, omega arith, none)
+none_before p c n at (Some i) h s = (s.past, omega (arith, s.small), s.none)
+
+-- there is none
+pub none_left : (p : Split → Bool) (c : Columns) (n at : ℕ) (r : Option ℕ) → is_some r ≡ false → FirstPlace p c at n r → NonePasses p c at n
+none_left p c n at None e none = none
+none_left p c n at (Some i) e s = absurd (let z : ◌≡◌ {A = ℕ} 0 1 = cc in omega arith)
+
+-- columns of which each row passes where the other's does
+pub same_places : (p : Split → Bool) (c d : Columns) (at n : ℕ) → ((k : ℕ) → p (row_at c k) ≡ p (row_at d k)) → (r : Option ℕ) → FirstPlace p c at n r → FirstPlace p d at n r
+same_places p c d at n e None none = λ k h l. sym (e k) ∙ none k h l
+same_places p c d at n e (Some i) s = record { past = s.past; small = s.small; none = λ k h l. sym (e k) ∙ s.none k h l; passes = sym (e i) ∙ s.passes }
