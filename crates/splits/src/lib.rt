@@ -78,7 +78,8 @@ impl SectionRange {
     }
 }
 
-// What a range holds: a split, a hand split, a hand split of another unit.
+// What a range holds: a split, a hand split, a hand split of another unit. Each row of the range adds to each of the three, and each is asked by a rule of its own;
+// an enum of the four cases would take a maximum over the rows and say the same by its order.
 #[derive(Clone, Copy)]
 pub struct Met {
     pub any: bool,
@@ -237,7 +238,7 @@ fn is_hand(yrest: u64) -> bool
     !(yrest / 4294967296 % 256 / 2 % 2 == 1)
 }
 
-// Two searches follow, for a unit in a section and for a range: each by rows, by a block of 32, and to the table's end. So three functions have the same
+// Two searches follow, for a unit in a section and for a range: each by rows, by a block of 32, and to the table's end. So three functions of each have the same
 // parameters, which are what is searched, what for, and from where: section and unit are two fields of a split at each call, and a struct of them would be made there.
 
 // Whether one of the 32 units from `at` on is `unit`. No early exit and a fixed count, so that the compiler compares eight at a time.

@@ -13,7 +13,8 @@ pub struct SplitColumns<'s, 'e, 'u, 'r> {
     pub ghost long: { Long (columns starts.now ends.now units.now rest.now) count },
 }
 
-// The split table: columns to write, with room for `room` rows, of which the first `count` are the table's.
+// The split table: columns to write, with room for `room` rows, of which the first `count` are the table's. Who owns the columns writes them into the literal, as
+// `starts: &mut [0u32; 1024]`: a method of a struct that owns them can't return this one (the prover doesn't cover it), and a closure would carry its caller's contract.
 #[derive(Drop)]
 pub struct SplitTable<'s, 'e, 'u, 'r> {
     pub starts: &'s mut [u32],
