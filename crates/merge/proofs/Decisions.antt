@@ -10,6 +10,7 @@ use lib.ListN.{length, get_or, length-map}
 use borrow.Author.Tests.{eq-eqb, ne_eqb, eqb-true, eqb-false, le-leb, lt-leb, lt-ltb, le-ltb}
 use Rattle.lists.specs.Rows.{tabulate, keep_if}
 use Rattle.lists.specs.Outcome.{Outcome, accepted, refused, refuse, ◌>>◌}
+use Rattle.lists.proofs.Compare.{never}
 use Rattle.lists.proofs.Rows.{length-tabulate, get_d_map}
 use Rattle.lists.proofs.Parts.{tabulate_all}
 use Rattle.lists.proofs.Outcomes.{fails, passes}
@@ -143,12 +144,12 @@ module _ (room : ℕ) (c : Columns) (n : ℕ) (new : Split) where
         → on_own room (rows c n) new own ≡ refused 22 new.section new.start
     unfolding on_own
     own_several (Some j) s e = by_second j s.0 true (lt-ltb j n s.1)
-    own_several None s e = absurd (let z : true ≡ false = sym e in let y : ◌≡◌ {A = ℕ} 1 0 = cc in omega arith)
+    own_several None s e = absurd (never e)
 
     pub own_one : (second : Option ℕ) → NextHit (of_unit new.section new.unit) c n (i + 1) second → is_some second ≡ false
         → on_own room (rows c n) new own ≡ on_old (rows c n) new (row_at c i)
     unfolding on_own
-    own_one (Some j) s e = absurd (let z : true ≡ false = e in let y : ◌≡◌ {A = ℕ} 1 0 = cc in omega arith)
+    own_one (Some j) s e = absurd (never (sym e))
     own_one None s e = by_second n s false (le-ltb n n (omega arith))
 
 -- ---- up to the splits of the unit

@@ -1,17 +1,18 @@
 -- What a merge keeps: a property of tables that every push and every join keeps holds of the merged table. So for tables in which starts rise, for properties of
 -- single splits (`Keeps`), and for the room. Assumes nothing.
-use mathlib.Core.Path.{◌≡◌, refl, sym, subst, ◌∙◌}
+use mathlib.Core.Path.{◌≡◌, sym, subst, ◌∙◌}
 use mathlib.Core.List.{List, [], ◌∷◌}
-use mathlib.Core.Bool.{Bool, true, false, cond, ◌&&◌}
+use mathlib.Core.Bool.{Bool, true, false, cond}
 use Prim.Native.Nat.{ℕ, zero, suc, ◌≤◌, ◌<◌}
 use native.Mathlib.Omega.{arith}
 use borrow.Author.Tests.{eqb-true}
-use lib.Dec.{eqb, ltb}
+use lib.Dec.{ltb}
 use lib.ListN.{length}
 use Rattle.lists.specs.Sort.{All, none, each}
 use Rattle.lists.specs.Bounds.{lower}
 use Rattle.lists.specs.Outcome.{accepted}
 use Rattle.lists.proofs.All.{all_keep, all_any}
+use Rattle.lists.proofs.Both.{both}
 use Rattle.lists.proofs.Filter.{keep_passes}
 use Rattle.lists.proofs.Outcomes.{bind_inv, same_accepted}
 use Rattle.obj.specs.declared.Split.{Split}
@@ -79,11 +80,7 @@ module _ (P : Split → Type 0) (keeps : Keeps P) where
 
   -- it is of the new split's section
   same_section : (new old : Split) → of_unit new.section new.unit old ≡ true → new.section ≡ old.section
-  same_section new old e = go (eqb old.section new.section) refl e
-    where
-      go : (t : Bool) → eqb old.section new.section ≡ t → (t && eqb old.unit new.unit) ≡ true → new.section ≡ old.section
-      go true q f = sym (eqb-true _ _ q)
-      go false q f = absurd (let z : ◌≡◌ {A = ℕ} 0 1 = cc in omega arith)
+  same_section new old e = sym (eqb-true _ _ (both _ _ e).0)
 
   module _ (g : Given) where
     kept_on_push : (rows : List Split) (new : Split) → All P rows → (Inside g new → P new) → Pushes g rows new → All P (pushed new rows)

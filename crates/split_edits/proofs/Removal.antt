@@ -2,28 +2,14 @@
 -- Assumes nothing.
 use mathlib.Core.Path.{◌≡◌, refl, sym, ap, ap₂, ◌∙◌}
 use mathlib.Core.List.{List, ◌∷◌, ◌++◌}
-use mathlib.Core.Bool.{Bool, true, false, not}
+use mathlib.Core.Bool.{Bool, true, false}
 use Prim.Native.Nat.{ℕ, zero, suc, ◌+◌, ◌-◌, ◌≤◌, ◌<◌}
 use native.Mathlib.Omega.{arith}
-use borrow.Author.Tests.{ltb-true, ltb-false}
-use lib.Dec.{ltb}
 use Rattle.lists.specs.Rows.{tabulate, keep_if}
 use Rattle.lists.proofs.Rows.{rest-cons, rest-none, tabulate_ext}
 use Rattle.lists.proofs.Parts.{tabulate_all, tabulate_zero, tabulate-append, tabulate_same}
 use Rattle.lists.proofs.FilterRows.{filter_hit, filter_miss, filter_none, filter-kept}
 use Rattle.split_edits.specs.Shifts.{Lowered}
-
--- what holds of the places from `at` up to i, and of i, holds up to i + 1
-pub each_more : (P : ℕ → Type 0) (at i : ℕ) → ((k : ℕ) → at ≤ k → k < i → P k) → P i → (k : ℕ) → at ≤ k → k < i + 1 → P k
-each_more P at i low here k h l = go (ltb k i) refl
-  where
-    go : (b : Bool) → ltb k i ≡ b → P k
-    go true e = low k h (ltb-true k i e)
-    go false e = let z = ltb-false k i e in let q : i ≡ k = omega arith in rw q at here
-
-pub is_so : (b : Bool) → not b ≡ false → b ≡ true
-is_so true e = refl
-is_so false e = sym e
 
 module _ {A : Type 0} (p : A → Bool) (f : ℕ → A) (n : ℕ) where
   -- the rows before the first one that goes

@@ -2,14 +2,16 @@
 -- is found in all rows from its first one on. Assumes nothing.
 use mathlib.Core.Path.{◌≡◌, refl, sym, ap, ap₂, ◌∙◌}
 use mathlib.Core.List.{List, [], ◌∷◌, ◌++◌}
-use mathlib.Core.Bool.{Bool, true, false, ◌&&◌, ◌||◌}
+use mathlib.Core.Bool.{Bool, false, ◌&&◌, ◌||◌}
+use mathlib.Core.Logic.{◌⊎◌, inl, inr}
 use Prim.Native.Nat.{ℕ, zero, suc, ◌+◌, ◌-◌, ◌≤◌, ◌<◌}
 use native.Mathlib.Omega.{arith}
-use borrow.Author.Tests.{lt-ltb, le-ltb, ltb-true, ltb-false}
+use borrow.Author.Tests.{lt-ltb, le-ltb}
 use lib.Dec.{eqb, leb, ltb}
 use lib.ListN.{get_or}
 use Rattle.std.specs.Prelude.{Option, Some, None}
 use Rattle.lists.specs.Rows.{tabulate, keep_if, some}
+use Rattle.lists.proofs.Compare.{lt_or_ge, and_fails}
 use Rattle.lists.proofs.Rows.{length-tabulate, get_d_tabulate}
 use Rattle.lists.proofs.Parts.{tabulate-append}
 use Rattle.lists.proofs.Some.{some_false}
@@ -49,10 +51,6 @@ none_of p f i size e k h l =
     ap p (ap f (sym z) ∙ sym (get_d_tabulate f i size (k - i) 0 (omega arith)))
     ∙ some_false p (tabulate f i size) (k - i) 0 e (rw (length-tabulate f i size) (omega arith))
 
-and_no : (a b : Bool) → b ≡ false → (a && b) ≡ false
-and_no true b q = q
-and_no false b q = refl
-
 -- ---- a unit's rows
 
 -- none of the rows passes
@@ -73,7 +71,7 @@ block_none section unit c i size e = record {
 }
   where
     row : (k : ℕ) → i ≤ k → k < i + size → of_unit section unit (row_at c k) ≡ false
-    row k h l = and_no (eqb (row_at c k).section section) (eqb (get_or c.units k 0) unit) (none_of (λ (u : ℕ). eqb u unit) (λ (j : ℕ). get_or c.units j 0) i size e k h l)
+    row k h l = and_fails (eqb (row_at c k).section section) (none_of (λ (u : ℕ). eqb u unit) (λ (j : ℕ). get_or c.units j 0) i size e k h l)
 
 -- from the block's rows to all rows
 module _ (p : Split → Bool) (c : Columns) (n to i k : ℕ) (h : i ≤ to) (l : to ≤ n) (hit : Hit p c to i k) where
@@ -114,20 +112,19 @@ pub starts_none : (section from to : ℕ) (c : Columns) (i size : ℕ) → some 
     → (k : ℕ) → i ≤ k → k < i + size → within section from to (row_at c k) ≡ false
 unfolding row_of
 starts_none section from to c i size e k h l =
-    and_no (eqb (row_at c k).section section) (leb from (get_or c.starts k 0) && ltb (get_or c.starts k 0) to)
+    and_fails (eqb (row_at c k).section section)
     (none_of (λ (s : ℕ). leb from s && ltb s to) (λ (j : ℕ). get_or c.starts j 0) i size e k h l)
 
--- none from `at` up to i passes, and none from i up to j
-pub none_on : (p : ℕ → Bool) (at i j : ℕ) → ((k : ℕ) → at ≤ k → k < i → p k ≡ false) → ((k : ℕ) → i ≤ k → k < j → p k ≡ false)
-    → (k : ℕ) → at ≤ k → k < j → p k ≡ false
-none_on p at i j low high k h l = go (ltb k i) refl
+-- what holds of the places from `at` up to i, and of those from i up to j
+pub each_on : (P : ℕ → Type 0) (at i j : ℕ) → ((k : ℕ) → at ≤ k → k < i → P k) → ((k : ℕ) → i ≤ k → k < j → P k) → (k : ℕ) → at ≤ k → k < j → P k
+each_on P at i j low high k h l = go (lt_or_ge k i)
   where
-    go : (b : Bool) → ltb k i ≡ b → p k ≡ false
-    go true e = low k h (ltb-true k i e)
-    go false e = high k (ltb-false k i e) l
+    go : (k < i) ⊎ (i ≤ k) → P k
+    go (inl m) = low k h m
+    go (inr m) = high k m l
 
-pub none_more : (p : ℕ → Bool) (at i : ℕ) → ((k : ℕ) → at ≤ k → k < i → p k ≡ false) → p i ≡ false → (k : ℕ) → at ≤ k → k < i + 1 → p k ≡ false
-none_more p at i low here = none_on p at i (i + 1) low (λ k h l. ap p (let z : k ≡ i = omega arith in z) ∙ here)
+pub each_more : (P : ℕ → Type 0) (at i : ℕ) → ((k : ℕ) → at ≤ k → k < i → P k) → P i → (k : ℕ) → at ≤ k → k < i + 1 → P k
+each_more P at i low here = each_on P at i (i + 1) low (λ k h l. let q : i ≡ k = omega arith in rw q at here)
 
 -- some row from i on passes: the rows up to j do not
 module _ {A : Type 0} (p : A → Bool) (f : ℕ → A) (n : ℕ) where

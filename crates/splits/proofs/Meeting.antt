@@ -1,6 +1,6 @@
 -- What a range holds, from one row in it to the next: an answer so far, or that of the rows that are left, is the answer of the table. Assumes nothing.
-use mathlib.Core.Path.{◌≡◌, refl, sym, ap, ◌∙◌}
-use mathlib.Core.Bool.{Bool, true, false, ◌||◌}
+use mathlib.Core.Path.{◌≡◌, sym, ap, ◌∙◌}
+use mathlib.Core.Bool.{Bool, false, ◌||◌}
 use Prim.Native.Nat.{ℕ, ◌+◌, ◌-◌, ◌≤◌, ◌<◌}
 use native.Mathlib.Omega.{arith}
 use Rattle.std.specs.Prelude.{Option, Some, None, MatchOption}
@@ -34,7 +34,3 @@ module _ (p q : Split → Bool) (within : (y : Split) → p y ≡ false → q y 
   left_next seen here i r h e s l =
       left_on (i + 1) (seen || here) r (omega arith) s
       (ap (λ (b : Bool). (seen || b) || some q (tabulate (row_at c) (i + 1) (n - (i + 1)))) (sym e) ∙ some_row q (row_at c) n i seen h ∙ l)
-
-pub or_yes : (a : Bool) → (a || true) ≡ true
-or_yes true = refl
-or_yes false = refl

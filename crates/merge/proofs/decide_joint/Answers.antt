@@ -34,8 +34,8 @@ returns-then-not-met c =
 
 pub returns : goal.returns
 returns c =
-    let s = c in
+    let a = c.args in
     let m = c.meets-met in
     let e = c.of.ensures in
     let met = rw (e.section, e.from, e.to) at m.ensures in
-    (sym (joint_joins _ s.args.new s.args.joint c.if-joint.false m.result met c.if-new-met.false c.if-met.false c.if-not-met.false), s.requires)
+    (sym (joint_joins _ a.new a.joint c.if-joint.false m.result met c.if-new-met.false c.if-met.false c.if-not-met.false), c.requires)

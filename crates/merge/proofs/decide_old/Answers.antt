@@ -14,9 +14,7 @@ pub returns-then-old-new : goal.returns-then-old-new
 returns-then-old-new c = let a = c.args in (sym (old_inside _ a.new a.old c.if-new-old.false c.if-new-old-2.false c.if-old-new.true), tt)
 
 pub decide_joint-requires : goal.decide_joint-requires
-decide_joint-requires c =
-    let s = c in
-    rw c.joint_of.ensures (good_joint s.args.new s.args.old s.requires.0 s.requires.1)
+decide_joint-requires c = rw c.joint_of.ensures (good_joint c.args.new c.args.old c.requires.0 c.requires.1)
 
 pub returns : goal.returns
 returns c =

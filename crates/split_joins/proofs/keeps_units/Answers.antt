@@ -5,7 +5,7 @@ use Prim.Native.Nat.{ℕ}
 use native.Mathlib.Omega.{arith}
 use lib.ListN.{get_or}
 use Rattle.lists.proofs.Tests.{or_false}
-use Rattle.split_edits.proofs.Removal.{each_more}
+use Rattle.splits.proofs.Blocks.{each_more}
 use Rattle.split_joins.specs.Joins.{Alone}
 use Rattle.split_joins.proofs.Apart.{alone_same, alone_none}
 use Rattle.split_joins.proofs.keeps_units.Goals as goal

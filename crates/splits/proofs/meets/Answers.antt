@@ -4,13 +4,14 @@ use mathlib.Core.Bool.{Bool, true, false, not, ◌&&◌}
 use Prim.Native.Nat.{◌+◌, zero-le}
 use lib.Dec.{eqb}
 use lib.ListN.{get_or}
+use Rattle.std.proofs.Math.Bool.{or-true}
 use Rattle.lists.specs.Rows.{some}
 use Rattle.lists.proofs.Parts.{tabulate_all}
 use Rattle.splits.specs.Columns.{row_of, row_at}
 use Rattle.splits.specs.Table.{columns_of}
 use Rattle.splits.specs.Questions.{in_range, is_auto, is_by_hand, is_of_other}
 use Rattle.splits.proofs.Next.{next_in, fewer_left}
-use Rattle.splits.proofs.Meeting.{left_on, left_next, or_yes}
+use Rattle.splits.proofs.Meeting.{left_on, left_next}
 use Rattle.splits.proofs.meets.Goals as goal
 
 pub loop-next-init : goal.loop-next-init
@@ -48,7 +49,7 @@ loop-next-preserved c =
     let by_hand = c.is_hand-by_hand.ensures in
     let of_other = not (eqb (get_or a.splits.now.units.now i 0) a.unit) in (
       next_in p k n (i + 1) r.result r.ensures,
-      rw (or_yes l.any) at (left_next p p (λ y e. e) k n l.any true i r.result v.0.0 v.0.1 r.ensures v.1),
+      rw (or-true l.any) at (left_next p p (λ y e. e) k n l.any true i r.result v.0.0 v.0.1 r.ensures v.1),
       left_next p (is_by_hand p) (λ y e. ap (λ (b : Bool). b && not (is_auto y)) e) k n l.hand _ i r.result v.0.0
           (ap (λ (b : Bool). b && not (is_auto (row_at k i))) v.0.1 ∙ sym by_hand) r.ensures v.2,
       left_next p (is_of_other p a.unit) (λ y e. ap (λ (b : Bool). b && (not (is_auto y) && not (eqb y.unit a.unit))) e) k n l.other _ i r.result v.0.0
