@@ -1,30 +1,87 @@
 -- The name of a gap's unit: the dots at the front of a section's name, and the stores that write the name. Assumes nothing.
-use mathlib.Core.Path.{◌≡◌, refl, ap, ap₂, ◌∙◌}
-use mathlib.Core.List.{List, ◌++◌}
-use Prim.Native.Nat.{ℕ, ◌+◌, ◌-◌, ◌≤◌, ◌<◌}
-use native.Mathlib.Numerals.{add-one}
+use mathlib.Core.Path.{◌≡◌, refl, sym, ap, ap₂, ◌∙◌}
+use mathlib.Core.List.{List, [], ◌∷◌, ◌++◌}
+use mathlib.Core.Bool.{Bool, true, false}
+use Prim.Native.Nat.{ℕ, zero, suc, ◌+◌, ◌-◌, ◌/◌, ◌%◌, ◌≤◌, ◌<◌, suc-le-suc}
+use native.Mathlib.Nat.{le_of_suc-le-suc, not-suc-le-zero, zero-lt-suc}
 use native.Mathlib.Omega.{arith}
-use borrow.Author.Tests.{eq-eqb, ne_eqb}
-use lib.ListN.{length, get_or, take, drop, length-drop, drop_of_length-le}
-use lib.Seq.{drop-cons, take_all, sets, length-sets}
+use borrow.Author.Tests.{ne_eqb, eqb-false, ltb-false}
+use lib.Dec.{eqb, ltb}
+use Rattle.std.specs.Fmt.{decimal}
+use Rattle.std.proofs.lemmas.Bool.{ltb-true, lt-ltb}
+use Rattle.std.proofs.lemmas.Fmt.{decimal_digit}
+use Rattle.std.proofs.lemmas.List.{take-append-drop}
+use Rattle.std.proofs.lemmas.List.Edits.{sets-eq}
+use Rattle.itoa.proofs.Decimal.{length_one, length_two, decimal_two}
+use lib.ListN.{length, get_or, take, drop, length-drop}
+use lib.Seq.{take_all, sets, length-sets}
 use Rattle.lists.proofs.Stores.{sets_then, take-sets}
 use Rattle.names.specs.Fixed.{codes}
 use Rattle.names.specs.GapName.{without_dots, decimal2, hex8, gap_name, Written}
 
-module _ (name : List ℕ) (i : ℕ) where
-  -- a dot more
-  pub dots_turn : i < length name → get_or name i 0 ≡ 46 → without_dots (drop i name) ≡ without_dots (drop (i + 1) name)
-  unfolding without_dots
-  dots_turn h e = rw (add-one, drop-cons name i 0 h, eq-eqb (get_or name i 0) 46 e)
+-- ---- the dots at the front of a name
 
-  -- no dot: the rest stays
-  pub dots_stop : i < length name → (get_or name i 0 ≡ 46 → ⊥) → without_dots (drop i name) ≡ drop i name
-  unfolding without_dots
-  dots_stop h e = rw (drop-cons name i 0 h, ne_eqb (get_or name i 0) 46 e)
+-- a byte that is not another than a dot is one
+is_dot : (b : ℕ) → ((b ≡ 46 → ⊥) → ⊥) → eqb b 46 ≡ true
+is_dot b h = go (eqb b 46) refl
+  where
+    go : (t : Bool) → eqb b 46 ≡ t → t ≡ true
+    go true e = refl
+    go false e = absurd (h (eqb-false b 46 e))
 
-  pub dots_ended : length name ≤ i → without_dots (drop i name) ≡ drop i name
-  unfolding without_dots
-  dots_ended h = rw (drop_of_length-le name h)
+-- the first byte that is no dot stands at k
+pub dots_found : (name : List ℕ) (k : ℕ) → k < length name → (get_or name k 0 ≡ 46 → ⊥) → ((j : ℕ) → j < k → (get_or name j 0 ≡ 46 → ⊥) → ⊥)
+    → drop k name ≡ without_dots name
+unfolding without_dots
+dots_found [] k h e dots = absurd (not-suc-le-zero h)
+dots_found (b ∷ name) zero h e dots = rw (ne_eqb b 46 e)
+dots_found (b ∷ name) (suc k) h e dots =
+    rw (is_dot b (dots 0 (zero-lt-suc _))) (dots_found name k (le_of_suc-le-suc h) e (λ j l. dots (suc j) (suc-le-suc l)))
+
+-- .. or each byte is one
+pub dots_all : (name : List ℕ) → ((j : ℕ) → j < length name → (get_or name j 0 ≡ 46 → ⊥) → ⊥) → drop (length name) name ≡ without_dots name
+unfolding without_dots
+dots_all [] dots = refl
+dots_all (b ∷ name) dots = rw (is_dot b (dots 0 (zero-lt-suc _))) (dots_all name (λ j l. dots (suc j) (suc-le-suc l)))
+
+-- a number below 100 has at most two digits
+pub short-decimal : (section : ℕ) → section < 100 → length (decimal section) ≤ 7
+short-decimal section h = go (ltb section 10) refl
+  where
+    go : (t : Bool) → ltb section 10 ≡ t → length (decimal section) ≤ 7
+    go true e = omega (arith, length_one section (ltb-true section 10 e))
+    go false e = omega (arith, length_two section (ltb-false section 10 e) h)
+
+-- a number below 100, written so that it ends where two zeros do, is its two digits
+pub two-digits : (section : ℕ) (out zeros new : List ℕ) (r : ℕ)
+    → section < 100
+    → 8 ≤ length out
+    → zeros ≡ sets out 0 (codes "auto_00_")
+    → r + length (decimal section) ≡ 7
+    → drop r new ≡ decimal section ++ drop 7 zeros
+    → take r new ≡ take r zeros
+    → new ≡ sets out 0 (codes "auto_" ++ decimal2 section ++ codes "_")
+unfolding codes decimal2
+two-digits section out zeros new r h room ez el ed et = go (ltb section 10) refl
+  where
+    start : zeros ≡ codes "auto_00_" ++ drop 8 out
+    start = ez ∙ sets-eq (codes "auto_00_") out 0 room
+
+    whole : new ≡ take r zeros ++ (decimal section ++ drop 7 zeros)
+    whole = sym (take-append-drop r new) ∙ ap₂ (λ (a b : List ℕ). a ++ b) et ed
+
+    go : (t : Bool) → ltb section 10 ≡ t → new ≡ sets out 0 (codes "auto_" ++ decimal2 section ++ codes "_")
+    go true e =
+        let small = ltb-true section 10 e in
+        let six : r ≡ 6 = omega (arith, length_one section small, el) in
+        let tens : section / 10 % 10 ≡ 0 = omega (arith, small) in
+        let ones : section % 10 ≡ section = omega (arith, small) in
+        whole ∙ rw (six, start, decimal_digit section small) (rw (sets-eq (codes "auto_" ++ decimal2 section ++ codes "_") out 0 room, tens, ones, lt-ltb section 10 small) refl)
+    go false e =
+        let wide : 10 ≤ section = ltb-false section 10 e in
+        let five : r ≡ 5 = omega (arith, length_two section wide h, el) in
+        let tens : section / 10 % 10 ≡ section / 10 = omega (arith, h) in
+        whole ∙ rw (five, start, decimal_two section wide h) (rw (sets-eq (codes "auto_" ++ decimal2 section ++ codes "_") out 0 room, tens, lt-ltb (section / 10) 10 (omega (arith, h)), lt-ltb (section % 10) 10 (omega arith)) refl)
 
 -- three runs of stores, each behind the one before, are the name of a gap's unit
 pub gap-written : (section address : ℕ) (name : List ℕ) {out first second third rest : List ℕ}

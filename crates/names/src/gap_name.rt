@@ -5,18 +5,17 @@ ghost use Rattle.std.proofs.lemmas.List.Edits.{sets};
 ghost use Rattle.names.specs.Fixed.{codes};
 ghost use Rattle.names.specs.GapName.{decimal2, hex8, Written, Dots};
 
-use crate::hex::{digit_of, put_hexes};
+use crate::hex::put_hexes;
 use crate::table::put_bytes;
+use itoa::write_digits;
 
-// "`auto_`, two-digit decimal section number, `_`"
+// "`auto_`, two-digit decimal section number, `_`": the number's digits end where the two zeros do.
 fn put_section(out: &mut [u8], section: u16)
-    requires { 8 ≤ length out.old }
+    requires { (8 ≤ length out.old) × (section < 100) }
     ensures { out.new ≡ sets out.old 0 (codes "auto_" ++ decimal2 section ++ codes "_") }
 {
-    put_bytes(out, 0, b"auto_");
-    out[5] = digit_of(u64::from(section / 10 % 10));
-    out[6] = digit_of(u64::from(section % 10));
-    out[7] = b'_';
+    put_bytes(out, 0, b"auto_00_");
+    write_digits(u64::from(section), out, 7);
 }
 
 // "eight upper-case hexadecimal digits of the address, `_`", from place 8 on
@@ -32,12 +31,10 @@ fn put_address(out: &mut [u8], address: u32)
 fn leading_dots(name: &[u8]) -> usize
     ensures { Dots name.now result }
 {
-    for (i, byte) in name.iter().enumerate() {
-        if *byte != b'.' {
-            return i;
-        }
+    match name.iter().position(|byte| *byte != b'.') {
+        Some(dots) => dots,
+        None => name.len(),
     }
-    name.len()
 }
 
 // Writes the name of a gap's unit to the front of `out`, and gives its length.

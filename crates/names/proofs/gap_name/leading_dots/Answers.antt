@@ -1,16 +1,10 @@
-use Rattle.std.proofs.Common.{◌≡◌, length, sym, ◌∙◌, arith}
-use Rattle.names.proofs.Gaps.{dots_turn, dots_stop, dots_ended}
+use Rattle.std.proofs.Common.{rules}
+use Rattle.names.proofs.Gaps.{dots_found, dots_all}
 use Rattle.names.proofs.gap_name.leading_dots.Goals as goal
 
-pub loop-i-preserved : goal.loop-i-preserved
-loop-i-preserved c = sym (dots_turn _ _ c.loop-i-test.true c.if-byte-ne46.false) ∙ c.loop-i.invariant
+pub returns-in-Some : goal.returns-in-Some
+returns-in-Some c =
+    record { few = search rules; rest = dots_found c.args.name.now c.in-Some.dots (search rules) (search rules) (search rules) }
 
-pub returns-then-byte-ne46 : goal.returns-then-byte-ne46
-returns-then-byte-ne46 c = record { few = omega arith; rest = sym (dots_stop _ _ c.loop-i-test.true c.if-byte-ne46.true) ∙ c.loop-i.invariant }
-
--- nothing is left
-pub returns : goal.returns
-returns c =
-    let e : c.loop-i.i ≡ length c.args.name.now = omega arith in
-    let rest = sym (dots_ended _ _ c.loop-i-test.false) ∙ c.loop-i.invariant in
-    record { few = omega arith; rest = rw e at rest }
+pub returns-in-None : goal.returns-in-None
+returns-in-None c = record { few = search rules; rest = dots_all c.args.name.now (search rules) }
