@@ -71,7 +71,7 @@ static LABELS_OF_16: [&[u8]; 1] = [b"_fextabindex_rom"];
 fn is_one_of(name: &[u8], texts: &[&[u8]]) -> bool
     ensures { result ≡ some (same_name name.now) (map (λ (t : Bor (List ℕ)). t.now) texts.now) }
 {
-    texts.iter().any(|text| same(name, text))
+    texts.contains(&name)
 }
 
 // "`.bss`"
