@@ -1,4 +1,5 @@
-// Hexadecimal digits, upper case, stored by hand: std has no writer over lent bytes, and its other writers need a heap or a file.
+// Hexadecimal digits, upper case, stored by hand: std's `Write for &mut [u8]` does not say which bytes it wrote, and of the kit's `hex`, what writes into a slice gives lower-case
+// digits and what gives upper-case ones needs a heap.
 ghost use Rattle.std.specs.Prelude.{◌≡◌, [], ◌∷◌, ◌+◌, ◌*◌, ◌≤◌, ◌<◌, length};
 ghost use Rattle.std.proofs.lemmas.List.Edits.{sets};
 ghost use Rattle.names.specs.GapName.{digit, hexes};

@@ -51,8 +51,8 @@ pub fn find(names: &Names, n: usize, index: &NameIndex, x: &[u8]) -> Option<usiz
     None
 }
 
-// Enters name k into its bucket, before the last name that was entered there. `heads` has a place for each bucket and `chain` one for each name, so they are no columns of
-// one table.
+// Enters name k into its bucket, before the last name that was entered there. Read, an index is one `NameIndex`; here its two columns stand apart: each caller has them as two
+// fields of a struct of more columns, and one of both alone would be made anew for each name.
 pub fn enter(heads: &mut [u16], chain: &mut [u16], bucket: usize, k: usize)
     requires { (bucket < length heads.old) × (k < length chain.old) × (k < 65535) }
     ensures { (heads.new ≡ set heads.old bucket (k + 1))
