@@ -1,5 +1,5 @@
 -- The names of a table in lent columns, and names to read: the definitions of `Stored` over the structs.
-use Rattle.std.specs.Prelude.{ℕ, ◌≡◌, List}
+use Rattle.std.specs.Prelude.{ℕ, ◌≡◌, List, length}
 use Rattle.lists.specs.Outcome.{Outcome}
 use Rattle.names.specs.declared.Names.{Names}
 use Rattle.name_table.specs.declared.columns.NameColumns.{NameColumns}
@@ -12,12 +12,16 @@ StoredIn ends bytes c n = Stored ends bytes c.places.now c.lengths.now c.heads.n
 abbrev pub StoresIn : (answer want : Outcome (Unit {0})) → (ends bytes : List ℕ) → NameColumns → ℕ → Type 0
 StoresIn answer want ends bytes c n = Stores answer want ends bytes c.places.now c.lengths.now c.heads.now c.chain.now n
 
--- the same columns are lent
+-- the same columns are lent: the references to them, and their lengths
 pub record SameLent (before after : NameColumns) : Type 0 where
   pub places : after.places.ghost_name ≡ before.places.ghost_name
   pub lengths : after.lengths.ghost_name ≡ before.lengths.ghost_name
   pub heads : after.heads.ghost_name ≡ before.heads.ghost_name
   pub chain : after.chain.ghost_name ≡ before.chain.ghost_name
+  pub places_size : length after.places.now ≡ length before.places.now
+  pub lengths_size : length after.lengths.now ≡ length before.lengths.now
+  pub heads_size : length after.heads.now ≡ length before.heads.now
+  pub chain_size : length after.chain.now ≡ length before.chain.now
 
 -- ---- names to read
 abbrev pub ReadableIn : Names → Type 0

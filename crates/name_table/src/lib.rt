@@ -31,7 +31,7 @@ pub fn start_of(ends: &[u8], k: usize) -> usize
     get16(ends, 2 * k - 2) as usize
 }
 
-// Where name k ends.
+// Where name k ends. That it has an end is asked here and by what takes a name's number, and is no field of a struct: of the ends it is a fact for one k only.
 pub fn end_of(ends: &[u8], k: usize) -> usize
     requires { 2 * k + 2 ≤ length ends.now }
     ensures { Number (end_of ends.now k) result }

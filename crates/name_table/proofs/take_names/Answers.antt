@@ -1,12 +1,13 @@
 -- A name is refused or stored; what is known of the names before it is known of it too.
-use Rattle.std.proofs.Common.{refl, arith, ◌∙◌}
+use Rattle.std.proofs.Common.{refl, arith}
 use Rattle.std.proofs.lemmas.Result.{err_from_is_err_and}
 use Rattle.tables.proofs.Loops.{going, stops, goes_on, passes_all, passed_fault}
+use Rattle.name_table.proofs.Lent.{lent_same, lent_still}
 use Rattle.name_table.proofs.Laws.{stores_all, stores_nothing}
 use Rattle.name_table.proofs.take_names.Goals as goal
 
 pub loop-i-init : goal.loop-i-init
-loop-i-init c = record { going = going; stored = c.requires.1; lent = record { places = refl; lengths = refl; heads = refl; chain = refl } }
+loop-i-init c = record { going = going; stored = c.requires.1; lent = lent_same }
 
 pub returns-in_err-name_fault-clause-stored : goal.returns-in_err-name_fault-clause-stored
 returns-in_err-name_fault-clause-stored c =
@@ -22,17 +23,10 @@ add_name-requires c =
 pub loop-i-preserved : goal.loop-i-preserved
 loop-i-preserved c =
     let fault = rw c.names.ensures.0 at c.in_ok-name_fault.ensures in
-    let before = c.loop-i.invariant.lent in
-    let after = c.add_name.ensures.lent in
     record {
       going = goes_on c.loop-i.invariant.going c.loop-i-test.true fault;
       stored = c.add_name.ensures.stored;
-      lent = record {
-        places = after.places ∙ before.places;
-        lengths = after.lengths ∙ before.lengths;
-        heads = after.heads ∙ before.heads;
-        chain = after.chain ∙ before.chain;
-      };
+      lent = lent_still c.loop-i.invariant.lent c.add_name.ensures.lent;
     }
 
 pub returns-clause-stored : goal.returns-clause-stored
