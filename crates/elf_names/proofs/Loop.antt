@@ -31,7 +31,7 @@ module _ (left : ℕ → List (List ℕ)) (all : List (List ℕ)) (strings : Lis
   pub entering_first : (i : ℕ) → left i ≡ all → Entering first (replicate 64 0) i
   entering_first i e = record {
     sized = refl;
-    same = same_table _;
+    same = same_table;
     going = λ held ends₀ bytes₀ h.
         record { going = record { names = held; held = h; same = ap (enter_names (room_of first) held) e }; right = seen_none strings held 64 };
   }

@@ -2,15 +2,14 @@
 use mathlib.Core.Path.{◌≡◌, refl, sym, subst, ◌∙◌}
 use mathlib.Core.List.{List, [], ◌∷◌, ◌++◌}
 use mathlib.Core.Bool.{Bool, true, false, ◌||◌}
-use Prim.Native.Nat.{ℕ, zero, suc, ◌+◌, ◌≤◌, ◌<◌}
+use Prim.Native.Nat.{ℕ, zero, suc, ◌+◌, ◌<◌}
 use native.Mathlib.Omega.{arith}
-use borrow.Author.Tests.{eq-eqb, ne_eqb, eqb-true}
-use lib.ListN.{length, get_or, drop, set, replicate, length-append, get_or-append}
+use borrow.Author.Tests.{ne_eqb, eqb-true}
+use lib.ListN.{length, set, replicate, length-append, get_or-append}
 use lib.Seq.{get_or-append-add}
 use lib.Dec.{eqb}
 use Rattle.lists.specs.Rows.{some}
 use Rattle.lists.specs.Outcome.{Outcome, accepted, ◌>>=◌}
-use Rattle.lists.proofs.Some.{some_turn, some-none}
 use Rattle.lists.proofs.Outcomes.{same_accepted}
 use Rattle.names.specs.Names.{number_of}
 use Rattle.names.proofs.Laws.{number_there, number_below}
@@ -21,19 +20,6 @@ use Rattle.obj.specs.declared.Refusal.{Refusal}
 use Rattle.number_names.specs.declared.table.NumberedNames.{NumberedNames}
 use Rattle.number_names.proofs.Laws.{enter_there, enter_cases, entered_as}
 use Rattle.elf_names.specs.Seen.{Seen, EnteredSeen, GoingSeen}
-
--- ---- an element looked for
-
--- what is left from place i on has it exactly if all have: element i is it, or it is another, or none is left
-module _ (l : List ℕ) (x i : ℕ) (same : some (λ k. eqb k x) (drop i l) ≡ some (λ k. eqb k x) l) where
-  pub look_here : i < length l → get_or l i 0 ≡ x → true ≡ some (λ k. eqb k x) l
-  look_here h e = sym (sym same ∙ some_turn (λ k. eqb k x) l i 0 h ∙ rw (eq-eqb (get_or l i 0) x e))
-
-  pub look_on : i < length l → (get_or l i 0 ≡ x → ⊥) → some (λ k. eqb k x) (drop (i + 1) l) ≡ some (λ k. eqb k x) l
-  look_on h e = sym (sym same ∙ some_turn (λ k. eqb k x) l i 0 h ∙ rw (ne_eqb (get_or l i 0) x e))
-
-  pub look_over : length l ≤ i → false ≡ some (λ k. eqb k x) l
-  look_over h = sym (sym same ∙ some-none (λ k. eqb k x) l i h)
 
 -- ---- an element stored
 

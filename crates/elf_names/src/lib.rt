@@ -24,12 +24,7 @@ use obj::Refusal;
 fn is_seen(seen: &[usize], mark: usize) -> bool
     ensures { result ≡ some (λ k. eqb k mark) seen.now }
 {
-    for kept in seen {
-        if *kept == mark {
-            return true;
-        }
-    }
-    false
+    seen.contains(&mark)
 }
 
 // Enters the string at an offset of a string table, unless it is among the names since the offset is kept.

@@ -259,7 +259,7 @@ module _ {room : Room} {left : ℕ → List (List ℕ)} {goal : Outcome (List (L
   module _ {o : Outcome (List (List ℕ))} {ends' bytes' heads' chain' : List ℕ}
       (turn : enter_names room g.names (left i) ≡ (o >>= λ more. enter_names room more (left (i + 1)))) where
     -- the turn found no place: that is the outcome
-    pub going_stops : {e : Refusal} → Short o ends₀ bytes₀ ends' bytes' heads' chain' e → Short goal ends₀ bytes₀ ends' bytes' heads' chain' e
+    pub going_stops : {n : Count} {e : Refusal} → Short o ends₀ bytes₀ ends' bytes' heads' chain' n e → Short goal ends₀ bytes₀ ends' bytes' heads' chain' n e
     unfolding ◌>>=◌
     going_stops s = let said = s.is in record { names = s.names; is = sym g.same ∙ turn ∙ rw said; was = s.was; held = s.held }
 
@@ -279,20 +279,42 @@ entered_as ends₀ bytes₀ ends bytes heads chain n (Ok u) q e = record { names
 entered_as ends₀ bytes₀ ends bytes heads chain n (Err r) q e = record { names = e.names; is = sym q ∙ e.is; was = e.was; held = e.held }
 
 -- a name that has no place, after those that the outputs hold
-pub short_held : {o : Outcome (List (List ℕ))} {names : List (List ℕ)} {ends₀ bytes₀ ends bytes heads chain : List ℕ} {n used : ℕ}
-    → o ≡ refused 2 0 (length names) → Held names ends₀ bytes₀ ends bytes heads chain n used
-    → Short o ends₀ bytes₀ ends bytes heads chain (record { number = 2; section = 0; address = n })
-short_held {o} {names} q h = record {
+pub short_held : {o : Outcome (List (List ℕ))} {names : List (List ℕ)} {ends₀ bytes₀ ends bytes heads chain : List ℕ} (n : Count)
+    → o ≡ refused 2 0 (length names) → Held names ends₀ bytes₀ ends bytes heads chain n.names n.used
+    → Short o ends₀ bytes₀ ends bytes heads chain n (record { number = 2; section = 0; address = n.names })
+short_held {o} {names} n q h = record {
   names = names;
   is = q;
   was = ap (λ (k : ℕ). record { number = 2; section = 0; address = k }) h.counted;
-  held = rw (← h.counted, ← h.sum) h;
+  held = h;
 }
 
 -- ---- the table itself
 
-pub same_table : (t : NumberedNames) → SameTable t t
-same_table t = record { ends = refl; bytes = refl; room = refl }
+pub same_table : {t : NumberedNames} → SameTable t t
+same_table =
+    record {
+      ends = refl;
+      bytes = refl;
+      heads = refl;
+      chain = refl;
+      ends_size = refl;
+      bytes_size = refl;
+      heads_size = refl;
+      chain_size = refl;
+      room = refl;
+    }
 
 pub same_then : {t u v : NumberedNames} → SameTable u v → SameTable t u → SameTable t v
-same_then a b = record { ends = a.ends ∙ b.ends; bytes = a.bytes ∙ b.bytes; room = a.room ∙ b.room }
+same_then h g =
+    record {
+      ends = h.ends ∙ g.ends;
+      bytes = h.bytes ∙ g.bytes;
+      heads = h.heads ∙ g.heads;
+      chain = h.chain ∙ g.chain;
+      ends_size = h.ends_size ∙ g.ends_size;
+      bytes_size = h.bytes_size ∙ g.bytes_size;
+      heads_size = h.heads_size ∙ g.heads_size;
+      chain_size = h.chain_size ∙ g.chain_size;
+      room = h.room ∙ g.room;
+    }

@@ -1,5 +1,5 @@
 -- The structs of this crate, as the definitions of `Numbers` speak of their columns.
-use Rattle.std.specs.Prelude.{List, ℕ, ◌≡◌, Result}
+use Rattle.std.specs.Prelude.{List, ℕ, ◌≡◌, Result, length}
 use Rattle.lists.specs.Outcome.{Outcome}
 use Rattle.obj.specs.declared.Refusal.{Refusal}
 use Rattle.number_names.specs.Numbers.{Room, names_in, Held, Entered, Going}
@@ -14,10 +14,16 @@ listed k = names_in k.ends.now k.bytes.now
 abbrev pub room_of : NumberedNames → Room
 room_of t = record { names = t.most; bytes = t.most_bytes }
 
--- the table is over the same outputs, and has as much place
+-- the same columns are lent, of the same lengths, and there is as much place
 pub record SameTable (before after : NumberedNames) : Type 0 where
   pub ends : after.ends.ghost_name ≡ before.ends.ghost_name
   pub bytes : after.bytes.ghost_name ≡ before.bytes.ghost_name
+  pub heads : after.heads.ghost_name ≡ before.heads.ghost_name
+  pub chain : after.chain.ghost_name ≡ before.chain.ghost_name
+  pub ends_size : length after.ends.now ≡ length before.ends.now
+  pub bytes_size : length after.bytes.now ≡ length before.bytes.now
+  pub heads_size : length after.heads.now ≡ length before.heads.now
+  pub chain_size : length after.chain.now ≡ length before.chain.now
   pub room : room_of after ≡ room_of before
 
 -- the table holds these names at the front, and behind them what was lent

@@ -16,7 +16,7 @@ returns-then-is_allocated c = (
 
 pub returns : goal.returns
 returns c = (
-  same_table _,
+  same_table,
   λ held ends₀ bytes₀ h s.
       let a = c.args in
       let same = section_left (room_of a.names.now) a.strings.now held c.header_of-h.ensures c.is_allocated.ensures c.if-is_allocated.false in

@@ -8,7 +8,7 @@ use Rattle.elf_names.proofs.enter_string.Goals as goal
 
 pub returns-then-is_seen : goal.returns-then-is_seen
 returns-then-is_seen c = (
-  same_table _,
+  same_table,
   λ held ends₀ bytes₀ h s.
       let a = c.args in
       let there = seen_there (room_of a.names.now) a.strings.now held a.seen.now s a.at (sym c.is_seen.ensures ∙ c.if-is_seen.true) in

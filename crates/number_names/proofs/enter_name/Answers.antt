@@ -3,12 +3,12 @@ use Rattle.std.proofs.Common.{◌≤◌, [], ◌∷◌, ◌++◌, true, false, r
 use borrow.Author.Tests.{ltb-true, ltb-false}
 use Rattle.lists.specs.Rows.{any_of}
 use Rattle.names.specs.Names.{number_of}
-use Rattle.number_names.proofs.Laws.{held_asked, held_more, held_standing, standing_held, standing_bytes, enter_there, enter_full, enter_new, place_asked, place_free, within_as, short_held}
+use Rattle.number_names.proofs.Laws.{held_asked, held_more, held_standing, standing_held, standing_bytes, enter_there, enter_full, enter_new, place_asked, place_free, within_as, short_held, same_table}
 use Rattle.number_names.proofs.enter_name.Goals as goal
 
 pub returns-then-is_some : goal.returns-then-is_some
 returns-then-is_some c = (
-  record { ends = refl; bytes = refl; room = refl },
+  same_table,
   λ names ends₀ bytes₀ h.
       record { names = names; is = enter_there _ names _ (ltb-true _ _ (held_asked h c.args.x.now c.find_name.result c.known.ensures.0 c.known.ensures.1 c.find_name.ensures c.is_some.ensures true c.if-is_some.true)); held = h },
 )
@@ -19,10 +19,10 @@ overflow_cast-n c = let h = standing_held c.args.names.now.standing in omega (ar
 pub returns-then-names-n : goal.returns-then-names-n
 unfolding any_of
 returns-then-names-n c = (
-  record { ends = refl; bytes = refl; room = refl },
+  same_table,
   λ names ends₀ bytes₀ h.
       let full = enter_full _ names _ (ltb-false _ _ (held_asked h c.args.x.now c.find_name.result c.known.ensures.0 c.known.ensures.1 c.find_name.ensures c.is_some.ensures false c.if-is_some.false)) (place_asked _ _ _ true h c.if-names-n.true) in
-      rw c.refuse.ensures (short_held full h),
+      rw c.refuse.ensures (short_held c.args.names.now.count full h),
 )
 
 pub invariant_of-names : goal.invariant_of-names
@@ -49,7 +49,17 @@ invariant_of-names-3 c =
 pub returns : goal.returns
 unfolding any_of
 returns c = (
-  record { ends = refl; bytes = refl; room = refl },
+  record {
+    ends = refl;
+    bytes = refl;
+    heads = refl;
+    chain = refl;
+    ends_size = c.put16.auto.b;
+    bytes_size = c.put_bytes.auto.out;
+    heads_size = c.enter.auto.heads;
+    chain_size = c.enter.auto.chain;
+    room = refl;
+  },
   λ names ends₀ bytes₀ h.
       let t = c.args.names.now in
       let fits = place_free c.args.x.now t.ends.now t.bytes.now t.count.names t.count.used t.most t.most_bytes t.room c.if-names-n.false in
