@@ -12,8 +12,7 @@ ghost use Rattle.obj.specs.declared.Split.{Split};
 ghost use Rattle.tables.specs.Tables.{AllHeld};
 ghost use Rattle.tables.specs.Records.{sections_in};
 ghost use Rattle.stage_tables.specs.StageTables.{splits_check, Room};
-ghost use Rattle.splits.specs.Table as columns;
-ghost use Rattle.splits.specs.Table.{rows_of as table_of, rows_in};
+ghost use Rattle.splits.specs.Table.{rows_of as table_of, rows_in, SameLent as SameTable};
 ghost use Rattle.splits.specs.Bytes.{table_bytes};
 ghost use Rattle.obj.specs.Records.{split_width};
 ghost use Rattle.stage_splits.specs.StageSplits.{room_of, Taken};
@@ -30,11 +29,7 @@ use stage_tables::take_splits;
 pub fn room_of(size: usize) -> usize
     ensures { result ≡ room_of size }
 {
-    let whole = size / SPLIT_BYTES;
-    if whole < 1024 {
-        return whole;
-    }
-    1024
+    (size / SPLIT_BYTES).min(1024)
 }
 
 // Splits in the columns, at most as many as they have room for: "7 split: ..; in stage tables also ..". `places` is room for the places of the records.
@@ -48,7 +43,7 @@ pub fn take_split_columns(
     requires { AllHeld 15 heads.now.bytes.now heads.now.places.now × Room table.old.room places.old }
     ensures taken { Taken (meaning result) (splits_check table.old.room lengths.now (sections_in heads.now.bytes.now heads.now.places.now) b.now) b.now
         (rows_in table.new) }
-    ensures lent { columns.SameLent table.old table.new }
+    ensures lent { SameTable table.old table.new }
 {
     take_splits(lengths, heads, b, table.room, places)?;
     let n = b.len() / SPLIT_BYTES;

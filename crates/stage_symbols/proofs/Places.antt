@@ -1,11 +1,14 @@
--- The places of the sections' bytes, one after another into a column: each is that of the lent bytes, up to the end of either.
+-- The places of the sections' bytes, one after another into a column: each is that of the lent bytes, as many as both have.
 -- Assumes nothing.
-use Prim.Native.Nat.{ℕ, ◌+◌, ◌*◌, ◌/◌, ◌<◌, ◌≤◌}
-use mathlib.Core.Path.{◌≡◌, sym, ap, ◌∙◌}
-use mathlib.Core.List.{List}
+use Prim.Native.Nat.{ℕ, ◌+◌, ◌*◌, ◌/◌, ◌<◌, ◌≤◌, min}
+use mathlib.Core.Path.{◌≡◌, refl, sym, ap, ◌∙◌}
+use mathlib.Core.List.{List, ◌++◌}
+use mathlib.Core.Bool.{Bool, true, false}
 use native.Mathlib.Omega.{arith}
-use lib.ListN.{length, take, set}
-use lib.Seq.{take_all}
+use borrow.Author.Tests.{leb-true, leb-false}
+use lib.Dec.{leb}
+use lib.ListN.{length, take, drop, set, length-append, length-drop}
+use lib.Seq.{take_all, take-append-le}
 use Rattle.lists.proofs.Keep.{take_more}
 use Rattle.lists.proofs.Rows.{length-tabulate}
 use Rattle.fields.specs.Fields.{le32}
@@ -22,18 +25,23 @@ pub place_more : (b column : List ℕ) (i : ℕ) {r : ℕ} → i < length column
 place_more b column i {r} h k e q =
     take_more i column (image_places_of b) r 0 h (rw length_places k) (image_place_here b i k e) q
 
--- the places are all there
-pub places_end : (b column : List ℕ) (i : ℕ) → i ≤ length column → i ≤ length b / 4 → length b / 4 ≤ i → take i column ≡ take i (image_places_of b)
-    → Placed (image_places_of b) column i
-places_end b column i h k l q =
-    record {
-      is = q ∙ take_all i (image_places_of b) (rw length_places l) ∙ sym (take_all (length column) (image_places_of b) (rw length_places (omega (arith, h, k, l))));
-      inside = h;
-    }
+-- as many as both have stand at the front of the column
+pub places_placed : (b column items : List ℕ) (n : ℕ) → n ≡ min (length column) (length b / 4) → length items ≡ n
+    → take n items ≡ take n (image_places_of b) → Placed (image_places_of b) (items ++ drop n column) n
+places_placed b column items n e long q =
+    record { is = rw size (front ∙ go (leb (length column) (length b / 4)) refl); inside = rw size within }
+  where
+    within : n ≤ length column
+    within = omega (arith, e)
 
--- the column is full
-pub column_end : (b column : List ℕ) (i : ℕ) → i ≤ length column → length column ≤ i → take i column ≡ take i (image_places_of b)
-    → Placed (image_places_of b) column i
-column_end b column i h k q =
-    let e : i ≡ length column = omega (arith, h, k) in
-    record { is = q ∙ ap (λ (n : ℕ). take n (image_places_of b)) e; inside = h }
+    size : length (items ++ drop n column) ≡ length column
+    size = simp (length-append, length-drop) (omega (arith, long, within))
+
+    front : take n (items ++ drop n column) ≡ take n (image_places_of b)
+    front = take-append-le n items (drop n column) (omega (arith, long)) ∙ q
+
+    go : (t : Bool) → leb (length column) (length b / 4) ≡ t → take n (image_places_of b) ≡ take (length column) (image_places_of b)
+    go true h = ap (λ (m : ℕ). take m (image_places_of b)) (let l = leb-true (length column) (length b / 4) h in omega (arith, e))
+    go false h =
+        let l = leb-false (length column) (length b / 4) h in
+        take_all n (image_places_of b) (rw length_places (omega (arith, e))) ∙ sym (take_all (length column) (image_places_of b) (rw length_places (omega arith)))

@@ -13,7 +13,7 @@ use stage_tables::take_symbols;
 use symbol_order::make_order;
 
 // The symbols, "5 symbol: ..", in a column of places, and their order: how many symbols it has, so it is `order[..]` up to there. `names` is a count, `heads` are the sections
-// at their places.
+// at their places. The three slices are no columns of one table: a caller reads the places and the order, and what the sort works in may hold anything.
 pub fn take_symbol_order(
     names: usize,
     heads: &Table,
@@ -42,11 +42,9 @@ pub fn take_symbol_order(
 pub fn take_image_places(b: &[u8], column: &mut [u32]) -> usize
     ensures { Placed (image_places_of b.now) column.new result }
 {
-    for i in 0..column.len() {
-        if b.len() / 4 <= i {
-            return i;
-        }
-        column[i] = get32(b, 4 * i);
+    let n = column.len().min(b.len() / 4);
+    for (i, place) in column[..n].iter_mut().enumerate() {
+        *place = get32(b, 4 * i);
     }
-    column.len()
+    n
 }

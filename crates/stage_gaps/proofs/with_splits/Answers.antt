@@ -39,7 +39,7 @@ returns-in_err-take_split_columns-clause-gives c =
 pub with_added-requires : goal.with_added-requires
 with_added-requires c =
     let size = length c.args.outputs.now.splits.now in
-    let e = c.take_split_columns.ensures.room in
+    let e = c.take_split_columns.ensures.lent.room in
     let f = c.room_of.ensures in
     (c.requires.1, omega (arith, e, f, room_low size), omega (arith, e, f, room_fits size))
 
@@ -49,7 +49,7 @@ returns-clause-gives c =
     let o = a.obj.now in
     let t = c.take_split_columns in
     let base = names_in o.names in
-    let w = rw t.ensures.room at c.with_added.ensures.gives in
+    let w = rw t.ensures.lent.room at c.with_added.ensures.gives in
     splits_go o.names.lengths.now (sections_in o.heads.bytes.now o.heads.places.now) (image_in o)
     (sections_of o.heads.bytes.now o.heads.places.now a.image.now.bytes.now a.image.now.places.now) (ceilings base a.most a.most_bytes) base a.splits.now
     (rows_in t.new.table) c.room_of.ensures t.ensures.taken (ap meaning c.in_ok-take_split_columns.was) w
