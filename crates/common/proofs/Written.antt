@@ -16,7 +16,8 @@ use Rattle.splits.specs.Updates.{with_common}
 use Rattle.splits.proofs.Rows.{good_row}
 use Rattle.common.specs.Common.{marked}
 use Rattle.common.specs.Records.{no_split, Kept}
-use Rattle.lists.proofs.Mapping.{take-map, tabulate-take}
+use Rattle.std.proofs.lemmas.List.{take-map}
+use Rattle.lists.proofs.Mapping.{tabulate-take}
 
 -- ---- the records up to i are written back
 pub record Writing (starts ends units rest₀ rest : List ℕ) (table : List Split) (i : ℕ) : Type 0 where

@@ -1,15 +1,13 @@
 -- Tables built from the front, row by row, and the rows that pass a test, `keep_if`. Assumes nothing.
-use mathlib.Core.Path.{◌≡◌, refl, sym, ap, ap₂, subst, ◌∙◌}
-use mathlib.Core.List.{List, [], ◌∷◌, ◌++◌, map}
-use mathlib.Core.Bool.{Bool, true, false, cond, ◌||◌}
-use Prim.Native.Nat.{ℕ, zero, suc, ◌+◌, ◌-◌, ◌≤◌, ◌<◌, zero-le, suc-le-suc}
-use native.Mathlib.Nat.{sub-zero, suc-sub-suc, le_of_suc-le-suc, not-suc-le-zero, sub_self, add-zero, add-suc, suc-add, zero-add}
+use mathlib.Core.Path.{◌≡◌, sym, ap, ◌∙◌}
+use mathlib.Core.List.{List, [], ◌∷◌, ◌++◌}
+use mathlib.Core.Bool.{Bool, true, false, cond}
+use Prim.Native.Nat.{ℕ, ◌+◌, ◌≤◌, ◌<◌}
 use native.Mathlib.Numerals.{add-one}
 use native.Mathlib.Omega.{arith}
-use lib.ListN.{length, get_or, take, drop, set, replicate, length-set, length-map, length-take, drop_of_length-le}
-use mathlib.Core.Logic.{◌≢◌}
-use lib.Seq.{take-suc, take-suc-set, drop-cons, get_or-take, append_snoc, sets, get_or-set_other, get_or-set_same}
-use Rattle.lists.specs.Rows.{tabulate, insert_at, insert_col, clear_from, keep_if, first_from, first_in, any_of, any_from}
+use lib.ListN.{length, get_or, take, drop, set, length-take, drop_of_length-le}
+use lib.Seq.{take-suc, take-suc-set, drop-cons, get_or-take, append_snoc}
+use Rattle.lists.specs.Rows.{keep_if}
 
 -- ---- a table built row by row: the first i rows are those of s
 module _ {A : Type 0} where

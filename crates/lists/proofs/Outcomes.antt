@@ -1,6 +1,6 @@
 -- Chains of refusals: what a chain gives where a test holds or fails, and what an accepted chain tells of its tests. Assumes nothing.
-use mathlib.Core.Path.{◌≡◌, refl, sym, ap, ◌∙◌}
-use mathlib.Core.Bool.{Bool, true, false, cond}
+use mathlib.Core.Path.{◌≡◌, refl, sym, ◌∙◌}
+use mathlib.Core.Bool.{Bool, true, false}
 use Prim.Native.Nat.{ℕ}
 use native.Mathlib.Omega.{arith}
 use Rattle.lists.specs.Outcome.{Outcome, accepted, refused, ◌>>=◌, ◌>>◌, refuse}

@@ -1,16 +1,14 @@
 -- The rows of a table as a list, `tabulate`: what is left from a place on, its length and elements, and two tables whose rows agree
 -- but for one that is inserted or stored. Assumes nothing.
-use mathlib.Core.Path.{◌≡◌, refl, sym, ap, ap₂, subst, ◌∙◌}
+use mathlib.Core.Path.{◌≡◌, refl, sym, ap, ap₂, ◌∙◌}
 use mathlib.Core.List.{List, [], ◌∷◌, ◌++◌, map}
-use mathlib.Core.Bool.{Bool, true, false, cond, ◌||◌}
 use Prim.Native.Nat.{ℕ, zero, suc, ◌+◌, ◌-◌, ◌≤◌, ◌<◌, zero-le, suc-le-suc}
-use native.Mathlib.Nat.{sub-zero, suc-sub-suc, le_of_suc-le-suc, not-suc-le-zero, sub_self, add-zero, add-suc, suc-add, zero-add}
+use native.Mathlib.Nat.{le_of_suc-le-suc, not-suc-le-zero, add-zero, add-suc, suc-add, zero-add}
 use native.Mathlib.Numerals.{add-one}
 use native.Mathlib.Omega.{arith}
-use lib.ListN.{length, get_or, take, drop, set, replicate, length-set, length-map, length-take, drop_of_length-le}
-use mathlib.Core.Logic.{◌≢◌}
-use lib.Seq.{take_all, take-suc, take-suc-set, drop-cons, get_or-take, append_snoc, sets, get_or-set_other, get_or-set_same}
-use Rattle.lists.specs.Rows.{tabulate, insert_at, insert_col, clear_from, keep_if, first_from, first_in, any_of, any_from}
+use lib.ListN.{length, get_or, take, set, replicate, length-map}
+use lib.Seq.{take_all, take-suc, take-suc-set}
+use Rattle.lists.specs.Rows.{tabulate, insert_at}
 
 module _ {A : Type 0} (f : ℕ → A) where
   -- the rows from i on are row i and the rows from i + 1 on

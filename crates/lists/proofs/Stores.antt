@@ -1,15 +1,12 @@
 -- Runs of stores, `sets` of `lib.Seq`: what is read back within the run and beside it. Assumes nothing.
-use mathlib.Core.Path.{◌≡◌, refl, sym, ap, ap₂, subst, ◌∙◌}
-use mathlib.Core.List.{List, [], ◌∷◌, ◌++◌, map, append_assoc}
-use mathlib.Core.Bool.{Bool, true, false, cond, ◌||◌}
+use mathlib.Core.Path.{◌≡◌, refl, sym, ap, ◌∙◌}
+use mathlib.Core.List.{List, [], ◌∷◌, ◌++◌, append_assoc}
 use Prim.Native.Nat.{ℕ, zero, suc, ◌+◌, ◌-◌, ◌≤◌, ◌<◌, zero-le, suc-le-suc}
-use native.Mathlib.Nat.{sub-zero, suc-sub-suc, le_of_suc-le-suc, not-suc-le-zero, sub_self, add-zero, add-suc, suc-add, zero-add}
-use native.Mathlib.Numerals.{add-one}
+use native.Mathlib.Nat.{le_of_suc-le-suc, not-suc-le-zero, add-zero, add-suc, suc-add}
 use native.Mathlib.Omega.{arith}
-use lib.ListN.{length, get_or, take, drop, set, replicate, length-set, length-map, length-take, length-drop, take-append-drop, drop_of_length-le}
+use lib.ListN.{length, get_or, take, drop, set, length-set, length-drop, take-append-drop}
 use mathlib.Core.Logic.{◌≢◌}
-use lib.Seq.{drop-set-lt, take-nil, take-suc, take-suc-set, drop-cons, get_or-take, append_snoc, sets, sets-eq, length-take-le, take-append-le, take-append_seam, drop-append-le, drop_at, get_or-set_other, get_or-set_same}
-use Rattle.lists.specs.Rows.{tabulate, insert_at, insert_col, clear_from, keep_if, first_from, first_in, any_of, any_from}
+use lib.Seq.{drop-set-lt, take-nil, sets, sets-eq, length-take-le, take-append-le, take-append_seam, drop-append-le, drop_at, get_or-set_other, get_or-set_same}
 
 -- ---- runs of stores
 module _ {A : Type 0} where
@@ -40,15 +37,6 @@ module _ {A : Type 0} where
   -- a run of stores at the front stands there
   pub take-sets : (l : List A) (vs : List A) → length vs ≤ length l → take (length vs) (sets l 0 vs) ≡ vs
   take-sets l vs h = ap (take (length vs)) (sets-eq vs l 0 (omega arith)) ∙ take-append_seam vs (drop (0 + length vs) l)
-
-  -- a turn of a loop that stores a list, element by element
-  pub sets_turn : (l : List A) (at : ℕ) (vs : List A) (i : ℕ) (d : A) → i < length vs
-      → sets (set l (at + i) (get_or vs i d)) (at + (i + 1)) (drop (i + 1) vs) ≡ sets l (at + i) (drop i vs)
-  sets_turn l at vs i d h =
-      rw (add-one, drop-cons vs i d h) (ap (λ (k : ℕ). sets (set l (at + i) (get_or vs i d)) k (drop (suc i) vs)) (add-suc at i))
-
-  pub sets_ended : (l : List A) (at : ℕ) (vs : List A) (i : ℕ) → length vs ≤ i → sets l (at + i) (drop i vs) ≡ l
-  sets_ended l at vs i h = rw (drop_of_length-le vs h)
 
   -- a part of the first of two lists
   pub part-append : (l r : List A) (at size : ℕ) → at + size ≤ length l → take size (drop at (l ++ r)) ≡ take size (drop at l)

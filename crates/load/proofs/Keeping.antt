@@ -1,7 +1,7 @@
 -- A record without a fault is kept: its place goes behind those of its kind, and all other parts of the columns stay. So the columns mean
 -- what is loaded with the record, and what was known of them is known again. Assumes nothing.
 use Prim.Native.Nat.{ℕ, ◌+◌, ◌<◌, ◌≤◌}
-use mathlib.Core.Path.{◌≡◌, refl, sym, ap, subst, ◌∙◌}
+use mathlib.Core.Path.{◌≡◌, refl, sym, ap, ◌∙◌}
 use mathlib.Core.Bool.{Bool, true, false, cond}
 use mathlib.Core.List.{List, [], ◌∷◌, ◌++◌, map-append}
 use native.Mathlib.Nat.{add-zero}
@@ -21,10 +21,9 @@ use Rattle.names.specs.Index.{InBucket, Sought}
 use Rattle.names.proofs.Indexes.{indexed_entered, sought_asked, sought_new}
 use Rattle.names.proofs.Laws.{length-names}
 use Rattle.faults.proofs.Laws.{reloc_section, reloc_inside}
-use Rattle.tables.specs.declared.Ceilings.{Ceilings}
+use Rattle.tables.specs.declared.Counts.{Counts, Counts as Ceilings}
 use Rattle.tables.specs.Records.{relocs_in, no_section, no_reloc, floor_from}
 use Rattle.tables.proofs.Floors.{Floors, floors_more}
-use Rattle.load.specs.declared.Counts.{Counts}
 use Rattle.load.specs.Load.{Loaded, names_in, repeated, name_number, kind_number, with_record}
 use Rattle.load.specs.Columns.{tables_in, floors_in, one_more, slot_of, Allowed, Few, Counted, RelocFits, Tabled, Ready, Kept}
 use Rattle.load.proofs.Numbers.{NewName, PassedReloc, Passed, again, name, section, symbol, reloc, split, unit, name_passed, kind_passed}
@@ -440,19 +439,6 @@ module _ (c : Ceilings) (file : List ℕ) (at len : ℕ) (n : Counts) (places le
       (λ s. rw (reloc_tables v, with_reloc) (reloc_floors v refl s)))
 
 -- ---- a name
-
--- the same record, its length and kind as they were read
-pub kept_read : {c : Ceilings} {file : List ℕ} {at len kind : ℕ} {t : Loaded} {n : Counts} {places lengths heads chain : List ℕ} (long other : ℕ)
-    → len ≡ long → kind ≡ other → Kept c file at len kind t n places lengths heads chain → Kept c file at long other t n places lengths heads chain
-kept_read {c} {file} {at} {len} {kind} {t} {n} {places} {lengths} {heads} {chain} long other l e k =
-    subst (λ (j : ℕ). Kept c file at long j t n places lengths heads chain) e
-    (subst (λ (i : ℕ). Kept c file at i kind t n places lengths heads chain) l k)
-
--- the same record, its kind said otherwise
-pub kept_as : {c : Ceilings} {file : List ℕ} {at len kind other : ℕ} {t : Loaded} {n : Counts} {places lengths heads chain : List ℕ} → kind ≡ other
-    → Kept c file at len other t n places lengths heads chain → Kept c file at len kind t n places lengths heads chain
-kept_as {c} {file} {at} {len} {kind} {other} {t} {n} {places} {lengths} {heads} {chain} e k =
-    subst (λ (j : ℕ). Kept c file at len j t n places lengths heads chain) (sym e) k
 
 -- the name that was found is repeated, another one is not
 module _ (c : Ceilings) (file : List ℕ) (at len : ℕ) (t : Loaded) (r : Option ℕ) (found : Sought (names_in file t) (take len (drop at file)) r) where
