@@ -17,9 +17,8 @@ use Rattle.obj.specs.declared.Refusal.{Refusal}
 use Rattle.std.specs.Prelude.{Result, Ok, Err}
 use Rattle.outputs.specs.Outputs.{counts_of, store_count, store_counts}
 use Rattle.outputs.proofs.Laws.{counts_stored}
-use Rattle.tables.specs.declared.Ceilings.{Ceilings}
+use Rattle.tables.specs.declared.Counts.{Counts, Counts as Ceilings}
 use Rattle.tables.specs.Tables.{main_ceilings}
-use Rattle.load.specs.declared.Counts.{Counts}
 use Rattle.load.specs.Load.{Loaded, load_of}
 use Rattle.load.specs.Columns.{tables_in, no_counts, Allowed, Room, Loads}
 use Rattle.load.proofs.Keeping.{counted}

@@ -8,7 +8,7 @@ use Rattle.obj.specs.Answers.{outcome_word}
 use Rattle.outputs.specs.Outputs.{counts_of}
 use Rattle.load.specs.Load.{Loaded}
 use Rattle.load.specs.Columns.{Counted, counts_in}
-use Rattle.load.specs.declared.Counts.{Counts}
+use Rattle.tables.specs.declared.Counts.{Counts}
 
 -- names, sections, symbols, relocations, splits, units
 abbrev pub listed : Counts → List ℕ

@@ -17,7 +17,7 @@ use Rattle.lists.proofs.Outcomes.{not_both, same_accepted, then_inv}
 use Rattle.fields.specs.Fields.{le16, le32}
 use Rattle.names.specs.Names.{name_bad}
 use Rattle.names.proofs.Laws.{length-names, name_there}
-use Rattle.tables.specs.declared.Ceilings as tables
+use Rattle.tables.specs.declared.Counts as tables
 use Rattle.tables.specs.Tables.{main_ceilings}
 use Rattle.load.specs.Load.{Loaded, nothing, names_in, with_record, record_number, load_from, load_of}
 use Rattle.load.specs.Good.{Good}
@@ -31,7 +31,7 @@ use Rattle.file_tables.specs.Tables.{Clean}
 -- ---- what all records keep
 
 -- what one record without a fault keeps, at the place behind it, an accepted file has kept
-kept_from : (c : tables.Ceilings) (file : List ℕ) (P : ℕ → Loaded → Type 0)
+kept_from : (c : tables.Counts) (file : List ℕ) (P : ℕ → Loaded → Type 0)
     → ((at : ℕ) (t : Loaded) → P at t → record_number c file at t ≡ 0 → P (at + 6 + le32 file at) (next_loaded c file at t))
     → (fuel at r : ℕ) (t u : Loaded) → P at t → load_from fuel c file at r t ≡ accepted u → (end : ℕ) × P end u
 unfolding load_from
@@ -61,7 +61,7 @@ kept_from c file P step (suc fuel) at r t u p e =
 abbrev taken : (file : List ℕ) → Loaded → ℕ
 taken file t = bytes_of (names_in file t) + 6 * length t.names
 
-module _ (c : tables.Ceilings) (file : List ℕ) (at len : ℕ) (t : Loaded) (measured : length t.lengths ≡ length t.names) (whole : at + len ≤ length file) where
+module _ (c : tables.Counts) (file : List ℕ) (at len : ℕ) (t : Loaded) (measured : length t.lengths ≡ length t.names) (whole : at + len ≤ length file) where
   -- a name more takes its bytes and a head, any other record nothing
   taken_kind : (kind : ℕ) → Passed c file at len t kind → taken file (with_record c file at len t kind) ≤ taken file t + 6 + len
   unfolding with_record names_in
@@ -79,12 +79,12 @@ module _ (c : tables.Ceilings) (file : List ℕ) (at len : ℕ) (t : Loaded) (me
   taken_kind _ (unit p) = omega arith
 
 -- so far they take no more than lies before `at`, and than the file has
-record Taken (c : tables.Ceilings) (file : List ℕ) (at : ℕ) (t : Loaded) : Type 0 where
+record Taken (c : tables.Counts) (file : List ℕ) (at : ℕ) (t : Loaded) : Type 0 where
   pub good : Good c file t
   pub before : taken file t ≤ at
   pub within : taken file t ≤ length file
 
-taken_more : (c : tables.Ceilings) (file : List ℕ) (at : ℕ) (t : Loaded) → Taken c file at t → record_number c file at t ≡ 0
+taken_more : (c : tables.Counts) (file : List ℕ) (at : ℕ) (t : Loaded) → Taken c file at t → record_number c file at t ≡ 0
     → Taken c file (at + 6 + le32 file at) (next_loaded c file at t)
 taken_more c file at t h e =
     let p = record_passed c file at t e in
@@ -100,7 +100,7 @@ none_yet : (file : List ℕ) → bytes_of (names_in file nothing) ≡ 0
 unfolding names_in
 none_yet file = no_bytes (names_in file nothing) (length-names file [] [] 0)
 
-taken-nothing : (c : tables.Ceilings) (file : List ℕ) → Taken c file 0 nothing
+taken-nothing : (c : tables.Counts) (file : List ℕ) → Taken c file 0 nothing
 taken-nothing c file = record { good = good_nothing c file; before = omega (arith, none_yet file); within = omega (arith, none_yet file) }
 
 -- what holds at each place holds of each element

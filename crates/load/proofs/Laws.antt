@@ -19,7 +19,7 @@ use Rattle.names.specs.Names.{name_at, names_of, number_of, name_bad, Named}
 use Rattle.names.specs.Index.{Different}
 use Rattle.names.proofs.Laws.{length-names, number_le}
 use Rattle.faults.proofs.Laws.{reloc_above}
-use Rattle.tables.specs.declared.Ceilings.{Ceilings}
+use Rattle.tables.specs.declared.Counts.{Counts as Ceilings}
 use Rattle.tables.specs.Tables.{AllHeld}
 use Rattle.tables.proofs.Lookups.{partial_is}
 use Rattle.tables.specs.Records.{sections_in, symbols_in, relocs_in, partials_in, units_in, no_section, no_symbol, no_reloc, no_split, no_unit, floor_from}

@@ -18,9 +18,8 @@ use Rattle.lists.specs.Rows.{tabulate, clear_from}
 use Rattle.lists.proofs.Clear.{clear_is}
 use Rattle.names.specs.Names.{names_of}
 use Rattle.names.proofs.Indexes.{indexed_cleared}
-use Rattle.tables.specs.declared.Ceilings.{Ceilings}
+use Rattle.tables.specs.declared.Counts.{Counts, Counts as Ceilings}
 use Rattle.tables.specs.Records.{floor_from}
-use Rattle.load.specs.declared.Counts.{Counts}
 use Rattle.obj.specs.declared.Refusal.{Refusal}
 use Rattle.load.specs.Load.{Loaded, nothing, names_in, record_number, load_from, load_of}
 use Rattle.load.specs.Columns.{part, tables_in, floors_in, no_counts, fault_as, counts_in, Room, Ready, Loads}

@@ -6,10 +6,9 @@ use Rattle.lists.specs.Outcome.{Outcome, accepted, refused}
 use Rattle.obj.specs.Records.{reloc_at}
 use Rattle.obj.specs.declared.Refusal.{Refusal}
 use Rattle.names.specs.Index.{Indexed}
-use Rattle.tables.specs.declared.Ceilings.{Ceilings}
+use Rattle.tables.specs.declared.Counts.{Counts, Counts as Ceilings}
 use Rattle.tables.specs.Tables.{AllHeld}
 use Rattle.tables.specs.Records.{relocs_in, floor_from}
-use Rattle.load.specs.declared.Counts.{Counts}
 use Rattle.load.specs.Load.{Loaded, names_in, with_record}
 use Rattle.load.specs.Good.{NamesGood, Good}
 

@@ -10,7 +10,7 @@ use Rattle.obj.specs.declared.Unit as units
 use Rattle.obj.specs.Records.{section_at, symbol_at, reloc_at, partial_at, unit_at, partial_width}
 use Rattle.names.specs.Names.{name_at, names_of, name_bad}
 use Rattle.names.specs.Index.{Different}
-use Rattle.tables.specs.declared.Ceilings.{Ceilings}
+use Rattle.tables.specs.declared.Counts.{Counts as Ceilings}
 use Rattle.tables.specs.Records.{sections_in, relocs_in, no_section, no_reloc, floor_from}
 use Rattle.load.specs.Load.{Loaded}
 

@@ -2,10 +2,9 @@
 use Rattle.std.specs.Prelude.{ℕ, ◌≡◌, List, Result}
 use Rattle.lists.specs.Outcome.{Outcome}
 use Rattle.obj.specs.declared.Refusal.{Refusal}
-use Rattle.tables.specs.declared.Ceilings.{Ceilings}
+use Rattle.tables.specs.declared.Counts.{Counts, Counts as Ceilings}
 use Rattle.load.specs.Load.{Loaded}
 use Rattle.load.specs.Columns.{tables_in, fault_as, Ready, Kept, Loads}
-use Rattle.load.specs.declared.Counts.{Counts}
 use Rattle.load.specs.declared.reading.Columns.{Columns}
 use Rattle.load.specs.declared.reading.Payload.{Payload}
 use Rattle.load.specs.declared.reading.SoFar.{SoFar}

@@ -23,18 +23,8 @@ use obj::{
     read_unit, refuse,
 };
 use reading::{Columns, Payload, SoFar};
+pub use tables::Counts;
 use tables::{Ceilings, length_of, section_or_none};
-
-// How many records of each kind are loaded.
-#[derive(Clone, Copy)]
-pub struct Counts {
-    pub names: usize,
-    pub sections: usize,
-    pub symbols: usize,
-    pub relocations: usize,
-    pub splits: usize,
-    pub units: usize,
-}
 
 // Where the parts of the column of places start: 64 sections, 4,096 symbols, 4,096 relocations, 1,024 splits, 1,024 units, 4,096 names, and
 // for each section one more than the address of its last relocation.

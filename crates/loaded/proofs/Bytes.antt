@@ -13,7 +13,7 @@ use Rattle.lists.proofs.Outcomes.{not_both, same_accepted, then_inv}
 use Rattle.fields.specs.Fields.{le16, le32}
 use Rattle.obj.specs.Records.{section_at}
 use Rattle.faults.specs.Faults.{section_bad}
-use Rattle.tables.specs.declared.Ceilings.{Ceilings}
+use Rattle.tables.specs.declared.Counts.{Counts as Ceilings}
 use Rattle.tables.specs.Tables.{main_ceilings}
 use Rattle.load.specs.Load.{Loaded, nothing, section_length, section_number, kind_number, with_record, record_number, load_from, load_of}
 use Rattle.load.specs.Good.{AllGood}

@@ -67,7 +67,7 @@ pub fn order_pieces(b: &[u8], starts: &[usize], order: &mut [u16])
     let mut scratch = [0u16; 1024];
     let n = starts.len();
     fill_keys(b, starts, &mut table);
-    fill_places(&mut places, 20, n);
+    fill_places(&mut places[..n], 20);
     fill_numbers(order);
     sort(
         &Table {

@@ -8,7 +8,7 @@ use lib.ListN.{length, drop, length-take, length-drop}
 use Rattle.lists.specs.Outcome.{Outcome, accepted, ◌>>=◌}
 use Rattle.names.specs.Append.{Columns as Beside}
 use Rattle.tables.specs.Tables.{main_ceilings}
-use Rattle.load.specs.declared.Counts as load
+use Rattle.tables.specs.declared.Counts as load
 use Rattle.load.specs.Load.{Loaded, load_of}
 use Rattle.load.specs.Columns.{part, tables_in}
 use Rattle.loaded.proofs.Bytes.{loaded_usable}

@@ -6,7 +6,7 @@ use mathlib.Core.List.{List}
 use lib.ListN.{take, drop}
 use Rattle.obj.specs.Records.{stage_places}
 use Rattle.names.specs.Append.{Columns as Beside}
-use Rattle.load.specs.declared.Counts as load
+use Rattle.tables.specs.declared.Counts as load
 use Rattle.load.specs.Columns.{tables_in}
 use Rattle.load.proofs.Parts.{part-lent}
 use Rattle.pieces.specs.declared.Counts.{Counts}

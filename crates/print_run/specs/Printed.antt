@@ -4,7 +4,7 @@ use Rattle.std.specs.Prelude.{ℕ, ◌≤◌, List, length}
 use Rattle.std.specs.declared.option.Option.{Option}
 use Rattle.std.specs.Io.KnownBytes.{Appends}
 use Rattle.names.specs.Append.{Columns as Beside}
-use Rattle.load.specs.declared.Counts as load
+use Rattle.tables.specs.declared.Counts as load
 use Rattle.load.specs.Columns.{tables_in}
 use Rattle.pieces.specs.declared.Counts.{Counts}
 use Rattle.run.specs.declared.Ran.{Ran}

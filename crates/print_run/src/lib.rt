@@ -77,7 +77,7 @@ fn print_done<'a, W: Write>(
     let relocs_end = RELOCATIONS + counts.relocations;
     let mut unit_places = [0u32; 1024];
     let mut line = [0u8; 208];
-    fill_places(&mut unit_places, 8, n);
+    fill_places(&mut unit_places[..n], 8);
     print_lines(
         out,
         &Names {

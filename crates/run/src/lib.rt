@@ -66,7 +66,7 @@ fn walk_lent(
 {
     let mut places = [0u32; 1024];
     let mut unit_numbers = [0u16; 4096];
-    fill_places(&mut places, 8, count);
+    fill_places(&mut places[..count], 8);
     let unit_records = Table {
         bytes: unit_table,
         places: &places[..count],

@@ -21,7 +21,7 @@ use Rattle.obj.specs.declared.Split.{Split}
 use Rattle.names.specs.Names.{name_bad, number_of}
 use Rattle.names.specs.Fixed.{is_pointer_list}
 use Rattle.faults.specs.Faults.{section_bad, symbol_bad, reloc_bad, split_bad, unit_bad}
-use Rattle.tables.specs.declared.Ceilings as tables
+use Rattle.tables.specs.declared.Counts as tables
 use Rattle.tables.specs.Records.{sections_in, relocs_in, floor_from, no_section}
 use Rattle.load.specs.Load.{Loaded, nothing, section_length, repeated, name_number, section_number, symbol_number, reloc_number, split_number, unit_number, kind_number, with_record, record_number, load_from, load_of}
 use Rattle.symbols.specs.Ranges.{stripped, symbols_between, highest_in}
@@ -58,7 +58,7 @@ first_of : (number rest : ℕ) (b : Bool) → number ≤ 8 → rest ≤ 8 → co
 first_of number rest true h q = h
 first_of number rest false h q = q
 
-module _ (c : tables.Ceilings) (file : List ℕ) (at len : ℕ) (t : Loaded) where
+module _ (c : tables.Counts) (file : List ℕ) (at len : ℕ) (t : Loaded) where
   three : (a b d : Bool) (x y z : ℕ) → x ≤ 8 → y ≤ 8 → z ≤ 8 → cond a x (cond b y (cond d z 0)) ≤ 8
   three a b d x y z h k l = first_of x _ a h (first_of y _ b k (first_of z 0 d l (omega arith)))
 
@@ -113,7 +113,7 @@ module _ (c : tables.Ceilings) (file : List ℕ) (at len : ℕ) (t : Loaded) whe
       (first_of _ _ (eqb kind 5) split_few
       (first_of _ 1 (eqb kind 6) unit_few (omega arith))))))
 
-record_few : (c : tables.Ceilings) (file : List ℕ) (at : ℕ) (t : Loaded) → record_number c file at t ≤ 8
+record_few : (c : tables.Counts) (file : List ℕ) (at : ℕ) (t : Loaded) → record_number c file at t ≤ 8
 unfolding record_number
 record_few c file at t =
     first_of 1 _ (ltb (length file) (at + 6)) (omega arith)
@@ -132,7 +132,7 @@ module _ (B : Type 0) where
   abbrev pub Can : (number section address : ℕ) → Type 0
   Can = Refusal OfStages B
 
-  from_loads : (fuel : ℕ) (c : tables.Ceilings) (file : List ℕ) (at r : ℕ) (t : Loaded) → r + fuel ≤ 65536 → Says Run (load_from fuel c file at r t)
+  from_loads : (fuel : ℕ) (c : tables.Counts) (file : List ℕ) (at r : ℕ) (t : Loaded) → r + fuel ≤ 65536 → Says Run (load_from fuel c file at r t)
   unfolding load_from
   from_loads zero c file at r t h = tt
   from_loads (suc fuel) c file at r t h =
@@ -150,7 +150,7 @@ module _ (B : Type 0) where
       ended true rest s = tt
       ended false rest s = faulty (ltb 0 number) refl rest s
 
-  pub load_says : (c : tables.Ceilings) (file : List ℕ) → Says Run (load_of c file)
+  pub load_says : (c : tables.Counts) (file : List ℕ) → Says Run (load_of c file)
   unfolding load_of
   load_says c file =
       says_then Run 1 0 0 (ltb 65536 (length file)) _ (λ e. record { comes = places.loading (omega arith) (omega arith); narrow = λ b q. (omega arith, omega arith) })

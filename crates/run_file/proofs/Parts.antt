@@ -10,7 +10,7 @@ use Rattle.lists.proofs.Binds.{bind_goes, bind_stops}
 use Rattle.tables.specs.Tables.{main_ceilings}
 use Rattle.load.specs.Load.{Loaded, load_of, names_in}
 use Rattle.load.specs.Columns.{part, tables_in}
-use Rattle.load.specs.declared.Counts.{Counts}
+use Rattle.tables.specs.declared.Counts.{Counts}
 use Rattle.load.proofs.Parts.{part-lent}
 use Rattle.loaded.specs.Tables.{tables_with}
 use Rattle.loaded.proofs.Bytes.{loaded_usable}

@@ -8,7 +8,7 @@ use Rattle.tables.specs.Tables.{main_ceilings}
 use Rattle.load.specs.Load.{Loaded, load_of, names_in}
 use Rattle.load.specs.Columns as columns
 use Rattle.load.specs.Columns.{tables_in}
-use Rattle.load.specs.declared.Counts as load
+use Rattle.tables.specs.declared.Counts as load
 use Rattle.run_load.specs.Prepared.{Ordered}
 use Rattle.run_load.specs.Lent.{ShowsIndex}
 use Rattle.run_load.specs.declared.Prepared.{Prepared}

@@ -8,8 +8,7 @@ use lib.ListN.{length, get_or, take, drop, length-take}
 use Rattle.lists.specs.Outcome.{Outcome}
 use Rattle.std.specs.Prelude.{Result, Ok}
 use Rattle.obj.specs.declared.Refusal.{Refusal}
-use Rattle.load.specs.declared.Counts.{Counts}
-use Rattle.tables.specs.declared.Ceilings.{Ceilings}
+use Rattle.tables.specs.declared.Counts.{Counts, Counts as Ceilings}
 use Rattle.tables.specs.Tables.{main_ceilings}
 use Rattle.load.specs.Load.{Loaded, load_of}
 use Rattle.load.specs.Columns.{part, tables_in, loaded_as, Room, Ready, Loads}

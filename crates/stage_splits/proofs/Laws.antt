@@ -102,11 +102,6 @@ module _ (ceiling : ℕ) (lengths b places : List ℕ) (few : ceiling ≤ 4096) 
       ∙ ap (records_check (partial_fault lengths (splits_in b (stage_places split_width n)))) (length-stage_places split_width n)
       ∙ splits_partials lengths sections (splits_in b (stage_places split_width n)) n passed)
 
--- it was refused: the columns hold nothing
-pub taken_refused : {answer want : Outcome (Unit {0})} (b : List ℕ) (rows : List Split) {number section address : ℕ} → answer ≡ want → answer ≡ refused number section address
-    → Taken answer want b rows
-taken_refused b rows s e = record { said = s; taken = λ q. absurd (not_both (sym e ∙ s ∙ q)) }
-
 -- it was accepted: the rows loaded from the places are its splits
 pub taken-rows : {answer want : Outcome (Unit {0})} (b places : List ℕ) (rows : List Split) → answer ≡ want
     → take (length b / split_width) places ≡ stage_places split_width (length b / split_width) → rows ≡ splits_in b (take (length b / split_width) places)

@@ -12,13 +12,17 @@ ghost use Rattle.stage_tables.specs.StageTables.{sections_check, image_check, sy
 use obj::{PARTIAL_BYTES, Refusal, SPLIT_BYTES, Table};
 use tables::{fill_places, table_size};
 
+// What each function below asks stays a clause. `Room` is of a ceiling and a lent column, which come apart. `AllHeld` is of sections at their places, and `obj::Table` is every
+// table of records, of any width. `lengths, b, ceiling, places` come from a caller's arrays and its C arguments, and a struct of them would be made for one call.
+
 // 1 and 2 of a table of `size` bytes, and the places of its records.
 fn fill_table(size: usize, width: usize, ceiling: usize, places: &mut [u32]) -> Result<(), Refusal>
     requires { (0 < width) × (width ≤ 64) × Room ceiling places.old }
     ensures { Filled (meaning result) (size_check width ceiling size) width size places.new }
 {
     table_size(size, width, ceiling)?;
-    fill_places(places, width, size / width);
+    let n = size / width;
+    fill_places(&mut places[..n], width);
     Ok(())
 }
 
@@ -91,7 +95,7 @@ pub fn take_symbols(
     )
 }
 
-// Relocations: "6 relocation: ..". `symbols` is a count; `floors` is room for a number of each section.
+// Relocations: "6 relocation: ..". `symbols` is a count; `floors` is room for a number of each section, and `places` has one of each relocation: no columns of one table.
 pub fn take_relocs(
     heads: &Table,
     symbols: usize,

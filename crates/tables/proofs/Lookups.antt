@@ -5,8 +5,8 @@ use mathlib.Core.List.{List, [], ◌∷◌, ◌++◌, map}
 use native.Mathlib.Omega.{arith}
 use native.Mathlib.Nat.{zero-add, mul-le-mul_left, mul-suc}
 use native.Mathlib.Numerals.{add-one}
-use lib.ListN.{length, get_or, take, set}
-use lib.Seq.{take-suc-set}
+use lib.ListN.{length, get_or, take, drop, set}
+use lib.Seq.{take-suc-set, length-take-le, take-append_seam}
 use Rattle.lists.specs.Sort.{All, each}
 use Rattle.lists.specs.Sort.{none as no_more}
 use Rattle.lists.proofs.Rows.{get_d_map, get_d_tabulate, length-tabulate, tabulate_more}
@@ -48,6 +48,13 @@ place_more width i places h e =
     rw add-one (take-suc-set places i (width * i) h)
     ∙ ap (λ (l : List ℕ). l ++ (width * i ∷ [])) e
     ∙ sym (tabulate_more (λ k. width * k) i)
+
+-- the front of a column was filled with places
+pub places_front : (width n : ℕ) (column front : List ℕ) → n ≤ length column → front ≡ stage_places width (length (take n column))
+    → take n (front ++ drop n column) ≡ stage_places width n
+places_front width n column front h e =
+    let same : front ≡ stage_places width n = e ∙ ap (stage_places width) (length-take-le n column h) in
+    ap (λ (m : ℕ). take m (front ++ drop n column)) (sym (ap length same ∙ length-stage_places width n)) ∙ take-append_seam front (drop n column) ∙ same
 
 -- all places of a stage table lie in it
 pub stage_held : (width n : ℕ) (b : List ℕ) → n ≤ 4294967295 → width * n ≤ length b → AllHeld width b (stage_places width n)

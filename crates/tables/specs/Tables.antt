@@ -5,7 +5,7 @@ use Rattle.std.specs.Prelude.{ℕ, ◌+◌, ◌/◌, ◌%◌, ◌<◌, ◌≤◌
 use Rattle.lists.specs.Rows.{first_from}
 use Rattle.lists.specs.Outcome.{Outcome, accepted, refuse, ◌>>◌}
 use Rattle.obj.specs.Answers.{place}
-use Rattle.tables.specs.declared.Ceilings.{Ceilings}
+use Rattle.tables.specs.declared.Counts.{Counts as Ceilings}
 
 -- "4,096 names", "64 sections, 4,096 symbols, 4,096 relocations, 1,024 splits, 1,024 units"
 abbrev pub main_ceilings : Ceilings

@@ -15,9 +15,9 @@ use obj::{
     split_at, symbol_at, unit_at,
 };
 
-// How many records a table of each kind may have.
+// How many records of each kind there are, or how many there may be.
 #[derive(Clone, Copy)]
-pub struct Ceilings {
+pub struct Counts {
     pub names: usize,
     pub sections: usize,
     pub symbols: usize,
@@ -25,6 +25,9 @@ pub struct Ceilings {
     pub splits: usize,
     pub units: usize,
 }
+
+// The same by the name that says the most of each kind.
+pub use Counts as Ceilings;
 
 // "64 sections, 4,096 symbols, 4,096 relocations, 1,024 splits, 1,024 units, 4,096 names".
 pub fn main_ceilings() -> Ceilings
@@ -55,13 +58,13 @@ pub fn table_size(size: usize, width: usize, ceiling: usize) -> Result<(), Refus
     Ok(())
 }
 
-// The places of a stage table's n records, at the front of a column that may have room for more.
-pub fn fill_places(places: &mut [u32], width: usize, n: usize)
-    requires { (n ≤ length places.old) × (width * n ≤ 4294967295) }
-    ensures { take n places.new ≡ stage_places width n }
+// The places of a stage table's records, as many as the column has.
+pub fn fill_places(places: &mut [u32], width: usize)
+    requires { width * length places.old ≤ 4294967295 }
+    ensures { places.new ≡ stage_places width (length places.old) }
 {
-    for i in 0..n {
-        places[i] = (width * i) as u32;
+    for (i, place) in places.iter_mut().enumerate() {
+        *place = (width * i) as u32;
     }
 }
 

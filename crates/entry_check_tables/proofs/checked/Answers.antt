@@ -4,7 +4,7 @@ use Rattle.std.proofs.Common.{◌∙◌, ap, sym, arith, ℕ, List, length}
 use Rattle.lists.proofs.Outcomes.{then_stops, then_goes}
 use Rattle.obj.specs.Answers.{meaning}
 use Rattle.obj.proofs.Errors.{same_err}
-use Rattle.tables.specs.declared.Ceilings.{Ceilings}
+use Rattle.tables.specs.declared.Counts.{Counts as Ceilings}
 use Rattle.name_table.specs.NameTable.{names_check}
 use Rattle.stage_tables.specs.StageTables.{image_check}
 use Rattle.stage_tables.proofs.Laws.{taken_few, taken_places, taken-count, taken-held}

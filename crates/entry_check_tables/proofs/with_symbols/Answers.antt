@@ -3,7 +3,7 @@ use Rattle.std.proofs.Common.{◌∙◌, ap}
 use Rattle.lists.proofs.Outcomes.{then_stops, then_goes}
 use Rattle.obj.specs.Answers.{meaning}
 use Rattle.obj.proofs.Errors.{same_err}
-use Rattle.tables.specs.declared.Ceilings.{Ceilings}
+use Rattle.tables.specs.declared.Counts.{Counts as Ceilings}
 use Rattle.entry_check_tables.specs.Lines.{from_symbols}
 use Rattle.entry_check_tables.proofs.Laws.{below}
 use Rattle.entry_check_tables.proofs.with_symbols.Goals as goal

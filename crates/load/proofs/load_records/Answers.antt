@@ -1,8 +1,7 @@
 -- A record is refused, or kept and the pass goes on behind it.
 use Rattle.std.proofs.Common.{ℕ, List, ◌≡◌, ◌∙◌, arith}
 use Rattle.std.specs.Prelude.{Result}
-use Rattle.tables.specs.declared.Ceilings.{Ceilings}
-use Rattle.load.specs.declared.Counts.{Counts}
+use Rattle.tables.specs.declared.Counts.{Counts, Counts as Ceilings}
 use Rattle.load.specs.Load.{record_number}
 use Rattle.load.specs.Columns.{fault_as, tables_in}
 use Rattle.load.proofs.Numbers.{record_passed}
