@@ -168,17 +168,6 @@ module _ (headers : List ℕ) where
         front = λ q. sym (append-nil (take j column)) ∙ ap (λ (l : List ℕ). take j column ++ l) (sym none) ∙ t.front q;
       }
 
--- a turn, as the code takes it
-module _ (headers : List ℕ) (k j : ℕ) (column : List ℕ) {r : Bool} (e : r ≡ allocated (header_of headers k)) where
-  pub taken_stored : r ≡ true → j < length column → TakenOne headers k j column (set column j k) (j + 1)
-  taken_stored t h = let yes : allocated (header_of headers k) ≡ true = sym e ∙ t in record { counted = rw yes; stored = rw (yes, lt-ltb j (length column) h) }
-
-  pub taken-counted : r ≡ true → length column ≤ j → TakenOne headers k j column column (j + 1)
-  taken-counted t h = let yes : allocated (header_of headers k) ≡ true = sym e ∙ t in record { counted = rw yes; stored = rw (yes, le-ltb j (length column) h) }
-
-  pub taken_left : r ≡ false → TakenOne headers k j column column j
-  taken_left t = let no : allocated (header_of headers k) ≡ false = sym e ∙ t in record { counted = rw no; stored = rw no }
-
 -- ---- the section that a link leads to
 
 module _ (numbers : List ℕ) (shndx : ℕ) where
