@@ -41,6 +41,15 @@ module _ (file : List ℕ) (offset size : ℕ) where
   pub inside : {r : Bool} → r ≡ outside (length file) offset size → r ≡ false → offset + size ≤ length file
   inside e q = ltb-false (length file) (offset + size) (sym e ∙ q)
 
+-- no bytes reach outside no file
+pub none_outside : (size : ℕ) → outside size 0 0 ≡ false
+none_outside size = le-ltb size (0 + 0) (omega arith)
+
+-- a section that is missing has none
+pub no_bytes : (file : List ℕ) → [] ≡ section_bytes file no_section_header
+unfolding bytes_in
+no_bytes file = rw (none_outside (length file)) refl
+
 -- ---- names
 
 -- a string is not ended exactly if it starts at or past the limit

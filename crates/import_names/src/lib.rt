@@ -6,7 +6,9 @@ ghost use Rattle.number_names.specs.Tables.{room_of, SameTable, HeldBy, EnteredB
 ghost use Rattle.import.specs.Import.{names_of};
 ghost use Rattle.import_names.specs.Numbered.{name_room, Numbered};
 
-use elf_file::{ElfFile, bytes_in, header_table, section_strings, symbol_strings, symbol_table};
+use elf_file::{
+    ElfFile, header_table, section_bytes, section_strings, symbol_strings, symbol_table,
+};
 use elf_names::{enter_sections, enter_symbols};
 use number_names::{Count, NumberedNames};
 use obj::Refusal;
@@ -21,8 +23,7 @@ fn number_in(file: &ElfFile, names: &mut NumberedNames) -> Result<(), Refusal>
 {
     let headers = header_table(file);
     enter_sections(headers, section_strings(file), names)?;
-    let t = symbol_table(headers);
-    let table = bytes_in(file.bytes, t.offset, t.size);
+    let table = section_bytes(file.bytes, symbol_table(headers));
     enter_symbols(table, symbol_strings(file), names)
 }
 

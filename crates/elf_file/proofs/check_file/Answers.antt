@@ -54,7 +54,7 @@ returns-then-names_cut c =
     (asked (headers_cut (length f)) c.headers_cut.ensures c.read_header-h.ensures c.if-headers_cut.false)
     (asked_both (sections_cut (length f)) c.sections_cut.ensures c.header_table-headers.ensures c.section_strings.ensures c.if-sections_cut.false)
     (asked (symbol_table_cut (length f)) c.symbol_table_cut.ensures table c.if-symbol_table_cut.false)
-    (asked_both names_cut c.names_cut.ensures (c.bytes_in.ensures ∙ ap (λ (h : SectionHeader). section_bytes f h) table) c.symbol_strings.ensures c.if-names_cut.true)
+    (asked_both names_cut c.names_cut.ensures (c.section_bytes.ensures ∙ ap (λ (h : SectionHeader). section_bytes f h) table) c.symbol_strings.ensures c.if-names_cut.true)
 
 pub returns : goal.returns
 returns c =
@@ -65,4 +65,4 @@ returns c =
     (asked (headers_cut (length f)) c.headers_cut.ensures c.read_header-h.ensures c.if-headers_cut.false)
     (asked_both (sections_cut (length f)) c.sections_cut.ensures c.header_table-headers.ensures c.section_strings.ensures c.if-sections_cut.false)
     (asked (symbol_table_cut (length f)) c.symbol_table_cut.ensures table c.if-symbol_table_cut.false)
-    (asked_both names_cut c.names_cut.ensures (c.bytes_in.ensures ∙ ap (λ (h : SectionHeader). section_bytes f h) table) c.symbol_strings.ensures c.if-names_cut.false)
+    (asked_both names_cut c.names_cut.ensures (c.section_bytes.ensures ∙ ap (λ (h : SectionHeader). section_bytes f h) table) c.symbol_strings.ensures c.if-names_cut.false)

@@ -11,5 +11,5 @@ pub returns : goal.returns
 unfolding section_strings
 returns c =
     let f = c.args.file.now.bytes.now in
-    c.bytes_in.ensures
-    ∙ ap (λ (h : SectionHeader). section_bytes f h) (c.section_of-s.ensures ∙ ap (section_of c.header_table.result.now) c.from.ensures ∙ ap₂ (λ (t : List ℕ) (h : Header). section_of t h.shstrndx) c.header_table.ensures c.read_header-h.ensures)
+    c.section_bytes.ensures
+    ∙ ap (λ (h : SectionHeader). section_bytes f h) (c.section_of-s.ensures.header ∙ ap (section_of c.header_table.result.now) c.from.ensures ∙ ap₂ (λ (t : List ℕ) (h : Header). section_of t h.shstrndx) c.header_table.ensures c.read_header-h.ensures)
