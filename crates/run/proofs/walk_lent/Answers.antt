@@ -2,12 +2,13 @@
 -- their room.
 use mathlib.Core.Path.{refl, sym, ap, ◌∙◌}
 use native.Mathlib.Omega.{arith}
-use lib.ListN.{take}
-use lib.Seq.{length-take-le}
+use lib.ListN.{length}
 use Rattle.std.proofs.lemmas.Result.{err_from_is_err_and}
 use Rattle.lists.specs.Outcome.{accepted}
 use Rattle.loaded.proofs.Laws.{few_symbols}
 use Rattle.pieces.specs.declared.Counts.{Counts}
+use Rattle.obj.proofs.Laws.{length-stage_places}
+use Rattle.tables.proofs.Lookups.{places_front}
 use Rattle.splits.specs.Table.{columns_of, rows_of}
 use Rattle.walk.specs.Giving.{output_in}
 use Rattle.stage_walk.proofs.Room.{fits_none, room_low_all}
@@ -19,7 +20,7 @@ use Rattle.run.proofs.walk_lent.Goals as goal
 pub number_units-requires : goal.number_units-requires
 number_units-requires c =
     let q = c.requires in
-    units_listed c.args.unit_table.now _ _ c.args.count c.fill_places.ensures q.2 q.3 (omega arith)
+    units_listed c.args.unit_table.now _ _ c.args.count (places_front _ _ _ _ (omega (arith, q.2.few)) c.fill_places.ensures) q.2 q.3 (omega arith)
 
 pub invariant_of-tables : goal.invariant_of-tables
 invariant_of-tables c = record { fits = fits_none c.args.pieces.now c.args.entries.now c.args.offsets.now _ _ c.room_of.ensures refl }
@@ -29,9 +30,10 @@ walk_columns-requires c =
     let a = c.args in
     let q = c.requires in
     let n = c.number_units in
-    let count = length-take-le a.count c.fill_places.new.places (omega (arith, q.2.few, c.fill_places.auto.places)) in
+    let placed = places_front 8 a.count _ c.fill_places.new.places (omega (arith, q.2.few)) c.fill_places.ensures in
+    let count = ap length placed ∙ length-stage_places 8 a.count in
     rw (c.obj.ensures, c.image.ensures) (
-      ready q.0 a.unit_table.now (take a.count c.fill_places.new.places) n.new.column (columns_of a.splits.now) a.splits.now.count q.1 n.ensures
+      ready q.0 a.unit_table.now _ n.new.column (columns_of a.splits.now) a.splits.now.count q.1 n.ensures
           (omega (arith, count, q.2.few)) (omega (arith, n.auto.column)),
       few_symbols q.0.usable,
       room_low_all a.pieces.now a.entries.now a.offsets.now _ c.room_of.ensures,
@@ -42,7 +44,8 @@ returns-in_err-walk_columns c =
     let a = c.args in
     let l = a.loaded.now in
     let p = err_from_is_err_and c.from_residual.result c.from_residual.ensures.1 in
-    let w = walked_as c.requires.0 (rows_of a.splits.now) a.unit_table.now _ a.count _ c.fill_places.ensures (rw (c.obj.ensures, c.image.ensures) at c.in_err-walk_columns.ensures) in
+    let placed = places_front 8 a.count _ c.fill_places.new.places (omega (arith, c.requires.2.few)) c.fill_places.ensures in
+    let w = walked_as c.requires.0 (rows_of a.splits.now) a.unit_table.now _ a.count _ placed (rw (c.obj.ensures, c.image.ensures) at c.in_err-walk_columns.ensures) in
     rw (p.1, p.2)
     (record {
       is = w.is ∙ ap (λ (room : Counts). walked l.file.now (walked_tables l) room (rows_of a.splits.now) (units_at a.unit_table.now a.count)) c.room_of.ensures;
@@ -54,7 +57,8 @@ returns c =
     let a = c.args in
     let l = a.loaded.now in
     let t = c.walk_columns.new.tables in
-    let w = walked_as c.requires.0 (rows_of a.splits.now) a.unit_table.now _ a.count _ c.fill_places.ensures (rw (c.obj.ensures, c.image.ensures) at c.in_ok-walk_columns.ensures) in
+    let placed = places_front 8 a.count _ c.fill_places.new.places (omega (arith, c.requires.2.few)) c.fill_places.ensures in
+    let w = walked_as c.requires.0 (rows_of a.splits.now) a.unit_table.now _ a.count _ placed (rw (c.obj.ensures, c.image.ensures) at c.in_ok-walk_columns.ensures) in
     let room = w.lent.room ∙ c.room_of.ensures in
     let pieces = c.pieces-2-1.given.1.1 (sym w.lent.pieces) in
     let entries = c.entries-2-1.given.1.1 (sym w.lent.symbols) in
