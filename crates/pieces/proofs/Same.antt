@@ -30,7 +30,10 @@ module _ {a b : PieceTables} where
       pieces = t.pieces ∙ s.pieces;
       symbols = t.symbols ∙ s.symbols;
       relocs = t.relocs ∙ s.relocs;
+      pieces_size = t.pieces_size ∙ s.pieces_size;
+      symbols_size = t.symbols_size ∙ s.symbols_size;
+      relocs_size = t.relocs_size ∙ s.relocs_size;
     }
 
 pub lent_same : {a : PieceTables} → SameLent a a
-lent_same = record { room = refl; pieces = refl; symbols = refl; relocs = refl }
+lent_same = record { room = refl; pieces = refl; symbols = refl; relocs = refl; pieces_size = refl; symbols_size = refl; relocs_size = refl }

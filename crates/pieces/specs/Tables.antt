@@ -1,5 +1,5 @@
 -- What the walk's tables hold, and a record more: the other tables and the room stay as they are.
-use Rattle.std.specs.Prelude.{◌+◌, ◌≡◌, List, [], ◌∷◌, ◌++◌}
+use Rattle.std.specs.Prelude.{◌+◌, ◌≡◌, List, [], ◌∷◌, ◌++◌, length}
 use Rattle.pieces.specs.declared.Piece.{Piece}
 use Rattle.pieces.specs.declared.PieceSymbol.{PieceSymbol}
 use Rattle.pieces.specs.declared.PieceReloc.{PieceReloc}
@@ -29,12 +29,15 @@ pub record SameRelocs (before after : PieceTables) : Type 0 where
   pub bytes : after.relocs.now ≡ before.relocs.now
   pub made : after.made.relocs ≡ before.made.relocs
 
--- the same tables are lent, with the same room
+-- the same tables are lent, as long as before and with the same room
 pub record SameLent (before after : PieceTables) : Type 0 where
   pub room : after.room ≡ before.room
   pub pieces : after.pieces.ghost_name ≡ before.pieces.ghost_name
   pub symbols : after.symbols.ghost_name ≡ before.symbols.ghost_name
   pub relocs : after.relocs.ghost_name ≡ before.relocs.ghost_name
+  pub pieces_size : length after.pieces.now ≡ length before.pieces.now
+  pub symbols_size : length after.symbols.now ≡ length before.symbols.now
+  pub relocs_size : length after.relocs.now ≡ length before.relocs.now
 
 -- a record more
 pub record AddedPiece (before after : PieceTables) (p : Piece) : Type 0 where

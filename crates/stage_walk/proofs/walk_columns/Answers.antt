@@ -25,4 +25,4 @@ walk_sections-requires c =
 pub returns : goal.returns
 returns c =
     let a = c.args in
-    walked_all (image_in a.obj.now) (sections_of a.obj.now.heads.bytes.now a.obj.now.heads.places.now a.image.now.bytes.now a.image.now.places.now) (reloc_of a.relocs.now.bytes.now a.relocs.now.places.now) (length a.relocs.now.places.now) (rows_of a.splits.now) (unit_names a.unit_table.now.bytes.now a.unit_table.now.places.now) a.tables.now c.walk_sections.new.tables a.tables.now.pieces.now a.tables.now.symbols.now a.tables.now.relocs.now c.walk_sections.result c.walk_sections.ensures.0 (let e = c.walk_sections.ensures.2 in record { room = e.room; pieces = e.pieces; symbols = e.symbols; relocs = e.relocs })
+    walked_all (image_in a.obj.now) (sections_of a.obj.now.heads.bytes.now a.obj.now.heads.places.now a.image.now.bytes.now a.image.now.places.now) (reloc_of a.relocs.now.bytes.now a.relocs.now.places.now) (length a.relocs.now.places.now) (rows_of a.splits.now) (unit_names a.unit_table.now.bytes.now a.unit_table.now.places.now) a.tables.now c.walk_sections.new.tables a.tables.now.pieces.now a.tables.now.symbols.now a.tables.now.relocs.now c.walk_sections.result c.walk_sections.ensures.0 (let e = c.walk_sections.ensures.2 in record { room = e.room; pieces = e.pieces; symbols = e.symbols; relocs = e.relocs; pieces_size = e.pieces_size; symbols_size = e.symbols_size; relocs_size = e.relocs_size })
