@@ -36,12 +36,16 @@ pub record Chained (heads prevs out : List ℕ) (k : ℕ) : Type 0 where
   pub room : k ≤ length prevs
   pub held : 12 * k ≤ length out
 
+-- .. by the two columns in one
+abbrev pub ChainedOf : (chains out : List ℕ) → (k : ℕ) → Type 0
+ChainedOf chains out k = Chained (lasts_in chains) (prevs_in chains) out k
+
 -- the units' counts, and the chains, are those of what the tables hold
 abbrev pub CountedIn : (counts : List ℕ) → PieceTables → Type 0
 CountedIn counts t = Counted counts t.pieces.now t.made.pieces
 
 abbrev pub ChainedIn : (chains : List ℕ) → PieceTables → Type 0
-ChainedIn chains t = Chained (lasts_in chains) (prevs_in chains) t.symbols.now t.made.symbols
+ChainedIn chains t = ChainedOf chains t.symbols.now t.made.symbols
 
 -- a piece was put behind the others, and counted
 pub record PushedPiece (counts : List ℕ) (before after : PieceTables) (p : Piece) : Type 0 where

@@ -3,18 +3,18 @@
 // then for each entry the one before it.
 #![tactic(auto)]
 
-ghost use Rattle.std.specs.Prelude.{◌≡◌, ◌<◌, length};
-ghost use Rattle.pieces.specs.Tables.{pieces_of, symbols_of};
+ghost use Rattle.std.specs.Prelude.{◌≡◌, ◌<◌, ℕ, List, length};
+ghost use Rattle.pieces.specs.Pieces.{pieces_in, symbols_in};
 ghost use Rattle.pieces.specs.Questions.{count_of, has};
-ghost use Rattle.piece_columns.specs.Columns.{CountedIn, ChainedIn, lasts_in, prevs_in, PushedPiece, PushedSymbol};
+ghost use Rattle.piece_columns.specs.Columns.{Counted, ChainedOf, CountedIn, ChainedIn, lasts_in, prevs_in, PushedPiece, PushedSymbol};
 
 use pieces::{Piece, PieceSymbol, PieceTables, piece_symbol_at};
 use symbol_order::number;
 
-// How many of the pieces are the unit's: the number in its unit of the next one.
-pub fn count_of(counts: &[u16], tables: &PieceTables, unit: usize) -> u16
-    requires { (unit < length counts.now) × CountedIn counts.now tables.now }
-    ensures { result ≡ count_of unit (pieces_of tables.now) }
+// How many of the pieces are the unit's, whichever are counted: the number in its unit of the next one.
+pub fn count_of(counts: &[u16], unit: usize) -> u16
+    requires { unit < length counts.now }
+    ensures { (out : List ℕ) (k : ℕ) → Counted counts.now out k → result ≡ count_of unit (pieces_in out k) }
 {
     counts[unit]
 }
@@ -28,15 +28,15 @@ pub fn push_piece(counts: &mut [u16], tables: &mut PieceTables, p: Piece)
     tables.add_piece(p);
 }
 
-// Whether one of the piece symbols is this symbol of the unit, along the chain of its entries, from the last to the first.
-pub fn has_symbol(chains: &[u16], tables: &PieceTables, unit: u16, symbol: usize) -> bool
-    requires { (symbol < length (lasts_in chains.now)) × ChainedIn chains.now tables.now }
-    ensures { result ≡ has unit symbol (symbols_of tables.now) }
+// Whether one of the piece symbols, as many as are chained, is this symbol of the unit: along the chain of its entries, from the last to the first.
+pub fn has_symbol(chains: &[u16], entries: &[u8], unit: u16, symbol: usize) -> bool
+    requires { (symbol < length (lasts_in chains.now)) × ((k : ℕ) × ChainedOf chains.now entries.now k) }
+    ensures { (k : ℕ) → ChainedOf chains.now entries.now k → result ≡ has unit symbol (symbols_in entries.now k) }
 {
     // along a chain: no count
     let mut j = number(chains, symbol);
     while j != 0 {
-        let y = piece_symbol_at(tables.symbols, j - 1);
+        let y = piece_symbol_at(entries, j - 1);
         if y.unit == unit {
             return true;
         }

@@ -5,6 +5,8 @@ ghost use Rattle.names.specs.Fixed.{is_vector_table_end};
 ghost use Rattle.symbol_order.specs.Order.{symbol_of};
 ghost use Rattle.sections.specs.Image.{image_of, SymbolNames};
 ghost use Rattle.pieces.specs.Tables.{symbols_of, relocs_of};
+ghost use Rattle.pieces.specs.Questions.{has};
+ghost use Rattle.piece_columns.specs.Columns.{lasts_in, ChainedIn};
 ghost use Rattle.relocs.specs.Relocs.{reloc_of, Readable};
 ghost use Rattle.walk.specs.Walk.{passed_over, entry_of, add_symbol, add_symbols, reloc_entry, add_relocs};
 ghost use Rattle.walk.specs.Adding.{Entries, Lying, Adds, Above, AddsRelocs};
@@ -65,6 +67,14 @@ fn entry_of(unit: u16, place: u16, s: Split, i: u16, y: Symbol) -> PieceSymbol
     }
 }
 
+// Whether one of the entries that are there is symbol i of the unit. A function of its own: read in a call by what writes the tables, the entries would be lent anew.
+fn is_entered(chains: &[u16], tables: &PieceTables, unit: u16, i: usize) -> bool
+    requires { (i < length (lasts_in chains.now)) × ChainedIn chains.now tables.now }
+    ensures { result ≡ has unit i (symbols_of tables.now) }
+{
+    has_symbol(chains, tables.symbols, unit, i)
+}
+
 // Symbol i of a split, "each once per unit", behind the entries that are there, if there is room for it.
 fn add_symbol(
     symbols: &Table,
@@ -83,7 +93,7 @@ fn add_symbol(
 {
     let y = symbol_at(symbols, i);
     let name = name_at(names, y.name as usize);
-    if is_passed_over(name, s, y) | has_symbol(chains, tables, unit, i) {
+    if is_passed_over(name, s, y) | is_entered(chains, tables, unit, i) {
         return Some(());
     }
     if tables.made.symbols == tables.room.symbols {

@@ -104,7 +104,7 @@ fn give_piece(
     }
     add_relocs(relocs, inside, s.start, tables);
     let head = section_at(heads, n);
-    let number = count_of(counts, tables, unit);
+    let number = count_of(counts, unit);
     let p = piece_of(head, n as u16, unit as u16, number, alignment, s);
     push_piece(counts, tables, p);
     Some(())

@@ -13,28 +13,28 @@ use Rattle.piece_columns.proofs.Regions.{length_lasts, length_prevs}
 use Rattle.walk.specs.Walk.{entry_of, add_symbol}
 use Rattle.walk.proofs.Adding.{entry_symbol, symbol_passed, symbol_entered}
 use Rattle.walk.proofs.entries.add_symbol.Goals as goal
-use Rattle.walk.proofs.entries.add_symbol.Goals.{Else-is_passed_over-has_symbol}
+use Rattle.walk.proofs.entries.add_symbol.Goals.{Else-is_passed_over-is_entered}
 
 -- a symbol that is not passed over is entered
-entered : (c : Else-is_passed_over-has_symbol)
+entered : (c : Else-is_passed_over-is_entered)
     → symbols_of c.args.tables.now ++ (entry_of c.args.unit c.args.tables.now.made.pieces c.args.s c.args.i c.symbol_at-y.result ∷ [])
     ≡ add_symbol (image_of c.args.symbols.now.bytes.now c.args.symbols.now.places.now c.args.names.now.bytes.now c.args.names.now.places.now c.args.names.now.lengths.now) c.args.unit c.args.tables.now.made.pieces c.args.s (symbols_of c.args.tables.now) c.args.i
 entered c =
     let a = c.args in
     symbol_entered (image_of a.symbols.now.bytes.now a.symbols.now.places.now a.names.now.bytes.now a.names.now.places.now a.names.now.lengths.now) a.unit a.tables.now.made.pieces a.s (symbols_of a.tables.now) a.i c.symbol_at-y.result c.name_at-name.result.now c.symbol_at-y.ensures c.name_at-name.ensures
-    (ap₂ (λ (p q : Bool). p || q) (sym c.is_passed_over.ensures) (sym c.has_symbol.ensures) ∙ c.if-is_passed_over-has_symbol.false)
+    (ap₂ (λ (p q : Bool). p || q) (sym c.is_passed_over.ensures) (sym c.is_entered.ensures) ∙ c.if-is_passed_over-is_entered.false)
 
-pub has_symbol-requires : goal.has_symbol-requires
-has_symbol-requires c =
+pub is_entered-requires : goal.is_entered-requires
+is_entered-requires c =
     let e = c.requires.3 in
     (omega (arith, c.requires.0.there, e.most_symbols, length_lasts c.args.chains.now (omega (arith, e.long))), e.chained)
 
-pub returns-then-is_passed_over-has_symbol : goal.returns-then-is_passed_over-has_symbol
-returns-then-is_passed_over-has_symbol c =
+pub returns-then-is_passed_over-is_entered : goal.returns-then-is_passed_over-is_entered
+returns-then-is_passed_over-is_entered c =
     let a = c.args in
     record {
       is = symbol_passed (image_of a.symbols.now.bytes.now a.symbols.now.places.now a.names.now.bytes.now a.names.now.places.now a.names.now.lengths.now) a.unit a.tables.now.made.pieces a.s (symbols_of a.tables.now) a.i c.symbol_at-y.result c.name_at-name.result.now c.symbol_at-y.ensures c.name_at-name.ensures
-          (ap₂ (λ (p q : Bool). p || q) (sym c.is_passed_over.ensures) (sym c.has_symbol.ensures) ∙ c.if-is_passed_over-has_symbol.true);
+          (ap₂ (λ (p q : Bool). p || q) (sym c.is_passed_over.ensures) (sym c.is_entered.ensures) ∙ c.if-is_passed_over-is_entered.true);
       chained = c.requires.3.chained;
       pieces = record { bytes = refl; made = refl };
       relocs = record { bytes = refl; made = refl };
@@ -44,7 +44,7 @@ returns-then-is_passed_over-has_symbol c =
 pub returns-then-tables : goal.returns-then-tables
 returns-then-tables c =
     let t = c.args.tables.now in (
-      omega (arith, c.if-tables.true, length-symbols_in t.symbols.now t.made.symbols, length-append (symbols_of t) (entry_of c.args.unit t.made.pieces c.args.s c.args.i c.symbol_at-y.result ∷ []), ap length (entered (goal.at.returns-then-tables c).Else-is_passed_over-has_symbol)),
+      omega (arith, c.if-tables.true, length-symbols_in t.symbols.now t.made.symbols, length-append (symbols_of t) (entry_of c.args.unit t.made.pieces c.args.s c.args.i c.symbol_at-y.result ∷ []), ap length (entered (goal.at.returns-then-tables c).Else-is_passed_over-is_entered)),
       lent_same,
     )
 
@@ -66,7 +66,7 @@ returns c =
     let pushed = c.push_symbol.ensures in
     record {
       is = pushed.added.more ∙ ap (λ (y : PieceSymbol). symbols_of c.args.tables.now ++ (y ∷ [])) c.entry_of.ensures
-          ∙ entered (goal.at.returns c).Else-is_passed_over-has_symbol;
+          ∙ entered (goal.at.returns c).Else-is_passed_over-is_entered;
       chained = pushed.chained;
       pieces = pushed.added.pieces;
       relocs = pushed.added.relocs;
