@@ -3,6 +3,8 @@
 use Rattle.std.specs.Prelude.{ℕ, ◌+◌, ◌≤◌, ◌<◌, List, length, get_or}
 use Rattle.obj.specs.Records.{section_at, Held}
 use Rattle.obj.specs.declared.Section.{Section}
+use Rattle.obj.specs.declared.Table.{Table}
+use Rattle.sections.specs.declared.Obj.{Obj}
 use Rattle.sections.specs.Image.{Lies}
 use Rattle.sections.specs.Bytes.{bytes_of}
 
@@ -35,3 +37,10 @@ pub record Kept (heads head_places image image_places name_places : List ℕ) : 
 pub record Heads (heads head_places name_places : List ℕ) : Type 0 where
   pub held : (n : ℕ) → n < length head_places → Held 15 heads head_places n
   pub named : (n : ℕ) → n < length head_places → (head_of heads head_places n).name < length name_places
+
+-- .. of the tables that are lent together: section n's record, and all of them with their bytes in the image
+abbrev pub head_in : Obj → ℕ → Section
+head_in o n = head_of o.heads.bytes.now o.heads.places.now n
+
+abbrev pub KeptIn : Obj → (image : Table) → Type 0
+KeptIn o image = Kept o.heads.bytes.now o.heads.places.now image.bytes.now image.places.now o.names.places.now

@@ -4,11 +4,12 @@
 ghost use Rattle.std.specs.Prelude.{◌≡◌, reverse, ◌-◌, ◌<◌, ◌≤◌, length, drop};
 ghost use Rattle.names.specs.Names.{name_at};
 ghost use Rattle.names.specs.Listed.{NamedIn};
+ghost use Rattle.obj.specs.Records.{Held};
 ghost use Rattle.symbol_order.specs.Order.{symbol_of, Order};
 ghost use Rattle.sections.specs.Image.{image_of, Tables, Part, Whole, Lies, image_in, TablesIn};
 ghost use Rattle.sections.specs.Bytes.{bytes_of, all_zero};
 ghost use Rattle.sections.specs.Ends.{object_below, lowered, less_four, splitting_end, end_meaning, Within, Four};
-ghost use Rattle.sections.specs.Sections.{head_of, Heads};
+ghost use Rattle.sections.specs.Sections.{head_of, Heads, head_in, KeptIn};
 ghost use Rattle.sections.specs.Alignment.{default_alignment, larger, alignment_of, alignment_from, alignment_meaning, chosen};
 
 use names::{Names, is_four_aligned, is_linker_generated_object, is_pointer_list, name_at};
@@ -137,6 +138,17 @@ pub fn end_for_section(
     Ok(lower(table, part, names, last))
 }
 
+// The splitting end of section n, over the bytes that it has in the image.
+pub fn end_of(obj: &Obj, image: &Table, n: usize) -> Result<u32, Short>
+    requires { TablesIn obj.now × KeptIn obj.now image.now × (n < length obj.now.heads.places.now) }
+    ensures { end_meaning n (head_in obj.now n).address result
+        ≡ splitting_end (image_in obj.now) n (head_in obj.now n) (bytes_of image.now.bytes.now image.now.places.now n (head_in obj.now n)) }
+{
+    let head = section_at(&obj.heads, n);
+    let bytes = section_bytes(image.bytes, image.places, n, head);
+    end_for_section(&obj.symbols, obj.order, &obj.names, n as u16, head, bytes)
+}
+
 // "the default (code, `.ctors`, `.dtors`, `extab`, `extabindex`: 4; else 8)"
 pub fn default_alignment(head: Section, name: &[u8]) -> u32
     ensures { result ≡ default_alignment head name.now }
@@ -178,12 +190,12 @@ pub fn alignment_of(
     Ok(larger_of(least, highest))
 }
 
-// The default alignment of section k.
-fn default_of(names: &Names, heads: &Table, k: usize) -> u32
-    requires { NamedIn names.now × Heads heads.now.bytes.now heads.now.places.now names.now.places.now × (k < length heads.now.places.now) }
-    ensures { result ≡ default_alignment (head_of heads.now.bytes.now heads.now.places.now k) (name_at names.now.bytes.now names.now.places.now names.now.lengths.now (head_of heads.now.bytes.now heads.now.places.now k).name) }
+// The default alignment of section n. Who has heads and names lent asks this, who has a head and its name `default_alignment`.
+pub fn default_of(names: &Names, heads: &Table, n: usize) -> u32
+    requires { NamedIn names.now × Held 15 heads.now.bytes.now heads.now.places.now n × ((head_of heads.now.bytes.now heads.now.places.now n).name < length names.now.places.now) }
+    ensures { result ≡ default_alignment (head_of heads.now.bytes.now heads.now.places.now n) (name_at names.now.bytes.now names.now.places.now names.now.lengths.now (head_of heads.now.bytes.now heads.now.places.now n).name) }
 {
-    let head = section_at(heads, k);
+    let head = section_at(heads, n);
     let name = usize::from(head.name);
     default_alignment(head, name_at(names, name))
 }
