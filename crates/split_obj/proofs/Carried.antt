@@ -4,7 +4,8 @@ use mathlib.Core.List.{List}
 use mathlib.Core.Bool.{true, cond}
 use mathlib.Core.Logic.{◌≢◌}
 use Prim.Native.Nat.{ℕ, ◌+◌, ◌-◌, ◌%◌, ◌≤◌, ◌<◌}
-use Rattle.std.specs.Prelude.{Result, Err}
+use Rattle.std.specs.Prelude.{Result, Err, Option, None, Some, IfSome}
+use native.Mathlib.Omega.{arith}
 use lib.Dec.{ltb}
 use lib.ListN.{length, get_or}
 use Rattle.lists.specs.Outcome.{Outcome, accepted, refused, ◌>>=◌}
@@ -18,13 +19,12 @@ use Rattle.relocs.specs.Relocs.{reloc_of}
 use Rattle.units.specs.Units.{unit_names}
 use Rattle.pieces.specs.declared.Counts.{Counts}
 use Rattle.pieces.specs.declared.lent.PieceTables.{PieceTables}
-use Rattle.walk.specs.declared.Step.{Step}
-use Rattle.walk.specs.declared.Step.TheVariants.{Skip, Give}
+use Rattle.walk.specs.declared.Target.{Target}
 use Rattle.pieces.specs.Tables.{SameLent}
 use Rattle.walk.specs.Walk.{Input, Output, start_in, splitting_end_in, halved, on_aligned, walk_splits, walk_sections}
 use Rattle.walk.specs.Steps.{decide}
 use Rattle.walk.specs.Giving.{input_of, output_of, gave_meaning, Besides}
-use Rattle.split_obj.specs.Loop.{Hits, Tabled}
+use Rattle.split_obj.specs.Loop.{Hits, place_in, Tabled}
 use Rattle.split_obj.proofs.Turns.{turn_fault, turn_skip, turn_misfit, turn_refused, turn_given, splits-none, section_short, section_starts, section_ends, sections_end}
 
 -- ---- the input, of the lent tables
@@ -48,11 +48,27 @@ after t last n o = walk_sections t (n + 1) (last - (n + 1)) o
 abbrev pub splits_left : Input → (last n low end : ℕ) → Columns → (rows current i : ℕ) → Output → Outcome Output
 splits_left t last n low end c rows current i out = walk_splits t n end current out (from_hit (within n low end) c rows i) >>= after t last n
 
-pub record AtSplit (t : Input) (whole : Outcome Output) (symbols relocs units last n low end : ℕ) (c : Columns) (rows current i : ℕ) (scratch part : List ℕ) (tables : PieceTables) : Type 0 where
-  pub small : i ≤ rows
-  pub passes : i < rows → within n low end (row_at c i) ≡ true
-  pub same : splits_left t last n low end c rows current i (output_of tables) ≡ whole
+pub record AtSplit (t : Input) (whole : Outcome Output) (symbols relocs units last n low end : ℕ) (c : Columns) (rows current : ℕ) (i : Option ℕ) (scratch part : List ℕ) (tables : PieceTables) : Type 0 where
+  pub small : IfSome i (λ k. k < rows)
+  pub passes : place_in rows i < rows → within n low end (row_at c (place_in rows i)) ≡ true
+  pub same : splits_left t last n low end c rows current (place_in rows i) (output_of tables) ≡ whole
   pub tabled : Tabled symbols relocs units scratch part tables
+
+-- the split that comes next, where there is one
+module _ {t : Input} {whole : Outcome Output} {symbols relocs units last n low end : ℕ} {c : Columns} {rows current : ℕ} {i : Option ℕ} {scratch part : List ℕ} {tables : PieceTables}
+    (at : AtSplit t whole symbols relocs units last n low end c rows current i scratch part tables) {k : ℕ} (is : i ≡ Some k) where
+  pub split_small : k < rows
+  split_small = subst (λ (o : Option ℕ). IfSome o (λ j. j < rows)) is at.small
+
+  pub split_passes : within n low end (row_at c k) ≡ true
+  split_passes = subst (λ (o : Option ℕ). place_in rows o < rows → within n low end (row_at c (place_in rows o)) ≡ true) is at.passes split_small
+
+  pub split_same : splits_left t last n low end c rows current k (output_of tables) ≡ whole
+  split_same = subst (λ (o : Option ℕ). splits_left t last n low end c rows current (place_in rows o) (output_of tables) ≡ whole) is at.same
+
+-- .. and where there is none
+pub no_place : {rows : ℕ} {i : Option ℕ} → i ≡ None → rows ≤ place_in rows i
+no_place {rows} {i} is = subst (λ (o : Option ℕ). rows ≤ place_in rows o) (sym is) (omega arith)
 
 -- ---- an answer
 pub refused_at : (symbols : ℕ) (before : PieceTables) (scratch : List ℕ) (t : PieceTables) (r : Result (Unit {0}) Refusal) (e : Refusal) (whole : Outcome Output)
@@ -86,7 +102,7 @@ module _ (t : Input) (last n low end : ℕ) (c : Columns) (rows current i : ℕ)
 
     module _ (q : i < rows) (j next : ℕ) (hits : Hits (within n low end) c rows (i + 1) j) (e : next ≡ cond (ltb j rows) (get_or c.starts j 0) end)
         (s : Split) (is : s ≡ row_at c i) where
-      abbrev asked : Outcome Step
+      abbrev asked : Outcome (Option Target)
       asked = decide t.image t.sections t.units n current next s
 
       at_row : asked ≡ decide t.image t.sections t.units n current next (row_at c i)
@@ -96,10 +112,10 @@ module _ (t : Input) (last n low end : ℕ) (c : Columns) (rows current i : ℕ)
       ends_fault r d =
           sym (turn_fault t n end current out (within n low end) c rows i h q j next hits e (after t last n) r.number r.section r.address (d ∙ at_row)) ∙ same
 
-      pub goes_skip : accepted Skip ≡ asked → splits_left t last n low end c rows next j out ≡ whole
+      pub goes_skip : accepted None ≡ asked → splits_left t last n low end c rows next j out ≡ whole
       goes_skip d = sym (turn_skip t n end current out (within n low end) c rows i h q j next hits e (after t last n) (d ∙ at_row)) ∙ same
 
-      module _ (unit alignment : ℕ) (d : accepted (Give unit alignment) ≡ asked) (a : ℕ) (half : halved 16 alignment current ≡ a) where
+      module _ (unit alignment : ℕ) (d : accepted (Some (record { unit = unit; alignment = alignment })) ≡ asked) (a : ℕ) (half : halved 16 alignment current ≡ a) where
         pub ends_misfit : current % a ≢ 0 → refused 75 n current ≡ whole
         ends_misfit m =
             sym (turn_misfit t n end current out (within n low end) c rows i h q j next hits e (after t last n) unit alignment (d ∙ at_row) a half m) ∙ same

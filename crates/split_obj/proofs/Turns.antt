@@ -10,6 +10,7 @@ use native.Mathlib.Omega.{arith}
 use lib.Dec.{eqb, leb, ltb}
 use lib.ListN.{get_or}
 use borrow.Author.Tests.{lt-ltb, le-ltb, leb-true, ne_eqb}
+use Rattle.std.specs.Prelude.{None, Some}
 use Rattle.lists.specs.Rows.{tabulate, keep_if}
 use Rattle.lists.specs.Outcome.{Outcome, accepted, refused, ◌>>=◌}
 use Rattle.lists.proofs.Outcomes.{fails, passes}
@@ -17,7 +18,6 @@ use Rattle.lists.proofs.Both.{both}
 use Rattle.obj.specs.declared.Split.{Split}
 use Rattle.splits.specs.Columns.{Columns, row_of, row_at, rows}
 use Rattle.splits.specs.Questions.{within, from_hit, next_start}
-use Rattle.walk.specs.declared.Step.TheVariants.{Skip, Give}
 use Rattle.walk.specs.Walk.{Input, Output, start_in, splitting_end_in, halved, on_aligned, on_split, walk_splits, walk_section, walk_sections}
 use Rattle.walk.specs.Steps.{decide}
 use Rattle.walk.proofs.Deciding.{carried, decide_then_give}
@@ -101,15 +101,15 @@ module _ (t : Input) (n end current : ℕ) (out : Output) where
         turn_fault number section address d = decided ∙ bind_refused _ _ number section address (sym d)
 
         -- it is skipped
-        pub turn_skip : accepted Skip ≡ decide t.image t.sections t.units n current next (row_at c i) → here ≡ after out
+        pub turn_skip : accepted None ≡ decide t.image t.sections t.units n current next (row_at c i) → here ≡ after out
         unfolding ◌>>=◌
-        turn_skip d = decided ∙ bind_goes _ _ Skip (sym d)
+        turn_skip d = decided ∙ bind_goes _ _ None (sym d)
 
         -- it gives to a unit
-        module _ (unit alignment : ℕ) (d : accepted (Give unit alignment) ≡ decide t.image t.sections t.units n current next (row_at c i)) (a : ℕ) (half : halved 16 alignment current ≡ a) where
+        module _ (unit alignment : ℕ) (d : accepted (Some (record { unit = unit; alignment = alignment })) ≡ decide t.image t.sections t.units n current next (row_at c i)) (a : ℕ) (half : halved 16 alignment current ≡ a) where
           gives : here ≡ (on_aligned t n current unit a (row_at c i) out >>= after)
           gives =
-              decided ∙ bind_goes _ _ (Give unit alignment) (sym d)
+              decided ∙ bind_goes _ _ (Some (record { unit = unit; alignment = alignment })) (sym d)
               ∙ ap (λ (x : ℕ). on_aligned t n current unit x (row_at c i) out >>= after) half
 
           -- "75 alignment misfits"

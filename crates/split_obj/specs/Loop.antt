@@ -1,11 +1,8 @@
 -- The walk over lent tables and columns: what is asked of them. On a refusal the output tables may hold anything.
-use Rattle.std.specs.Prelude.{ℕ, ◌+◌, ◌-◌, ◌≤◌, ◌<◌, ◌≡◌, List, Bool, true, length}
+use Rattle.std.specs.Prelude.{ℕ, ◌+◌, ◌-◌, ◌≤◌, ◌<◌, ◌≡◌, List, Bool, true, cond, ltb, length, get_or, Option, None, Some, IfSome}
 use Rattle.lists.specs.Rows.{tabulate, keep_if}
-use Rattle.obj.specs.Records.{Held}
 use Rattle.obj.specs.declared.Split.{Split}
-use Rattle.sections.specs.Image.{Tables, Whole, Lies}
-use Rattle.sections.specs.Bytes.{bytes_of}
-use Rattle.sections.specs.Sections.{head_of, Kept}
+use Rattle.sections.specs.Sections.{Kept}
 use Rattle.splits.specs.Columns.{Columns, row_at}
 use Rattle.splits.specs.Questions.{from_hit}
 use Rattle.relocs.specs.Relocs as relocs
@@ -21,13 +18,19 @@ pub record Hits (p : Split → Bool) (c : Columns) (rows from r : ℕ) : Type 0 
   pub small : r ≤ rows
   pub passes : r < rows → p (row_at c r) ≡ true
 
--- what the splitting end of section n is asked of
-pub record Ended (symbols symbol_places order name_bytes name_places name_lengths heads head_places image image_places : List ℕ) (n : ℕ) : Type 0 where
-  pub tables : Tables symbols symbol_places order name_bytes name_places name_lengths
-  pub held : Held 15 heads head_places n
-  pub whole : Whole (head_of heads head_places n) (bytes_of image image_places n (head_of heads head_places n)) name_places
-  pub lies : Lies image image_places n (head_of heads head_places n)
-  pub few : n < 65535
+-- the place of a row, or the number of rows where there is none
+abbrev pub place_in : (rows : ℕ) → Option ℕ → ℕ
+place_in rows None = rows
+place_in rows (Some i) = i
+
+-- r is the place of the first row from place `from` on that passes, if one does
+pub record FirstHit (p : Split → Bool) (c : Columns) (rows from : ℕ) (r : Option ℕ) : Type 0 where
+  pub hits : Hits p c rows from (place_in rows r)
+  pub small : IfSome r (λ i. i < rows)
+
+-- where row r starts, or the splitting end if there is none
+abbrev pub start_at : Columns → (rows end : ℕ) → Option ℕ → ℕ
+start_at c rows end r = cond (ltb (place_in rows r) rows) (get_or c.starts (place_in rows r) 0) end
 
 -- the tables that are only read: symbols, names, sections with their bytes, relocations, splits in columns, units with the column of their numbers
 pub record Ready (symbols symbol_places order name_bytes name_places name_lengths heads head_places image image_places relocs-bytes reloc_places unit_table unit_places unit_numbers : List ℕ) (c : Columns) (rows last : ℕ) : Type 0 where

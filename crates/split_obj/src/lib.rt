@@ -2,31 +2,31 @@
 // "A loop inside the split loop yields the alignment by break; a misfit leaves the section loop by label." All else is a call.
 #![tactic(auto)]
 
-ghost use Rattle.std.specs.Prelude.{◌≡◌, cond, ltb, ◌+◌, ◌-◌, ◌<◌, ◌≤◌, length, get_or};
+ghost use Rattle.std.specs.Prelude.{◌≡◌, ◌-◌, ◌<◌, ◌≤◌, length, IfSome};
 ghost use Rattle.splits.specs.Table.{columns_of, rows_of};
 ghost use Rattle.splits.specs.Questions.{within};
 ghost use Rattle.obj.specs.Records.{Held};
 ghost use Rattle.sections.specs.Image.{image_in};
 ghost use Rattle.sections.specs.Sections.{sections_of, head_of};
-ghost use Rattle.sections.specs.Ends.{end_meaning};
 ghost use Rattle.relocs.specs.Relocs.{reloc_of};
 ghost use Rattle.pieces.specs.Tables.{SameLent};
 ghost use Rattle.units.specs.Units.{unit_names};
-ghost use Rattle.walk.specs.Walk.{splitting_end_in, walk_sections};
+ghost use Rattle.walk.specs.Walk.{walk_sections};
 ghost use Rattle.walk.specs.Giving.{input_of, output_of, gave_meaning, Besides};
-ghost use Rattle.split_obj.specs.Loop.{Hits, Ended, Ready, Tabled};
+ghost use Rattle.split_obj.specs.Loop.{FirstHit, start_at, Ready, Tabled};
 
 use obj::{Refusal, Table, section_at};
 use pieces::PieceTables;
 use relocs::for_section;
-use sections::{Obj, Short, end_for_section, section_bytes};
+use sections::{Obj, end_of};
 use splits::{SectionRange, SplitColumns, is_within, row};
-use walk::{Step, choose, give, refuse_at};
+use walk::{Target, choose, give, refuse_at};
 
-// The first split from place `from` on that starts in low..end of section n, or how many splits there are.
-fn next_split(splits: &SplitColumns, n: usize, low: u32, end: u32, from: usize) -> usize
+// The place of the first split from place `from` on that starts in low..end of section n. Row by row, and not by blocks as `splits::next_within` goes: a section's splits
+// stand together, so the next one is mostly the next row.
+fn next_split(splits: &SplitColumns, n: usize, low: u32, end: u32, from: usize) -> Option<usize>
     requires { (from ≤ splits.now.count) × (n < 65535) }
-    ensures { Hits (within n low end) (columns_of splits.now) splits.now.count from result }
+    ensures { FirstHit (within n low end) (columns_of splits.now) splits.now.count from result }
 {
     let range = SectionRange {
         section: n as u16,
@@ -35,20 +35,21 @@ fn next_split(splits: &SplitColumns, n: usize, low: u32, end: u32, from: usize) 
     };
     for i in from..splits.count {
         if is_within(range, splits.starts[i], splits.rest[i]) {
-            return i;
+            return Some(i);
         }
     }
-    splits.count
+    None
 }
 
-// Where split j starts, or the splitting end if there is none.
-fn start_of(splits: &SplitColumns, j: usize, end: u32) -> u32
-    ensures { result ≡ cond (ltb j splits.now.count) (get_or splits.now.starts.now j 0) end }
+// Where the split at place j starts, or the splitting end if there is none.
+fn start_of(splits: &SplitColumns, j: Option<usize>, end: u32) -> u32
+    requires { IfSome j (λ i. i < splits.now.count) }
+    ensures { result ≡ start_at (columns_of splits.now) splits.now.count end j }
 {
-    if j < splits.count {
-        return splits.starts[j];
+    match j {
+        Some(i) => splits.starts[i],
+        None => end,
     }
-    end
 }
 
 // Where section n starts.
@@ -60,19 +61,8 @@ fn section_start(heads: &Table, n: usize) -> u32
     head.address
 }
 
-// "Splitting end" of section n.
-fn section_end(obj: &Obj, image: &Table, n: usize) -> Result<u32, Short>
-    requires { Ended obj.now.symbols.bytes.now obj.now.symbols.places.now obj.now.order.now obj.now.names.bytes.now obj.now.names.places.now obj.now.names.lengths.now obj.now.heads.bytes.now obj.now.heads.places.now image.now.bytes.now image.now.places.now n }
-    ensures { end_meaning n (head_of obj.now.heads.bytes.now obj.now.heads.places.now n).address result
-        ≡ splitting_end_in (image_in obj.now) (sections_of obj.now.heads.bytes.now obj.now.heads.places.now image.now.bytes.now image.now.places.now) n }
-{
-    let head = section_at(&obj.heads, n);
-    let bytes = section_bytes(image.bytes, image.places, n, head);
-    end_for_section(&obj.symbols, obj.order, &obj.names, n as u16, head, bytes)
-}
-
 // The walk of the sections first..last, behind what is made already. What is carried from one section to the next is the output. `scratch` and `part` are columns to work
-// in, of other lengths and for other things. The function is longer than others since its three loops are to stand in one.
+// in, of other lengths and for other things.
 pub fn walk_sections(
     scratch: &mut [u16],
     part: &mut [u16],
@@ -94,34 +84,25 @@ pub fn walk_sections(
         × Besides (length obj.now.symbols.places.now) scratch.new tables.new result
         × SameLent tables.old tables.new }
 {
-    let mut n = first;
-    let answer = 'sections: loop {
-        if n == last {
-            break Ok(());
-        }
-        let low = section_start(&obj.heads, n);
-        let found = section_end(obj, image, n);
-        let Ok(end) = found else {
-            break refuse_at(10, n, low);
-        };
-        let m = for_section(relocs, n as u16, part);
-        let mut current = low;
-        let mut i = next_split(splits, n, low, end, 0);
-        // No count: a turn goes to where the next split starts.
-        while current < end {
-            if i == splits.count {
-                break 'sections refuse_at(70, n, current);
-            }
-            let s = row(splits, i);
-            let j = next_split(splits, n, low, end, i + 1);
-            let next = start_of(splits, j, end);
-            let step = choose(obj, image, unit_table, unit_numbers, n, s, current, next)?;
-            match step {
-                Step::Skip => {
-                    current = next;
-                    i = j;
-                }
-                Step::Give { unit, alignment } => {
+    'sections: {
+        for n in first..last {
+            let low = section_start(&obj.heads, n);
+            let Ok(end) = end_of(obj, image, n) else {
+                return refuse_at(10, n, low);
+            };
+            let m = for_section(relocs, n as u16, part);
+            let mut current = low;
+            let mut i = next_split(splits, n, low, end, 0);
+            // No count: a turn goes to where the next split starts.
+            while current < end {
+                let Some(k) = i else {
+                    return refuse_at(70, n, current);
+                };
+                let s = row(splits, k);
+                i = next_split(splits, n, low, end, k + 1);
+                let next = start_of(splits, i, end);
+                let target = choose(obj, image, unit_table, unit_numbers, n, s, current, next)?;
+                if let Some(Target { unit, alignment }) = target {
                     let mut a = alignment;
                     let fit = loop {
                         if current % a == 0 {
@@ -130,15 +111,13 @@ pub fn walk_sections(
                         if a <= 4 {
                             break 'sections refuse_at(75, n, current);
                         }
-                        a = a / 2;
+                        a /= 2;
                     };
                     give(scratch, tables, obj, relocs, &part[..m], n, s, unit, fit)?;
-                    current = next;
-                    i = j;
                 }
+                current = next;
             }
         }
-        n += 1;
-    };
-    answer
+        Ok(())
+    }
 }

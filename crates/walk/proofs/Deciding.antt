@@ -3,8 +3,7 @@
 use mathlib.Core.Path.{◌≡◌, refl, sym, ap, ◌∙◌}
 use mathlib.Core.List.{List}
 use Rattle.std.specs.Prelude.{Option, Some, None}
-use Rattle.walk.specs.declared.Step.{Step}
-use Rattle.walk.specs.declared.Step.TheVariants.{Skip, Give}
+use Rattle.walk.specs.declared.Target.{Target}
 use mathlib.Core.Bool.{Bool, true, false, cond, not, ◌&&◌}
 use Prim.Native.Nat.{ℕ, ◌+◌, ◌-◌, ◌≤◌, ◌<◌}
 use native.Mathlib.Omega.{arith}
@@ -89,69 +88,69 @@ two_tests n current false o z m = refl
 
 -- ---- deciding, test by test
 module _ (image : Image) (sections : Sections) (units : List ℕ) (n current next : ℕ) (s : Split) where
-  abbrev whole : Outcome Step
+  abbrev whole : Outcome (Option Target)
   whole = decide image sections units n current next s
 
   -- a split that is not skipped
-  abbrev kept : Outcome Step
+  abbrev kept : Outcome (Option Target)
   kept =
       refuse 74 n current (eqb (unit_of units s.unit) (length units))
-      >> (alignment_in image (sections.head n) n current s >>= λ (c : Chosen). accepted (Give (unit_of units s.unit) c.value))
+      >> (alignment_in image (sections.head n) n current s >>= λ (c : Chosen). accepted (Some (record { unit = unit_of units s.unit; alignment = c.value })))
 
   pub decide-start : (s.start ≡ current → ⊥) → refused 71 n current ≡ whole
   unfolding decide
   decide-start e = sym (fails 71 n current _ _ (ap not (ne_eqb s.start current e)))
 
   module _ (e : s.start ≡ current) where
-    decide_number : whole ≡ told n current (cond (is_skipped s) (accepted Skip) kept) (between_of sections n s.end next)
+    decide_number : whole ≡ told n current (cond (is_skipped s) (accepted None) kept) (between_of sections n s.end next)
     unfolding decide between_of
     decide_number =
         passes 71 n current _ _ (ap not (eq-eqb s.start current e))
-        ∙ two_tests n current (ltb s.end next) (outside sections n s.end next) (nonzero sections n s.end next) (cond (is_skipped s) (accepted Skip) kept)
+        ∙ two_tests n current (ltb s.end next) (outside sections n s.end next) (nonzero sections n s.end next) (cond (is_skipped s) (accepted None) kept)
 
     pub decide-between : (f : ℕ) → Some f ≡ between_of sections n s.end next → refused f n current ≡ whole
-    decide-between f q = sym (decide_number ∙ ap (told n current (cond (is_skipped s) (accepted Skip) kept)) (sym q))
+    decide-between f q = sym (decide_number ∙ ap (told n current (cond (is_skipped s) (accepted None) kept)) (sym q))
 
     module _ (q : None ≡ between_of sections n s.end next) where
-      decide_on : whole ≡ cond (is_skipped s) (accepted Skip) kept
-      decide_on = decide_number ∙ ap (told n current (cond (is_skipped s) (accepted Skip) kept)) (sym q)
+      decide_on : whole ≡ cond (is_skipped s) (accepted None) kept
+      decide_on = decide_number ∙ ap (told n current (cond (is_skipped s) (accepted None) kept)) (sym q)
 
-      pub decide_skip : is_skipped s ≡ true → accepted Skip ≡ whole
-      decide_skip k = sym (decide_on ∙ ap (λ (t : Bool). cond t (accepted Skip) kept) k)
+      pub decide_skip : is_skipped s ≡ true → accepted None ≡ whole
+      decide_skip k = sym (decide_on ∙ ap (λ (t : Bool). cond t (accepted None) kept) k)
 
       module _ (k : is_skipped s ≡ false) where
         decide-kept : whole ≡ kept
-        decide-kept = decide_on ∙ ap (λ (t : Bool). cond t (accepted Skip) kept) k
+        decide-kept = decide_on ∙ ap (λ (t : Bool). cond t (accepted None) kept) k
 
         pub decide_unlisted : unit_of units s.unit ≡ length units → refused 74 n current ≡ whole
         decide_unlisted u = sym (decide-kept ∙ fails 74 n current _ _ (eq-eqb (unit_of units s.unit) (length units) u))
 
         module _ (u : unit_of units s.unit ≡ length units → ⊥) where
-          listed : whole ≡ (alignment_in image (sections.head n) n current s >>= λ (c : Chosen). accepted (Give (unit_of units s.unit) c.value))
+          listed : whole ≡ (alignment_in image (sections.head n) n current s >>= λ (c : Chosen). accepted (Some (record { unit = unit_of units s.unit; alignment = c.value })))
           listed = decide-kept ∙ passes 74 n current _ _ (ne_eqb (unit_of units s.unit) (length units) u)
 
           pub decide_backwards : alignment_in image (sections.head n) n current s ≡ refused 11 n current → refused 11 n current ≡ whole
           unfolding ◌>>=◌
-          decide_backwards h = sym (listed ∙ ap (λ (m : Outcome Chosen). m >>= λ (c : Chosen). accepted (Give (unit_of units s.unit) c.value)) h)
+          decide_backwards h = sym (listed ∙ ap (λ (m : Outcome Chosen). m >>= λ (c : Chosen). accepted (Some (record { unit = unit_of units s.unit; alignment = c.value }))) h)
 
-          pub decide_gives : (r : ℕ) → Valued (alignment_in image (sections.head n) n current s) r → accepted (Give (unit_of units s.unit) r) ≡ whole
+          pub decide_gives : (r : ℕ) → Valued (alignment_in image (sections.head n) n current s) r → accepted (Some (record { unit = unit_of units s.unit; alignment = r })) ≡ whole
           unfolding ◌>>=◌
           decide_gives r at =
               let p = at.chosen in
               sym (listed
-              ∙ ap (λ (m : Outcome Chosen). m >>= λ (c : Chosen). accepted (Give (unit_of units s.unit) c.value)) p.1
-              ∙ ap (λ (a : ℕ). accepted (Give (unit_of units s.unit) a)) p.2)
+              ∙ ap (λ (m : Outcome Chosen). m >>= λ (c : Chosen). accepted (Some (record { unit = unit_of units s.unit; alignment = c.value }))) p.1
+              ∙ ap (λ (a : ℕ). accepted (Some (record { unit = unit_of units s.unit; alignment = a }))) p.2)
 
 -- ---- deciding and giving is the split's walk
 
--- what is done with a step
-abbrev pub carried : Input → (n current : ℕ) → Split → Output → Step → Outcome Output
-carried t n current s out Skip = accepted out
-carried t n current s out (Give unit alignment) = on_aligned t n current unit (halved 16 alignment current) s out
+-- what is done with a target
+abbrev pub carried : Input → (n current : ℕ) → Split → Output → Option Target → Outcome Output
+carried t n current s out None = accepted out
+carried t n current s out (Some to) = on_aligned t n current to.unit (halved 16 to.alignment current) s out
 
-chain : (n current : ℕ) (a b c k d : Bool) (m : Outcome Chosen) (f : Chosen → Step) (g : Step → Outcome Output)
-    → (refuse 71 n current a >> (refuse 72 n current b >> (refuse 73 n current c >> cond k (g Skip) (refuse 74 n current d >> (m >>= λ x. g (f x))))))
-    ≡ ((refuse 71 n current a >> (refuse 72 n current b >> (refuse 73 n current c >> cond k (accepted Skip) (refuse 74 n current d >> (m >>= λ x. accepted (f x)))))) >>= g)
+chain : (n current : ℕ) (a b c k d : Bool) (m : Outcome Chosen) (f : Chosen → Option Target) (g : Option Target → Outcome Output)
+    → (refuse 71 n current a >> (refuse 72 n current b >> (refuse 73 n current c >> cond k (g None) (refuse 74 n current d >> (m >>= λ x. g (f x))))))
+    ≡ ((refuse 71 n current a >> (refuse 72 n current b >> (refuse 73 n current c >> cond k (accepted None) (refuse 74 n current d >> (m >>= λ x. accepted (f x)))))) >>= g)
 unfolding refuse ◌>>◌ ◌>>=◌
 chain n current true b c k d m f g = refl
 chain n current false true c k d m f g = refl
@@ -167,4 +166,4 @@ unfolding on_split on_kept decide
 decide_then_give t n current next s out =
     chain n current (not (eqb s.start current)) (ltb s.end next && outside t.sections n s.end next)
     (ltb s.end next && nonzero t.sections n s.end next) (is_skipped s) (eqb (unit_of t.units s.unit) (length t.units))
-    (alignment_in t.image (t.sections.head n) n current s) (λ c. Give (unit_of t.units s.unit) c.value) (carried t n current s out)
+    (alignment_in t.image (t.sections.head n) n current s) (λ c. Some (record { unit = unit_of t.units s.unit; alignment = c.value })) (carried t n current s out)

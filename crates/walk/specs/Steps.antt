@@ -13,22 +13,21 @@ use Rattle.sections.specs.Alignment.{Chosen}
 use Rattle.symbols.specs.declared.Backwards.{Backwards}
 use Rattle.units.specs.Units.{unit_of}
 use Rattle.splits.specs.Questions.{is_skipped}
-use Rattle.walk.specs.declared.Step.{Step}
-use Rattle.walk.specs.declared.Step.TheVariants.{Skip, Give}
+use Rattle.walk.specs.declared.Target.{Target}
 use Rattle.walk.specs.Walk.{outside, nonzero, alignment_in}
 
 -- ---- deciding
 
-unfoldable pub decide : Image → Sections → (units : List ℕ) → (n current next : ℕ) → Split → Outcome Step
+unfoldable pub decide : Image → Sections → (units : List ℕ) → (n current next : ℕ) → Split → Outcome (Option Target)
 decide image sections units n current next s = do
   refuse 71 n current (not (eqb s.start current))
   refuse 72 n current (ltb s.end next && outside sections n s.end next)
   refuse 73 n current (ltb s.end next && nonzero sections n s.end next)
-  cond (is_skipped s) (accepted Skip)
+  cond (is_skipped s) (accepted None)
       (do
         refuse 74 n current (eqb (unit_of units s.unit) (length units))
         chosen ← alignment_in image (sections.head n) n current s
-        accepted (Give (unit_of units s.unit) chosen.value))
+        accepted (Some (record { unit = unit_of units s.unit; alignment = chosen.value })))
 
 -- what is known of a split that gives
 pub record Gives (units current : ℕ) (s : Split) (unit alignment : ℕ) : Type 0 where
@@ -37,9 +36,9 @@ pub record Gives (units current : ℕ) (s : Split) (unit alignment : ℕ) : Type
   pub least : 0 < alignment
   pub most : alignment ≤ 65536
 
-abbrev pub Sane : (units current : ℕ) → Split → Result Step Refusal → Type 0
-Sane units current s (Ok Skip) = Unit {0}
-Sane units current s (Ok (Give unit alignment)) = Gives units current s unit alignment
+abbrev pub Sane : (units current : ℕ) → Split → Result (Option Target) Refusal → Type 0
+Sane units current s (Ok None) = Unit {0}
+Sane units current s (Ok (Some t)) = Gives units current s t.unit t.alignment
 Sane units current s (Err r) = Unit {0}
 
 -- ---- its parts

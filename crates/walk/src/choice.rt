@@ -8,11 +8,10 @@ ghost use Rattle.units.specs.Units.{unit_names, Numbered};
 ghost use Rattle.walk.specs.Walk.{alignment_in};
 ghost use Rattle.walk.specs.Steps.{SectionThere, SectionNamed, Asked, between_of, AlignedAt, decide, Sane};
 
-use crate::{Step, refuse_at};
-use names::name_at;
+use crate::{Target, refuse_at};
 use obj::{Refusal, Section, Split, Table, section_at};
 use pieces::piece_bytes;
-use sections::{Obj, alignment_of, default_alignment, is_zero, section_bytes};
+use sections::{Obj, alignment_of, default_of, is_zero, section_bytes};
 use symbol_order::number;
 use symbols::Backwards;
 
@@ -60,9 +59,7 @@ fn alignment_at(obj: &Obj, n: usize, s: Split, start: u32) -> Result<u32, Backwa
     if s.alignment != 0 {
         return Ok(s.alignment);
     }
-    let head = section_at(&obj.heads, n);
-    let k = head.name as usize;
-    let least = default_alignment(head, name_at(&obj.names, k));
+    let least = default_of(&obj.names, &obj.heads, n);
     let alignment = alignment_of(
         &obj.symbols,
         obj.order,
@@ -75,7 +72,7 @@ fn alignment_at(obj: &Obj, n: usize, s: Split, start: u32) -> Result<u32, Backwa
     Ok(alignment.value())
 }
 
-// What the split s at `current` asks for, where the next one, or the splitting end, is at `next`.
+// Where the split s at `current` gives to, unless it is skipped; the next one, or the splitting end, is at `next`.
 pub fn choose(
     obj: &Obj,
     image: &Table,
@@ -85,7 +82,7 @@ pub fn choose(
     s: Split,
     current: u32,
     next: u32,
-) -> Result<Step, Refusal>
+) -> Result<Option<Target>, Refusal>
     requires { Asked obj.now.symbols.bytes.now obj.now.symbols.places.now obj.now.order.now obj.now.names.bytes.now obj.now.names.places.now obj.now.names.lengths.now
         × SectionThere obj.now.heads.bytes.now obj.now.heads.places.now image.now.bytes.now image.now.places.now n
         × SectionNamed obj.now.heads.bytes.now obj.now.heads.places.now obj.now.names.places.now n
@@ -103,7 +100,7 @@ pub fn choose(
         return refuse_at(fault, n, current);
     }
     if s.flags / 4 % 2 == 1 {
-        return Ok(Step::Skip);
+        return Ok(None);
     }
     let unit = number(unit_numbers, s.unit as usize);
     if unit == unit_table.places.len() {
@@ -113,5 +110,5 @@ pub fn choose(
     let Ok(alignment) = asked else {
         return refuse_at(11, n, current);
     };
-    Ok(Step::Give { unit, alignment })
+    Ok(Some(Target { unit, alignment }))
 }

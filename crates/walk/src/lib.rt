@@ -12,13 +12,11 @@ pub use choice::choose;
 use obj::{Refusal, refuse};
 pub use output::give;
 
-// What a split asks for.
+// Where a split that is not skipped gives to: this unit, with this alignment before any halving.
 #[derive(Clone, Copy)]
-pub enum Step {
-    // Nothing: it is skipped.
-    Skip,
-    // It gives to this unit, with this alignment before any halving.
-    Give { unit: usize, alignment: u32 },
+pub struct Target {
+    pub unit: usize,
+    pub alignment: u32,
 }
 
 // "(section, current)": where the walk refuses.

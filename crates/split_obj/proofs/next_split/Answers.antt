@@ -18,10 +18,13 @@ returns-then-is_within c =
     let f = row_at (columns_of a.splits.now) in
     let p = sym c.is_within.ensures ∙ c.if-is_within.true in
     record {
-      is = l.invariant.2 ∙ filter_hit (within a.n a.low a.end) f a.splits.now.count l.i h p ∙ rw (lt-ltb l.i a.splits.now.count h);
-      past = omega arith;
-      small = omega arith;
-      passes = λ _. p;
+      hits = record {
+        is = l.invariant.2 ∙ filter_hit (within a.n a.low a.end) f a.splits.now.count l.i h p ∙ rw (lt-ltb l.i a.splits.now.count h);
+        past = omega arith;
+        small = omega arith;
+        passes = λ _. p;
+      };
+      small = h;
     }
 
 pub loop-i-preserved : goal.loop-i-preserved
@@ -40,8 +43,11 @@ returns c =
     let h = c.loop-i-test.false in
     let f = row_at (columns_of a.splits.now) in
     record {
-      is = l.invariant.2 ∙ filter_none (within a.n a.low a.end) f a.splits.now.count l.i h ∙ rw (le-ltb a.splits.now.count a.splits.now.count (omega arith));
-      past = omega arith;
-      small = omega arith;
-      passes = λ q. absurd (omega arith);
+      hits = record {
+        is = l.invariant.2 ∙ filter_none (within a.n a.low a.end) f a.splits.now.count l.i h ∙ rw (le-ltb a.splits.now.count a.splits.now.count (omega arith));
+        past = omega arith;
+        small = omega arith;
+        passes = λ q. absurd (omega arith);
+      };
+      small = tt;
     }

@@ -1,10 +1,8 @@
 -- `walk::choice::alignment_at` meets its contract: the alignment of the split over the section's default, which is good.
-use mathlib.Core.Path.{sym, ap, ap₂, subst, ◌∙◌}
-use mathlib.Core.List.{List}
+use mathlib.Core.Path.{sym, ap, subst, ◌∙◌}
 use Prim.Native.Nat.{ℕ}
 use lib.ListN.{length}
 use Rattle.std.proofs.lemmas.Result.{err_from_is_err_and}
-use Rattle.obj.specs.declared.Section.{Section}
 use Rattle.symbol_order.specs.Order.{symbol_of}
 use Rattle.sections.specs.Image.{image_in}
 use Rattle.sections.specs.Sections.{head_of}
@@ -32,26 +30,20 @@ pub returns-in_err-alignment : goal.returns-in_err-alignment
 returns-in_err-alignment c =
     let a = c.args in
     let g = image_in a.obj.now in
-    let same = c.section_at-head.ensures in
-    let name = c.name_at.ensures ∙ ap (λ (x : Section). g.name x.name) same in
-    let least = c.default_alignment-least.ensures ∙ ap₂ (λ (x : Section) (l : List ℕ). default_alignment x l) same name in
     let p = err_from_is_err_and c.from_residual.result c.from_residual.ensures.1 in
     rw p.1
     (sym (c.in_err-alignment.ensures
-    ∙ ap (λ (l : ℕ). alignment_of (symbol_of a.obj.now.symbols.bytes.now a.obj.now.symbols.places.now) (length a.obj.now.symbols.places.now) a.n l a.s.alignment a.start a.s.end) least))
+    ∙ ap (λ (l : ℕ). alignment_of (symbol_of a.obj.now.symbols.bytes.now a.obj.now.symbols.places.now) (length a.obj.now.symbols.places.now) a.n l a.s.alignment a.start a.s.end) c.default_of-least.ensures))
 
 pub returns : goal.returns
 returns c =
     let a = c.args in
     let g = image_in a.obj.now in
     let head = head_of a.obj.now.heads.bytes.now a.obj.now.heads.places.now a.n in
-    let same = c.section_at-head.ensures in
-    let name = c.name_at.ensures ∙ ap (λ (x : Section). g.name x.name) same in
-    let least = c.default_alignment-least.ensures ∙ ap₂ (λ (x : Section) (l : List ℕ). default_alignment x l) same name in
     let wanted = alignment_in g head a.n a.start a.s in
     subst (λ (r : ℕ). Valued wanted r) (sym c.value.ensures)
     (aligned_value wanted a.n a.start
     (λ (x : Chosen) e. chosen_good (symbol_of a.obj.now.symbols.bytes.now a.obj.now.symbols.places.now) (length a.obj.now.symbols.places.now) a.n (default_alignment head (g.name head.name)) a.s.alignment a.start a.s.end c.requires.0.sound (default_good head (g.name head.name)) c.requires.2 x e)
     c.in_ok-alignment.alignment
     (c.in_ok-alignment.ensures
-    ∙ ap (λ (l : ℕ). alignment_of (symbol_of a.obj.now.symbols.bytes.now a.obj.now.symbols.places.now) (length a.obj.now.symbols.places.now) a.n l a.s.alignment a.start a.s.end) least))
+    ∙ ap (λ (l : ℕ). alignment_of (symbol_of a.obj.now.symbols.bytes.now a.obj.now.symbols.places.now) (length a.obj.now.symbols.places.now) a.n l a.s.alignment a.start a.s.end) c.default_of-least.ensures))

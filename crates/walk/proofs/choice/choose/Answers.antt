@@ -8,7 +8,7 @@ use Rattle.lists.specs.Outcome.{accepted}
 use Rattle.obj.specs.Records.{unit_at}
 use Rattle.units.specs.Units.{unit_names}
 use Rattle.units.proofs.Laws.{unit_le}
-use Rattle.walk.specs.declared.Step.TheVariants.{Give}
+use Rattle.std.specs.Prelude.{Some}
 use Rattle.walk.proofs.Deciding.{decide-start, decide-between, decide_skip, decide_unlisted, decide_backwards, decide_gives}
 use Rattle.walk.proofs.choice.choose.Goals as goal
 
@@ -45,7 +45,7 @@ returns c =
     let number = c.number-unit.ensures ∙ c.requires.3.each a.s.unit c.requires.4 in
     let count = length-map a.unit_table.now.places.now (λ (at : ℕ). (unit_at a.unit_table.now.bytes.now at).name) in
     let valued = c.in-Ok.ensures in (
-      ap (λ (u : ℕ). accepted (Give u c.in-Ok.alignment)) number
+      ap (λ (u : ℕ). accepted (Some (record { unit = u; alignment = c.in-Ok.alignment }))) number
           ∙ decide_gives _ _ _ _ _ _ _ c.if-s-current.false (sym c.in_default.is ∙ c.between-fault.ensures) (ne_eqb _ 1 c.if-s-eq1.false) (λ e. c.if-unit-unit_table.false (number ∙ e ∙ count)) c.in-Ok.alignment valued,
       record {
         starts = c.if-s-current.false;
