@@ -1,23 +1,16 @@
 -- The starts of the pieces, and their numbers sorted: the pieces of these numbers are the pieces sorted. Assumes nothing.
-use Prim.Native.Nat.{ℕ, zero, suc, ◌+◌, ◌*◌, ◌-◌, ◌≤◌, ◌<◌}
-use mathlib.Core.Path.{◌≡◌, refl, sym, ap, ap₂, subst, ◌∙◌}
+use Prim.Native.Nat.{ℕ, zero, suc, ◌+◌, ◌-◌, ◌≤◌, ◌<◌}
+use mathlib.Core.Path.{◌≡◌, refl, sym, ap, ◌∙◌}
 use mathlib.Core.List.{List, [], ◌∷◌, map}
 use native.Mathlib.Omega.{arith}
-use lib.Dec.{leb}
 use lib.ListN.{length, get_or}
-use Rattle.lists.specs.Sort.{sort_by, All}
+use Rattle.lists.specs.Sort.{sort_by}
 use Rattle.lists.proofs.Parts.{tabulate_list, tabulate-map}
-use Rattle.lists.proofs.Rising.{numbers-below}
-use Rattle.lists.proofs.Sort.{map_sort, sort_alike}
-use Rattle.fields.specs.Fields.{le16, le32}
-use Rattle.obj.specs.Records.{stage_places, symbol_at}
-use Rattle.obj.proofs.Laws.{length-stage_places, stage_place}
-use Rattle.symbol_order.specs.Order.{numbers, key, key_at, ReadableRecords}
-use Rattle.symbol_order.specs.Keys.{key_by, width}
-use Rattle.symbol_order.specs.declared.By.TheVariants.{Address}
+use Rattle.lists.proofs.Sort.{map_sort}
+use Rattle.symbol_order.specs.Order.{numbers}
 use Rattle.join.specs.Join.{Part}
 use Rattle.piece_records.specs.Records.{part_at, next_at, parts_at, Lying, Whole}
-use Rattle.piece_order.specs.Order.{starts_at, part_in, key_of, order_in, Placed, Keyed}
+use Rattle.piece_order.specs.Order.{starts_at, part_in, key_of, order_in, Placed}
 
 -- lent bytes are below 256, so a piece's section has two bytes and its address four
 pub part_small : (b : List ℕ) → ((i : ℕ) → get_or b i 0 < 256) → (at : ℕ) → ((part_at b at).section < 65536) × ((part_at b at).address < 4294967296)
@@ -63,36 +56,6 @@ unfolding starts_at
 starts_end n i b at h = ap (λ (k : ℕ). starts_at k b at) (let z : n - i ≡ 0 = omega arith in z)
 
 -- ---- sorted
-
--- the numbers by keys that are those of the pieces
-pub order_by : (b starts : List ℕ) (k : ℕ → ℕ) → ((i : ℕ) → i < length starts → k i ≡ key_of (part_in b starts i)) → sort_by k (numbers (length starts)) ≡ order_in b starts
-unfolding order_in
-order_by b starts k same =
-    sort_alike k (λ i. key_of (part_in b starts i)) (λ i. i < length starts) (λ x y p q. ap₂ leb (same x p) (same y q)) (numbers (length starts)) (numbers-below (length starts))
-
--- what the sort is lent: records within the table, and numbers of them
-module _ (starts table places order : List ℕ) (lie : places ≡ stage_places 20 (length starts)) (count : order ≡ numbers (length starts)) where
-  place_at : (k : ℕ) → k < length starts → get_or places k 0 ≡ 20 * k
-  place_at k h = ap (λ (l : List ℕ). get_or l k 0) lie ∙ stage_place 20 (length starts) k h
-
-  pub places_length : length places ≡ length starts
-  places_length = ap length lie ∙ length-stage_places 20 (length starts)
-
-  pub readable : 20 * length starts ≤ length table → ReadableRecords (width Address) table places order
-  unfolding width
-  readable room = record {
-    whole = record { each = λ k h. let l = places_length in let z = place_at k (omega arith) in omega arith };
-    inside = subst (All (λ i. i < length places)) (sym count) (subst (λ (n : ℕ). All (λ i. i < n) (numbers (length starts))) (sym places_length) (numbers-below (length starts)));
-  }
-
-  -- sorted by these records they are the pieces by section and address
-  pub sorted_is : (b : List ℕ) → Keyed b starts (length starts) table → sort_by (key_by Address table places) order ≡ order_in b starts
-  unfolding key_by symbol_at
-  sorted_is b keyed =
-      ap (sort_by (key_at table places)) count
-      ∙ order_by b starts (key_at table places) (λ i h.
-      ap (λ (at : ℕ). key (le16 table (at + 2)) (le32 table (at + 4))) (place_at i h)
-      ∙ ap₂ key (keyed.section i h) (keyed.address i h))
 
 -- THEOREM: the pieces of the sorted numbers are the sorted pieces
 pub order_parts : (b starts : List ℕ) → map (part_in b starts) (order_in b starts) ≡ sort_by key_of (map (part_at b) starts)

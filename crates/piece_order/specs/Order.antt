@@ -1,8 +1,7 @@
 -- The pieces of a lent table by section and address, as numbers: piece i starts at place i of a column. That these numbers' pieces are the pieces by section and
 -- address: `order_parts` of proofs/Laws.antt.
-use Rattle.std.specs.Prelude.{ℕ, zero, suc, ◌+◌, ◌*◌, ◌<◌, ◌≡◌, List, [], ◌∷◌, length, get_or}
+use Rattle.std.specs.Prelude.{ℕ, zero, suc, ◌<◌, List, [], ◌∷◌, length, get_or}
 use Rattle.lists.specs.Sort.{sort_by}
-use Rattle.fields.specs.Fields.{le16, le32}
 use Rattle.symbol_order.specs.Order.{key, numbers}
 use Rattle.join.specs.Join.{Part}
 use Rattle.piece_records.specs.Records.{part_at, next_at, Lying}
@@ -29,8 +28,3 @@ order_in b starts = sort_by (λ i. key_of (part_in b starts i)) (numbers (length
 -- each piece lies whole in the bytes
 pub record Placed (b starts : List ℕ) : Type 0 where
   pub each : (i : ℕ) → i < length starts → Lying b (get_or starts i 0)
-
--- the records of the first n pieces have their sections and addresses
-pub record Keyed (b starts : List ℕ) (n : ℕ) (table : List ℕ) : Type 0 where
-  pub section : (i : ℕ) → i < n → le16 table (20 * i + 2) ≡ (part_in b starts i).section
-  pub address : (i : ℕ) → i < n → le32 table (20 * i + 4) ≡ (part_in b starts i).address

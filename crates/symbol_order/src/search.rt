@@ -7,7 +7,8 @@ ghost use Rattle.symbol_order.specs.Search.{Keyed};
 // That `key` may be asked at each place is a clause of all four: a struct of the column and the closure would be generic as they are, and its callers, which
 // only have the closure, would make it for one call.
 
-// The first place whose key is at least `low`, if it lies in from..=to; a place in from..=to anyway.
+// The first place whose key is at least `low`, if it lies in from..=to; a place in from..=to anyway. std's `partition_point` asks that its test may be asked of any number,
+// and a key may be asked of a table's records only.
 fn halve<F: Fn(usize) -> u64>(s: &[u16], from: usize, to: usize, low: u64, key: &F) -> usize
     requires asked { (i : ℕ) → i < length s.now → F.pre key.now i }
     requires ends { (from ≤ to) × (to ≤ length s.now) }
