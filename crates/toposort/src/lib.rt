@@ -63,7 +63,7 @@ pub fn bad_edge(graph: &EdgeTable) -> Option<usize>
 }
 
 // Chains the edges by the node that they leave, so that a node's next edge is found without a search: from the last edge to the first,
-// each is put before its node's chain. `heads` has a place for each node and `chain` one for each edge, so they are no columns of one table.
+// each is put before its node's chain. The two are written here alone, as slices of the caller's arrays; `EdgeChains` is what is read.
 pub fn chain_edges(from: &[u16], heads: &mut [u16], chain: &mut [u16])
     requires { Chainable from.now heads.old chain.old }
     ensures { Chained from.now heads.new chain.new }
@@ -74,6 +74,13 @@ pub fn chain_edges(from: &[u16], heads: &mut [u16], chain: &mut [u16])
         chain[i] = heads[v];
         heads[v] = i as u16;
     }
+}
+
+// The edges by the node that they leave, as `chain_edges` makes them: each node's first edge, and after each edge the next one of its node.
+#[derive(Clone, Copy)]
+pub struct EdgeChains<'h, 'c> {
+    pub heads: &'h [u16],
+    pub chain: &'c [u16],
 }
 
 // The edge that a place of `heads` or `chain` names: a node that has no further edge holds the number of edges there, since a place is two
@@ -88,20 +95,14 @@ fn edge_of(place: u16, edges: usize) -> Option<usize>
 }
 
 // The first edge at or after `start` that leaves `v`. `start` is 0 or comes right after an edge that leaves `v`.
-pub fn next_edge(
-    from: &[u16],
-    heads: &[u16],
-    chain: &[u16],
-    v: usize,
-    start: usize,
-) -> Option<usize>
-    requires { Follows from.now heads.now chain.now v start }
+pub fn next_edge(from: &[u16], chains: &EdgeChains, v: usize, start: usize) -> Option<usize>
+    requires { Follows from.now chains.now.heads.now chains.now.chain.now v start }
     ensures { MatchOption result (next_edge from.now v start ≡ length from.now) (λ e. (e ≡ next_edge from.now v start) × (e < length from.now)) }
 {
     if start == 0 {
-        return edge_of(heads[v], from.len());
+        return edge_of(chains.heads[v], from.len());
     }
-    edge_of(chain[start - 1], from.len())
+    edge_of(chains.chain[start - 1], from.len())
 }
 
 fn open(next: usize, parent: usize) -> Node
@@ -162,8 +163,8 @@ pub fn write_cycle(nodes: [Node; 1025], from: usize, k: usize, table: &mut [u16]
 }
 
 // What the open node `cur` does, whose edges before `next` are passed.
-pub fn next_move(graph: &EdgeTable, heads: &[u16], chain: &[u16], cur: usize, next: usize) -> Move
-    requires { Moves (graph_in graph.now) heads.now chain.now cur next }
+pub fn next_move(graph: &EdgeTable, chains: &EdgeChains, cur: usize, next: usize) -> Move
+    requires { Moves (graph_in graph.now) chains.now.heads.now chains.now.chain.now cur next }
     ensures { result ≡ move_of (graph_in graph.now) cur next }
 {
     if cur == ROOT {
@@ -172,7 +173,7 @@ pub fn next_move(graph: &EdgeTable, heads: &[u16], chain: &[u16], cur: usize, ne
         }
         return Move::Take(next + 1, next);
     }
-    match next_edge(graph.from, heads, chain, cur, next) {
+    match next_edge(graph.from, chains, cur, next) {
         None => Move::Close,
         Some(e) => Move::Take(e + 1, graph.to[e] as usize),
     }
@@ -190,13 +191,8 @@ fn unseen() -> [Node; 1025]
 }
 
 // The search proper: closed nodes are written from the end of the table's first n places downwards, so the last closed stands first.
-pub fn search(
-    graph: &EdgeTable,
-    heads: &[u16],
-    chain: &[u16],
-    table: &mut [u16],
-) -> Result<usize, Unsorted>
-    requires { Ready (graph_in graph.now) heads.now chain.now table.old }
+pub fn search(graph: &EdgeTable, chains: &EdgeChains, table: &mut [u16]) -> Result<usize, Unsorted>
+    requires { Ready (graph_in graph.now) chains.now.heads.now chains.now.chain.now table.old }
     ensures { Sorts (accepted (searched (graph_in graph.now))) (length table.old) result table.new }
 {
     let mut nodes = unseen();
@@ -207,7 +203,7 @@ pub fn search(
         let State::Open { next, parent } = nodes[cur].state else {
             return Err(Unsorted::Short);
         };
-        match next_move(graph, heads, chain, cur, next as usize) {
+        match next_move(graph, chains, cur, next as usize) {
             Move::Finish => {
                 return Ok(graph.count);
             }
@@ -250,7 +246,11 @@ pub fn toposort(graph: &EdgeTable, table: &mut [u16]) -> Result<usize, Unsorted>
     let mut heads = [0u16; 1024];
     let mut chain = [0u16; 2048];
     chain_edges(graph.from, &mut heads, &mut chain);
-    search(graph, &heads, &chain, table)
+    let chains = EdgeChains {
+        heads: &heads,
+        chain: &chain,
+    };
+    search(graph, &chains, table)
 }
 
 // ---- what an answer leaves and says
