@@ -6,3 +6,4 @@ pub mod Graph
 pub mod Joined
 pub mod Units
 pub mod Cases
+pub mod Lent

@@ -44,8 +44,20 @@ pub record Graphed (given : Given) (g : LinkGraph) : Type 0 where
   pub nodes_are : take g.count g.nodes.now ≡ nodes given.splits
   pub edged : Edged given g
 
+-- the columns are still those that were lent, of the same lengths
+pub record SameLent (before after : LinkGraph) : Type 0 where
+  pub column : after.column.ghost_name ≡ before.column.ghost_name
+  pub nodes : after.nodes.ghost_name ≡ before.nodes.ghost_name
+  pub from : after.from.ghost_name ≡ before.from.ghost_name
+  pub to : after.to.ghost_name ≡ before.to.ghost_name
+  pub column_size : length after.column.now ≡ length before.column.now
+  pub nodes_size : length after.nodes.now ≡ length before.nodes.now
+  pub from_size : length after.from.now ≡ length before.from.now
+  pub to_size : length after.to.now ≡ length before.to.now
+
 -- from g to h only the edges changed
 pub record OnlyEdges (g h : LinkGraph) : Type 0 where
   pub column : h.column.now ≡ g.column.now
   pub nodes : h.nodes.now ≡ g.nodes.now
   pub count : h.count ≡ g.count
+  pub lent : SameLent g h

@@ -10,7 +10,7 @@ ghost use Rattle.symbol_order.specs.Keys.{unit_of};
 ghost use Rattle.splits.specs.Questions.{is_common};
 ghost use Rattle.link_graph.specs.Graph.{UnitEdge, is_first as firstOfSection, apart as keptApart, split_edges, links};
 ghost use Rattle.link_graph.specs.Columns.{pointers_in, SectionNames, UnitsBelow, Units, Countable, Counted, Listed, Front};
-ghost use Rattle.link_graph.specs.Tables.{given_of, Edgeable, Edged, Lent, Graphed, OnlyEdges};
+ghost use Rattle.link_graph.specs.Tables.{given_of, Edgeable, Edged, Lent, Graphed, OnlyEdges, SameLent};
 
 use names::{Names, is_pointer_list, name_at};
 use obj::{Split, Table, section_at, unit_at};
@@ -33,21 +33,22 @@ pub fn blank(column: &mut [u16])
     column.fill(NONE);
 }
 
-// "Units count by first split." The column has a place for each name and `nodes` one for each unit, so they are no columns of one table.
-fn count_units(us: &[u16], column: &mut [u16], nodes: &mut [u16]) -> usize
-    requires { Countable us.now column.old nodes.old }
-    ensures { Counted us.now column.new nodes.new result }
+// "Units count by first split." The column is blank.
+fn count_units(us: &[u16], graph: &mut LinkGraph)
+    requires { Countable us.now graph.old.column.now graph.old.nodes.now }
+    ensures counted { Counted us.now graph.new.column.now graph.new.nodes.now graph.new.count }
+    ensures lent { SameLent graph.old graph.new }
 {
     let mut m: usize = 0;
     for &name in us {
         let unit = name as usize;
-        if column[unit] == NONE {
-            column[unit] = m as u16;
-            nodes[m] = name;
+        if graph.column[unit] == NONE {
+            graph.column[unit] = m as u16;
+            graph.nodes[m] = name;
             m += 1;
         }
     }
-    m
+    graph.count = m;
 }
 
 // ---- the edges of neighbours
@@ -189,10 +190,10 @@ fn make_edges(tables: &LinkTables, numbers: &mut [u16], graph: &mut LinkGraph)
 pub fn make_graph(tables: &LinkTables, numbers: &mut [u16], graph: &mut LinkGraph)
     requires { Lent tables.now numbers.old graph.old }
     ensures graph { Graphed (given_of tables.now) graph.new }
-    ensures column { length graph.new.column.now ≡ length graph.old.column.now }
+    ensures lent { SameLent graph.old graph.new }
 {
     let n = tables.splits.count;
     blank(graph.column);
-    graph.count = count_units(&tables.splits.units[..n], graph.column, graph.nodes);
+    count_units(&tables.splits.units[..n], graph);
     make_edges(tables, numbers, graph);
 }

@@ -9,7 +9,7 @@ ghost use Rattle.splits.specs.Table.{rows_of};
 ghost use Rattle.toposort.specs.Sorting as sorting;
 ghost use Rattle.toposort.specs.Sorting.{sort_of, carried};
 ghost use Rattle.link_graph.specs.Graph.{graph_of};
-ghost use Rattle.link_graph.specs.Tables.{given_of, NamesBelow};
+ghost use Rattle.link_graph.specs.Tables.{given_of, NamesBelow, SameLent};
 ghost use Rattle.order.specs.LinkOrder.{link_order};
 ghost use Rattle.order.specs.declared.Unlinked.TheVariants.{Refused};
 ghost use Rattle.order.specs.Columns.{kept as kept_by, answer_of, NotCycle, Room, Resolves, Sortable, Lent};
@@ -86,10 +86,7 @@ fn linked(r: Result<usize, Unsorted>) -> Result<usize, Unlinked>
 fn room_of(size: usize) -> usize
     ensures { Room size result }
 {
-    if size / 8 < 1024 {
-        return size / 8;
-    }
-    1024
+    (size / 8).min(1024)
 }
 
 // The sort of the graph, in the lent `table`, which is for the work; the records of the nodes that it leaves are written to the front of `out`.
@@ -100,8 +97,9 @@ fn sort_graph(
     out: &mut [u8],
 ) -> Result<usize, Unlinked>
     requires { Sortable tables.now graph.old table.old }
-    ensures { Resolves (rows_of tables.now.splits) (units_in tables.now.units.bytes.now tables.now.units.places.now)
+    ensures resolves { Resolves (rows_of tables.now.splits) (units_in tables.now.units.bytes.now tables.now.units.places.now)
         (sort_of (graph_of (given_of tables.now)) (length out.old / 8)) result out.old out.new }
+    ensures lent { SameLent graph.old graph.new }
 {
     let n = graph.count;
     let e = graph.edges;
@@ -127,8 +125,9 @@ pub fn resolve_link_order(
     out: &mut [u8],
 ) -> Result<usize, Unlinked>
     requires { Lent tables.now numbers.old scratch.old graph.old }
-    ensures { Resolves (rows_of tables.now.splits) (units_in tables.now.units.bytes.now tables.now.units.places.now)
+    ensures resolves { Resolves (rows_of tables.now.splits) (units_in tables.now.units.bytes.now tables.now.units.places.now)
         (link_order (given_of tables.now) (length out.old / 8)) result out.old out.new }
+    ensures lent { SameLent graph.old graph.new }
 {
     let k = order_units(&tables.units, numbers, scratch);
     if order_twice(&tables.units, &numbers[..k]) {

@@ -1,5 +1,5 @@
 -- `link_graph::link_nodes`: a turn writes both ends of an edge, and after the last one none is left.
-use Rattle.std.proofs.Common.{◌≡◌, ◌∙◌, sym, arith, refl}
+use Rattle.std.proofs.Common.{◌≡◌, ◌∙◌, sym, arith, rules, refl}
 use Rattle.link_graph.specs.Graph.{UnitEdge}
 use Rattle.link_graph.proofs.Chain.{link_written, links_end}
 use Rattle.link_graph.proofs.link_nodes.Goals as goal
@@ -12,7 +12,7 @@ loop-i-preserved c =
     record {
       starts = link_written (λ (x : UnitEdge). x.from) s e l.i (omega arith) l.graph.from.now _ (omega arith) refl ∙ l.invariant.starts;
       goals = link_written (λ (x : UnitEdge). x.to) s e l.i (omega arith) l.graph.to.now _ (omega arith) refl ∙ l.invariant.goals;
-      others = record { column = l.invariant.others.column; nodes = l.invariant.others.nodes; count = l.invariant.others.count };
+      others = record { column = l.invariant.others.column; nodes = l.invariant.others.nodes; count = l.invariant.others.count; lent = search rules };
     }
 
 pub returns-clause-starts : goal.returns-clause-starts

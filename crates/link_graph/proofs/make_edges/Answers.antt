@@ -1,6 +1,7 @@
 -- `link_graph::make_edges`: the edges of neighbours stand in front, and those of the chain are written behind them.
-use Rattle.std.proofs.Common.{◌∙◌, ap, arith, length}
+use Rattle.std.proofs.Common.{ap, arith, length}
 use Rattle.link_graph.proofs.Graph.{few_kept, numbers_inside, edged}
+use Rattle.link_graph.proofs.Lent.{edges_still}
 use Rattle.link_graph.proofs.make_edges.Goals as goal
 
 pub keep_nodes-k-requires : goal.keep_nodes-k-requires
@@ -21,7 +22,4 @@ returns-clause-edges c =
     edged c.requires front c.split_edges.new.graph l.new.graph c.split_edges.ensures.edges l.ensures.starts l.ensures.goals
 
 pub returns-clause-others : goal.returns-clause-others
-returns-clause-others c =
-    let e = c.split_edges.ensures.others in
-    let l = c.link_nodes.ensures.others in
-    record { column = l.column ∙ e.column; nodes = l.nodes ∙ e.nodes; count = l.count ∙ e.count }
+returns-clause-others c = edges_still c.split_edges.ensures.others c.link_nodes.ensures.others

@@ -7,8 +7,8 @@ use Rattle.link_graph.proofs.Rows.{units_named}
 use Rattle.link_graph.proofs.Graph.{counted-nodes}
 use Rattle.link_graph.proofs.make_graph.Goals as goal
 
-pub count_units-graph-requires : goal.count_units-graph-requires
-count_units-graph-requires c =
+pub count_units-requires : goal.count_units-requires
+count_units-requires c =
     let t = c.args.tables.now in
     let b = c.blank in
     let long = length-take-le t.splits.count t.splits.units.now t.splits.long.units in
@@ -22,14 +22,14 @@ count_units-graph-requires c =
 pub make_edges-requires : goal.make_edges-requires
 make_edges-requires c =
     let t = c.args.tables.now in
-    let u = c.count_units-graph in
-    let same : length u.new.column ≡ length c.args.graph.now.column.now = u.auto.column ∙ c.blank.auto.column in
+    let u = c.count_units in
+    let same : length u.new.graph.column.now ≡ length c.args.graph.now.column.now = u.ensures.lent.column_size ∙ c.blank.auto.column in
     record {
       lent = record {
         named = record { splits = λ i h. omega (arith, same, c.requires.named.splits i h); records = λ k h. omega (arith, same, c.requires.named.records k h) };
         numbers_are = c.requires.numbers_are;
       };
-      marked = subst (Marked u.new.column) (counted-nodes (columns_of t.splits) t.splits.count t.splits.long.units) u.ensures.marked;
+      marked = subst (Marked u.new.graph.column.now) (counted-nodes (columns_of t.splits) t.splits.count t.splits.long.units) u.ensures.counted.marked;
     }
 
 pub returns-clause-graph : goal.returns-clause-graph
@@ -37,6 +37,6 @@ returns-clause-graph c =
     let t = c.args.tables.now in
     let e = c.make_edges.ensures in
     record {
-      nodes_are = (λ i. take (e.others.count i) (e.others.nodes i)) ∙ c.count_units-graph.ensures.is ∙ counted-nodes (columns_of t.splits) t.splits.count t.splits.long.units;
+      nodes_are = (λ i. take (e.others.count i) (e.others.nodes i)) ∙ c.count_units.ensures.counted.is ∙ counted-nodes (columns_of t.splits) t.splits.count t.splits.long.units;
       edged = e.edges;
     }

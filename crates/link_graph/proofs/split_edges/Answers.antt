@@ -1,14 +1,15 @@
 -- `link_graph::split_edges`: before the first turn, a turn at a pair with an edge or without, and after the last one.
-use Rattle.std.proofs.Common.{◌+◌, ◌<◌, ◌∙◌, refl, sym, ap, arith, get_or, length}
+use Rattle.std.proofs.Common.{◌+◌, ◌<◌, ◌∙◌, sym, ap, arith, rules, get_or, length}
 use Rattle.lists.proofs.Rows.{length-tabulate}
 use Rattle.splits.specs.Columns.{row_of, row_at}
 use Rattle.splits.specs.Table.{columns_of}
 use Rattle.link_graph.proofs.Edges.{listing_start, listing_edge, listing_apart, listing_end, unit_of_row}
+use Rattle.link_graph.proofs.Lent.{edges_same}
 use Rattle.link_graph.proofs.split_edges.Goals as goal
 use Rattle.link_graph.proofs.split_edges.Goals.{then-not-apart, else-not-apart}
 
 pub loop-i-init : goal.loop-i-init
-loop-i-init c = record { listing = listing_start _ _ _ _ _; others = record { column = refl; nodes = refl; count = refl } }
+loop-i-init c = record { listing = listing_start _ _ _ _ _; others = edges_same }
 
 pub bounds-graph-tables : goal.bounds-graph-tables
 unfolding row_of
@@ -40,7 +41,7 @@ loop-i-preserved c =
             listing = rw others.column
                 (listing_edge l.invariant.listing (omega arith) (sym c.apart.ensures ∙ w.if-not-apart.true) _ _ (unit_of_row col splits.count _ (omega arith)) (unit_of_row col splits.count _ (omega arith))
                 (omega (arith, few, l.graph.long.long_from, c.args.tables.now.held.few)) (omega (arith, few, l.graph.long.long_to, c.args.tables.now.held.few)));
-            others = record { column = others.column; nodes = others.nodes; count = others.count };
+            others = record { column = others.column; nodes = others.nodes; count = others.count; lent = search rules };
           })
       | else-not-apart w ↦ rw (w.graph-is, w.e-is) (record { listing = listing_apart l.invariant.listing (omega arith) (sym c.apart.ensures ∙ w.if-not-apart.false); others = others })
     ]

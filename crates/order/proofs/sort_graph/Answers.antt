@@ -53,8 +53,8 @@ write_records-requires c =
       },
     )
 
-pub returns : goal.returns
-returns c =
+pub returns-clause-resolves : goal.returns-clause-resolves
+returns-clause-resolves c =
     let s = c in
     let a = s.args in
     let g = front a.graph.now in
