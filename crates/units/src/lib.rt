@@ -7,7 +7,8 @@ ghost use Rattle.units.specs.Units.{unit_names, Listed, Numbered};
 
 use obj::{Table, unit_at};
 
-// The number of the unit of each name: "Of units with one name the last takes the pieces"; how many units there are, for a name that no unit has.
+// The number of the unit of each name: "Of units with one name the last takes the pieces"; how many units there are, for a name that no unit has:
+// a number, since a place is two bytes of a lent column, which an `Option` does not fit.
 pub fn number_units(table: &Table, column: &mut [u16])
     requires { Listed table.now.bytes.now table.now.places.now column.old }
     ensures { Numbered column.new (unit_names table.now.bytes.now table.now.places.now) }
