@@ -114,13 +114,15 @@ refused_leaves o number section address before counts out counted e b c =
 
 -- ---- the edge table in columns
 
-pub graph_made : (n : ℕ) (edges from to : List ℕ) → from ≡ tabulate (λ i. le16 edges (4 * i + 0)) 0 (length edges / 4)
-    → to ≡ tabulate (λ i. le16 edges (4 * i + 2)) 0 (length edges / 4) → record { count = n; from = from; to = to } ≡ graph_of n edges
+pub graph_made : (n : ℕ) (edges : List ℕ) {from to : List ℕ} {k m : ℕ} → k ≡ length edges / 4 → m ≡ length edges / 4
+    → from ≡ tabulate (λ i. le16 edges (4 * i + 0)) 0 k → to ≡ tabulate (λ i. le16 edges (4 * i + 2)) 0 m → record { count = n; from = from; to = to } ≡ graph_of n edges
 unfolding starts_of goals_of
-graph_made n edges from to e q =
+graph_made n edges long same e q =
     let at_start : tabulate (λ i. le16 edges (4 * i + 0)) 0 (length edges / 4) ≡ tabulate (λ i. le16 edges (4 * i)) 0 (length edges / 4) =
     λ z. tabulate (λ i. le16 edges (add-zero (4 * i) z)) 0 (length edges / 4) in
-    λ z. record { count = n; from = (e ∙ at_start) z; to = q z }
+    let from_is = e ∙ ap (tabulate (λ i. le16 edges (4 * i + 0)) 0) long ∙ at_start in
+    let to_is = q ∙ ap (tabulate (λ i. le16 edges (4 * i + 2)) 0) same in
+    λ z. record { count = n; from = from_is z; to = to_is z }
 
 -- ---- the checks in order
 module _ (nodes : ℕ) (edges : List ℕ) (size : ℕ) where

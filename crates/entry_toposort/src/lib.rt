@@ -15,13 +15,13 @@ use obj::{Refusal, place_of, refuse, word_of};
 use outputs::{clear_from, put_count, put_halves};
 use toposort::{EdgeTable, Unsorted, answer_of, kept};
 
-// One column of the edge table, at the front of `out`: the number at byte `at` of each of the first k edges.
-fn column(edges: &[u8], at: usize, k: usize, out: &mut [u16])
-    requires { (at ≤ 2) × (4 * k ≤ length edges.now) × (k ≤ length out.old) }
-    ensures { (take k out.new ≡ tabulate (λ i. le16 edges.now (4 * i + at)) 0 k) × (length out.new ≡ length out.old) }
+// One column of the edge table: the number at byte `at` of each edge.
+fn column(edges: &[u8], at: usize, out: &mut [u16])
+    requires { (at ≤ 2) × (4 * length out.old ≤ length edges.now) }
+    ensures { out.new ≡ tabulate (λ i. le16 edges.now (4 * i + at)) 0 (length out.old) }
 {
-    for i in 0..k {
-        out[i] = get16(edges, 4 * i + at);
+    for (i, place) in out.iter_mut().enumerate() {
+        *place = get16(edges, 4 * i + at);
     }
 }
 
@@ -33,6 +33,7 @@ fn room_of(size: usize) -> usize
 }
 
 // The sort of edges in columns, in the lent `table`; the nodes that it leaves are written to the front of `out`.
+// `table` is what the sort works in and `out` what C lends, so they are no columns of one table.
 fn sort_columns(
     graph: &EdgeTable,
     table: &mut [u16; 1024],
@@ -48,7 +49,7 @@ fn sort_columns(
     r
 }
 
-// The sort of an edge table within the ceilings.
+// The sort of an edge table within the ceilings. `n` is how many nodes there are, and not how long the edges are.
 fn sort_table(n: usize, edges: &[u8], out: &mut [u8]) -> Result<usize, Unsorted>
     requires { (n ≤ 1024) × (length edges.now / 4 ≤ 2048) }
     ensures { Ends (sort_of (graph_of n edges.now) (length out.old / 2)) result out.old out.new }
@@ -57,13 +58,11 @@ fn sort_table(n: usize, edges: &[u8], out: &mut [u8]) -> Result<usize, Unsorted>
     let mut to = [0u16; 2048];
     let mut table = [0u16; 1024];
     let k = edges.len() / 4;
-    column(edges, 0, k, &mut from);
-    column(edges, 2, k, &mut to);
-    let graph = EdgeTable {
-        count: n,
-        from: &from[..k],
-        to: &to[..k],
-    };
+    let from = &mut from[..k];
+    let to = &mut to[..k];
+    column(edges, 0, from);
+    column(edges, 2, to);
+    let graph = EdgeTable { count: n, from, to };
     sort_columns(&graph, &mut table, out)
 }
 
