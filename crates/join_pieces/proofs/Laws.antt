@@ -1,7 +1,7 @@
 -- The joiner over lent bytes: the section that a piece names, and where its bytes stand. Assumes nothing.
 use mathlib.Core.Path.{◌≡◌, refl, sym, ap, ap₂, ◌∙◌}
 use mathlib.Core.List.{List}
-use mathlib.Core.Bool.{Bool, true, false, not, ◌||◌, ◌&&◌}
+use mathlib.Core.Bool.{Bool, true, false, ◌||◌}
 use Prim.Native.Nat.{ℕ, ◌+◌, ◌*◌, ◌-◌, ◌≤◌, ◌<◌, ◌/◌}
 use native.Mathlib.Omega.{arith}
 use native.Mathlib.Numerals.{add-one}
@@ -16,7 +16,6 @@ use Rattle.obj.proofs.Laws.{length-stage_places, stage_place}
 use Rattle.join.specs.Join.{Part, nowhere, home_of, outside, held_by, held}
 use Rattle.join.proofs.Sizes.{held_suc, inside, listed}
 use Rattle.names.specs.Names.{same_name}
-use Rattle.names.proofs.Laws.{same_turn, same_ended}
 use Rattle.join.specs.Laying.{spot_of, laid_over}
 use Rattle.stage_tables.specs.StageTables.{stage_sections}
 use Rattle.piece_records.specs.Records.{part_at, next_at, parts_at}
@@ -91,25 +90,3 @@ pub part_same : (out : List ℕ) {bytes own : List ℕ} {from at : ℕ} → byte
 part_same out {bytes} {own} {from} {at} e f =
     ap (λ (k : ℕ). same_name bytes (take k (drop from out))) (let z : from + length bytes - from ≡ length bytes = omega arith in z)
     ∙ ap₂ (λ (l : List ℕ) (k : ℕ). same_name l (take (length l) (drop k out))) e f
-
--- ---- bytes compared without an early exit
-
-or_turn : (any same later : Bool) → ((any || not same) || not later) ≡ (any || not (same && later))
-or_turn true same later = refl
-or_turn false true later = refl
-or_turn false false later = refl
-
-or_none : (any : Bool) → any ≡ (any || not true)
-or_none true = refl
-or_none false = refl
-
-module _ (x y : List ℕ) (any : Bool) (i : ℕ) where
-  -- byte i, and those from i + 1 on
-  pub unequal_turn : i < length x → i < length y
-      → ((any || not (eqb (get_or x i 0) (get_or y i 0))) || not (same_name (drop (i + 1) x) (drop (i + 1) y))) ≡ (any || not (same_name (drop i x) (drop i y)))
-  unequal_turn h k =
-      or_turn any (eqb (get_or x i 0) (get_or y i 0)) (same_name (drop (i + 1) x) (drop (i + 1) y)) ∙ ap (λ (s : Bool). any || not s) (sym (same_turn x y i h k))
-
-  -- no byte is left
-  pub unequal_ended : length x ≤ i → length y ≤ i → any ≡ (any || not (same_name (drop i x) (drop i y)))
-  unequal_ended h k = or_none any ∙ ap (λ (s : Bool). any || not s) (sym (same_ended x y i h k))

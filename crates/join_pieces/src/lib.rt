@@ -5,17 +5,16 @@
 
 mod whole_pieces;
 
-ghost use Rattle.std.specs.Prelude.{ℕ, Bool, ◌≡◌, false, not, ◌≤◌, ◌<◌, ◌/◌, length, get_or};
+ghost use Rattle.std.specs.Prelude.{ℕ, Bool, ◌≡◌, false, ◌≤◌, ◌<◌, ◌/◌, length, get_or};
 ghost use Rattle.std.proofs.lemmas.List.Edits.{sets};
 ghost use Rattle.lists.specs.Rows.{some};
-ghost use Rattle.names.specs.Names.{same_name};
 ghost use Rattle.join.specs.Join.{Part, nowhere, outside, held_by, held, join_of};
 ghost use Rattle.join.specs.Laying.{spot_of, laid_over, unlike, some_unlike};
 ghost use Rattle.stage_tables.specs.StageTables.{stage_sections};
 ghost use Rattle.piece_records.specs.Records.{part_at, parts_at, Lying, Whole};
 ghost use Rattle.join_pieces.specs.Joins.{Base, Among, Joins, zeroed};
 
-use names::put_bytes;
+use names::{put_bytes, same};
 use obj::{Refusal, read_section, refuse};
 use outputs::clear_from;
 use piece_records::{bytes_at, head_at, next_at};
@@ -116,20 +115,6 @@ fn lay_pieces(pieces: &WholePieces, out: &mut [u8])
 
 // ---- 83
 
-// The bytes aren't the same. No early exit, so that the compiler compares many at a time.
-pub fn unequal(x: &[u8], y: &[u8]) -> bool
-    ensures { result ≡ not (same_name x.now y.now) }
-{
-    if x.len() != y.len() {
-        return true;
-    }
-    let mut any = false;
-    for i in 0..x.len() {
-        any = any | (x[i] != y[i]);
-    }
-    any
-}
-
 // The piece has other bytes than those that lie in its place.
 fn is_unlike(pieces: &WholePieces, at: usize, out: &[u8]) -> bool
     requires { Among pieces.now.count pieces.now.bytes.now at × (held (stage_sections pieces.now.sections.now) ≤ length out.now) }
@@ -138,7 +123,7 @@ fn is_unlike(pieces: &WholePieces, at: usize, out: &[u8]) -> bool
     let spot = spot_of(pieces, at);
     let bytes = bytes_at(pieces.bytes, at);
     let end = spot + bytes.len();
-    unequal(bytes, &out[spot..end])
+    !same(bytes, &out[spot..end])
 }
 
 // Some piece has.

@@ -1,7 +1,7 @@
 // The numbers of pieces by section and address: document 02, (n), compares a piece only with one before it. The sort and the key are those of symbol_order.
 #![tactic(auto)]
 
-ghost use Rattle.std.specs.Prelude.{◌≡◌, ◌<◌, ◌≤◌, length, take};
+ghost use Rattle.std.specs.Prelude.{◌≡◌, ◌<◌, ◌≤◌, length};
 ghost use Rattle.piece_records.specs.Records.{Whole};
 ghost use Rattle.symbol_order.specs.Order.{numbers};
 ghost use Rattle.piece_order.specs.Order.{starts_at, part_in, key_of, order_in, Placed};
@@ -9,14 +9,14 @@ ghost use Rattle.piece_order.specs.Order.{starts_at, part_in, key_of, order_in, 
 use piece_records::{head_at, next_at};
 use symbol_order::{key_of, sort};
 
-// Where each of the n pieces starts, at the front of a column that may have room for more.
-pub fn fill_starts(b: &[u8], n: usize, starts: &mut [usize])
-    requires { Whole n b.now 0 × (n ≤ length starts.old) }
-    ensures { take n starts.new ≡ starts_at n b.now 0 }
+// Where each of the pieces starts, of which there are as many as places.
+pub fn fill_starts(b: &[u8], starts: &mut [usize])
+    requires { Whole (length starts.old) b.now 0 }
+    ensures { starts.new ≡ starts_at (length starts.old) b.now 0 }
 {
     let mut at: usize = 0;
-    for i in 0..n {
-        starts[i] = at;
+    for start in starts.iter_mut() {
+        *start = at;
         at = next_at(b, at);
     }
 }

@@ -8,8 +8,8 @@ use mathlib.Core.Bool.{Bool, true, false, cond, not, ◌&&◌}
 use native.Mathlib.Omega.{arith}
 use native.Mathlib.Numerals.{add-one}
 use lib.Dec.{eqb, leb}
-use lib.ListN.{length, get_or, take, drop, length-take, length-drop, drop_of_length-le}
-use lib.Seq.{ext_get_or, get_or-take, get_or-drop, drop-cons, take_all}
+use lib.ListN.{length, get_or, drop, length-take, length-drop, drop_of_length-le}
+use lib.Seq.{ext_get_or, get_or-take, get_or-drop, drop-cons}
 use borrow.Author.Tests.{not-true, eqb-false, eq-eqb, ne_eqb, le-leb, lt-leb}
 use Rattle.lists.specs.Sort.{sort_by, All}
 use Rattle.lists.proofs.All.{all_sort}
@@ -173,10 +173,10 @@ unfolding sweep
 sweep-none g [] h = refl
 sweep-none g (k ∷ order) h = absurd (omega arith)
 
--- a column that was filled
-module _ (n : ℕ) (b starts : List ℕ) (long : length starts ≡ n) (filled : take n starts ≡ starts_at n b 0) where
+-- a column of n places that was filled
+module _ (n : ℕ) (b : List ℕ) {starts : List ℕ} {long : ℕ} (same : long ≡ n) (filled : starts ≡ starts_at long b 0) where
   pub starts_are : starts ≡ starts_at n b 0
-  starts_are = sym (take_all n starts (omega arith)) ∙ filled
+  starts_are = filled ∙ ap (λ (k : ℕ). starts_at k b 0) same
 
   pub starts-placed : Whole n b 0 → Placed b starts
   starts-placed w = subst (Placed b) (sym starts_are) (placed n b w)

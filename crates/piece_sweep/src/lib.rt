@@ -10,7 +10,7 @@ ghost use Rattle.piece_order.specs.Order.{part_in, Placed};
 ghost use Rattle.piece_sweep.specs.Sweep.{unequal, farther, sweep};
 ghost use Rattle.piece_sweep.specs.Overlap.{bytes_in, Within, Farthest};
 
-use join_pieces::unequal;
+use names::same;
 use piece_order::{fill_starts, order_pieces};
 use piece_records::{bytes_at, head_at};
 
@@ -44,7 +44,7 @@ pub fn is_unequal(b: &[u8], far: usize, at: usize) -> bool
     if high <= low {
         return false;
     }
-    unequal(
+    !same(
         bytes_between(b, far, low, high),
         bytes_between(b, at, low, high),
     )
@@ -103,7 +103,7 @@ pub fn any_differ(b: &[u8], n: u32) -> bool
     let n = n as usize;
     let starts = &mut starts[..n];
     let order = &mut order[..n];
-    fill_starts(b, n, starts);
+    fill_starts(b, starts);
     order_pieces(b, starts, order);
     pass(b, starts, order)
 }

@@ -18,8 +18,8 @@ overflow_add-end c =
     let f = spot-fits (stage_sections a.pieces.now.sections.now) p (inside (stage_sections a.pieces.now.sections.now) p (c.requires.0.one _ c.args.pieces.now.inside)) in
     omega (arith, f, c.spot_of-spot.ensures, ap length c.bytes_at-bytes.ensures, c.requires.1)
 
-pub slice_bounds-unequal-end : goal.slice_bounds-unequal-end
-slice_bounds-unequal-end c =
+pub slice_bounds-same-end : goal.slice_bounds-same-end
+slice_bounds-same-end c =
     let a = c.args in
     let p = part_at a.pieces.now.bytes.now a.at in
     let f = spot-fits (stage_sections a.pieces.now.sections.now) p (inside (stage_sections a.pieces.now.sections.now) p (c.requires.0.one _ c.args.pieces.now.inside)) in
@@ -27,4 +27,4 @@ slice_bounds-unequal-end c =
 
 pub returns : goal.returns
 unfolding unlike
-returns c = c.unequal.ensures ∙ ap not (part_same c.args.out.now c.bytes_at-bytes.ensures c.spot_of-spot.ensures)
+returns c = ap not (c.same.ensures ∙ part_same c.args.out.now c.bytes_at-bytes.ensures c.spot_of-spot.ensures)

@@ -1,7 +1,7 @@
 -- `piece_sweep::is_unequal` meets its contract. The pieces are of one section and lie somewhere together, or they don't differ.
 -- Assumes nothing.
 use native.Mathlib.Omega.{arith}
-use mathlib.Core.Path.{sym, ap₂, ◌∙◌}
+use mathlib.Core.Path.{sym, ap, ap₂, ◌∙◌}
 use Prim.Native.Nat.{ℕ, ◌+◌, ◌≤◌, min, max}
 use mathlib.Core.List.{List}
 use mathlib.Core.Bool.{not}
@@ -41,7 +41,7 @@ returns c =
     let g = c.head_at-p.ensures in
     let low = c.max-low.ensures ∙ ap₂ (λ (x y : ℕ). max x y) f.address g.address in
     let high = c.min-high.ensures ∙ ap₂ (λ (x y : ℕ). min x y) (ap₂ (λ (x y : ℕ). x + y) f.address f.«length») (ap₂ (λ (x y : ℕ). x + y) g.address g.«length») in
-    c.unequal.ensures
+    ap not c.same.ensures
     ∙ ap₂ (λ (x y : List ℕ). not (same_name x y)) c.bytes_between.ensures c.bytes_between-2.ensures
     ∙ ap₂ (λ (x y : ℕ). not (same_name (bytes_in p x y) (bytes_in q x y))) low high
     ∙ overlap_is p q (sym f.section ∙ c.if-f-p.false ∙ g.section)
