@@ -78,11 +78,6 @@ pub ends_of : {g h : Graph} {r : Result ℕ Unsorted} {before after : List ℕ} 
     → Ends (sort_of h room) r before after
 ends_of room e w = ends_as (ap (λ (x : Graph). sort_of x room) e) w
 
--- the table is the first `room` places of a longer one
-pub sorts_in : {r : Result ℕ Unsorted} {part : List ℕ} (g : Graph) (room : ℕ) (table : List ℕ) → room ≤ length table
-    → Sorts (sort_of g (length (take room table))) (length (take room table)) r part → Sorts (sort_of g room) room r part
-sorts_in {r} {part} g room table h s = subst (λ (k : ℕ). Sorts (sort_of g k) k r part) (length-take-le room table h) s
-
 -- the outputs after the clearing
 pub leaves : (o : Outcome End) (r : Result ℕ Unsorted) (k : ℕ) (before after counts : List ℕ) (answer : ℕ) (out counted : List ℕ) → Ends o r before after
     → k ≡ kept r → answer ≡ word (answer_of r) → out ≡ clear_from 0 (2 * k) after → counted ≡ store_count 0 k (clear_from 0 0 counts)

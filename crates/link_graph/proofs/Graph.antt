@@ -3,7 +3,7 @@
 use Prim.Native.Nat.{ℕ, zero, suc, ◌+◌, ◌-◌, ◌≤◌, ◌<◌}
 use mathlib.Core.Path.{◌≡◌, refl, sym, ap, ap₂, ◌∙◌}
 use mathlib.Core.List.{List, [], ◌∷◌, ◌++◌, map, map-map, map-append}
-use mathlib.Core.Bool.{Bool, true, false, cond, not, ◌&&◌}
+use mathlib.Core.Bool.{Bool, true, false, not, ◌&&◌}
 use mathlib.Core.Logic.{inl, inr}
 use native.Mathlib.Nat.{le_of_suc-le-suc, not-suc-le-zero}
 use native.Mathlib.Omega.{arith}
@@ -16,6 +16,7 @@ use Rattle.lists.specs.Members.{In}
 use Rattle.lists.proofs.Rows.{get_d_map, length-tabulate}
 use Rattle.lists.proofs.All.{all_map, all_keep, all_any}
 use Rattle.lists.proofs.Filter.{keep_same, keep_passes, map_keep}
+use Rattle.lists.proofs.Ranks.{length-kept}
 use Rattle.lists.proofs.Sort.{length_sort}
 use Rattle.lists.proofs.Rising.{numbers-below}
 use Rattle.obj.specs.declared.Split.{Split}
@@ -146,15 +147,6 @@ module _ (f : ℕ → ℕ) where
   links_goals (x ∷ y ∷ l) = ap (λ (t : List ℕ). f y ∷ t) (links_goals (y ∷ l))
 
 -- ---- how many edges there are
-length-kept : {A : Type 0} (p : A → Bool) (l : List A) → length (keep_if p l) ≤ length l
-unfolding keep_if
-length-kept p [] = omega arith
-length-kept {A} p (x ∷ l) = go (p x) (length-kept p l)
-  where
-    go : (t : Bool) → length (keep_if p l) ≤ length l → length (cond t (x ∷ keep_if p l) (keep_if p l)) ≤ suc (length l)
-    go true h = omega arith
-    go false h = omega arith
-
 length-links : (l : List ℕ) → length (links l) ≤ length l
 unfolding links
 length-links [] = omega arith

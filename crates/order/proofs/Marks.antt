@@ -11,7 +11,7 @@ use native.Mathlib.Decide.{ℕ_discrete}
 use borrow.Author.Tests.{ltb-true, ltb-false, lt-ltb, le-ltb, eq-eqb, ne_eqb}
 use lib.Dec.{eqb, ltb}
 use lib.ListN.{length, get_or, drop, set, replicate, length-replicate, get_or-replicate}
-use lib.Seq.{drop-cons, drop-length, get_or-set_same, get_or-set_other}
+use lib.Seq.{drop-cons, get_or-set_same, get_or-set_other}
 use Rattle.lists.specs.Rows.{tabulate, first_in, some}
 use Rattle.lists.specs.Sort.{All, none, each}
 use Rattle.lists.proofs.All.{all_map, all_at}
@@ -67,20 +67,6 @@ module _ (f : ℕ → Split) (before : List ℕ) where
 pub record MarkedFrom (us : List units.Unit) (k : ℕ) (before column : List ℕ) : Type 0 where
   pub marks : (v : ℕ) → v < length before
       → get_or column v 0 ≡ cond (ltb (first_record (drop k us) v) (length (drop k us))) (k + first_record (drop k us) v) (get_or before v 0)
-
-pub marked-none : (us : List units.Unit) (k : ℕ) (before : List ℕ) → k ≡ length us → MarkedFrom us k before before
-unfolding first_in
-marked-none us k before e = record {
-  marks = λ v h.
-      ap (λ (l : List units.Unit). cond (ltb (first_record l v) (length l)) (k + first_record l v) (get_or before v 0)) (sym (ap (λ (i : ℕ). drop i us) e ∙ drop-length us));
-}
-
-pub marked_all : (us : List units.Unit) (before column : List ℕ) → MarkedFrom us 0 before column → RecordMarked us before column
-marked_all us before column m = record {
-  marks = λ v h.
-      m.marks v h
-      ∙ ap (λ (k : ℕ). cond (ltb (first_record us v) (length us)) k (get_or before v 0)) (let e : 0 + first_record us v ≡ first_record us v = omega arith in e);
-}
 
 -- record k is marked over those behind it
 module _ (us : List units.Unit) (k : ℕ) (before column : List ℕ) (h : k < length us) (m : MarkedFrom us (k + 1) before column)

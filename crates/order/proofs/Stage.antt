@@ -58,11 +58,6 @@ same_room : (g : Graph) (size room : ℕ) → g.count ≤ 1024 → Room size roo
 unfolding sort_of
 same_room g size room h w = rw (w.same g.count h)
 
--- the table is the first `room` places of a longer one
-pub sorts_in : {r : Result ℕ Unsorted} {part : List ℕ} (g : Graph) (room : ℕ) (table : List ℕ) → room ≤ length table
-    → Sorts (sort_of g (length (take room table))) (length (take room table)) r part → Sorts (sort_of g room) room r part
-sorts_in {r} {part} g room table h s = subst (λ (k : ℕ). Sorts (sort_of g k) k r part) (length-take-le room table h) s
-
 -- ---- the nodes that are left are nodes
 all_in : (P : ℕ → Type 0) (l : List ℕ) → ((v : ℕ) → In v l → P v) → All P l
 all_in P [] f = none

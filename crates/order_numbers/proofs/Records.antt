@@ -1,15 +1,15 @@
 -- The units that have an order, by the numbers of their records and as records: the records of `ordered_numbers` are `ordered`, and an order number stands
 -- twice exactly where two neighbours of `ordered_numbers` have the same. Assumes nothing.
-use Prim.Native.Nat.{ℕ, suc, ◌≤◌}
+use Prim.Native.Nat.{ℕ, ◌≤◌}
 use mathlib.Core.Path.{◌≡◌, refl, sym, ap, ◌∙◌}
-use mathlib.Core.List.{List, [], ◌∷◌, map, map-map}
-use mathlib.Core.Bool.{Bool, true, false, cond}
+use mathlib.Core.List.{List, map, map-map}
 use native.Mathlib.Omega.{arith}
 use lib.ListN.{length}
 use Rattle.lists.specs.Rows.{tabulate, keep_if}
 use Rattle.lists.specs.Sort.{sort_by}
 use Rattle.lists.proofs.Parts.{tabulate-map, tabulate_list}
 use Rattle.lists.proofs.Filter.{map_keep}
+use Rattle.lists.proofs.Ranks.{length-kept}
 use Rattle.lists.proofs.Rows.{length-tabulate}
 use Rattle.lists.proofs.Sort.{map_sort, length_sort}
 use Rattle.obj.specs.Records.{unit_at}
@@ -17,16 +17,6 @@ use Rattle.tables.specs.Records.{units_in}
 use Rattle.symbol_order.specs.Keys.{rank_of, unit_of, rank_at}
 use Rattle.order_numbers.specs.Numbers.{has_order, ordered, twice, order_twice, unsorted, ordered_numbers, next_same}
 use Rattle.order_numbers.proofs.Twice.{sorted_twice}
-
--- no more than all are kept
-length_keep : {A : Type 0} (p : A → Bool) (l : List A) → length (keep_if p l) ≤ length l
-unfolding keep_if
-length_keep p [] = omega arith
-length_keep {A} p (x ∷ l) = go (p x) (length_keep p l)
-  where
-    go : (t : Bool) → length (keep_if p l) ≤ length l → length (cond t (x ∷ keep_if p l) (keep_if p l)) ≤ suc (length l)
-    go true h = omega arith
-    go false h = omega arith
 
 module _ (b places : List ℕ) where
   -- no more units have an order than there are
@@ -36,7 +26,7 @@ module _ (b places : List ℕ) where
       omega (
         arith,
         length_sort (rank_at b places) (unsorted b places),
-        length_keep (λ i. has_order (unit_of b places i)) (tabulate (λ i. i) 0 (length places)),
+        length-kept (λ i. has_order (unit_of b places i)) (tabulate (λ i. i) 0 (length places)),
         length-tabulate (λ i. i) 0 (length places),
       )
 

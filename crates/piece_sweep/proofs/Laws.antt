@@ -157,11 +157,6 @@ module _ (g : ℕ → Part) (order : List ℕ) (far : Part) (i : ℕ) where
   unfolding sweep_from
   sweep_ended h = ap (λ (l : List ℕ). sweep_from far (map g l)) (drop_of_length-le order h)
 
--- there is a first
-pub some_there : (n : ℕ) → (n ≡ 0 → ⊥) → 0 < n
-some_there zero f = absurd (f refl)
-some_there (suc n) f = omega arith
-
 -- the first piece is passed before the loop
 pub sweep_first : (g : ℕ → Part) (order : List ℕ) → 0 < length order → sweep (map g order) ≡ sweep_from (g (get_or order 0 0)) (map g (drop 1 order))
 unfolding sweep

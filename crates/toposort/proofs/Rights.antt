@@ -59,9 +59,6 @@ module _ (g : Graph) (ns : List Node) (u : ℕ) (s : State) (inns : u < length n
         only = λ v i. (closed_set v (o.only v i).0, (o.only v i).1);
       }
 
-open_closed : (k p : ℕ) → Open k p ≡ Closed → ⊥
-open_closed k p e = let z : ◌≡◌ {A = ℕ} 0 1 = cc in omega arith
-
 -- an edge of cur is passed: it is the next, and goes to w
 pub record Passed (g : Graph) (cur k a w : ℕ) : Type 0 where
   pub low : k ≤ length g.from

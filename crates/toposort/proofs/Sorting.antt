@@ -3,7 +3,8 @@
 use Prim.Native.Nat.{ℕ, ◌≤◌, ◌<◌}
 use mathlib.Core.Path.{◌≡◌, refl, sym, ap, ◌∙◌, subst}
 use mathlib.Core.List.{List}
-use lib.ListN.{length}
+use lib.ListN.{length, take}
+use lib.Seq.{length-take-le}
 use native.Mathlib.Omega.{arith}
 use borrow.Author.Tests.{lt-ltb, le-ltb}
 use Rattle.lists.specs.Outcome.{Outcome, accepted, refused}
@@ -58,3 +59,8 @@ module _ (g : Graph) (within : Within g) where
           chain_long = omega (arith, within.edges);
           starts = λ e lt. omega (arith, sound.starts e lt, within.nodes);
         }
+
+-- the table is the first `room` places of a longer one
+pub sorts_in : {r : Result ℕ Unsorted} {part : List ℕ} (g : Graph) (room : ℕ) (table : List ℕ) → room ≤ length table
+    → Sorts (sort_of g (length (take room table))) (length (take room table)) r part → Sorts (sort_of g room) room r part
+sorts_in {r} {part} g room table h s = subst (λ (k : ℕ). Sorts (sort_of g k) k r part) (length-take-le room table h) s

@@ -1,7 +1,8 @@
 -- `entry_toposort::sort_columns`: what the sort leaves at the front of the lent table is what is written out.
 use native.Mathlib.Omega.{arith}
 use mathlib.Core.Path.{refl}
-use Rattle.entry_toposort.proofs.Laws.{sorts_in, sorted_ends}
+use Rattle.toposort.proofs.Sorting.{sorts_in}
+use Rattle.entry_toposort.proofs.Laws.{sorted_ends}
 use Rattle.entry_toposort.proofs.sort_columns.Goals as goal
 
 pub returns : goal.returns

@@ -13,7 +13,8 @@ use Rattle.toposort.specs.Sorting.{Within}
 use Rattle.link_graph.specs.Graph.{graph_of}
 use Rattle.link_graph.specs.Tables.{given_of}
 use Rattle.link_graph.specs.declared.link_tables.LinkGraph.{LinkGraph}
-use Rattle.order.proofs.Stage.{sorts_in, left_inside, nodes-named, kept_long, kept-nodes, kept-fits, sorted_resolves, same_sort, resolves_as}
+use Rattle.toposort.proofs.Sorting.{sorts_in}
+use Rattle.order.proofs.Stage.{left_inside, nodes-named, kept_long, kept-nodes, kept-fits, sorted_resolves, same_sort, resolves_as}
 use Rattle.order.proofs.sort_graph.Goals as goal
 
 -- the nodes and the edges that stand at the front of the columns

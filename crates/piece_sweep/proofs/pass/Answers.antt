@@ -3,14 +3,15 @@
 use mathlib.Core.Path.{◌≡◌, sym, ap, subst, ◌∙◌}
 use mathlib.Core.List.{map}
 use borrow.Author.Tests.{eqb-true, eqb-false}
-use Prim.Native.Nat.{ℕ, ◌+◌}
+use Prim.Native.Nat.{ℕ, ◌+◌, ◌<◌}
+use native.Mathlib.Omega.{arith}
 use lib.ListN.{length, get_or, drop}
 use Rattle.lists.proofs.All.{all_at}
 use Rattle.join.specs.Join.{Part}
 use Rattle.piece_records.specs.Records.{part_at, Lying}
 use Rattle.piece_order.specs.Order.{part_in}
 use Rattle.piece_sweep.specs.Sweep.{unequal, farther, sweep_from}
-use Rattle.piece_sweep.proofs.Laws.{some_there, sweep-none, sweep_first, sweep_hit, sweep_miss, sweep_ended}
+use Rattle.piece_sweep.proofs.Laws.{sweep-none, sweep_first, sweep_hit, sweep_miss, sweep_ended}
 use Rattle.piece_sweep.proofs.pass.Goals as goal
 use Rattle.piece_sweep.proofs.pass.Goals.{After-start_of-at}
 
@@ -32,7 +33,8 @@ pub loop-i-init : goal.loop-i-init
 loop-i-init c =
     let a = c.args in
     let e = c.start_of-far.ensures in
-    let h = some_there (length a.order.now) (eqb-false _ _ (sym c.is_empty.ensures ∙ c.if-is_empty.false)) in (
+    let some = eqb-false _ _ (sym c.is_empty.ensures ∙ c.if-is_empty.false) in
+    let h : 0 < length a.order.now = omega (arith, some) in (
       subst (Lying a.b.now) (sym e) (c.requires.0.each (get_or a.order.now 0 0) (all_at 0 0 c.requires.1 h)),
       ap (λ (k : ℕ). sweep_from (part_at a.b.now k) (map (part_in a.b.now a.starts.now) (drop 1 a.order.now))) e
           ∙ sym (sweep_first (part_in a.b.now a.starts.now) a.order.now h),
