@@ -1,5 +1,5 @@
 -- A line in parts, the sum of its bytes, and sections that share an address by their ends. Assumes nothing.
-use Prim.Native.Nat.{ℕ, ◌+◌, ◌*◌, ◌/◌, ◌%◌, ◌<◌}
+use Prim.Native.Nat.{ℕ, suc, ◌+◌, ◌*◌, ◌/◌, ◌%◌, ◌<◌, ◌≤◌}
 use mathlib.Core.Path.{◌≡◌, refl, sym, ap, ◌∙◌}
 use mathlib.Core.List.{List, [], ◌∷◌, ◌++◌, append_assoc}
 use mathlib.Core.Logic.{◌≢◌}
@@ -7,11 +7,12 @@ use mathlib.Core.Bool.{Bool, true, not, ◌&&◌}
 use native.Mathlib.Omega.{arith}
 use native.Mathlib.Decide.{dec_lt}
 use lib.Dec.{eqb, ltb}
-use lib.ListN.{length, get_or, drop, length-append}
-use lib.Seq.{sets, drop-cons}
-use native.Mathlib.Numerals.{add-one}
+use lib.ListN.{length, get_or, length-append}
+use Rattle.std.proofs.lemmas.List.Sums.{sum_by-cons}
+use lib.Seq.{sets}
 use borrow.Author.Tests.{eqb-false, ne_eqb, ltb-true, leb-true, lt-ltb, not-true}
 use Rattle.std.specs.Int.{w32, to_be_bytes}
+use Rattle.std.specs.Prelude.{sum_by}
 use Rattle.lists.proofs.Both.{both}
 use Rattle.lists.proofs.Stores.{sets_then}
 use Rattle.fields.specs.Fields.{big, bytes_of}
@@ -38,13 +39,20 @@ unfolding sum
 sum-append [] t = omega arith
 sum-append (b ∷ s) t = let h = sum-append s t in omega arith
 
-pub sum_turn : (bytes : List ℕ) (i : ℕ) → i < length bytes → sum (drop i bytes) ≡ get_or bytes i 0 + sum (drop (i + 1) bytes)
+-- the same sum in std's word
+pub sum_is : (l : List ℕ) → sum_by (λ x. x) l ≡ sum l
 unfolding sum
-sum_turn bytes i h = ap sum (drop-cons bytes i 0 h ∙ ap (λ (k : ℕ). get_or bytes i 0 ∷ drop k bytes) (sym (add-one i)))
+sum_is [] = refl
+sum_is (b ∷ l) = sum_by-cons (λ x. x) b l ∙ ap (λ (k : ℕ). b + k) (sum_is l)
 
-pub sum-none : (l : List ℕ) → l ≡ [] → sum l ≡ 0
+-- each byte is below 256
+pub sum_small : (l : List ℕ) → ((i : ℕ) → get_or l i 0 < 256) → sum l ≤ 255 * length l
 unfolding sum
-sum-none l e = ap sum e
+sum_small [] f = omega arith
+sum_small (b ∷ l) f =
+    let first = f 0 in
+    let later = sum_small l (λ i. f (suc i)) in
+    omega arith
 
 pub sum_address_is : (a : ℕ) → sum (to_be_bytes w32 a) ≡ sum (bytes_of big 4 a)
 unfolding sum bytes_of

@@ -16,11 +16,7 @@ fn sum_of(bytes: &[u8]) -> u32
     requires { length bytes.now ≤ 250 }
     ensures { Sum bytes.now 64000 result }
 {
-    let mut total: u32 = 0;
-    for byte in bytes {
-        total += *byte as u32;
-    }
-    total
+    bytes.iter().map(|byte| u32::from(*byte)).sum()
 }
 
 // `S`, the type, how many bytes follow, and the address.

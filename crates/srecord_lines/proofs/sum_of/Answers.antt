@@ -1,19 +1,19 @@
--- `srecord_lines::sum_of` meets its contract. Invariant: what is summed and what is left is the whole sum.
+-- `srecord_lines::sum_of` meets its contract: std's sum is the definition's, and at most 250 bytes are below 64,000.
 -- Assumes nothing.
 use native.Mathlib.Omega.{arith}
-use lib.ListN.{drop, drop_of_length-le}
-use Rattle.srecord_lines.proofs.Laws.{sum_turn, sum-none}
+use mathlib.Core.Path.{◌≡◌, ◌∙◌}
+use Rattle.std.specs.Prelude.{sum_by}
+use Rattle.std.proofs.Common.{rules}
+use Rattle.std.proofs.iter.runs.Sources.{sums}
+use Rattle.srecord_lines.proofs.Laws.{sum_is, sum_small}
 use Rattle.srecord_lines.proofs.sum_of.Goals as goal
 
-pub loop-byte-preserved : goal.loop-byte-preserved
-loop-byte-preserved c =
-    let l = c.loop-byte in
-    let small = c.type_inv.bytes l.byte-index in
-    (omega (arith, sum_turn c.args.bytes.now l.byte-index c.loop-byte-test.true, l.invariant.0), omega arith)
+pub sum-requires-clause-fits : goal.sum-requires-clause-fits
+sum-requires-clause-fits c = search (rules, sums)
 
 pub returns : goal.returns
 returns c =
-    let l = c.loop-byte in
     let b = c.args.bytes.now in
-    let z = sum-none (drop l.byte-index b) (drop_of_length-le b c.loop-byte-test.false) in
-    record { is = omega (arith, l.invariant.0, z); small = omega (arith, c.requires) }
+    let e : c.sum.result ≡ sum_by (λ x. x) b = search (rules, sums) in
+    let is = e ∙ sum_is b in
+    record { is = is; small = omega (arith, is, sum_small b (λ i. (c.type_inv.bytes i).fits), c.requires) }
