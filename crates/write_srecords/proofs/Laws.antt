@@ -1,5 +1,5 @@
 -- The writer goes along the sections: what is left to write, and that it is still there to be read. Assumes nothing.
-use Prim.Native.Nat.{ℕ, suc, ◌+◌, ◌-◌, ◌≤◌, ◌<◌}
+use Prim.Native.Nat.{ℕ, zero, suc, ◌+◌, ◌-◌, ◌≤◌, ◌<◌}
 use mathlib.Core.Path.{◌≡◌, refl, sym, ap, ap₂, ◌∙◌}
 use mathlib.Core.List.{List, [], ◌∷◌, ◌++◌, append_assoc, append-nil}
 use native.Mathlib.Omega.{arith}
@@ -7,7 +7,9 @@ use native.Mathlib.Decide.{ℕ_discrete}
 use native.Mathlib.Numerals.{add-one}
 use lib.ListN.{length, get_or, take, drop, length-append, length-take, length-drop, drop_of_length-le}
 use lib.Seq.{sets, sets-eq, length-sets, drop-drop, take-take, take_at, drop_at, drop-cons}
+use Rattle.std.specs.List.{list_any, range_with_len}
 use Rattle.lists.proofs.All.{all_at}
+use Rattle.lists.proofs.Some.{some_turn, some-none}
 use Rattle.lists.proofs.Stores.{sets-sets, drop-take, drop-sets}
 use Rattle.obj.specs.declared.Section.{Section}
 use Rattle.join.specs.Join.{Part, nowhere, outside, differ, joined_section, joined_from, joined, held_by, held}
@@ -15,7 +17,7 @@ use Rattle.join.proofs.Sizes.{joined_section-held, length-joined, held_by_is, he
 use Rattle.lists.specs.Rows.{some}
 use Rattle.stage_tables.specs.StageTables.{stage_sections}
 use Rattle.piece_records.specs.Records.{parts_at}
-use mathlib.Core.Bool.{true, false, ◌||◌}
+use mathlib.Core.Bool.{Bool, true, false, ◌||◌}
 use borrow.Author.Tests.{lt-ltb, le-ltb}
 use Rattle.lists.specs.Outcome.{accepted, refused}
 use Rattle.lists.proofs.Outcomes.{fails, passes}
@@ -193,6 +195,19 @@ share_turn heads k h = ap some_share (drop-cons heads k nowhere h ∙ ap (λ (i 
 pub share_none : (heads : List Section) (k : ℕ) → length heads ≤ k → some_share (drop k heads) ≡ false
 unfolding some_share
 share_none heads k h = ap some_share (drop_of_length-le heads h)
+
+-- asked one place after another, from i on
+module _ {A : Type 0} (test : A → Bool) (l : List A) (d : A) where
+  pub some_places : (i n : ℕ) → i + n ≡ length l → list_any (λ j. test (get_or l j d)) (range_with_len i n) ≡ some test (drop i l)
+  some_places i zero e = sym (some-none test l i (omega arith))
+  some_places i (suc n) e = ap (λ (t : Bool). test (get_or l i d) || t) (some_places (i + 1) n (omega arith)) ∙ sym (some_turn test l i d (omega arith))
+
+pub share_places : (heads : List Section) (i n : ℕ) → i + n ≡ length heads
+    → list_any (λ k. some (share_address (get_or heads k nowhere)) (drop (k + 1) heads)) (range_with_len i n) ≡ some_share (drop i heads)
+share_places heads i zero e = sym (share_none heads i (omega arith))
+share_places heads i (suc n) e =
+    ap (λ (t : Bool). some (share_address (get_or heads i nowhere)) (drop (i + 1) heads) || t) (share_places heads (i + 1) n (omega arith))
+    ∙ sym (share_turn heads i (omega arith))
 
 pub room_none : (heads : List Section) (k : ℕ) → length heads ≤ k → room_along (drop k heads) ≡ 0
 unfolding room_along

@@ -34,24 +34,14 @@ fn shares_later(sections: &[u8], k: usize) -> bool
     ensures { result ≡ some (share_address (get_or (stage_sections sections.now) k nowhere)) (drop (k + 1) (stage_sections sections.now)) }
 {
     let s = head_of(sections, k);
-    for j in k + 1..sections.len() / 15 {
-        if share_address(s, head_of(sections, j)) {
-            return true;
-        }
-    }
-    false
+    (k + 1..sections.len() / 15).any(|j| share_address(s, head_of(sections, j)))
 }
 
 // "87, two sections that hold bytes share an address".
 pub fn any_share(sections: &[u8]) -> bool
     ensures { result ≡ some_share (stage_sections sections.now) }
 {
-    for k in 0..sections.len() / 15 {
-        if shares_later(sections, k) {
-            return true;
-        }
-    }
-    false
+    (0..sections.len() / 15).any(|k| shares_later(sections, k))
 }
 
 // ---- 80
