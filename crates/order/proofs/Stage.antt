@@ -16,7 +16,9 @@ use Rattle.lists.proofs.Rows.{get_d_map, length-tabulate}
 use Rattle.obj.specs.Answers.{meaning}
 use Rattle.obj.specs.declared.Split.{Split}
 use Rattle.obj.specs.declared.Unit as units
-use Rattle.std.specs.Prelude.{Result, Ok, Err}
+use Rattle.std.specs.Prelude.{Result, Ok, Err, MatchResult}
+use Rattle.std.specs.Result.{IsErrAnd, ForErr}
+use Rattle.std.proofs.lemmas.Result.{err_from_is_err_and}
 use Rattle.toposort.specs.Search.{Graph, End, all, cyclic, lost, searched}
 use Rattle.toposort.specs.Sorting as sorting
 use Rattle.toposort.specs.Sorting.{sort_of, kept, Sorts, Within, Sound, answer_of}
@@ -52,6 +54,14 @@ left (Ok n) t o e = ap nodes_left e
 left (Err (Cycle k)) t o e = ap nodes_left e
 left (Err (NoNode i)) t o e = ap nodes_left e
 left (Err Short) t o e = ap nodes_left e
+
+-- what the sort says, said of the unit records: an order as it is, and why there is none
+pub says_of : (r : Result ℕ Unsorted) (a : Result ℕ Unlinked) → MatchResult r (λ n. a ≡ Ok n) (λ e. IsErrAnd a (λ d. stage.Says (Err e) (Err d))) → stage.Says r a
+says_of (Ok n) a is = subst (stage.Says (Ok n)) (sym is) (refl, refl, tt)
+says_of (Err e) a given = let p = err_from_is_err_and a given in subst (stage.Says (Err e)) (sym p.1) p.2
+
+pub err_small : (r : Result ℕ Unsorted) → sorting.carried r ≤ 2048 → ForErr r (λ e. sorting.carried (Err e) ≤ 2048)
+err_small r h e is = subst (λ (x : Result ℕ Unsorted). sorting.carried x ≤ 2048) is h
 
 -- a table of more bytes than 1,024 units take is as good as one of 1,024
 same_room : (g : Graph) (size room : ℕ) → g.count ≤ 1024 → Room size room → sort_of g room ≡ sort_of g (size / 8)
@@ -124,7 +134,7 @@ module _ (g : Graph) (size room : ℕ) (r : Result ℕ Unsorted) (part rest : Li
   kept-fits = omega (arith, s.room, w.fits)
 
   pub sorted_resolves : (splits : List Split) (us : List units.Unit) (a : Result ℕ Unlinked) (before after : List ℕ) → length before ≡ size
-      → (stage.kept a ≡ kept r) × (stage.answer_of a ≡ answer_of r) × stage.NotCycle a
+      → stage.Says r a
       → after ≡ sets before 0 (units_bytes (records_of splits us (take k (part ++ rest))))
       → Resolves splits us (sort_of g (size / 8)) a before after
   sorted_resolves splits us a before after long q f = record {

@@ -12,6 +12,8 @@ use Rattle.order_numbers.specs.Numbers.{Whole}
 use Rattle.symbol_order.specs.Keys.{unit_of}
 use Rattle.splits.specs.Columns.{Columns}
 use Rattle.toposort.specs.Search.{End, all, cyclic, lost}
+use Rattle.toposort.specs.Sorting as sorting
+use Rattle.toposort.specs.declared.Unsorted.{Unsorted}
 use Rattle.link_graph.specs.Columns.{Splits, UnitsBelow}
 use Rattle.link_graph.specs.Tables.{given_of, NamesBelow, Graphed}
 use Rattle.link_graph.specs.declared.link_tables.LinkTables.{LinkTables}
@@ -47,6 +49,10 @@ abbrev pub NotCycle : Result ℕ Unlinked → Type 0
 NotCycle (Ok n) = Unit {0}
 NotCycle (Err (Cycle k)) = Unit {0}
 NotCycle (Err (Refused r)) = r.number ≡ 61 → ⊥
+
+-- the answer says of the unit records what the sort says of the nodes
+abbrev pub Says : Result ℕ Unsorted → Result ℕ Unlinked → Type 0
+Says r a = (kept a ≡ sorting.kept r) × (answer_of a ≡ sorting.answer_of r) × NotCycle a
 
 -- room for the units of a table of this many bytes, of which no more than 1,024 are asked
 pub record Room (size r : ℕ) : Type 0 where

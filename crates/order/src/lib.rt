@@ -6,13 +6,12 @@ mod records;
 ghost use Rattle.std.specs.Prelude.{◌≡◌, ◌/◌, ◌≤◌, length, Err};
 ghost use Rattle.tables.specs.Records.{units_in};
 ghost use Rattle.splits.specs.Table.{rows_of};
-ghost use Rattle.toposort.specs.Sorting as sorting;
 ghost use Rattle.toposort.specs.Sorting.{sort_of, carried};
 ghost use Rattle.link_graph.specs.Graph.{graph_of};
 ghost use Rattle.link_graph.specs.Tables.{given_of, NamesBelow, SameLent};
 ghost use Rattle.order.specs.LinkOrder.{link_order};
 ghost use Rattle.order.specs.declared.Unlinked.TheVariants.{Refused};
-ghost use Rattle.order.specs.Columns.{kept as kept_by, answer_of, NotCycle, Room, Resolves, Sortable, Lent};
+ghost use Rattle.order.specs.Columns.{kept as kept_by, answer_of, Says, Room, Resolves, Sortable, Lent};
 
 use link_graph::{LinkGraph, LinkTables, make_graph};
 use obj::{Refusal, refuse};
@@ -59,26 +58,25 @@ pub fn answer_of(r: Result<usize, Unlinked>) -> Result<(), Refusal>
 }
 
 // The refusal of a stage that names no section.
-fn refused(number: u16, address: u32) -> Result<usize, Unlinked>
-    ensures { result ≡ Err (Refused (record { number = number; section = 0; address = address })) }
+fn refusal(number: u16, address: u32) -> Unlinked
+    ensures { result ≡ Refused (record { number = number; section = 0; address = address }) }
 {
-    Err(Unlinked::Refused(Refusal {
+    Unlinked::Refused(Refusal {
         number,
         section: 0,
         address,
-    }))
+    })
 }
 
-// What the sort says, said of the unit records.
-fn linked(r: Result<usize, Unsorted>) -> Result<usize, Unlinked>
-    requires { carried r ≤ 2048 }
-    ensures { (kept_by result ≡ sorting.kept r) × (answer_of result ≡ sorting.answer_of r) × NotCycle result }
+// Why the sort gives no order, said of the unit records.
+fn why_unlinked(why: Unsorted) -> Unlinked
+    requires { carried (Err why) ≤ 2048 }
+    ensures { Says (Err why) (Err result) }
 {
-    match r {
-        Ok(n) => Ok(n),
-        Err(Unsorted::Cycle(k)) => Err(Unlinked::Cycle(k)),
-        Err(Unsorted::NoNode(e)) => refused(62, e as u32),
-        Err(Unsorted::Short) => refused(76, 0),
+    match why {
+        Unsorted::Cycle(k) => Unlinked::Cycle(k),
+        Unsorted::NoNode(e) => refusal(62, e as u32),
+        Unsorted::Short => refusal(76, 0),
     }
 }
 
@@ -112,7 +110,7 @@ fn sort_graph(
     let r = toposort::toposort(&edges, &mut table[..room]);
     let m = toposort::kept(r);
     write_records(tables, graph.column, &graph.nodes[..n], &table[..m], out);
-    linked(r)
+    r.map_err(why_unlinked)
 }
 
 // The stage: 60, then the graph and its sort. `numbers`, `scratch` and `graph` are for the work, and what they hold at first is of no matter; each is for a thing of its own,
@@ -131,7 +129,7 @@ pub fn resolve_link_order(
 {
     let k = order_units(&tables.units, numbers, scratch);
     if order_twice(&tables.units, &numbers[..k]) {
-        return refused(60, 0);
+        return Err(refusal(60, 0));
     }
     make_graph(tables, &mut numbers[..k], graph);
     sort_graph(tables, graph, scratch, out)

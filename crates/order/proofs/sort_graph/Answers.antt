@@ -14,7 +14,7 @@ use Rattle.link_graph.specs.Graph.{graph_of}
 use Rattle.link_graph.specs.Tables.{given_of}
 use Rattle.link_graph.specs.declared.link_tables.LinkGraph.{LinkGraph}
 use Rattle.toposort.proofs.Sorting.{sorts_in}
-use Rattle.order.proofs.Stage.{left_inside, nodes-named, kept_long, kept-nodes, kept-fits, sorted_resolves, same_sort, resolves_as}
+use Rattle.order.proofs.Stage.{left_inside, nodes-named, kept_long, kept-nodes, kept-fits, says_of, err_small, sorted_resolves, same_sort, resolves_as}
 use Rattle.order.proofs.sort_graph.Goals as goal
 
 -- the nodes and the edges that stand at the front of the columns
@@ -54,6 +54,9 @@ write_records-requires c =
       },
     )
 
+pub map_err-requires : goal.map_err-requires
+map_err-requires c = err_small c.toposort-r.result c.toposort-r.ensures.small
+
 pub returns-clause-resolves : goal.returns-clause-resolves
 returns-clause-resolves c =
     let s = c in
@@ -67,4 +70,4 @@ returns-clause-resolves c =
     resolves_as
     (same_sort g (graph_of (given_of a.tables.now)) (size / 8) (sym (long_nodes a.graph.now) ∙ ap length graphed.nodes_are) graphed.edged.starts graphed.edged.goals)
     (sorted_resolves g size c.room_of-room.result t.result t.new.table (drop c.room_of-room.result a.table.now) c.kept-m.result a.graph.now.few_nodes c.room_of-room.ensures sorted c.kept-m.ensures
-    (rows_of a.tables.now.splits) (units_in a.tables.now.units.bytes.now a.tables.now.units.places.now) c.linked.result a.out.now _ refl c.linked.ensures c.write_records.ensures)
+    (rows_of a.tables.now.splits) (units_in a.tables.now.units.bytes.now a.tables.now.units.places.now) c.map_err.result a.out.now _ refl (says_of _ _ c.map_err.ensures.cases) c.write_records.ensures)
