@@ -5,12 +5,12 @@ use mathlib.Core.Path.{◌≡◌, refl, sym, ap, subst, ◌∙◌}
 use mathlib.Core.List.{List, [], ◌∷◌, ◌++◌, map, append-nil}
 use mathlib.Core.Bool.{true, false, not}
 use mathlib.Core.Logic.{◌≢◌}
-use native.Mathlib.Numerals.{add-one}
 use native.Mathlib.Omega.{arith}
 use borrow.Author.Tests.{eq-eqb, ne_eqb}
 use lib.Dec.{eqb}
 use lib.ListN.{length, get_or, take, drop, set, length-drop, drop_of_length-le}
-use lib.Seq.{drop-cons, drop-set-lt}
+use lib.Seq.{drop-set-lt}
+use Rattle.std.proofs.lemmas.List.{drop_more}
 use Rattle.lists.specs.Rows.{keep_if}
 use Rattle.lists.specs.Sort.{All, each}
 use Rattle.lists.proofs.Keep.{keep_more}
@@ -19,9 +19,6 @@ use Rattle.link_graph.specs.Graph.{UnitEdge, edge, links}
 -- ---- those from place i on, without the first of them
 parts : {P : ℕ → Type 0} {x : ℕ} {l : List ℕ} → All P (x ∷ l) → P x × All P l
 parts (each h p) = (h, p)
-
-rest_of : (s : List ℕ) (i : ℕ) → i < length s → drop i s ≡ get_or s i 0 ∷ drop (i + 1) s
-rest_of s i h = drop-cons s i 0 h ∙ ap (λ (k : ℕ). get_or s i 0 ∷ drop k s) (sym (add-one i))
 
 -- ---- the nodes among them: f gives the node of a number, or 65535
 abbrev pub nodes_kept : (f : ℕ → ℕ) → List ℕ → List ℕ
@@ -36,14 +33,14 @@ pub record Keeping (f : ℕ → ℕ) (m : ℕ) (all s : List ℕ) (i k : ℕ) : 
 module _ {f : ℕ → ℕ} {m : ℕ} {all s : List ℕ} {i k : ℕ} (t : Keeping f m all s i k) where
   module _ (h : i < length s) where
     first_and_rest : (get_or s i 0 < m) × All (λ x. x < m) (drop (i + 1) s)
-    first_and_rest = parts (subst (All (λ x. x < m)) (rest_of s i h) t.there)
+    first_and_rest = parts (subst (All (λ x. x < m)) (drop_more s i 0 h) t.there)
 
     -- the next number is one of them
     pub keeping_next : get_or s i 0 < m
     keeping_next = first_and_rest.0
 
     kept-rest : nodes_kept f (drop i s) ≡ nodes_kept f (get_or s i 0 ∷ drop (i + 1) s)
-    kept-rest = ap (nodes_kept f) (rest_of s i h)
+    kept-rest = ap (nodes_kept f) (drop_more s i 0 h)
 
     -- it has a node
     pub keeping_node : {v : ℕ} → v ≡ f (get_or s i 0) → v ≢ 65535 → Keeping f m all (set s k v) (i + 1) (k + 1)
@@ -72,8 +69,8 @@ module _ {f : ℕ → ℕ} {m : ℕ} {all s : List ℕ} {i k : ℕ} (t : Keeping
 links_turn : (s : List ℕ) (i : ℕ) → i + 1 < length s → links (drop i s) ≡ edge (get_or s i 0) (get_or s (i + 1) 0) ∷ links (drop (i + 1) s)
 unfolding links
 links_turn s i h =
-    ap links (rest_of s i (omega arith) ∙ ap (λ (l : List ℕ). get_or s i 0 ∷ l) (rest_of s (i + 1) h))
-    ∙ ap (λ (l : List ℕ). edge (get_or s i 0) (get_or s (i + 1) 0) ∷ links l) (sym (rest_of s (i + 1) h))
+    ap links (drop_more s i 0 (omega arith) ∙ ap (λ (l : List ℕ). get_or s i 0 ∷ l) (drop_more s (i + 1) 0 h))
+    ∙ ap (λ (l : List ℕ). edge (get_or s i 0) (get_or s (i + 1) 0) ∷ links l) (sym (drop_more s (i + 1) 0 h))
 
 at_most_one : (l : List ℕ) → length l ≤ 1 → links l ≡ []
 unfolding links

@@ -12,7 +12,8 @@ use native.Mathlib.Decide.{ℕ_discrete}
 use borrow.Author.Tests.{lt-ltb, le-ltb, ltb-true, ltb-false, eqb-true, eqb-false, eq-eqb, ne_eqb}
 use lib.Dec.{eqb}
 use lib.ListN.{length, get_or, set, take, drop, drop_of_length-le, replicate, length-take, length-append, length-set, get_or-replicate}
-use lib.Seq.{get_or-set_same, get_or-set_other, drop-cons, take-suc-set, length-take-le}
+use lib.Seq.{get_or-set_same, get_or-set_other, take-suc-set, length-take-le}
+use Rattle.std.proofs.lemmas.List.{drop_more}
 use Rattle.lists.specs.Rows.{first_in}
 use Rattle.lists.specs.Members.{In, Distinct}
 use Rattle.lists.proofs.Members.{fresh_in, fresh_of}
@@ -245,7 +246,7 @@ module _ {us nodes column : List ℕ} {i m : ℕ} (t : Counting us nodes column 
   x = get_or us i 0
 
   rest_of : drop i us ≡ x ∷ drop (i + 1) us
-  rest_of = drop-cons us i 0 h ∙ ap (λ (k : ℕ). x ∷ drop k us) (sym (add-one i))
+  rest_of = drop_more us i 0 h
 
   few : m ≤ 1024
   few = omega (arith, t.few)

@@ -4,11 +4,11 @@ use mathlib.Core.Path.{◌≡◌, refl, sym, ap, ◌∙◌}
 use mathlib.Core.List.{List, [], ◌∷◌, ◌++◌, map, append_assoc}
 use Prim.Native.Nat.{ℕ, zero, suc, ◌+◌, ◌*◌, ◌≤◌, ◌<◌}
 use native.Mathlib.Nat.{zero-add, le_of_suc-le-suc, not-suc-le-zero}
-use native.Mathlib.Numerals.{add-one}
 use native.Mathlib.Omega.{arith}
 use lib.ListN.{length, get_or, drop, length-append, get_or-append, drop_of_length-le}
-use lib.Seq.{sets, get_or-append-add, drop-cons}
+use lib.Seq.{sets, get_or-append-add}
 use mir.Facts.{Fits-of_z, to_z-of_z}
+use Rattle.std.proofs.lemmas.List.{drop_more}
 use Rattle.lists.proofs.Stores.{sets-sets}
 use Rattle.fields.specs.Fields.{le16, le32, little, signed32, word32}
 use Rattle.fields.proofs.Laws.{le16_is, le32_is, number_at_same, round16, round32}
@@ -94,7 +94,7 @@ module _ (out : List ℕ) (f : ℕ → units.Unit) (list : List ℕ) (i : ℕ) w
   written_turn h =
       let u = f (get_or list i 0) in
       sets-sets out (8 * i) (bytes_of_unit u) (8 * (i + 1)) (units_bytes (map f (drop (i + 1) list))) (omega (arith, length-unit_bytes u))
-      ∙ ap (λ (l : List ℕ). sets out (8 * i) (units_bytes (map f l))) (sym (drop-cons list i 0 h ∙ ap (λ (k : ℕ). get_or list i 0 ∷ drop k list) (sym (add-one i))))
+      ∙ ap (λ (l : List ℕ). sets out (8 * i) (units_bytes (map f l))) (sym (drop_more list i 0 h))
 
   pub written_all : length list ≤ i → sets out (8 * i) (units_bytes (map f (drop i list))) ≡ out
   unfolding units_bytes

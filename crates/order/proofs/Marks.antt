@@ -5,13 +5,13 @@ use mathlib.Core.Path.{◌≡◌, refl, sym, ap, ap₂, ◌∙◌}
 use mathlib.Core.List.{List, ◌∷◌, map}
 use mathlib.Core.Bool.{Bool, true, false, cond, not, ◌&&◌, ◌||◌}
 use mathlib.Core.Logic.{◌≢◌}
-use native.Mathlib.Numerals.{add-one}
 use native.Mathlib.Omega.{arith}
 use native.Mathlib.Decide.{ℕ_discrete}
 use borrow.Author.Tests.{ltb-true, ltb-false, lt-ltb, le-ltb, eq-eqb, ne_eqb}
 use lib.Dec.{eqb, ltb}
 use lib.ListN.{length, get_or, drop, set, replicate, length-replicate, get_or-replicate}
-use lib.Seq.{drop-cons, get_or-set_same, get_or-set_other}
+use lib.Seq.{get_or-set_same, get_or-set_other}
+use Rattle.std.proofs.lemmas.List.{drop_more}
 use Rattle.lists.specs.Rows.{tabulate, first_in, some}
 use Rattle.lists.specs.Sort.{All, none, each}
 use Rattle.lists.proofs.All.{all_map, all_at}
@@ -71,15 +71,12 @@ pub record MarkedFrom (us : List units.Unit) (k : ℕ) (before column : List ℕ
 -- record k is marked over those behind it
 module _ (us : List units.Unit) (k : ℕ) (before column : List ℕ) (h : k < length us) (m : MarkedFrom us (k + 1) before column)
     (name : ℕ) (is : name ≡ (get_or us k no_unit).name) (inside : name < length column) where
-  rest_of : drop k us ≡ get_or us k no_unit ∷ drop (k + 1) us
-  rest_of = drop-cons us k no_unit h ∙ ap (λ (i : ℕ). get_or us k no_unit ∷ drop i us) (sym (add-one k))
-
   pub marked_more : MarkedFrom us k before (set column name k)
   unfolding first_in
   marked_more = record {
     marks = λ v q.
         go v q (ℕ_discrete v name)
-        ∙ ap (λ (l : List units.Unit). cond (ltb (first_record l v) (length l)) (k + first_record l v) (get_or before v 0)) (sym rest_of);
+        ∙ ap (λ (l : List units.Unit). cond (ltb (first_record l v) (length l)) (k + first_record l v) (get_or before v 0)) (sym (drop_more us k no_unit h));
   }
     where
       first : (v : ℕ) (t : Bool) → eqb (get_or us k no_unit).name v ≡ t

@@ -6,11 +6,11 @@ use mathlib.Core.List.{List, [], ◌∷◌, map, Memᴰ}
 use mathlib.Core.Logic.{◌⊎◌, inl, inr}
 use mathlib.Core.Bool.{Bool, true, false, cond, not, ◌&&◌}
 use native.Mathlib.Omega.{arith}
-use native.Mathlib.Numerals.{add-one}
 use lib.Dec.{eqb, leb}
 use lib.ListN.{length, get_or, drop, length-take, length-drop, drop_of_length-le}
-use lib.Seq.{ext_get_or, get_or-take, get_or-drop, drop-cons}
+use lib.Seq.{ext_get_or, get_or-take, get_or-drop}
 use borrow.Author.Tests.{not-true, eqb-false, eq-eqb, ne_eqb, le-leb, lt-leb}
+use Rattle.std.proofs.lemmas.List.{at_drop_more}
 use Rattle.lists.specs.Sort.{sort_by, All}
 use Rattle.lists.proofs.All.{all_sort}
 use Rattle.lists.proofs.Rising.{numbers-below}
@@ -143,7 +143,7 @@ module _ (g : ℕ → Part) (order : List ℕ) (far : Part) (i : ℕ) where
   left = map g (drop i order)
 
   left_is : i < length order → left ≡ g (get_or order i 0) ∷ map g (drop (i + 1) order)
-  left_is h = ap (map g) (drop-cons order i 0 h ∙ ap (λ (k : ℕ). get_or order i 0 ∷ drop k order) (sym (add-one i)))
+  left_is h = at_drop_more (map g) order i 0 h
 
   pub sweep_hit : i < length order → unequal far (g (get_or order i 0)) ≡ true → sweep_from far left ≡ true
   unfolding sweep_from

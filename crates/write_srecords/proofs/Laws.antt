@@ -4,9 +4,9 @@ use mathlib.Core.Path.{◌≡◌, refl, sym, ap, ap₂, ◌∙◌}
 use mathlib.Core.List.{List, [], ◌∷◌, ◌++◌, append_assoc, append-nil}
 use native.Mathlib.Omega.{arith}
 use native.Mathlib.Decide.{ℕ_discrete}
-use native.Mathlib.Numerals.{add-one}
 use lib.ListN.{length, get_or, take, drop, length-append, length-take, length-drop, drop_of_length-le}
-use lib.Seq.{sets, sets-eq, length-sets, drop-drop, take-take, take_at, drop_at, drop-cons}
+use lib.Seq.{sets, sets-eq, length-sets, drop-drop, take-take, take_at, drop_at}
+use Rattle.std.proofs.lemmas.List.{at_drop_more}
 use Rattle.std.specs.List.{list_any, range_with_len}
 use Rattle.lists.proofs.All.{all_at}
 use Rattle.lists.proofs.Some.{some_turn, some-none}
@@ -76,17 +76,17 @@ longer (head ∷ later) = let h = longer later in omega arith
 
 pub held_turn : (heads : List Section) (k : ℕ) → k < length heads → held (drop k heads) ≡ held_by (get_or heads k nowhere) + held (drop (k + 1) heads)
 unfolding held
-held_turn heads k h = ap held (drop-cons heads k nowhere h ∙ ap (λ (i : ℕ). get_or heads k nowhere ∷ drop i heads) (sym (add-one k)))
+held_turn heads k h = at_drop_more held heads k nowhere h
 
 pub room_turn : (heads : List Section) (k : ℕ) → k < length heads → room_along (drop k heads) ≡ lines_size (held_by (get_or heads k nowhere)) + room_along (drop (k + 1) heads)
 unfolding room_along
-room_turn heads k h = ap room_along (drop-cons heads k nowhere h ∙ ap (λ (i : ℕ). get_or heads k nowhere ∷ drop i heads) (sym (add-one k)))
+room_turn heads k h = at_drop_more room_along heads k nowhere h
 
 lines_turn : (heads : List Section) (k : ℕ) (bytes : List ℕ) → k < length heads
     → lines_along (drop k heads) bytes
     ≡ section_lines (get_or heads k nowhere).address (take (held_by (get_or heads k nowhere)) bytes) ++ lines_along (drop (k + 1) heads) (drop (held_by (get_or heads k nowhere)) bytes)
 unfolding lines_along
-lines_turn heads k bytes h = ap (λ (l : List Section). lines_along l bytes) (drop-cons heads k nowhere h ∙ ap (λ (i : ℕ). get_or heads k nowhere ∷ drop i heads) (sym (add-one k)))
+lines_turn heads k bytes h = at_drop_more (λ (l : List Section). lines_along l bytes) heads k nowhere h
 
 none_left : (heads : List Section) (k : ℕ) (bytes : List ℕ) → length heads ≤ k → lines_along (drop k heads) bytes ≡ []
 unfolding lines_along
@@ -190,7 +190,7 @@ module _ (heads : List Section) (out₀ : List ℕ) (from : ℕ) where
 pub share_turn : (heads : List Section) (k : ℕ) → k < length heads
     → some_share (drop k heads) ≡ (some (share_address (get_or heads k nowhere)) (drop (k + 1) heads) || some_share (drop (k + 1) heads))
 unfolding some_share
-share_turn heads k h = ap some_share (drop-cons heads k nowhere h ∙ ap (λ (i : ℕ). get_or heads k nowhere ∷ drop i heads) (sym (add-one k)))
+share_turn heads k h = at_drop_more some_share heads k nowhere h
 
 pub share_none : (heads : List Section) (k : ℕ) → length heads ≤ k → some_share (drop k heads) ≡ false
 unfolding some_share
