@@ -2,7 +2,7 @@
 // is, and kept in a lent table in the order in which they enter.
 #![tactic(auto)]
 
-ghost use Rattle.std.specs.Prelude.{◌≡◌, [], true, false, cond, not, ◌&&◌, ◌+◌, ◌*◌, ◌%◌, ◌≤◌, ◌<◌, length, get_or, eqb, ltb};
+ghost use Rattle.std.specs.Prelude.{ℕ, Some, ◌≡◌, [], true, false, cond, not, ◌&&◌, ◌+◌, ◌*◌, ◌%◌, ◌≤◌, ◌<◌, length, get_or, eqb, ltb};
 ghost use Rattle.lists.specs.Rows.{keep_if};
 ghost use Rattle.align.specs.Align.{good_align, bad_align};
 ghost use Rattle.obj.specs.Answers.{meaning};
@@ -12,11 +12,11 @@ ghost use Rattle.symbols.specs.Sound.{Sound};
 ghost use Rattle.sections.specs.Image.{image_in, TablesIn};
 ghost use Rattle.sections.specs.Sections.{head_of, sections_of, Kept};
 ghost use Rattle.splits.specs.Table.{columns_of, rows_of};
-ghost use Rattle.splits.specs.Questions.{Hit};
+ghost use Rattle.splits.specs.Questions.{NextHit};
 ghost use Rattle.gap_columns.specs.Table.{found_in, SameLent};
 ghost use Rattle.gaps.specs.Gaps.{gap_end, gaps_to, gaps_before, gaps_from, below, section_gaps, into, found_gaps};
 ghost use Rattle.gaps.specs.Search.{symbol_in, count_in, SameSearch};
-ghost use Rattle.gaps.specs.Found.{alignment_of_next, next_meaning, searched, Clean, Markable, Lent, Space, SectionSpace, Stopped, Unmarked, end_in};
+ghost use Rattle.gaps.specs.Found.{alignment_of_next, next_meaning, searched, Clean, Markable, Lent, Space, SectionSpace, Stopped, Unmarked, end_in, start_of};
 
 use align::align_up;
 use gap_columns::{GapTable, place_gap};
@@ -206,30 +206,31 @@ fn gaps_before(
     gaps_to(search, found, current, s.start, alignment)
 }
 
-// The first row from `at` on that is a split of the section below its splitting end, or the count of rows.
-fn next_below(splits: &SplitColumns, section: u16, end: u32, at: usize) -> usize
+// The first row from `at` on that is a split of the section below its splitting end.
+fn next_below(splits: &SplitColumns, section: u16, end: u32, at: usize) -> Option<usize>
     requires { at ≤ splits.now.count }
-    ensures { Hit (below section end) (columns_of splits.now) splits.now.count at result }
+    ensures { NextHit (below section end) (columns_of splits.now) splits.now.count at result }
 {
     for i in at..splits.count {
         if (splits.rest[i] % 65536 == section as u64) & (splits.starts[i] < end) {
-            return i;
+            return Some(i);
         }
     }
-    splits.count
+    None
 }
 
-// The address after a split: "An open split runs to the next start or the splitting end". `i` is the place of the next split, or the count of rows.
-fn end_after(splits: &SplitColumns, i: usize, end: u32, own: u32) -> u32
-    ensures { result ≡ cond (eqb own 0) (cond (ltb i splits.now.count) (get_or splits.now.starts.now i 0) end) own }
+// The address after a split: "An open split runs to the next start or the splitting end".
+fn end_after(splits: &SplitColumns, next: Option<usize>, end: u32, own: u32) -> u32
+    requires { (i : ℕ) → next ≡ Some i → i < splits.now.count }
+    ensures { result ≡ cond (eqb own 0) (start_of splits.now.starts.now end next) own }
 {
     if own != 0 {
         return own;
     }
-    if i < splits.count {
-        return splits.starts[i];
+    match next {
+        Some(i) => splits.starts[i],
+        None => end,
     }
-    end
 }
 
 // The gaps of a section from its start up to its splitting end, over the splits below it.
@@ -252,13 +253,15 @@ fn section_gaps(
     let section = search.here.section;
     let least = search.here.least;
     let mut current = start;
-    let mut i = next_below(splits, section, end, 0);
-    // no count: the walk goes from a split of the section to the next
-    while (i < splits.count) & (current < end) {
+    let mut next = next_below(splits, section, end, 0);
+    while let Some(i) = next {
+        if end <= current {
+            return Ok(());
+        }
         let s = row(splits, i);
         gaps_before(search, found, current, s)?;
-        i = next_below(splits, section, end, i + 1);
-        current = end_after(splits, i, end, s.end);
+        next = next_below(splits, section, end, i + 1);
+        current = end_after(splits, next, end, s.end);
     }
     if end <= current {
         return Ok(());

@@ -14,12 +14,14 @@ returns-then-splits-i c =
     let l = c.loop-i in
     let a = c.args in
     let h = c.loop-i-test.true in
-    let f = row_at (columns_of a.splits.now) in
-    record {
-      is = l.invariant ∙ filter_hit (below a.section a.end) f a.splits.now.count l.i h c.if-splits-i.true ∙ rw (lt-ltb l.i a.splits.now.count h);
-      past = omega arith;
-      small = omega arith;
-    }
+    let f = row_at (columns_of a.splits.now) in (
+      record {
+        is = l.invariant ∙ filter_hit (below a.section a.end) f a.splits.now.count l.i h c.if-splits-i.true ∙ rw (lt-ltb l.i a.splits.now.count h);
+        past = omega arith;
+        small = omega arith;
+      },
+      h,
+    )
 
 pub loop-i-preserved : goal.loop-i-preserved
 unfolding row_of
