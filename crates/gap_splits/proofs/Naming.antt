@@ -10,6 +10,7 @@ use lib.Dec.{leb, ltb}
 use lib.ListN.{length, length-append}
 use Rattle.lists.specs.Outcome.{Outcome, accepted, refused}
 use Rattle.lists.specs.Rows.{tabulate, first_in, any_of, any_from}
+use Rattle.lists.proofs.Compare.{never}
 use Rattle.lists.proofs.Outcomes.{fails, passes}
 use Rattle.lists.proofs.Tests.{or_false}
 use Rattle.names.specs.Names.{names_of, same_name, number_of}
@@ -182,18 +183,16 @@ module _ (x : List ℕ) (c c' : Beside) (names used most most_bytes : ℕ) (s : 
   pub adds_done : {r : Bool} → Appended c c' used names x most most_bytes r → r ≡ true → Adds (added c names) (added c' (names + 1)) x most most_bytes r
   adds_done a t = record {
     room = λ h. (omega (arith, many, (a.fits t).0), omega (arith, s.sum, (a.fits t).1));
-    full = λ h. absurd (let y : ◌≡◌ {A = ℕ} 0 1 = let z : false ≡ true = sym h ∙ t in cc in omega arith);
+    full = λ h. absurd (never (sym h ∙ t));
     added = λ h. a.names t;
-    same = λ h. absurd (let y : ◌≡◌ {A = ℕ} 0 1 = let z : false ≡ true = sym h ∙ t in cc in omega arith);
+    same = λ h. absurd (never (sym h ∙ t));
   }
 
   pub adds_full : {r : Bool} → Appended c c' used names x most most_bytes r → r ≡ false → Adds (added c names) (added c' names) x most most_bytes r
   adds_full a t = record {
-    room = λ h. absurd (let y : ◌≡◌ {A = ℕ} 0 1 = let z : false ≡ true = sym t ∙ h in cc in omega arith);
-    full = λ h q.
-        let z : false ≡ true = sym t ∙ a.is ∙ ap not (place_free (omega (arith, many, q.0)) (omega (arith, s.sum, q.1))) in
-        absurd (let y : ◌≡◌ {A = ℕ} 0 1 = cc in omega arith);
-    added = λ h. absurd (let y : ◌≡◌ {A = ℕ} 0 1 = let z : false ≡ true = sym t ∙ h in cc in omega arith);
+    room = λ h. absurd (never (sym t ∙ h));
+    full = λ h q. never (sym t ∙ a.is ∙ ap not (place_free (omega (arith, many, q.0)) (omega (arith, s.sum, q.1))));
+    added = λ h. absurd (never (sym t ∙ h));
     same = λ h. ap (λ (d : Beside). added d names) (a.unchanged t);
   }
 

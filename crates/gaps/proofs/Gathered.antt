@@ -1,13 +1,13 @@
 -- Gaps that enter one after another, `into`: what is found later enters after what is found first, and as all start where gaps may start there is room.
 -- Assumes nothing.
-use mathlib.Core.Path.{◌≡◌, refl, ap, ◌∙◌}
+use mathlib.Core.Path.{◌≡◌, refl, sym, ap, ◌∙◌}
 use mathlib.Core.List.{List, [], ◌++◌}
 use Prim.Native.Nat.{ℕ, ◌≤◌}
-use native.Mathlib.Omega.{arith}
 use lib.ListN.{length}
 use Rattle.lists.specs.Outcome.{Outcome, accepted, refused, ◌>>=◌}
 use Rattle.lists.specs.Sort.{All, none, each, Rising}
 use Rattle.lists.specs.Members.{In}
+use Rattle.lists.proofs.Outcomes.{not_both}
 use Rattle.gap_columns.specs.Columns.{Gap, key_of, placed, in_order}
 use Rattle.gap_columns.proofs.Placed.{all_placed, rising_placed, in_append}
 use Rattle.gaps.specs.Gaps.{into}
@@ -38,7 +38,7 @@ module _ (before : List Gap) where
   unfolding into ◌>>=◌
   into_more (accepted s) (accepted t) l e = ap accepted (in_append before s t ∙ ap (λ (m : List Gap). in_order m t) (let z : in_order before s ≡ l = cc in z))
   into_more (accepted s) (refused x y z) l e = refl
-  into_more (refused x y z) t l e = absurd (let q : ◌≡◌ {A = ℕ} 0 1 = cc in omega arith)
+  into_more (refused x y z) t l e = absurd (not_both e)
 
   -- a refusal stands
   pub into-stops : (x y z : ℕ) → into before (refused x y z) ≡ refused x y z
@@ -47,7 +47,7 @@ module _ (before : List Gap) where
 
   pub into_refused : (s t : Outcome (List Gap)) (x y z : ℕ) → into before s ≡ refused x y z → into before (s >>= λ gaps. t >>= λ more. accepted (gaps ++ more)) ≡ refused x y z
   unfolding into ◌>>=◌
-  into_refused (accepted s) t x y z e = absurd (let q : ◌≡◌ {A = ℕ} 0 1 = cc in omega arith)
+  into_refused (accepted s) t x y z e = absurd (not_both (sym e))
   into_refused (refused a b c) t x y z e = e
 
   pub into-none : into before (accepted []) ≡ accepted before
@@ -58,4 +58,4 @@ module _ (before : List Gap) where
       → into before s ≡ accepted l → Gathered room l
   unfolding into ◌>>=◌
   into_gathered room (accepted gaps) l g f e = rw (let z : l ≡ in_order before gaps = cc in z) (gathered_in room before g (f gaps refl))
-  into_gathered room (refused x y z) l g f e = absurd (let q : ◌≡◌ {A = ℕ} 0 1 = cc in omega arith)
+  into_gathered room (refused x y z) l g f e = absurd (not_both e)

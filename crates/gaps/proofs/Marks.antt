@@ -13,6 +13,7 @@ use borrow.Author.Tests.{eqb-true, eqb-false, le-leb, lt-leb}
 use Rattle.lists.specs.Rows.{some}
 use Rattle.lists.specs.Outcome.{Outcome, accepted, refused, refuse, ◌>>◌, ◌>>=◌}
 use Rattle.lists.proofs.All.{all_at, all_take}
+use Rattle.lists.proofs.Compare.{never}
 use Rattle.lists.proofs.Outcomes.{fails, passes}
 use Rattle.lists.proofs.Tests.{or_false}
 use Rattle.obj.specs.declared.Symbol.{Symbol}
@@ -155,7 +156,7 @@ module _ (symbol : ℕ → Symbol) (n current next : ℕ) (part marks : List ℕ
             ≡ cond t (refuse 41 n current astray >> accepted here_is.address) (accepted here_is.address)
         go true u e = refl
         go false true e = refl
-        go false false e = absurd (let z : ◌≡◌ {A = ℕ} 0 1 = cc in omega arith)
+        go false false e = absurd (never e)
 
     -- "41 repeated name not at a multiple of 4"
     pub ends_astray : (repeated && astray) ≡ true → refused 41 n current ≡ end_in symbol n current next part
@@ -164,8 +165,8 @@ module _ (symbol : ℕ → Symbol) (n current next : ℕ) (part marks : List ℕ
       where
         go : (t u : Bool) → (t && u) ≡ true → cond t (refuse 41 n current u >> accepted here_is.address) (accepted here_is.address) ≡ refused 41 n current
         go true true q = refl
-        go true false q = absurd (let z : ◌≡◌ {A = ℕ} 0 1 = cc in omega arith)
-        go false u q = absurd (let z : ◌≡◌ {A = ℕ} 0 1 = cc in omega arith)
+        go true false q = absurd (never q)
+        go false u q = absurd (never q)
 
     module _ (e : (repeated && astray) ≡ false) where
       at_symbol : end_from symbol n current next [] part ≡ accepted here_is.address
@@ -173,7 +174,7 @@ module _ (symbol : ℕ → Symbol) (n current next : ℕ) (part marks : List ℕ
       at_symbol = ended ∙ go repeated astray e
         where
           go : (t u : Bool) → (t && u) ≡ false → cond t (refuse 41 n current u >> accepted here_is.address) (accepted here_is.address) ≡ accepted here_is.address
-          go true true q = absurd (let z : ◌≡◌ {A = ℕ} 0 1 = cc in omega arith)
+          go true true q = absurd (never (sym q))
           go true false q = refl
           go false u q = refl
 

@@ -7,6 +7,7 @@ use native.Mathlib.Omega.{arith}
 use lib.Dec.{eqb, ltb}
 use lib.ListN.{get_or}
 use borrow.Author.Tests.{lt-ltb, le-ltb}
+use Rattle.std.proofs.lemmas.Option.{none-some}
 use Rattle.std.specs.Prelude.{Option, None, Some, unwrap_or}
 use Rattle.lists.specs.Outcome.{accepted, refused}
 use Rattle.lists.specs.Rows.{tabulate, keep_if}
@@ -36,7 +37,7 @@ module _ (p : Split → Bool) (c : Columns) (n from : ℕ) where
 
   pub next_there : (r : Option ℕ) → NextHit p c n from r → (i : ℕ) → r ≡ Some i → i < n
   next_there (Some j) h i e = let same : j ≡ i = cc in omega (arith, h.1)
-  next_there None h i e = absurd (let z : ◌≡◌ {A = ℕ} 0 1 = cc in omega arith)
+  next_there None h i e = absurd (none-some i e)
 
 start_there : (starts : List ℕ) (end n : ℕ) (r : Option ℕ) → ((i : ℕ) → r ≡ Some i → i < n) → start_of starts end r ≡ cond (ltb (unwrap_or r n) n) (get_or starts (unwrap_or r n) 0) end
 start_there starts end n (Some i) h = rw (lt-ltb i n (h i (λ j. Some i)))
