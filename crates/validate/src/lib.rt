@@ -1,7 +1,7 @@
 // Check of a split table (`validate_splits`): the splits against one another and against the symbols, 50 to 53.
 #![tactic(auto)]
 
-ghost use Rattle.std.specs.Prelude.{◌≡◌, length};
+ghost use Rattle.std.specs.Prelude.{◌≡◌, ltb, length};
 ghost use Rattle.obj.specs.Answers.{meaning};
 ghost use Rattle.symbol_order.specs.Order.{symbol_of, Order};
 ghost use Rattle.symbols.specs.Sound.{Sound};
@@ -16,9 +16,10 @@ mod checked_symbols;
 
 use checked_symbols::CheckedSymbols;
 
-// Where "the last sized unstripped symbol below" an address of a section ends, 0 if there is none.
-fn end_below(symbols: &CheckedSymbols, section: u16, address: u32) -> u32
-    ensures { result ≡ end_below (symbol_of symbols.now.table.bytes.now symbols.now.table.places.now) (length symbols.now.table.places.now) section address }
+// Whether an address of a section lies inside "the last sized unstripped symbol below" it.
+fn is_inside(symbols: &CheckedSymbols, section: u16, address: u32) -> bool
+    ensures { result
+        ≡ ltb address (end_below (symbol_of symbols.now.table.bytes.now symbols.now.table.places.now) (length symbols.now.table.places.now) section address) }
 {
     let table = &symbols.table;
     match last_below(
@@ -31,9 +32,9 @@ fn end_below(symbols: &CheckedSymbols, section: u16, address: u32) -> u32
     ) {
         Some(i) => {
             let y = symbol_at(table, i);
-            y.address + y.size
+            address < y.address + y.size
         }
-        None => 0,
+        None => false,
     }
 }
 
@@ -47,10 +48,10 @@ fn validate_one(symbols: &CheckedSymbols, before: u16, last: u32, s: Split) -> R
     if (s.end == 0) | (s.end < s.start) {
         return refuse(51, s.section, s.start);
     }
-    if s.start < end_below(symbols, s.section, s.start) {
+    if is_inside(symbols, s.section, s.start) {
         return refuse(52, s.section, s.start);
     }
-    if s.end < end_below(symbols, s.section, s.end) {
+    if is_inside(symbols, s.section, s.end) {
         return refuse(53, s.section, s.start);
     }
     Ok(())

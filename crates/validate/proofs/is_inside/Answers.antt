@@ -1,14 +1,16 @@
--- `validate::end_below` meets its contract: the end of the symbol that `last_below` finds, which is one of the table and ends below 0xF0000000.
+-- `validate::is_inside` meets its contract: the symbol that `last_below` finds is one of the table and ends below 0xF0000000; below 0 lies nothing.
 use mathlib.Core.Path.{sym, ap, ◌∙◌}
 use mathlib.Core.Bool.{false}
 use native.Mathlib.Omega.{arith}
+use borrow.Author.Tests.{le-ltb}
+use lib.Dec.{ltb}
 use lib.ListN.{length}
 use Rattle.obj.specs.declared.Symbol.{Symbol}
 use Rattle.symbol_order.specs.Order.{symbol_of}
 use Rattle.symbol_order.proofs.Parts.{held}
 use Rattle.symbols.proofs.Finds.{below-found}
 use Rattle.validate.proofs.Steps.{end_at, end_none}
-use Rattle.validate.proofs.end_below.Goals as goal
+use Rattle.validate.proofs.is_inside.Goals as goal
 
 pub symbol_at-y-requires : goal.symbol_at-y-requires
 symbol_at-y-requires c =
@@ -25,9 +27,10 @@ overflow_add-result c =
 pub returns-in-Some : goal.returns-in-Some
 returns-in-Some c =
     let a = c.args in
-    end_at (symbol_of a.symbols.now.table.bytes.now a.symbols.now.table.places.now) (length a.symbols.now.table.places.now) a.section a.address _ _ c.symbol_at-y.ensures (sym c.in-Some.is ∙ c.last_below.ensures)
+    ap (ltb a.address) (end_at (symbol_of a.symbols.now.table.bytes.now a.symbols.now.table.places.now) (length a.symbols.now.table.places.now) a.section a.address _ _ c.symbol_at-y.ensures (sym c.in-Some.is ∙ c.last_below.ensures))
 
 pub returns-in-None : goal.returns-in-None
 returns-in-None c =
     let a = c.args in
-    end_none (symbol_of a.symbols.now.table.bytes.now a.symbols.now.table.places.now) (length a.symbols.now.table.places.now) a.section a.address (sym c.in-None.is ∙ c.last_below.ensures)
+    let none = end_none (symbol_of a.symbols.now.table.bytes.now a.symbols.now.table.places.now) (length a.symbols.now.table.places.now) a.section a.address (sym c.in-None.is ∙ c.last_below.ensures) in
+    sym (le-ltb a.address _ (omega (arith, none)))
