@@ -84,7 +84,8 @@ fn aligned_end(tables: &CheckedTables, s: Split) -> Result<u32, Backwards>
     Ok(align_up(end, a.value()))
 }
 
-// Where the end of s falls to, 0 if it does not fall; the split after it is that at place j.
+// Where the end of s falls to, 0 if it does not fall; the split after it is that at place j. The column of falls, which is lent, holds such a 0: an Option would be
+// made for one call, which turns it into the 0.
 fn fall_of(
     tables: &CheckedTables,
     splits: &SplitColumns,
@@ -117,10 +118,11 @@ fn find_falls(
     for i in 0..splits.count {
         let s = row(splits, i);
         let fall = fall_of(tables, splits, s, i + 1);
-        match fall {
-            Ok(end) => falls[i] = end,
-            Err(Backwards) => return refuse(11, s.section, s.start),
-        }
+        falls[i] = fall.map_err(|_| Refusal {
+            number: 11,
+            section: s.section,
+            address: s.start,
+        })?;
     }
     Ok(())
 }
@@ -225,16 +227,15 @@ fn cut_section(tables: &CheckedTables, table: &mut SplitEnds, k: usize) -> Resul
 {
     let head = section_at(&tables.obj.heads, k);
     let end = end_at(tables, k, head);
-    match end {
-        Ok(low) => {
-            if head.address + head.size == low {
-                return Ok(());
-            }
-            cut_last(table, k as u16, low);
-            Ok(())
-        }
-        Err(Short) => refuse(10, k as u16, head.address),
+    let low = end.map_err(|_| Refusal {
+        number: 10,
+        section: k as u16,
+        address: head.address,
+    })?;
+    if head.address + head.size != low {
+        cut_last(table, k as u16, low);
     }
+    Ok(())
 }
 
 // All sections, in their order.

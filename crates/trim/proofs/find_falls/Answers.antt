@@ -1,16 +1,18 @@
 -- `trim::find_falls` meets its contract: each fall is stored in its place, and the first refusal ends it.
+use borrow.Author.Rules.{rules}
 use mathlib.Core.Path.{◌≡◌, sym, ap, ◌∙◌}
 use Prim.Native.Nat.{ℕ}
 use native.Mathlib.Omega.{arith}
 use lib.ListN.{take}
 use Rattle.lists.specs.Outcome.{accepted}
-use Rattle.obj.specs.Answers.{Answer}
+use Rattle.obj.specs.Answers.{meaning}
+use Rattle.std.proofs.lemmas.Result.{err_from_is_err_and}
 use Rattle.obj.specs.declared.Split.{Split}
 use Rattle.align.specs.Align.{bad_align}
 use Rattle.sections.specs.Image.{image_in}
 use Rattle.splits.specs.Columns.{row_at}
 use Rattle.splits.specs.Table.{columns_of}
-use Rattle.trim.specs.Steps.{asked_meaning, seen}
+use Rattle.trim.proofs.Answers.{asked_else}
 use Rattle.trim.proofs.Falls.{falls_start, fall_turn, fall_stops, falls_ended}
 use Rattle.splits.proofs.Rows.{good_row}
 use Rattle.splits.proofs.Alignment.{alignment_good}
@@ -41,21 +43,20 @@ loop-i-preserved c =
     let row = row_at (columns_of a.splits.now) in
     let l = c.loop-i in
     let y = c.row-s.result in
-    let fall = sym c.fall_of-fall.ensures ∙ ap (asked_meaning y.section y.start) c.in-Ok.is in
+    let fall = sym c.fall_of-fall.ensures ∙ asked_else c.row-s.result.section c.row-s.result.start c.fall_of-fall.result c.map_err.result c.map_err.ensures.cases (λ e d q. search rules) ∙ ap meaning c.in_ok-falls.was in
     fall_turn g head row a.splits.now.count l.i c.loop-i-test.true y c.row-s.ensures l.falls _ (omega (arith, c.requires.1, l.auto.falls, c.loop-i-test.true)) fall ∙ l.invariant
 
-pub returns-in-Err : goal.returns-in-Err
-returns-in-Err c =
+pub returns-in_err-falls : goal.returns-in_err-falls
+returns-in_err-falls c =
     let a = c.args in
     let g = image_in a.tables.now.obj in
     let head = head_in a.tables.now.obj in
     let row = row_at (columns_of a.splits.now) in
     let l = c.loop-i in
-    let y = c.row-s.result in
-    let fall = sym c.fall_of-fall.ensures ∙ ap (asked_meaning y.section y.start) c.in-Err.is in
-    ap (λ (r : Answer). seen r (take a.splits.now.count l.falls)) c.refuse.ensures
-    ∙ sym (fall_stops g head row a.splits.now.count l.i c.loop-i-test.true y c.row-s.ensures (take l.i l.falls) 11 y.section y.start fall)
-    ∙ l.invariant
+    let fall = sym c.fall_of-fall.ensures ∙ asked_else c.row-s.result.section c.row-s.result.start c.fall_of-fall.result c.map_err.result c.map_err.ensures.cases (λ e d q. search rules) ∙ ap meaning c.in_err-falls.was in
+    let p = err_from_is_err_and c.from_residual.result c.from_residual.ensures.1 in
+    rw (p.1, p.2)
+    (sym (fall_stops g head row a.splits.now.count l.i c.loop-i-test.true c.row-s.result c.row-s.ensures (take l.i l.falls) _ _ _ fall) ∙ l.invariant)
 
 pub returns : goal.returns
 returns c =
