@@ -27,25 +27,17 @@ const NEWLINE: u8 = 10;
 fn wrong_end(start: u32, end: u32, next: Option<u32>) -> bool
     ensures { result ≡ wrong_end start end next }
 {
-    match next {
-        Some(at) => (end == 0) | (end < start) | (at < end),
-        None => (end == 0) | (end < start),
-    }
+    (end == 0) | (end < start) | next.is_some_and(|at| at < end)
 }
 
-// "by the next start, or by the section's end for the last split"
+// "by the next start, or by the section's end for the last split"; 0 where there is no such section, which `check_ends` refuses as it does a section's end of 0.
+#[tactic(auto, unfolding(crate::specs::Mend::limit_of))]
 fn limit_of(section_ends: &[u32], section: u16, next: Option<u32>) -> u32
     ensures { result ≡ limit_of section_ends.now section next }
 {
-    let n = section as usize;
     match next {
         Some(at) => at,
-        None => {
-            if n < section_ends.len() {
-                return section_ends[n];
-            }
-            0
-        }
+        None => section_ends.get(section as usize).copied().unwrap_or(0),
     }
 }
 
