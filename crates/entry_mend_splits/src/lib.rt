@@ -2,23 +2,22 @@
 // The columns are local; each stands in the lowest function that needs it.
 #![tactic(auto)]
 
-mod output;
-
 ghost use Rattle.std.specs.Prelude.{◌≡◌, length};
 ghost use Rattle.obj.specs.Answers.{meaning};
 ghost use Rattle.tables.specs.Records.{sections_in};
 ghost use Rattle.mend.specs.Mend.{section_ends_of};
 ghost use Rattle.mend_outputs.specs.Outputs.{Leaves};
 ghost use Rattle.entry_mend_splits.specs.Entry.{mend_splits_of, NamesTaken};
-ghost use Rattle.entry_mend_splits.specs.Lent.{splits_outcome, sections_outcome, tables_outcome, HeadsHeld, GivesIn, SameLent};
+ghost use Rattle.stage_splits.specs.Output.{SameLent};
+ghost use Rattle.mend_outputs.specs.Lent.{GivesIn};
+ghost use Rattle.entry_mend_splits.specs.Lent.{splits_outcome, sections_outcome, HeadsHeld};
 
 use mend::{fill_section_ends, mend_table};
 use mend_outputs::{finish, give_mended};
 use name_table::{NameColumns, check_names};
 use obj::{Refusal, Table};
-use output::MendOutput;
 use splits::{SplitEnds, SplitTable};
-use stage_splits::{room_of, take_split_columns};
+use stage_splits::{SplitOutput, room_of, take_split_columns};
 use stage_tables::take_sections;
 
 // Names, checked, and how many bytes each has at the front of the column. Only that is asked later: the other columns, 40 kB of the stack, are gone before those
@@ -49,10 +48,11 @@ fn from_splits(
     heads: &Table,
     section_ends: &[u32],
     splits: &[u8],
-    output: &mut MendOutput,
+    output: &mut SplitOutput,
+    lines: &mut [u8],
 ) -> Result<(), Refusal>
     requires { HeadsHeld heads.now × (section_ends.now ≡ section_ends_of (sections_in heads.now.bytes.now heads.now.places.now)) }
-    ensures gives { GivesIn (splits_outcome lengths.now heads.now splits.now output.old) result output.old output.new }
+    ensures gives { GivesIn (splits_outcome lengths.now heads.now splits.now (length output.old.splits.now) (length lines.old)) result output.old lines.old output.new lines.new }
     ensures lent { SameLent output.old output.new }
 {
     let mut places = [0u32; 1024];
@@ -77,8 +77,8 @@ fn from_splits(
         rest: &rest,
         count,
     };
-    let r = mend_table(&mut mended, section_ends, output.lines);
-    give_mended(r, &mended.columns(), output.splits, output.counts)
+    let r = mend_table(&mut mended, section_ends, lines);
+    give_mended(r, &mended.columns(), output)
 }
 
 // The sections and where each ends, and the split table after them.
@@ -86,9 +86,10 @@ fn from_sections(
     lengths: &[u8],
     sections: &[u8],
     splits: &[u8],
-    output: &mut MendOutput,
+    output: &mut SplitOutput,
+    lines: &mut [u8],
 ) -> Result<(), Refusal>
-    ensures gives { GivesIn (sections_outcome lengths.now sections.now splits.now output.old) result output.old output.new }
+    ensures gives { GivesIn (sections_outcome lengths.now sections.now splits.now (length output.old.splits.now) (length lines.old)) result output.old lines.old output.new lines.new }
     ensures lent { SameLent output.old output.new }
 {
     let mut places = [0u32; 64];
@@ -101,7 +102,7 @@ fn from_sections(
         places: &places[..n],
     };
     fill_section_ends(&heads, &mut section_ends);
-    from_splits(lengths, &heads, &section_ends[..n], splits, output)
+    from_splits(lengths, &heads, &section_ends[..n], splits, output, lines)
 }
 
 // All tables, and the outputs where they pass.
@@ -110,14 +111,21 @@ fn checked(
     name_bytes: &[u8],
     sections: &[u8],
     splits: &[u8],
-    output: &mut MendOutput,
+    output: &mut SplitOutput,
+    lines: &mut [u8],
 ) -> Result<(), Refusal>
-    ensures gives { GivesIn (tables_outcome name_ends.now name_bytes.now sections.now splits.now output.old) result output.old output.new }
+    ensures gives { GivesIn (mend_splits_of name_ends.now name_bytes.now sections.now splits.now (length output.old.splits.now) (length lines.old)) result output.old lines.old output.new lines.new }
     ensures lent { SameLent output.old output.new }
 {
     let mut lengths = [0u8; 4096];
     take_lengths(name_ends, name_bytes, &mut lengths)?;
-    from_sections(&lengths[..name_ends.len() / 2], sections, splits, output)
+    from_sections(
+        &lengths[..name_ends.len() / 2],
+        sections,
+        splits,
+        output,
+        lines,
+    )
 }
 
 // The entry: the mended split table with its lines, or a refusal, and every byte of the outputs.
@@ -133,11 +141,10 @@ pub fn mend_splits(
     ensures { Leaves (mend_splits_of name_ends.now name_bytes.now sections.now splits.now (length out_splits.old) (length lines.old))
         out_splits.old lines.old counts.old result out_splits.new lines.new counts.new }
 {
-    let mut output = MendOutput {
+    let mut output = SplitOutput {
         splits: out_splits,
-        lines,
         counts,
     };
-    let a = checked(name_ends, name_bytes, sections, splits, &mut output);
-    finish(a, out_splits, lines, counts)
+    let a = checked(name_ends, name_bytes, sections, splits, &mut output, lines);
+    finish(a, &mut output, lines)
 }

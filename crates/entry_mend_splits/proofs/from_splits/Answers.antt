@@ -33,7 +33,7 @@ pub returns-in_err-take_split_columns-clause-gives : goal.returns-in_err-take_sp
 unfolding from_splits
 returns-in_err-take_split_columns-clause-gives c =
     let a = c.args in
-    let line-room = length a.output.now.lines.now in
+    let line-room = length a.lines.now in
     rw (same_err c.from_residual.result c.take_split_columns.result c.from_residual.ensures.1 c.in_err-take_split_columns.was)
     (gives_as (ap (λ (room : ℕ). from_splits a.lengths.now (sections_in a.heads.now.bytes.now a.heads.now.places.now) a.splits.now room line-room) c.room_of.ensures)
     (gives_stops _ c.take_split_columns.ensures.taken.said (ap meaning c.in_err-take_split_columns.was)))
@@ -66,7 +66,7 @@ returns-clause-gives c =
     let rest = c.rest-2-1.given.1.1 (sym k.rest) in
     let mended = rw (starts, ends, units, rest) at w.ensures.mended in
     let e = c.columns.ensures in
-    gives_as (ap (λ (room : ℕ). from_splits a.lengths.now heads a.splits.now room (length a.output.now.lines.now)) c.room_of.ensures)
+    gives_as (ap (λ (room : ℕ). from_splits a.lengths.now heads a.splits.now room (length a.lines.now)) c.room_of.ensures)
     (mended_gives a.lengths.now heads a.splits.now _ (ends_columns w.new.table) w.new.table.count _ t.ensures.taken.said told
     (omega (arith, room, w.ensures.others.count, room_fits (length a.output.now.splits.now))) c.requires.1 (t.ensures.taken.taken (sym t.ensures.taken.said ∙ told)) mended
-    (rw (e.columns, e.count) at c.give_mended.ensures))
+    (rw (e.columns, e.count) at c.give_mended.ensures.stores))

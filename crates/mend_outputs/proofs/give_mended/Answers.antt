@@ -8,14 +8,14 @@ use Rattle.mend.specs.Steps.{line_bytes}
 use Rattle.mend_outputs.proofs.Laws.{stores_refused, stores_rows}
 use Rattle.mend_outputs.proofs.give_mended.Goals as goal
 
-pub returns-in_err-size : goal.returns-in_err-size
-returns-in_err-size c =
+pub returns-in_err-size-clause-stores : goal.returns-in_err-size-clause-stores
+returns-in_err-size-clause-stores c =
     let p = err_from_is_err_and c.from_residual.result c.from_residual.ensures.1 in
     rw (p.1, p.2) (stores_refused c.in_err-size.was)
 
 pub overflow_cast-size : goal.overflow_cast-size
 overflow_cast-size c = omega (arith, c.requires.2, ap line_bytes c.in_ok-size.was)
 
-pub returns : goal.returns
+pub returns-clause-stores : goal.returns-clause-stores
 unfolding store_counts
-returns c = stores_rows c.in_ok-size.was c.store.ensures (c.put_count-2.ensures ∙ ap (store_count 1 _) c.put_count.ensures)
+returns-clause-stores c = stores_rows c.in_ok-size.was c.store.ensures (c.put_count-2.ensures ∙ ap (store_count 1 _) c.put_count.ensures)
