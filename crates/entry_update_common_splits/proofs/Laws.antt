@@ -1,9 +1,10 @@
 -- The stage's answer on its way into the outputs, and what the tables leave in the columns: the sections with their names, and which of them are named `.bss`.
 -- Assumes nothing.
 use Prim.Native.Nat.{ℕ, ◌/◌, ◌≤◌, ◌<◌}
-use mathlib.Core.Path.{◌≡◌, sym, ap, ap₂, subst, ◌∙◌}
+use mathlib.Core.Path.{◌≡◌, refl, sym, ap, ap₂, subst, ◌∙◌}
 use mathlib.Core.List.{List, []}
-use mathlib.Core.Bool.{Bool, true, false}
+use mathlib.Core.Bool.{Bool, true, false, not}
+use lib.Dec.{eqb}
 use mathlib.Core.Logic.{◌⊎◌, inl, inr}
 use native.Mathlib.Omega.{arith}
 use lib.ListN.{length, get_or, take, drop, get_or-eq_default}
@@ -18,7 +19,7 @@ use Rattle.lists.proofs.Rows.{get_d_map}
 use Rattle.obj.specs.Answers.{meaning}
 use Rattle.obj.specs.Records.{section_at, stage_places}
 use Rattle.obj.specs.Answers.{Answer}
-use Rattle.std.specs.Prelude.{Option, Ok, Err, is_some, unwrap_or}
+use Rattle.std.specs.Prelude.{Option, None, Some, Ok, Err, is_some, unwrap_or}
 use Rattle.std.specs.Bool.{then_some}
 use Rattle.obj.specs.declared.Refusal.{Refusal}
 use Rattle.obj.specs.declared.Section.{Section}
@@ -30,7 +31,8 @@ use Rattle.names.proofs.Laws.{name_there}
 use Rattle.tables.specs.Records.{no_section}
 use Rattle.tables.proofs.Lookups.{held}
 use Rattle.tables.proofs.Laws.{sections_named}
-use Rattle.name_table.specs.NameTable.{stage_names}
+use Rattle.tables.specs.Tables.{main_ceilings}
+use Rattle.name_table.specs.NameTable.{stage_names, names_check}
 use Rattle.name_table.specs.Stored.{stage_lengths, name_lengths, name_starts, Stored, Readable}
 use Rattle.name_table.proofs.Laws.{length-stage_names}
 use Rattle.stage_tables.specs.StageTables.{stage_sections, stage_splits, sections_check, splits_check, Filled}
@@ -39,7 +41,8 @@ use Rattle.stage_splits.specs.StageSplits.{room_of, Laid, Gives}
 use Rattle.stage_splits.proofs.Laws.{gives_as, gives_goes}
 use Rattle.common.specs.Common.{bss_sections, common_start, common_of, answered}
 use Rattle.common.specs.Sections.{bss_at, Sections}
-use Rattle.entry_update_common_splits.specs.Entry.{stage_bss, from_splits, from_sections}
+use Rattle.entry_update_common_splits.specs.Entry.{stage_bss, update_of, from_splits, from_sections}
+use Rattle.entry_update_common_splits.specs.Lent.{update_with}
 
 -- ---- the stage's answer
 module _ {size counts_size : ℕ} {out counts : List ℕ} {a : Answer} (o : Outcome (List Split)) (l : List Split) (q : answered a l ≡ o) where
@@ -133,10 +136,24 @@ names_as {ends} {bytes} sections splits given start size s =
         ap is_bss (name_as s (section_at sections (get_or at k 0)).name
         ∙ ap (λ (x : Section). get_or (stage_names ends bytes (length ends / 2)) x.name []) (sym (get_d_map (section_at sections) at k 0 no_section (omega (arith, h, length-stage_places 15 count)))))
 
--- a start that is not given is not asked
-pub start_as : (name_bytes name_places name_lengths sections splits : List ℕ) (t : Bool) (start size : ℕ) {given : Option ℕ} → given ≡ then_some t start
-    → from_sections name_bytes name_places name_lengths sections splits (is_some given) (unwrap_or given 0) size
-    ≡ from_sections name_bytes name_places name_lengths sections splits t start size
-unfolding from_sections from_splits common_of common_start
-start_as name_bytes name_places name_lengths sections splits true start size e = rw e
-start_as name_bytes name_places name_lengths sections splits false start size e = rw e
+-- ---- the start
+
+module _ (ends bytes sections splits : List ℕ) where
+  -- the tables, with the start that is given
+  pub update_is : (given : Option ℕ) (size : ℕ) → update_with ends bytes sections splits given size
+      ≡ (names_check main_ceilings.names ends bytes
+      >> (sections_check 64 (stage_lengths ends bytes) sections
+      >> (splits_check (room_of size) (stage_lengths ends bytes) (stage_sections sections) splits
+      >> common_of (is_some given) (unwrap_or given 0) (bss_sections (stage_bss ends bytes sections) (length sections / 15)) (stage_splits splits))))
+  unfolding update_of
+  update_is None size = refl
+  update_is (Some start) size = refl
+
+  -- a start that is not given is not asked
+  pub start_as : (has_start start size : ℕ) → update_with ends bytes sections splits (then_some (not (eqb has_start 0)) start) size ≡ update_of ends bytes sections splits has_start start size
+  unfolding update_of common_of common_start
+  start_as has_start start size = go (eqb has_start 0) refl
+    where
+      go : (t : Bool) → eqb has_start 0 ≡ t → update_with ends bytes sections splits (then_some (not t) start) size ≡ update_of ends bytes sections splits has_start start size
+      go true e = rw e refl
+      go false e = rw e refl

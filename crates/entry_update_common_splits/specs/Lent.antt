@@ -1,5 +1,5 @@
 -- The entry's definitions over the tables that its functions are lent, and what these ask of the sections.
-use Rattle.std.specs.Prelude.{ℕ, List, Option, is_some, unwrap_or}
+use Rattle.std.specs.Prelude.{ℕ, List, Option, None, Some, is_some, unwrap_or}
 use Rattle.lists.specs.Outcome.{Outcome}
 use Rattle.obj.specs.declared.Split.{Split}
 use Rattle.obj.specs.declared.Table.{Table}
@@ -18,8 +18,13 @@ abbrev pub sections_outcome : Names → StageTables → (given : Option ℕ) →
 sections_outcome names lent given size =
     from_sections names.bytes.now names.places.now names.lengths.now lent.sections.now lent.splits.now (is_some given) (unwrap_or given 0) size
 
-abbrev pub tables_outcome : StageTables → (has_start start size : ℕ) → Outcome (List Split)
-tables_outcome lent has_start start size = update_of lent.name_ends.now lent.name_bytes.now lent.sections.now lent.splits.now has_start start size
+-- with a start or none: `has_start` 0 is none, anything else a start
+abbrev pub update_with : (ends bytes sections splits : List ℕ) → (given : Option ℕ) → (size : ℕ) → Outcome (List Split)
+update_with ends bytes sections splits None size = update_of ends bytes sections splits 0 0 size
+update_with ends bytes sections splits (Some start) size = update_of ends bytes sections splits 1 start size
+
+abbrev pub tables_outcome : StageTables → (given : Option ℕ) → (size : ℕ) → Outcome (List Split)
+tables_outcome lent given size = update_with lent.name_ends.now lent.name_bytes.now lent.sections.now lent.splits.now given size
 
 -- the records of the sections can be read
 abbrev pub HeadsHeld : (heads : Table) → Type 0

@@ -85,13 +85,8 @@ fn from_sections(
 }
 
 // All tables.
-fn checked(
-    lent: &StageTables,
-    has_start: u8,
-    start: u32,
-    output: &mut SplitOutput,
-) -> Result<(), Refusal>
-    ensures gives { GivesIn (tables_outcome lent.now has_start start (length output.old.splits.now)) result output.old output.new }
+fn checked(lent: &StageTables, given: Option<u32>, output: &mut SplitOutput) -> Result<(), Refusal>
+    ensures gives { GivesIn (tables_outcome lent.now given (length output.old.splits.now)) result output.old output.new }
     ensures lent { SameLent output.old output.new }
 {
     let mut columns = NameArrays::new();
@@ -99,7 +94,7 @@ fn checked(
     from_sections(
         &columns.names(lent.name_ends, lent.name_bytes),
         lent,
-        (has_start != 0).then_some(start),
+        given,
         output,
     )
 }
@@ -129,6 +124,7 @@ pub fn update_common_splits(
         splits: out,
         counts,
     };
-    let a = checked(&lent, has_start, start, &mut output);
+    let given = (has_start != 0).then_some(start);
+    let a = checked(&lent, given, &mut output);
     finish(a, &mut output)
 }
