@@ -19,7 +19,7 @@ mod named_sections;
 
 use named_sections::NamedSections;
 
-// The sections named `.bss`.
+// The sections named `.bss`: none, one, or several. Document 01 has three cases, so it is no Option.
 #[derive(Clone, Copy)]
 pub enum Bss {
     None,
@@ -260,7 +260,7 @@ pub fn update_common_splits(
     Ok(())
 }
 
-// The same on split records.
+// The same on split records: the other form has a call of `mark_columns` here, and of this one `mark_records` asks that the rows fit 1,024 records.
 pub fn update_common_records(
     names: &Names,
     heads: &Table,

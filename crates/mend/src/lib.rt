@@ -169,10 +169,11 @@ pub fn mend_table(
     ensures others { OnlyEnds table.old table.new }
 {
     check_ends(&table.columns(), section_ends)?;
-    match mend_rows(table, section_ends, lines) {
-        Some(size) => Ok(size),
-        None => refuse(80, 0, 0),
-    }
+    mend_rows(table, section_ends, lines).ok_or(Refusal {
+        number: 80,
+        section: 0,
+        address: 0,
+    })
 }
 
 // ---- the sections

@@ -1,7 +1,6 @@
 pub mod Cases
 pub mod Answers
 pub mod Falls
-pub mod Only
 pub mod Carry
 pub mod Cut
 pub mod Ends

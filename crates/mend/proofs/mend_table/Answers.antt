@@ -2,7 +2,7 @@
 use mathlib.Core.Path.{sym, ap, ◌∙◌}
 use Rattle.obj.specs.Answers.{meaning}
 use Rattle.std.proofs.lemmas.Result.{err_from_is_err_and}
-use Rattle.mend.proofs.Stage.{mends_refused, mends_full, mends_done}
+use Rattle.mend.proofs.Stage.{mends_refused, mends_told}
 use Rattle.mend.proofs.mend_table.Goals as goal
 
 pub returns-in_err-check_ends-clause-mended : goal.returns-in_err-check_ends-clause-mended
@@ -11,12 +11,7 @@ returns-in_err-check_ends-clause-mended c =
     let p = err_from_is_err_and c.from_residual.result c.from_residual.ensures.1 in
     rw (p.1, p.2) (mends_refused _ _ (sym (ap meaning c.in_err-check_ends.was) ∙ checked))
 
-pub returns-in-Some-clause-mended : goal.returns-in-Some-clause-mended
-returns-in-Some-clause-mended c =
+pub returns-clause-mended : goal.returns-clause-mended
+returns-clause-mended c =
     let checked = rw (c.columns.ensures.columns, c.columns.ensures.count) at c.check_ends.ensures in
-    mends_done _ _ (sym (ap meaning c.in_ok-check_ends.was) ∙ checked) c.mend_rows.ensures.filled _ c.in-Some.is
-
-pub returns-in-None-clause-mended : goal.returns-in-None-clause-mended
-returns-in-None-clause-mended c =
-    let checked = rw (c.columns.ensures.columns, c.columns.ensures.count) at c.check_ends.ensures in
-    rw c.refuse.ensures (mends_full _ _ (sym (ap meaning c.in_ok-check_ends.was) ∙ checked) c.mend_rows.ensures.filled c.in-None.is)
+    rw c.ok_or.ensures.value (mends_told _ _ c.mend_rows.result (sym (ap meaning c.in_ok-check_ends.was) ∙ checked) c.mend_rows.ensures.filled)

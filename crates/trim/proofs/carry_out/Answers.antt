@@ -7,7 +7,7 @@ use Rattle.splits.specs.Table.{ends_rows}
 use Rattle.trim.specs.Trim.{carry_from}
 use Rattle.trim.proofs.Answers.{seen-stops, seen_goes}
 use Rattle.trim.proofs.Carry.{carry_turn, carry_ended}
-use Rattle.trim.proofs.Only.{only_ends}
+use Rattle.splits.proofs.Lent.{ends_still}
 use Rattle.trim.proofs.carry_out.Goals as goal
 
 pub returns-in_err-carry_one-clause-rows : goal.returns-in_err-carry_one-clause-rows
@@ -20,7 +20,7 @@ returns-in_err-carry_one-clause-rows c =
     ∙ l.invariant.0)
 
 pub returns-in_err-carry_one-clause-others : goal.returns-in_err-carry_one-clause-others
-returns-in_err-carry_one-clause-others c = only_ends c.loop-k.invariant.1 c.carry_one.ensures.others
+returns-in_err-carry_one-clause-others c = ends_still c.loop-k.invariant.1 c.carry_one.ensures.others
 
 pub loop-k-preserved : goal.loop-k-preserved
 loop-k-preserved c =
@@ -30,7 +30,7 @@ loop-k-preserved c =
       sym (seen_goes _ _ _ (carry_from (l.k + 1) (drop (l.k + 1) (take n a.falls.now))) c.carry_one.ensures.rows c.in_ok-carry_one.was)
           ∙ sym (carry_turn a.falls.now n l.k (ends_rows l.table) c.loop-k-test.true c.requires)
           ∙ l.invariant.0,
-      only_ends l.invariant.1 c.carry_one.ensures.others,
+      ends_still l.invariant.1 c.carry_one.ensures.others,
     )
 
 pub returns-clause-rows : goal.returns-clause-rows

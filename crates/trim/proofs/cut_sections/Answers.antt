@@ -1,5 +1,5 @@
 -- `trim::cut_sections` meets its contract: the first refusal ends it.
-use mathlib.Core.Path.{refl, sym, ap, ◌∙◌}
+use mathlib.Core.Path.{sym, ap, ◌∙◌}
 use Prim.Native.Nat.{ℕ, ◌+◌, ◌-◌}
 use native.Mathlib.Nat.{sub-zero}
 use lib.ListN.{length}
@@ -10,7 +10,7 @@ use Rattle.trim.specs.Trim.{cut_from}
 use Rattle.trim.proofs.Answers.{seen-stops, seen_goes}
 use Rattle.trim.proofs.Cut.{cut_turn, cut_ended}
 use Rattle.trim.specs.Lent.{sections_in}
-use Rattle.trim.proofs.Only.{only_ends}
+use Rattle.splits.proofs.Lent.{ends_same, ends_still}
 use Rattle.trim.proofs.cut_sections.Goals as goal
 
 pub loop-k-init : goal.loop-k-init
@@ -18,7 +18,7 @@ loop-k-init c =
     let a = c.args in
     let g = image_in a.tables.now.obj in
     let sections = sections_in a.tables.now.obj a.tables.now.image in
-    (ap (λ (m : ℕ). cut_from g sections m 0 (ends_rows a.table.now)) (sub-zero (length a.tables.now.obj.heads.places.now)), record { starts = refl; units = refl; rest = refl; ends = refl; size = refl; count = refl })
+    (ap (λ (m : ℕ). cut_from g sections m 0 (ends_rows a.table.now)) (sub-zero (length a.tables.now.obj.heads.places.now)), ends_same)
 
 pub returns-in_err-cut_section-clause-rows : goal.returns-in_err-cut_section-clause-rows
 returns-in_err-cut_section-clause-rows c =
@@ -32,7 +32,7 @@ returns-in_err-cut_section-clause-rows c =
     ∙ l.invariant.0)
 
 pub returns-in_err-cut_section-clause-others : goal.returns-in_err-cut_section-clause-others
-returns-in_err-cut_section-clause-others c = only_ends c.loop-k.invariant.1 c.cut_section.ensures.others
+returns-in_err-cut_section-clause-others c = ends_still c.loop-k.invariant.1 c.cut_section.ensures.others
 
 pub loop-k-preserved : goal.loop-k-preserved
 loop-k-preserved c =
@@ -43,7 +43,7 @@ loop-k-preserved c =
       sym (seen_goes _ _ _ (cut_from g sections (length a.tables.now.obj.heads.places.now - (l.k + 1)) (l.k + 1)) c.cut_section.ensures.rows c.in_ok-cut_section.was)
           ∙ sym (cut_turn g sections (length a.tables.now.obj.heads.places.now) l.k (ends_rows l.table) c.loop-k-test.true)
           ∙ l.invariant.0,
-      only_ends l.invariant.1 c.cut_section.ensures.others,
+      ends_still l.invariant.1 c.cut_section.ensures.others,
     )
 
 pub returns-clause-rows : goal.returns-clause-rows

@@ -11,7 +11,7 @@ use Rattle.splits.specs.Table.{ends_rows}
 use Rattle.trim.specs.Trim.{falls_of, carry_from, cut_from, trimmed}
 use Rattle.trim.proofs.Answers.{seen-stops, seen_goes}
 use Rattle.trim.specs.Lent.{sections_in}
-use Rattle.trim.proofs.Only.{only_ends}
+use Rattle.splits.proofs.Lent.{ends_still}
 use Rattle.trim.proofs.trim.Goals as goal
 
 pub invariant_of-tables-clause-asks : goal.invariant_of-tables-clause-asks
@@ -67,4 +67,4 @@ returns-clause-rows c =
     ∙ sym (seen_goes _ _ (falls_of g sections.head table) next found c.in_ok-find_falls.was)
 
 pub returns-clause-others : goal.returns-clause-others
-returns-clause-others c = only_ends c.carry_out.ensures.others c.cut_sections.ensures.others
+returns-clause-others c = ends_still c.carry_out.ensures.others c.cut_sections.ensures.others
