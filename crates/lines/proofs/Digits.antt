@@ -1,6 +1,6 @@
 -- Decimal digits: how many, how one more is found from the last to the first, and what they say: their value, folded by ten, is the number, and no digit before
 -- the last is a leading zero. Readers use `value_decimal` and `no_leading_zero`. Assumes nothing.
-use mathlib.Core.Path.{◌≡◌, refl, sym, ap, ap₂, subst, ◌∙◌}
+use mathlib.Core.Path.{◌≡◌, refl, sym, ap, ap₂, ◌∙◌}
 use mathlib.Core.List.{List, [], ◌∷◌, ◌++◌, append-nil}
 use mathlib.Core.Bool.{Bool, true, false}
 use Prim.Native.Nat.{ℕ, zero, suc, ◌+◌, ◌-◌, ◌*◌, ◌/◌, ◌%◌, ◌≤◌, ◌<◌}
@@ -8,11 +8,13 @@ use native.Mathlib.Nat.{zero-add}
 use native.Mathlib.Omega.{arith}
 use borrow.Author.Tests.{ltb-true, ltb-false, lt-ltb, le-ltb}
 use lib.Dec.{ltb}
-use lib.ListN.{length, get_or, take, drop, set, length-append, length-set, drop_of_length-le, get_or-append}
-use lib.Seq.{drop-cons, get_or-set_same, drop-set-lt, append_snoc}
+use lib.ListN.{length, get_or, take, drop, length-append, get_or-append}
 use Rattle.names.specs.GapName.{digit}
 use Rattle.names.proofs.Gaps.{part_to_end}
-use Rattle.lines.specs.Lines.{digits, decimal, Digits}
+use Rattle.std.proofs.Common.{◌^◌, lit<}
+use Rattle.std.specs.Fmt as fmt
+use Rattle.std.proofs.lemmas.Fmt.{AppendsLastDigit, decimal_from_appends, length-decimal-le}
+use Rattle.lines.specs.Lines.{digits, decimal}
 
 -- ten to the k
 unfoldable pub pow10 : ℕ → ℕ
@@ -61,70 +63,29 @@ digits-below (suc most) k n h = go (ltb n 10) refl (λ j. digits-below most j (n
         let u = later k h (ltb-false n 10 e) ih in
         rw e (omega arith)
 
--- ---- from the last to the first
+-- ---- what std writes
 
--- a column in which the digits below place `at` are still to come: those of what is left
-pub record Found (column : List ℕ) (n at left : ℕ) : Type 0 where
-  pub is : decimal n ≡ digits (suc at) left ++ drop (suc at) column
-  pub small : left < pow10 (suc at)
-  pub inside : at < 20
-  pub long : length column ≡ 20
+digit_below : (n : ℕ) → n < 10 → digit n ≡ 48 + n
+digit_below n h = rw (lt-ltb n 10 h) refl
 
--- a digit stored at its place stands before what was there
-stored : (column : List ℕ) (at d : ℕ) → at < length column → drop at (set column at d) ≡ d ∷ drop (suc at) column
-stored column at d h =
-    drop-cons (set column at d) at 0 (let k = length-set column at d in omega arith)
-    ∙ ap₂ (λ (x : ℕ) (l : List ℕ). x ∷ l) (get_or-set_same column at d 0 h) (drop-set-lt (suc at) column at d (omega arith))
-
--- what is left has another digit, so a place is left
-pub found-place : {column : List ℕ} {n at left : ℕ} → Found column n at left → 10 ≤ left → 0 < at
-unfolding pow10
-found-place {column} {n} {at} {left} f h = go at f.small
-  where
-    go : (k : ℕ) → left < pow10 (suc k) → 0 < k
-    go zero s = absurd (omega arith)
-    go (suc k) s = omega arith
-
-turn : {column : List ℕ} {n at left d : ℕ} → Found column n (suc at) left → 10 ≤ left → d ≡ digit (left % 10)
-    → Found (set column (suc at) d) n at (left / 10)
-unfolding pow10
-turn {column} {n} {at} {left} {d} f h e = record {
-  is =
-      f.is
-      ∙ ap (λ (l : List ℕ). l ++ drop (suc (suc at)) column) (digits_more (suc at) left h)
-      ∙ append_snoc (digits (suc at) (left / 10)) (digit (left % 10)) (drop (suc (suc at)) column)
-      ∙ ap (λ (x : ℕ). digits (suc at) (left / 10) ++ (x ∷ drop (suc (suc at)) column)) (sym e)
-      ∙ ap (λ (l : List ℕ). digits (suc at) (left / 10) ++ l) (sym (stored column (suc at) d (let u = f.inside in let v = f.long in omega arith)));
-  small = below left (pow10 (suc at)) f.small;
-  inside = let u = f.inside in omega arith;
-  long = length-set column (suc at) d ∙ f.long;
+appended : AppendsLastDigit digits
+appended = record {
+  one = λ k n h. digits_last k n h ∙ ap (λ (d : ℕ). d ∷ []) (digit_below n h);
+  more = λ k n h. digits_more k n h ∙ ap (λ (d : ℕ). digits k (n / 10) ++ (d ∷ [])) (digit_below (n % 10) (omega arith));
 }
 
-pub found_turn : {column : List ℕ} {n at next left d : ℕ} → at ≡ suc next → Found column n at left → 10 ≤ left → d ≡ digit (left % 10)
-    → Found (set column at d) n next (left / 10)
-found_turn {column} {n} {at} {next} {left} {d} p f h e =
-    subst (λ (k : ℕ). Found (set column k d) n next (left / 10)) (sym p) (turn (subst (λ (k : ℕ). Found column n k left) p f) h e)
+-- a number of 64 bits has no more than 20 digits, and they are std's
+pub decimal_is : (n : ℕ) → n < 2 ^ 64 → fmt.decimal n ≡ decimal n
+decimal_is n h = sym (decimal_from_appends digits appended 20 n h (length-decimal-le 20 n (lit< tt) (omega arith) h))
 
-pub found_last : {column : List ℕ} {n at left d : ℕ} → Found column n at left → left < 10 → d ≡ digit left → drop at (set column at d) ≡ decimal n
-found_last {column} {n} {at} {left} {d} f h e =
-    stored column at d (let u = f.inside in let v = f.long in omega arith)
-    ∙ ap (λ (x : ℕ). x ∷ drop (suc at) column) e
-    ∙ sym (ap (λ (l : List ℕ). l ++ drop (suc at) column) (digits_last at left h))
-    ∙ sym f.is
-
--- a number of 64 bits has no more than 20 digits
-pub found_first : (column : List ℕ) (n : ℕ) → length column ≡ 20 → n < 18446744073709551616 → Found column n 19 n
-unfolding pow10
-found_first column n e h = record {
-  is = sym (ap (λ (l : List ℕ). decimal n ++ l) (drop_of_length-le column {i = 20} (omega arith)) ∙ append-nil (decimal n));
-  small = omega arith;
-  inside = omega arith;
-  long = e;
-}
-
--- the part of the column that is lent on
-pub column_digits : {column : List ℕ} {n r : ℕ} → Digits column n r → take (20 - r) (drop r column) ≡ decimal n
-column_digits {column} {n} {r} d = ap (λ (k : ℕ). take (k - r) (drop r column)) (sym d.long) ∙ part_to_end column r ∙ d.is
+-- .. so they are the part of a column of 20 that they were written into
+pub column_digits : (column : List ℕ) (n r : ℕ) → n < 2 ^ 64 → length column ≡ 20 → drop r column ≡ fmt.decimal n ++ [] → take (20 - r) (drop r column) ≡ decimal n
+column_digits column n r h e d =
+    ap (λ (k : ℕ). take (k - r) (drop r column)) (sym e)
+    ∙ part_to_end column r
+    ∙ d
+    ∙ append-nil (fmt.decimal n)
+    ∙ decimal_is n h
 
 -- ---- what the digits say
 

@@ -81,14 +81,3 @@ pub record Written (before after : List ℕ) (text : List ℕ) (r : ℕ) : Type 
   pub end : r ≡ length text
   pub few : r ≤ 208
   pub long : length after ≡ length before
-
--- the digits of n stand at the end of a column, from place r on
-pub record Digits (column : List ℕ) (n r : ℕ) : Type 0 where
-  pub is : drop r column ≡ decimal n
-  pub inside : r < length column
-  pub long : length column ≡ 20
-
--- a number without its sign
-unfoldable pub magnitude_of : ℤ → ℕ
-magnitude_of (pos n) = n
-magnitude_of (negsuc n) = suc n
