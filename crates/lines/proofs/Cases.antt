@@ -8,7 +8,7 @@ use lib.IntN.{negsuc}
 use Rattle.names.specs.Fixed.{codes}
 use Rattle.names.specs.GapName.{hex8}
 use Rattle.lines.specs.Lines.{digits, signed_decimal, shown, line, unit_line, piece_line, sym_line, reloc_line, total_line, refused_line}
-use Rattle.lines.specs.declared.Owner.TheVariants.{Common, Piece}
+use Rattle.std.specs.Prelude.{Some, None}
 
 -- a line and the text that it is, without the newline
 pub record Case : Type 0 where
@@ -26,8 +26,8 @@ cases =
     -- "A refusal prints only `refused`, number, section, address."
     ∷ record { is = refused_line 52 3 2148532236; text = "refused 52 3 8010000C" }
     -- "`-` if empty", "piece or `common`"
-    ∷ record { is = sym_line [] Common 4 16; text = "sym - common 00000004 16" }
-    ∷ record { is = sym_line (codes "main") (Piece 12) 0 100; text = "sym main 12 00000000 100" }
+    ∷ record { is = sym_line [] None 4 16; text = "sym - common 00000004 16" }
+    ∷ record { is = sym_line (codes "main") (Some 12) 0 100; text = "sym main 12 00000000 100" }
     -- an addend may be negative
     ∷ record { is = reloc_line 0 4 6 1023 (negsuc 0); text = "reloc 0 00000004 6 1023 -1" }
     ∷ record { is = reloc_line 1 2882400000 0 0 (negsuc 9223372036854775807); text = "reloc 1 ABCDEF00 0 0 -9223372036854775808" }

@@ -11,8 +11,7 @@ use lib.IntN.{ℤ, pos, negsuc}
 use Rattle.names.specs.Fixed.{codes}
 use Rattle.names.specs.GapName.{hex8}
 use Rattle.lines.specs.Lines.{decimal, signed_decimal, shown, owner_of, Put, Written}
-use Rattle.lines.specs.declared.Owner.{Owner}
-use Rattle.lines.specs.declared.Owner.TheVariants.{Common, Piece}
+use Rattle.std.specs.Prelude.{Option, Some, None}
 use Rattle.lines.proofs.Digits.{pow10, digits_few, digits-below}
 
 -- stores of a text
@@ -98,10 +97,10 @@ unfolding shown codes
 shown_few [] = omega arith
 shown_few (b ∷ name) = omega arith
 
-pub owner_few : (o : Owner) → length (owner_of o) ≤ 20
+pub owner_few : (o : Option ℕ) → length (owner_of o) ≤ 20
 unfolding codes
-owner_few Common = omega arith
-owner_few (Piece n) = digits_few 20 n
+owner_few None = omega arith
+owner_few (Some n) = digits_few 20 n
 
 -- where a field ends, by its text's length
 pub ruleset fields = (length-append, decimal_few, decimal16_few, decimal32_few, hex_long, signed_few, shown_few, owner_few)

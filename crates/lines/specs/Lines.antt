@@ -1,11 +1,9 @@
 -- The lines of the listing: document 01, "Addresses and offsets have eight upper-case hexadecimal digits; the rest is decimal; one space parts fields. Unit:
 -- number, name, sum of its piece sizes. Piece: number in its unit, name, address, size, alignment. Total: units, pieces, bytes. After a unit's pieces come `sym`
 -- name (`-` if empty), piece or `common`, address, size; then `reloc` piece, offset, kind, target, addend. A refusal prints only `refused`, number, section, address."
-use Rattle.std.specs.Prelude.{ℕ, zero, suc, ◌+◌, ◌/◌, ◌%◌, ◌≤◌, ◌<◌, ◌≡◌, List, [], ◌∷◌, ◌++◌, cond, length, take, drop, ltb, ℤ, pos, negsuc}
+use Rattle.std.specs.Prelude.{ℕ, zero, suc, ◌+◌, ◌/◌, ◌%◌, ◌≤◌, ◌≡◌, List, [], ◌∷◌, ◌++◌, cond, length, take, ltb, ℤ, pos, negsuc, Option, Some, None}
 use Rattle.names.specs.Fixed.{codes}
 use Rattle.names.specs.GapName.{digit, hex8}
-use Rattle.lines.specs.declared.Owner.{Owner}
-use Rattle.lines.specs.declared.Owner.TheVariants.{Common, Piece}
 
 -- ---- fields
 
@@ -29,9 +27,9 @@ shown [] = codes "-"
 shown (b ∷ name) = b ∷ name
 
 -- "piece or `common`": a piece's number in its unit
-abbrev pub owner_of : Owner → List ℕ
-owner_of Common = codes "common"
-owner_of (Piece number) = decimal number
+abbrev pub owner_of : Option ℕ → List ℕ
+owner_of None = codes "common"
+owner_of (Some number) = decimal number
 
 -- "one space parts fields"; a line ends with a newline
 unfoldable pub line : List (List ℕ) → List ℕ
@@ -51,7 +49,7 @@ piece_line number name address size alignment origin =
     line (codes "piece" ∷ decimal number ∷ name ∷ hex8 address ∷ decimal size ∷ decimal alignment ∷ decimal origin ∷ [])
 
 -- "`sym` name (`-` if empty), piece or `common`, address, size"
-abbrev pub sym_line : (name : List ℕ) → Owner → (address size : ℕ) → List ℕ
+abbrev pub sym_line : (name : List ℕ) → Option ℕ → (address size : ℕ) → List ℕ
 sym_line name owner address size = line (codes "sym" ∷ shown name ∷ owner_of owner ∷ hex8 address ∷ decimal size ∷ [])
 
 -- "`reloc` piece, offset, kind, target, addend"

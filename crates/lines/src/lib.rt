@@ -13,13 +13,6 @@ use crate::numbers::put_signed;
 use names::put_bytes;
 pub use numbers::{put_decimal, put_hex8};
 
-// "piece or `common`": a piece's number in its unit.
-#[derive(Clone, Copy)]
-pub enum Owner {
-    Common,
-    Piece(u16),
-}
-
 const SPACE: u8 = 32;
 
 const NEWLINE: u8 = 10;
@@ -46,14 +39,14 @@ fn put_shown(out: &mut [u8], at: usize, name: &[u8]) -> usize
     put_field(out, at, name)
 }
 
-// "piece or `common`", and a space.
-fn put_owner(out: &mut [u8], at: usize, owner: Owner) -> usize
+// "piece or `common`", and a space: a piece's number in its unit, where a piece has the symbol.
+fn put_owner(out: &mut [u8], at: usize, owner: Option<u16>) -> usize
     requires { at + 21 ≤ length out.old }
     ensures { Put out.old out.new at (owner_of owner ++ (32 ∷ [])) result }
 {
     match owner {
-        Owner::Common => put_field(out, at, b"common"),
-        Owner::Piece(number) => put_decimal(out, at, number as u64, SPACE),
+        None => put_field(out, at, b"common"),
+        Some(number) => put_decimal(out, at, number as u64, SPACE),
     }
 }
 
@@ -91,7 +84,13 @@ pub fn write_piece(
 }
 
 // "`sym` name (`-` if empty), piece or `common`, address, size"
-pub fn write_symbol(out: &mut [u8], name: &[u8], owner: Owner, address: u32, size: u32) -> usize
+pub fn write_symbol(
+    out: &mut [u8],
+    name: &[u8],
+    owner: Option<u16>,
+    address: u32,
+    size: u32,
+) -> usize
     requires { (208 ≤ length out.old) × (length name.now ≤ 128) }
     ensures { Written out.old out.new (sym_line name.now owner address size) result }
 {

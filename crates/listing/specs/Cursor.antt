@@ -6,8 +6,6 @@ use Rattle.obj.specs.declared.Reloc.{Reloc}
 use Rattle.pieces.specs.declared.Piece.{Piece}
 use Rattle.pieces.specs.declared.PieceSymbol.{PieceSymbol}
 use Rattle.pieces.specs.declared.PieceReloc.{PieceReloc}
-use Rattle.lines.specs.declared.Owner.{Owner}
-use Rattle.lines.specs.declared.Owner.TheVariants as owner
 use Rattle.lines.specs.Lines.{Written, piece_line, sym_line, reloc_line, total_line}
 use Rattle.listing.specs.declared.Cursor.{Cursor}
 use Rattle.listing.specs.declared.Cursor.TheVariants.{Units, Pieces, Symbols, Relocs, Total, Done}
@@ -127,8 +125,8 @@ abbrev pub piece_text : (name : ℕ → List ℕ) → Piece → List ℕ
 piece_text name p = piece_line p.number (name p.name) p.address p.size p.alignment p.origin
 
 -- "piece or `common`"
-abbrev pub owner_at : List Piece → (place : ℕ) → Owner
-owner_at pieces place = cond (eqb place 65535) owner.Common (owner.Piece (piece_of pieces place).number)
+abbrev pub owner_at : List Piece → (place : ℕ) → Option ℕ
+owner_at pieces place = cond (eqb place 65535) None (Some (piece_of pieces place).number)
 
 abbrev pub symbol_text : (name : ℕ → List ℕ) → (symbol : ℕ → Symbol) → List Piece → PieceSymbol → List ℕ
 symbol_text name symbol pieces y = sym_line (name (symbol y.symbol).name) (owner_at pieces y.piece) y.address (symbol y.symbol).size

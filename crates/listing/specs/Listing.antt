@@ -2,15 +2,13 @@
 -- bytes. After a unit's pieces come `sym` ..; then `reloc` ..". Pieces, symbols and relocations lie in the walk's order; the listing groups them by unit and keeps
 -- that order (DECISIONS.md, 71). Document 02, (c), adds the common symbols of known size to the unit's figure (DECISIONS.md, 135 and 136). Each figure is summed from
 -- the pieces and the piece symbols, in 64 bits.
-use Rattle.std.specs.Prelude.{ℕ, suc, ◌+◌, List, [], ◌∷◌, ◌++◌, cond, length, get_or, eqb}
+use Rattle.std.specs.Prelude.{ℕ, Option, Some, None, suc, ◌+◌, List, [], ◌∷◌, ◌++◌, cond, length, get_or, eqb}
 use Rattle.lists.specs.Rows.{keep_if}
 use Rattle.obj.specs.declared.Symbol.{Symbol}
 use Rattle.obj.specs.declared.Reloc.{Reloc}
 use Rattle.pieces.specs.declared.Piece.{Piece}
 use Rattle.pieces.specs.declared.PieceSymbol.{PieceSymbol}
 use Rattle.pieces.specs.declared.PieceReloc.{PieceReloc}
-use Rattle.lines.specs.declared.Owner.{Owner}
-use Rattle.lines.specs.declared.Owner.TheVariants as owner
 use Rattle.lines.specs.Lines.{unit_line, piece_line, sym_line, reloc_line, total_line}
 
 -- what is listed: names, symbols and relocations by number, the units' names in link order, and what the walk gave
@@ -68,8 +66,8 @@ piece_lines t [] = []
 piece_lines t (p ∷ later) = piece_line p.number (t.name p.name) p.address p.size p.alignment p.origin ++ piece_lines t later
 
 -- "piece or `common`"
-abbrev pub owner_in : Run → (place : ℕ) → Owner
-owner_in t place = cond (eqb place 65535) owner.Common (owner.Piece (piece_in t place).number)
+abbrev pub owner_in : Run → (place : ℕ) → Option ℕ
+owner_in t place = cond (eqb place 65535) None (Some (piece_in t place).number)
 
 -- name and size are those of the image's symbol
 unfoldable pub sym_lines : Run → List PieceSymbol → List ℕ

@@ -7,7 +7,6 @@ ghost use Rattle.listing.specs.Lent.{listed_pieces, listed_symbols, piece_on, sy
 
 use crate::PieceLists;
 use crate::lent::RunTables;
-use lines::Owner;
 use names::name_at;
 use obj::symbol_at;
 use pieces::{Piece, piece_at, piece_symbol_at};
@@ -43,15 +42,15 @@ pub fn piece_of(lists: &PieceLists, k: usize) -> Piece
     }
 }
 
-// "piece or `common`"
-pub fn owner_of(lists: &PieceLists, place: u16) -> Owner
+// "piece or `common`": the number of the piece in its unit, if a piece has the symbol.
+pub fn owner_of(lists: &PieceLists, place: u16) -> Option<u16>
     ensures { result ≡ owner_at (listed_pieces lists.now) place }
 {
     if place == 65535 {
-        return Owner::Common;
+        return None;
     }
     let p = piece_of(lists, place as usize);
-    Owner::Piece(p.number)
+    Some(p.number)
 }
 
 // What piece k adds to the figure of the unit.
