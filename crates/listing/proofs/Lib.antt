@@ -2,7 +2,6 @@ pub mod First
 pub mod Rest
 pub mod Seeks
 pub mod Sums
-pub mod Texts
 pub mod Names
 pub mod Nexts
 pub mod Whole

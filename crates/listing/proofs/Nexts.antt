@@ -15,8 +15,9 @@ use Rattle.lines.specs.Lines.{line, unit_line, total_line, Written}
 use Rattle.listing.specs.declared.Cursor.{Cursor}
 use Rattle.listing.specs.declared.Cursor.TheVariants.{Units, Pieces, Symbols, Relocs, Total, Done}
 use Rattle.listing.specs.declared.Line.{Line}
+use Rattle.std.specs.Prelude.{Option, Some, None}
 use Rattle.listing.specs.Listing.{Run, figure}
-use Rattle.listing.specs.Cursor.{rest, most, Valid, Before, goes_on, piece_is, symbol_is, reloc_is, Sought, piece_text, symbol_text, reloc_text, Wrote, Next}
+use Rattle.listing.specs.Cursor.{rest, most, Valid, Before, goes_on, piece_is, symbol_is, reloc_is, Sought, piece_text, symbol_text, reloc_text, Wrote, Next, NextLine}
 use Rattle.listing.specs.Tables.{Tables, Readable, run_of}
 use Rattle.listing.proofs.First.{listed}
 use Rattle.listing.proofs.Rest.{unit_step, piece_step, symbol_step, reloc_step}
@@ -69,6 +70,14 @@ module _ {t : Tables} (known : Readable t) {c ready : Cursor}
 
     same : {to : Cursor} → ready ≡ to → rest (run_of t) c ≡ rest (run_of t) to
     same e = (found e).same (run_of t).name (run_of t).symbol (run_of t).reloc (run_of t).units units_long
+
+    moved : {before after : List ℕ} {r : Line} → Next (run_of t) ready before after r → Next (run_of t) c before after r
+    moved n = record { is = same refl ∙ n.is; valid = n.valid; goes = n.goes ∙ q.goes; few = n.few; long = n.long }
+
+    -- the line at the cursor that was sought is the next one
+    pub next_sought : (before after : List ℕ) (r : Option Line) → NextLine (run_of t) ready before after r → NextLine (run_of t) c before after r
+    next_sought before after None n = moved n
+    next_sought before after (Some w) n = (moved n.0, n.1)
 
     -- ---- what the functions ask
 

@@ -9,9 +9,9 @@ use Rattle.pieces.specs.declared.Piece.{Piece}
 use Rattle.pieces.specs.declared.PieceSymbol.{PieceSymbol}
 use Rattle.pieces.specs.declared.PieceReloc.{PieceReloc}
 use Rattle.listing.specs.declared.Cursor.{Cursor}
-use Rattle.listing.specs.declared.Cursor.TheVariants.{Units, Pieces, Symbols, Relocs, Total, Done}
+use Rattle.listing.specs.declared.Cursor.TheVariants.{Units, Pieces, Symbols, Relocs, Total}
 use Rattle.listing.specs.Listing.{piece_lines, sym_lines, reloc_lines}
-use Rattle.listing.specs.Cursor.{from_unit, from_relocs, from_symbols, from_pieces, piece_is, symbol_is, reloc_is, First, Before, Within, Sought}
+use Rattle.listing.specs.Cursor.{from_unit, from_relocs, from_symbols, from_pieces, piece_is, symbol_is, reloc_is, First, Before, Within, Valid, Ready, Sought}
 use Rattle.std.specs.Prelude.{Some, None}
 use Rattle.listing.proofs.First.{kept_from, none_left, first_there}
 use Rattle.listing.proofs.Rest.{units_ended, pieces_ended, symbols_ended, relocs_ended}
@@ -133,11 +133,8 @@ module _ (units unit at bytes : ℕ) (f : ℕ → Piece) (count : ℕ) (symbols 
     goes = n.goes;
   }
 
--- ---- the end
+-- ---- a cursor that stands at a record of its unit
 
-module _ {units : ℕ} {pieces : List Piece} {symbols : List PieceSymbol} {relocs : List PieceReloc} where
-  pub sought_here_total : (bytes : ℕ) → Sought units pieces symbols relocs (Total bytes) (Total bytes)
-  sought_here_total bytes = record { same = λ name symbol reloc names e. refl; valid = tt; ready = tt; goes = refl }
-
-  pub sought_here_done : Sought units pieces symbols relocs Done Done
-  sought_here_done = record { same = λ name symbol reloc names e. refl; valid = tt; ready = tt; goes = refl }
+pub sought_here : {units : ℕ} {pieces : List Piece} {symbols : List PieceSymbol} {relocs : List PieceReloc} (c : Cursor) → Valid units c → Ready units pieces symbols relocs c
+    → Sought units pieces symbols relocs c c
+sought_here c v r = record { same = λ name symbol reloc names e. refl; valid = v; ready = r; goes = refl }

@@ -7,10 +7,10 @@ mod reading;
 mod seek;
 mod text;
 
-ghost use Rattle.std.specs.Prelude.{◌≤◌, length};
-ghost use Rattle.listing.specs.Cursor.{Valid, NextLine};
+ghost use Rattle.std.specs.Prelude.{◌^◌, ◌<◌, ◌≤◌, length};
+ghost use Rattle.listing.specs.Cursor.{Valid, Ready, NextLine};
 ghost use Rattle.listing.specs.Tables.{run_of, Readable};
-ghost use Rattle.listing.specs.Lent.{tables_of};
+ghost use Rattle.listing.specs.Lent.{listed_pieces, listed_symbols, listed_relocs, tables_of};
 
 use crate::lent::RunTables;
 use crate::reading::figure_of;
@@ -39,6 +39,51 @@ pub struct Line {
     pub next: Cursor,
 }
 
+// The line at a cursor that stands at a record of its unit, if one is left.
+fn line_at(tables: &RunTables, cursor: Cursor, out: &mut [u8]) -> Option<Line>
+    requires { Valid (length tables.now.units.now.places.now) cursor
+        × Ready (length tables.now.units.now.places.now) (listed_pieces tables.now.lists.now) (listed_symbols tables.now.lists.now) (listed_relocs tables.now.lists.now) cursor
+        × (tables.now.lists.now.made.relocs < 2 ^ 64)
+        × (208 ≤ length out.old) }
+    ensures { NextLine (run_of (tables_of tables.now.base.now tables.now.added.now tables.now.symbols.now tables.now.relocs.now tables.now.units.now tables.now.lists.now)) cursor out.old out.new result }
+{
+    match cursor {
+        Cursor::Units { unit, bytes } => {
+            let size = figure_of(tables, unit);
+            let length = unit_line(tables, unit, size, out);
+            let bytes = bytes + size;
+            let next = Cursor::Pieces { unit, at: 0, bytes };
+            Some(Line { length, next })
+        }
+        Cursor::Pieces { unit, at, bytes } => {
+            let length = piece_line(tables, at, out);
+            let at = at + 1;
+            let next = Cursor::Pieces { unit, at, bytes };
+            Some(Line { length, next })
+        }
+        Cursor::Symbols { unit, at, bytes } => {
+            let length = symbol_line(tables, at, out);
+            let at = at + 1;
+            let next = Cursor::Symbols { unit, at, bytes };
+            Some(Line { length, next })
+        }
+        Cursor::Relocs { unit, at, bytes } => {
+            let length = reloc_line(tables, at, out);
+            let at = at + 1;
+            let next = Cursor::Relocs { unit, at, bytes };
+            Some(Line { length, next })
+        }
+        Cursor::Total { bytes } => {
+            let units = tables.units.places.len() as u16;
+            let pieces = tables.lists.made.pieces as u16;
+            let length = write_total(out, units, pieces, bytes);
+            let next = Cursor::Done;
+            Some(Line { length, next })
+        }
+        Cursor::Done => None,
+    }
+}
+
 // The next line of the listing, if one is left.
 pub fn next_line<'a>(
     base: &Names<'a, '_, '_>,
@@ -64,37 +109,5 @@ pub fn next_line<'a>(
         lists,
     };
     let units = unit_table.places.len() as u16;
-    match seek(units, lists, cursor) {
-        Cursor::Units { unit, bytes } => {
-            let size = figure_of(&tables, unit);
-            let length = unit_line(&tables, unit, size, out);
-            let bytes = bytes + size;
-            let next = Cursor::Pieces { unit, at: 0, bytes };
-            Some(Line { length, next })
-        }
-        Cursor::Pieces { unit, at, bytes } => {
-            let length = piece_line(&tables, at, out);
-            let at = at + 1;
-            let next = Cursor::Pieces { unit, at, bytes };
-            Some(Line { length, next })
-        }
-        Cursor::Symbols { unit, at, bytes } => {
-            let length = symbol_line(&tables, at, out);
-            let at = at + 1;
-            let next = Cursor::Symbols { unit, at, bytes };
-            Some(Line { length, next })
-        }
-        Cursor::Relocs { unit, at, bytes } => {
-            let length = reloc_line(&tables, at, out);
-            let at = at + 1;
-            let next = Cursor::Relocs { unit, at, bytes };
-            Some(Line { length, next })
-        }
-        Cursor::Total { bytes } => {
-            let length = write_total(out, units, lists.made.pieces as u16, bytes);
-            let next = Cursor::Done;
-            Some(Line { length, next })
-        }
-        Cursor::Done => None,
-    }
+    line_at(&tables, seek(units, lists, cursor), out)
 }

@@ -48,27 +48,6 @@ fn first_from<F: Fn(usize) -> bool>(at: usize, count: usize, test: F) -> Option<
     None
 }
 
-// The first piece of the unit from `at` on.
-fn next_piece(here: &UnitHere, at: usize) -> Option<usize>
-    ensures { First (λ k. piece_is here.now.unit (piece_on here.now.lists.now k)) at here.now.lists.now.made.pieces result }
-{
-    first_from(at, here.lists.made.pieces, |k| piece_is(here, k))
-}
-
-// The first symbol of the unit from `at` on.
-fn next_symbol(here: &UnitHere, at: usize) -> Option<usize>
-    ensures { First (λ k. symbol_is here.now.unit (symbol_on here.now.lists.now k)) at here.now.lists.now.made.symbols result }
-{
-    first_from(at, here.lists.made.symbols, |k| symbol_is(here, k))
-}
-
-// The first relocation of the unit from `at` on.
-fn next_reloc(here: &UnitHere, at: usize) -> Option<usize>
-    ensures { First (λ k. reloc_is (listed_pieces here.now.lists.now) here.now.unit (reloc_on here.now.lists.now k)) at here.now.lists.now.made.relocs result }
-{
-    first_from(at, here.lists.made.relocs, |k| reloc_is(here, k))
-}
-
 // The unit, or the total behind the last.
 fn seek_unit(units: u16, unit: u16, bytes: u64) -> Cursor
     requires { Before units unit bytes }
@@ -84,12 +63,9 @@ fn seek_unit(units: u16, unit: u16, bytes: u64) -> Cursor
 fn seek_reloc(here: &UnitHere, at: usize) -> Cursor
     ensures { SoughtRelocs here.now.units (listed_pieces here.now.lists.now) (listed_relocs here.now.lists.now) (Relocs here.now.unit at here.now.bytes) result }
 {
-    if let Some(k) = next_reloc(here, at) {
-        return Cursor::Relocs {
-            unit: here.unit,
-            at: k,
-            bytes: here.bytes,
-        };
+    let (unit, bytes) = (here.unit, here.bytes);
+    if let Some(at) = first_from(at, here.lists.made.relocs, |k| reloc_is(here, k)) {
+        return Cursor::Relocs { unit, at, bytes };
     }
     seek_unit(here.units, here.unit + 1, here.bytes)
 }
@@ -98,12 +74,9 @@ fn seek_reloc(here: &UnitHere, at: usize) -> Cursor
 fn seek_symbol(here: &UnitHere, at: usize) -> Cursor
     ensures { Sought here.now.units (listed_pieces here.now.lists.now) (listed_symbols here.now.lists.now) (listed_relocs here.now.lists.now) (Symbols here.now.unit at here.now.bytes) result }
 {
-    if let Some(k) = next_symbol(here, at) {
-        return Cursor::Symbols {
-            unit: here.unit,
-            at: k,
-            bytes: here.bytes,
-        };
+    let (unit, bytes) = (here.unit, here.bytes);
+    if let Some(at) = first_from(at, here.lists.made.symbols, |k| symbol_is(here, k)) {
+        return Cursor::Symbols { unit, at, bytes };
     }
     seek_reloc(here, 0)
 }
@@ -112,12 +85,9 @@ fn seek_symbol(here: &UnitHere, at: usize) -> Cursor
 fn seek_piece(here: &UnitHere, at: usize) -> Cursor
     ensures { Sought here.now.units (listed_pieces here.now.lists.now) (listed_symbols here.now.lists.now) (listed_relocs here.now.lists.now) (Pieces here.now.unit at here.now.bytes) result }
 {
-    if let Some(k) = next_piece(here, at) {
-        return Cursor::Pieces {
-            unit: here.unit,
-            at: k,
-            bytes: here.bytes,
-        };
+    let (unit, bytes) = (here.unit, here.bytes);
+    if let Some(at) = first_from(at, here.lists.made.pieces, |k| piece_is(here, k)) {
+        return Cursor::Pieces { unit, at, bytes };
     }
     seek_symbol(here, 0)
 }

@@ -1,4 +1,5 @@
 // The text of a unit's line, of a piece's, of a symbol's, of a relocation's. `out` is any lent buffer of 208 bytes or more: next_line asks no more of its callers.
+// Tables, a record's number and the buffer stay apart: a struct of them would be made for one line, and the buffer, which is written, can't be lent by `&` with the tables.
 ghost use Rattle.std.specs.Prelude.{ℕ, ◌*◌, ◌≤◌, ◌<◌, length, get_or};
 ghost use Rattle.obj.specs.Records.{unit_at};
 ghost use Rattle.lines.specs.Lines.{unit_line, Written};

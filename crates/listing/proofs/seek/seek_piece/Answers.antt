@@ -1,4 +1,7 @@
 -- `listing::seek::seek_piece` meets its contract: the next piece of the unit, or its symbols.
+use borrow.Author.Rules.{rules}
+use Rattle.std.proofs.Common.{ℕ}
+use Rattle.listing.specs.Cursor.{piece_is}
 use Rattle.listing.proofs.Seeks.{sought_piece, pieces_passed}
 use Rattle.pieces.specs.Pieces.{pieces_in}
 use Rattle.listing.specs.Lent.{listed_symbols, listed_relocs, piece_on}
@@ -8,10 +11,10 @@ pub returns-in-Some : goal.returns-in-Some
 unfolding pieces_in
 returns-in-Some c =
     let a = c.args in
-    sought_piece a.here.now.units a.here.now.unit a.at a.here.now.bytes (piece_on a.here.now.lists.now) a.here.now.lists.now.made.pieces (listed_symbols a.here.now.lists.now) (listed_relocs a.here.now.lists.now) c.in-Some.ensures a.here.now.within
+    sought_piece a.here.now.units a.here.now.unit a.at a.here.now.bytes (piece_on a.here.now.lists.now) a.here.now.lists.now.made.pieces (listed_symbols a.here.now.lists.now) (listed_relocs a.here.now.lists.now) (c.in-Some.ensures (λ (k : ℕ). piece_is a.here.now.unit (piece_on a.here.now.lists.now k)) (λ k r h e. search (rules, e))) a.here.now.within
 
 pub returns : goal.returns
 unfolding pieces_in
 returns c =
     let a = c.args in
-    pieces_passed a.here.now.units a.here.now.unit a.at a.here.now.bytes (piece_on a.here.now.lists.now) a.here.now.lists.now.made.pieces (listed_symbols a.here.now.lists.now) (listed_relocs a.here.now.lists.now) c.in_default.ensures c.seek_symbol.ensures
+    pieces_passed a.here.now.units a.here.now.unit a.at a.here.now.bytes (piece_on a.here.now.lists.now) a.here.now.lists.now.made.pieces (listed_symbols a.here.now.lists.now) (listed_relocs a.here.now.lists.now) (c.in_default.ensures (λ (k : ℕ). piece_is a.here.now.unit (piece_on a.here.now.lists.now k)) (λ k r h e. search (rules, e))) c.seek_symbol.ensures

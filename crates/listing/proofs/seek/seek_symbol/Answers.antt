@@ -1,4 +1,7 @@
 -- `listing::seek::seek_symbol` meets its contract: the next symbol of the unit, or its relocations.
+use borrow.Author.Rules.{rules}
+use Rattle.std.proofs.Common.{ℕ}
+use Rattle.listing.specs.Cursor.{symbol_is}
 use Rattle.listing.proofs.Seeks.{sought_symbol, symbols_passed}
 use Rattle.pieces.specs.Pieces.{symbols_in}
 use Rattle.listing.specs.Lent.{listed_pieces, listed_symbols, listed_relocs, symbol_on}
@@ -8,10 +11,10 @@ pub returns-in-Some : goal.returns-in-Some
 unfolding symbols_in
 returns-in-Some c =
     let a = c.args in
-    sought_symbol a.here.now.units a.here.now.unit a.at a.here.now.bytes (listed_pieces a.here.now.lists.now) (symbol_on a.here.now.lists.now) a.here.now.lists.now.made.symbols (listed_relocs a.here.now.lists.now) c.in-Some.ensures a.here.now.within
+    sought_symbol a.here.now.units a.here.now.unit a.at a.here.now.bytes (listed_pieces a.here.now.lists.now) (symbol_on a.here.now.lists.now) a.here.now.lists.now.made.symbols (listed_relocs a.here.now.lists.now) (c.in-Some.ensures (λ (k : ℕ). symbol_is a.here.now.unit (symbol_on a.here.now.lists.now k)) (λ k r h e. search (rules, e))) a.here.now.within
 
 pub returns : goal.returns
 unfolding symbols_in
 returns c =
     let a = c.args in
-    symbols_passed a.here.now.units a.here.now.unit a.at a.here.now.bytes (listed_pieces a.here.now.lists.now) (symbol_on a.here.now.lists.now) a.here.now.lists.now.made.symbols (listed_relocs a.here.now.lists.now) c.in_default.ensures (c.seek_reloc.ensures (listed_symbols a.here.now.lists.now))
+    symbols_passed a.here.now.units a.here.now.unit a.at a.here.now.bytes (listed_pieces a.here.now.lists.now) (symbol_on a.here.now.lists.now) a.here.now.lists.now.made.symbols (listed_relocs a.here.now.lists.now) (c.in_default.ensures (λ (k : ℕ). symbol_is a.here.now.unit (symbol_on a.here.now.lists.now k)) (λ k r h e. search (rules, e))) (c.seek_reloc.ensures (listed_symbols a.here.now.lists.now))
