@@ -26,12 +26,12 @@ pub enum Mode {
     Keep,
 }
 
-// How far a case is read: `high` is the first digit of a byte, 16 if none was read; table k ends at cuts[k].
+// How far a case is read: `high` is the first digit of a byte, where that was read; table k ends at cuts[k].
 #[derive(Drop)]
 pub struct Reading<'b> {
     pub bytes: Gathered<'b>,
     pub mode: Mode,
-    pub high: u8,
+    pub high: Option<u8>,
     pub table: usize,
     pub width: usize,
     pub count: usize,
@@ -59,7 +59,7 @@ fn push_names(bytes: &mut Gathered) {
     }
 }
 
-// ---- a character more
+// ---- a character more. Each kind of character takes the reading, what is printed to and the character: a struct of these would be made for one character.
 
 impl Reading<'_> {
     // The byte `width` before the end, 0 if there is none.
@@ -89,12 +89,12 @@ impl Reading<'_> {
     // A byte that was read.
     fn add(&mut self, v: u8) {
         self.bytes.push(v);
-        self.high = 16;
+        self.high = None;
     }
 
     fn add_names(&mut self) {
         push_names(&mut self.bytes);
-        self.high = 16;
+        self.high = None;
     }
 
     fn in_title(&mut self, rt: &impl Print, c: u8) -> io::Result<()> {
@@ -105,6 +105,7 @@ impl Reading<'_> {
         rt.write_all(&[c])
     }
 
+    // As in `run_cases`, over other modes: one function for both would be generic over them, and no shorter.
     fn in_comment(&mut self, c: u8) {
         if c == b'\n' {
             self.mode = Mode::Bytes;
@@ -120,8 +121,7 @@ impl Reading<'_> {
     }
 
     fn in_width(&mut self, c: u8) {
-        let d = digit(c);
-        if d < 10 {
+        if let Some(d @ 0..=9) = digit(c) {
             self.width = longer(self.width, d);
             return;
         }
@@ -129,13 +129,12 @@ impl Reading<'_> {
     }
 
     fn in_count(&mut self, c: u8) {
-        let d = digit(c);
-        if d < 10 {
+        if let Some(d @ 0..=9) = digit(c) {
             self.count = longer(self.count, d);
             return;
         }
         self.repeat();
-        self.high = 16;
+        self.high = None;
         self.mode = Mode::Bytes;
     }
 
@@ -148,25 +147,22 @@ impl Reading<'_> {
     }
 
     fn in_keep(&mut self, c: u8) {
-        let k = digit(c) as usize;
         self.mode = Mode::Bytes;
-        if (k == 0) | (9 <= k) {
-            return;
+        if let Some(k @ 1..=8) = digit(c) {
+            self.table = k as usize;
+            self.bytes.take_up(self.cuts[self.table - 1]);
         }
-        self.table = k;
-        self.bytes.take_up(self.cuts[k - 1]);
     }
 
     fn in_bytes(&mut self, c: u8) {
-        let d = digit(c);
-        if 16 <= d {
+        let Some(d) = digit(c) else {
             return;
-        }
-        if 16 <= self.high {
-            self.high = d;
+        };
+        let Some(high) = self.high else {
+            self.high = Some(d);
             return;
-        }
-        self.add(self.high % 16 * 16 + d % 16);
+        };
+        self.add(high % 16 * 16 + d);
     }
 
     // The next case begins, with its title.
@@ -294,7 +290,7 @@ fn run(rt: &impl Print, text: &[u8], buffer: &mut [u8]) -> io::Result<()> {
     let mut s = Reading {
         bytes: Gathered { buffer, used: 0 },
         mode: Mode::Bytes,
-        high: 16,
+        high: None,
         table: 0,
         width: 1,
         count: 0,

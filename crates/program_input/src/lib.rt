@@ -3,7 +3,7 @@
 
 mod gathered;
 
-ghost use Rattle.std.specs.Prelude.{◌≡◌, ℕ, ◌+◌, ◌*◌, ◌≤◌, ◌<◌, length, take, IfOk};
+ghost use Rattle.std.specs.Prelude.{◌≡◌, ℕ, ◌+◌, ◌*◌, ◌≤◌, ◌<◌, length, take, IfOk, IfSome};
 ghost use Rattle.std.specs.Io.KnownBytes.{Consumes, IsAtEnd};
 ghost use Rattle.names.specs.GapName.{digit};
 
@@ -28,16 +28,15 @@ pub fn read_full<R: Read>(input: &mut R, buf: &mut [u8]) -> io::Result<usize>
     Ok(done)
 }
 
-// The value of a digit, 0 to 9 and A to F; 16 if it is none.
-pub fn digit(c: u8) -> u8
-    ensures inside { result ≤ 16 }
-    ensures is { result < 16 → digit result ≡ c }
-    ensures each { (k : ℕ) → k < 16 → digit k ≡ c → result ≡ k }
+// The value of a digit, 0 to 9 and A to F, if it is one.
+pub fn digit(c: u8) -> Option<u8>
+    ensures is { IfSome result (λ d. (d < 16) × (digit d ≡ c)) }
+    ensures each { (k : ℕ) → k < 16 → digit k ≡ c → result ≡ Some k }
 {
     match c {
-        b'0'..=b'9' => c - b'0',
-        b'A'..=b'F' => c - b'A' + 10,
-        _ => 16,
+        b'0'..=b'9' => Some(c - b'0'),
+        b'A'..=b'F' => Some(c - b'A' + 10),
+        _ => None,
     }
 }
 

@@ -21,12 +21,12 @@ pub enum Mode {
     Count,
 }
 
-// How far a case is read: `high` is the first digit of a byte, 16 if none was read; `open` says that there is a case.
+// How far a case is read: `high` is the first digit of a byte, where that was read; `open` says that there is a case.
 #[derive(Drop)]
 pub struct Reading<'b> {
     pub bytes: Gathered<'b>,
     pub mode: Mode,
-    pub high: u8,
+    pub high: Option<u8>,
     pub count: usize,
     pub open: bool,
 }
@@ -62,19 +62,20 @@ impl Reading<'_> {
     fn next_case(&mut self, rt: &impl Print) -> io::Result<()> {
         self.close(rt)?;
         self.mode = Mode::Title;
-        self.high = 16;
+        self.high = None;
         self.bytes.take_up(0);
         self.open = true;
         rt.write_all(b"=")
     }
 
-    // ---- a character more
+    // ---- a character more. Each kind of character takes the reading, what is printed to and the character: a struct of these would be made for one character.
 
     fn in_title(&mut self, rt: &impl Print, c: u8) -> io::Result<()> {
         self.in_comment(c);
         rt.write_all(&[c])
     }
 
+    // As in `check_cases`, over other modes: one function for both would be generic over them, and no shorter.
     fn in_comment(&mut self, c: u8) {
         if c == b'\n' {
             self.mode = Mode::Bytes;
@@ -82,27 +83,25 @@ impl Reading<'_> {
     }
 
     fn in_count(&mut self, c: u8) {
-        let d = digit(c);
-        if d < 10 {
+        if let Some(d @ 0..=9) = digit(c) {
             self.count = longer(self.count, d);
             return;
         }
         self.repeat();
         self.mode = Mode::Bytes;
-        self.high = 16;
+        self.high = None;
     }
 
     fn in_bytes(&mut self, c: u8) {
-        let d = digit(c);
-        if 16 <= d {
+        let Some(d) = digit(c) else {
             return;
-        }
-        if 16 <= self.high {
-            self.high = d;
+        };
+        let Some(high) = self.high else {
+            self.high = Some(d);
             return;
-        }
-        self.bytes.push(self.high % 16 * 16 + d % 16);
-        self.high = 16;
+        };
+        self.bytes.push(high % 16 * 16 + d);
+        self.high = None;
     }
 
     fn start_count(&mut self) {
@@ -148,7 +147,7 @@ fn run(rt: &(impl Input + Print), buffer: &mut [u8]) -> io::Result<()> {
     let mut s = Reading {
         bytes: Gathered { buffer, used: 0 },
         mode: Mode::Bytes,
-        high: 16,
+        high: None,
         count: 0,
         open: false,
     };
