@@ -1,13 +1,16 @@
 -- The split table of the run: document 01, "It merges the partial splits in file order (`add_split`), marks common (`update_common_splits` with no start), fills
 -- gaps (`create_gap_splits`), checks (`validate_splits`), trims (..)". Each stage is its own definition on the table before it. What is known of the rows that are left:
 -- `table_homed` of proofs/Keeping.antt.
-use Rattle.std.specs.Prelude.{ℕ, ◌≤◌, ◌<◌, ◌≡◌, List, [], false}
+use Rattle.std.specs.Prelude.{ℕ, ◌≤◌, ◌<◌, ◌≡◌, List, [], false, length}
 use Rattle.lists.specs.Outcome.{Outcome, accepted, ◌>>◌, ◌>>=◌}
 use Rattle.obj.specs.declared.Split.{Split}
 use Rattle.tables.specs.Records.{sections_in, partials_in}
 use Rattle.load.specs.Load.{Loaded, names_in}
-use Rattle.loaded.specs.Tables.{image_from, sections_from, tables_with, file_names}
+use Rattle.loaded.specs.Tables.{image_from, sections_from, tables_with, file_names, byte_places, Usable}
 use Rattle.loaded.specs.declared.Loaded.{Loaded as Lent}
+use Rattle.names.specs.Index.{Indexed}
+use Rattle.names.specs.declared.NameIndex.{NameIndex}
+use Rattle.symbol_order.specs.Order.{symbol_of, order_of}
 use Rattle.sections.specs.Sections.{sections_of}
 use Rattle.merge.specs.Merge.{given, merge_all}
 use Rattle.common.specs.Common.{common_of}
@@ -55,6 +58,15 @@ abbrev pub gaps_in : Lent → (room : ℕ) → Ceilings → List Split → Outco
 gaps_in l room names rows =
     gaps_filled (image_from l.file.now (split_tables l)) (sections_of l.file.now l.sections.now l.file.now l.images.now)
     (given (sections_in l.file.now l.sections.now) room) names (record { names = file_names l; rows = rows })
+
+-- ---- what is asked
+
+-- the tables of a file that was accepted, with the places of its sections' bytes, its symbol order, and the index of its names
+pub record Ready (l : Lent) (index : NameIndex) : Type 0 where
+  pub usable : Usable l.file.now (split_tables l)
+  pub images_are : l.images.now ≡ byte_places l.sections.now
+  pub order_is : l.order.now ≡ order_of (symbol_of l.file.now l.symbols.now) (length l.symbols.now)
+  pub indexed : Indexed (file_names l) index.heads.now index.chain.now
 
 -- ---- the rows
 

@@ -2,13 +2,11 @@
 // (`create_gap_splits`), checks (`validate_splits`), trims (..)". All tables are those of a file that was accepted, so that none is checked again.
 #![tactic(auto)]
 
-ghost use Rattle.std.specs.Prelude.{◌≡◌, ◌≤◌, length};
-ghost use Rattle.names.specs.Index.{Indexed};
-ghost use Rattle.loaded.specs.Tables.{byte_places, file_names, Usable};
-ghost use Rattle.symbol_order.specs.Order.{symbol_of, order_of};
+ghost use Rattle.std.specs.Prelude.{◌≡◌, ◌≤◌};
+ghost use Rattle.loaded.specs.Tables.{file_names};
 ghost use Rattle.splits.specs.Table.{rows_in};
 ghost use Rattle.gap_splits.specs.Answers as entering;
-ghost use Rattle.run_splits.specs.Table.{split_table, split_tables, gaps_in};
+ghost use Rattle.run_splits.specs.Table.{split_table, split_tables, gaps_in, Ready};
 
 use create_gap_splits::create_gap_splits;
 use gap_columns::GapTable;
@@ -27,10 +25,7 @@ fn fill_gaps(
     table: &mut SplitTable,
     added: &mut AddedNames,
 ) -> Result<(), Refusal>
-    requires { Usable loaded.now.file.now (split_tables loaded.now)
-        × (loaded.now.images.now ≡ byte_places loaded.now.sections.now)
-        × (loaded.now.order.now ≡ order_of (symbol_of loaded.now.file.now loaded.now.symbols.now) (length loaded.now.symbols.now))
-        × Indexed (file_names loaded.now) index.now.heads.now index.now.chain.now
+    requires { Ready loaded.now index.now
         × (table.old.room ≤ 1024) }
     ensures tables { entering.meant (file_names loaded.now)
         (entering.added_in added.new) (rows_in table.new) result
@@ -66,10 +61,7 @@ pub fn split_table(
     table: &mut SplitTable,
     added: &mut AddedNames,
 ) -> Result<(), Refusal>
-    requires { Usable loaded.now.file.now (split_tables loaded.now)
-        × (loaded.now.images.now ≡ byte_places loaded.now.sections.now)
-        × (loaded.now.order.now ≡ order_of (symbol_of loaded.now.file.now loaded.now.symbols.now) (length loaded.now.symbols.now))
-        × Indexed (file_names loaded.now) index.now.heads.now index.now.chain.now
+    requires { Ready loaded.now index.now
         × (table.old.room ≤ 1024) }
     ensures tables { entering.meant (file_names loaded.now)
         (entering.added_in added.new) (rows_in table.new) result

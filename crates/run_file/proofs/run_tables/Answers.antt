@@ -38,7 +38,7 @@ pub split_table-filled-requires : goal.split_table-filled-requires
 split_table-filled-requires c =
     let q = c.requires in
     let r = q.0 in
-    (usable_parts r.usable, r.images_are, r.order_is, r.indexed, q.1.rows)
+    (record { usable = usable_parts r.usable; images_are = r.images_are; order_is = r.order_is; indexed = r.indexed }, q.1.rows)
 
 pub order_and_walk-requires : goal.order_and_walk-requires
 order_and_walk-requires c =

@@ -10,14 +10,14 @@ create_gap_splits-requires c =
     let q = c.requires in
     let t = c.args.table.now in
     rw (c.obj.ensures, c.image.ensures) (
-      tables-ordered q.0 _ q.2,
-      images_kept q.0 _ q.1,
-      symbols_sound q.0,
+      tables-ordered q.0.usable _ q.0.order_is,
+      images_kept q.0.usable _ q.0.images_are,
+      symbols_sound q.0.usable,
       clean_zeros 4096,
-      few_names q.0,
-      gaps_roomy q.0 t.count t.room _ t.fits q.4 (omega arith),
-      q.3,
-      section_short q.0,
+      few_names q.0.usable,
+      gaps_roomy q.0.usable t.count t.room _ t.fits q.1 (omega arith),
+      q.0.indexed,
+      section_short q.0.usable,
     )
 
 pub returns-clause-tables : goal.returns-clause-tables

@@ -26,7 +26,7 @@ base_of l = names_of l.file.now l.names.now l.lengths.now (length l.names.now)
 pub merge_partials-requires : goal.merge_partials-requires
 merge_partials-requires c =
     let q = c.requires in
-    (sections_common q.0, sections_held q.0, partials_mergeable q.0)
+    (sections_common q.0.usable, sections_held q.0.usable, partials_mergeable q.0.usable)
 
 pub returns-in_err-merge_partials-clause-tables : goal.returns-in_err-merge_partials-clause-tables
 returns-in_err-merge_partials-clause-tables c =
@@ -35,12 +35,12 @@ returns-in_err-merge_partials-clause-tables c =
     let m = c.merge_partials in
     let p = err_from_is_err_and c.from_residual.result c.from_residual.ensures.1 in
     let refused = sym (ap (λ (r : Answer). merged r (rows_in m.new.table)) c.in_err-merge_partials.was) ∙ m.ensures.rows in
-    rw (p.1, p.2) (merge_refused a.loaded.now.file.now (tables_of a.loaded.now) a.table.now.room room a.loaded.now.images.now c.requires.1 refused)
+    rw (p.1, p.2) (merge_refused a.loaded.now.file.now (tables_of a.loaded.now) a.table.now.room room a.loaded.now.images.now c.requires.0.images_are refused)
 
 pub fill_gaps-requires : goal.fill_gaps-requires
 fill_gaps-requires c =
     let q = c.requires in
-    (q.0, q.1, q.2, q.3, omega (arith, c.merge_partials.ensures.room, q.4))
+    (q.0, omega (arith, c.merge_partials.ensures.room, q.1))
 
 pub returns-in_err-fill_gaps-clause-tables : goal.returns-in_err-fill_gaps-clause-tables
 returns-in_err-fill_gaps-clause-tables c =
@@ -52,7 +52,7 @@ returns-in_err-fill_gaps-clause-tables c =
     let p = err_from_is_err_and c.from_residual-in_err-fill_gaps.result c.from_residual-in_err-fill_gaps.ensures.1 in
     let e = rw m.ensures.room at g.ensures.tables in
     let refused = sym (ap (meant (base_of a.loaded.now) (added_in g.new.added) (rows_in g.new.table)) c.in_err-fill_gaps.was) ∙ e in
-    rw (p.1, p.2) (gaps_refused a.loaded.now.file.now (tables_of a.loaded.now) a.table.now.room room a.loaded.now.images.now c.requires.1 merges refused)
+    rw (p.1, p.2) (gaps_refused a.loaded.now.file.now (tables_of a.loaded.now) a.table.now.room room a.loaded.now.images.now c.requires.0.images_are merges refused)
 
 pub check_and_trim-requires : goal.check_and_trim-requires
 check_and_trim-requires c =
@@ -66,11 +66,11 @@ check_and_trim-requires c =
     let e = rw m.ensures.room at g.ensures.tables in
     let filled = sym (ap (meant (base_of a.loaded.now) (added_in g.new.added) (rows_in g.new.table)) c.in_ok-fill_gaps.was) ∙ e in
     let u = g.new.table in (
-      tables-ordered q.0 _ q.2,
-      symbols_sound q.0,
-      images_kept q.0 _ q.1,
-      rows-placed q.0 a.table.now.room room a.loaded.now.images.now q.1 _ (gaps_given a.loaded.now.file.now t a.table.now.room room a.loaded.now.images.now q.1 merges filled) _ _ refl,
-      omega (arith, u.fits, g.ensures.room, m.ensures.room, q.4),
+      tables-ordered q.0.usable _ q.0.order_is,
+      symbols_sound q.0.usable,
+      images_kept q.0.usable _ q.0.images_are,
+      rows-placed q.0.usable a.table.now.room room a.loaded.now.images.now q.0.images_are _ (gaps_given a.loaded.now.file.now t a.table.now.room room a.loaded.now.images.now q.0.images_are merges filled) _ _ refl,
+      omega (arith, u.fits, g.ensures.room, m.ensures.room, q.1),
     )
 
 pub returns-clause-tables : goal.returns-clause-tables
@@ -83,4 +83,4 @@ returns-clause-tables c =
     let g = c.fill_gaps in
     let e = rw m.ensures.room at g.ensures.tables in
     let filled = sym (ap (meant (base_of a.loaded.now) (added_in g.new.added) (rows_in g.new.table)) c.in_ok-fill_gaps.was) ∙ e in
-    ends_so a.loaded.now.file.now t a.table.now.room room a.loaded.now.images.now c.requires.1 (base_of a.loaded.now) (added_in g.new.added) (rows_in c.check_and_trim.new.table) c.check_and_trim.result merges filled c.check_and_trim.ensures.rows
+    ends_so a.loaded.now.file.now t a.table.now.room room a.loaded.now.images.now c.requires.0.images_are (base_of a.loaded.now) (added_in g.new.added) (rows_in c.check_and_trim.new.table) c.check_and_trim.result merges filled c.check_and_trim.ensures.rows
