@@ -25,7 +25,6 @@ use Rattle.std.specs.Prelude as std
 use Rattle.order.specs.declared.Unlinked.{Unlinked}
 use Rattle.order.specs.declared.Unlinked.TheVariants.{Refused, Cycle}
 use Rattle.run_file.specs.RunFile.{Holds}
-use Rattle.run_outputs.specs.declared.Kept.{Kept}
 use Rattle.run_outputs.specs.Laid.{Sizes, Laid}
 use Rattle.run_outputs.specs.Kept.{none, kept_by, word_of, left_in, Fits, OutputFits}
 use Rattle.entry_split_file.specs.Entry.{left_by, word_by, Leaves}
@@ -118,7 +117,7 @@ module _ (c : Beside) (table : Columns) (units pieces entries offsets : List ℕ
   word_is (Err (Cycle count)) = refl
   word_is (Err (Refused r)) = refl
 
-  pub leaves : (r : std.Result Ran Unlinked) {o : Outcome Ended} {k : Kept} {sizes lent : Sizes} {answer : ℕ} (ends' bytes' splits' units' pieces' symbols' relocs' counts' : List ℕ) → ran_in c table units pieces entries offsets r ≡ o
+  pub leaves : (r : std.Result Ran Unlinked) {o : Outcome Ended} {k : Ran} {sizes lent : Sizes} {answer : ℕ} (ends' bytes' splits' units' pieces' symbols' relocs' counts' : List ℕ) → ran_in c table units pieces entries offsets r ≡ o
       → k ≡ kept_by r → lent ≡ sizes → answer ≡ word_of r → Laid (left_in c table units pieces entries offsets k) lent ends' bytes' splits' units' pieces' symbols' relocs' counts'
       → Leaves o sizes answer ends' bytes' splits' units' pieces' symbols' relocs' counts'
   leaves r {o} {k} {sizes} {lent} {answer} ends' bytes' splits' units' pieces' symbols' relocs' counts' is m z w d = record {
@@ -136,6 +135,6 @@ pub same_sizes : (ends bytes splits counts : ℕ) {units pieces symbols relocs u
     (record { ends = ends; bytes = bytes; splits = splits; units = units; pieces = pieces; symbols = symbols; relocs = relocs; counts = counts })
 same_sizes ends bytes splits counts a b e f = λ d. record { ends = ends; bytes = bytes; splits = splits; units = a d; pieces = b d; symbols = e d; relocs = f d; counts = counts }
 
-pub fits_as : {c : Beside} {units : List ℕ} {sizes sizes' : Sizes} {k k' : Kept} → Fits c units sizes k → k' ≡ k → sizes' ≡ sizes → Fits c units sizes' k'
+pub fits_as : {c : Beside} {units : List ℕ} {sizes sizes' : Sizes} {k k' : Ran} → Fits c units sizes k → k' ≡ k → sizes' ≡ sizes → Fits c units sizes' k'
 fits_as {c} {units} {sizes} {sizes'} {k} {k'} q e z =
-    subst (λ (x : Kept). Fits c units sizes' x) (sym e) (subst (λ (y : Sizes). Fits c units y k) (sym z) q)
+    subst (λ (x : Ran). Fits c units sizes' x) (sym e) (subst (λ (y : Sizes). Fits c units y k) (sym z) q)

@@ -23,7 +23,7 @@ use Rattle.stage_gaps.proofs.Laws.{flat_bytes}
 use Rattle.pieces.specs.Pieces.{pieces_in, symbols_in, relocs_in}
 use Rattle.pieces.proofs.Laws.{length-pieces_in, length-symbols_in, length-relocs_in}
 use Rattle.run.specs.Answers.{units_at}
-use Rattle.run_outputs.specs.declared.Kept.{Kept}
+use Rattle.run.specs.declared.Ran.{Ran}
 use Rattle.run_outputs.specs.Kept.{listed}
 
 -- ---- names
@@ -47,7 +47,7 @@ module _ (names : List (List ℕ)) (e₀ b₀ e₁ b₁ : List ℕ) {r : ℕ} (p
 
 -- ---- counts
 
-pub stored : (size : ℕ) (k : Kept) (before : List ℕ) → length before ≡ size
+pub stored : (size : ℕ) (k : Ran) (before : List ℕ) → length before ≡ size
     → store_count 6 k.made.relocs (store_count 5 k.made.symbols (store_count 4 k.made.pieces (store_count 3 k.units (store_count 2 k.splits (store_count 1 k.used (store_count 0 k.names (clear_from 0 0 before)))))))
     ≡ counts_of size (listed k)
 unfolding store_counts
@@ -58,7 +58,7 @@ stored size k before e =
 -- ---- what is kept
 
 -- the counts of the tables' records are what is kept
-pub kept-listed : (c : Beside) (table : Columns) (units pieces entries offsets : List ℕ) (k : Kept) → k.used ≡ bytes_of (added c k.names)
+pub kept-listed : (c : Beside) (table : Columns) (units pieces entries offsets : List ℕ) (k : Ran) → k.used ≡ bytes_of (added c k.names)
     → listed k
     ≡ length (added c k.names) ∷ length (flat (added c k.names)) ∷ length (rows table k.splits) ∷ length (units_at units k.units) ∷ length (pieces_in pieces k.made.pieces)
     ∷ length (symbols_in entries k.made.symbols) ∷ length (relocs_in offsets k.made.relocs) ∷ []

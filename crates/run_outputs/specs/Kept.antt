@@ -17,15 +17,14 @@ use Rattle.order.specs.declared.Unlinked.TheVariants.{Refused, Cycle}
 use Rattle.std.specs.Prelude.{Ok, Err}
 use Rattle.std.specs.Prelude as std
 use Rattle.obj.specs.Records.{split_width}
-use Rattle.run_outputs.specs.declared.Kept.{Kept}
 use Rattle.run_outputs.specs.Laid.{Sizes}
 
 abbrev pub none : Counts
 none = record { pieces = 0; symbols = 0; relocs = 0 }
 
 -- how many records an answer keeps in each table
-abbrev pub kept_by : std.Result Ran Unlinked → Kept
-kept_by (Ok r) = record { names = r.names; used = r.used; splits = r.splits; units = r.units; made = r.made }
+abbrev pub kept_by : std.Result Ran Unlinked → Ran
+kept_by (Ok r) = r
 kept_by (Err (Cycle units)) = record { names = 0; used = 0; splits = 0; units = units; made = none }
 kept_by (Err (Refused r)) = record { names = 0; used = 0; splits = 0; units = 0; made = none }
 
@@ -36,7 +35,7 @@ word_of (Err (Cycle units)) = refusal_word 61 0 0
 word_of (Err (Refused r)) = refusal_word r.number r.section r.address
 
 -- what the tables hold, of which so many records are kept
-abbrev pub left_in : Beside → Columns → (units pieces entries offsets : List ℕ) → Kept → Result
+abbrev pub left_in : Beside → Columns → (units pieces entries offsets : List ℕ) → Ran → Result
 left_in c table units pieces entries offsets k = record {
   added = added c k.names;
   splits = rows table k.splits;
@@ -60,7 +59,7 @@ pub record OutputLaid (out : Output) (pieces_size symbols-size relocs-size : ℕ
   pub relocs_are : relocs ≡ laid relocs-size (packed reloc_bytes out.relocs)
 
 -- each number has two bytes
-pub record Countable (k : Kept) : Type 0 where
+pub record Countable (k : Ran) : Type 0 where
   pub names : k.names ≤ 4096
   pub used : k.used ≤ 65535
   pub splits : k.splits ≤ 1024
@@ -69,11 +68,11 @@ pub record Countable (k : Kept) : Type 0 where
   pub symbols : k.made.symbols ≤ 4096
   pub relocs : k.made.relocs ≤ 4096
 
-abbrev pub listed : Kept → List ℕ
+abbrev pub listed : Ran → List ℕ
 listed k = k.names ∷ k.used ∷ k.splits ∷ k.units ∷ k.made.pieces ∷ k.made.symbols ∷ k.made.relocs ∷ []
 
 -- what is kept is there, and fits into the outputs
-pub record Fits (c : Beside) (units : List ℕ) (sizes : Sizes) (k : Kept) : Type 0 where
+pub record Fits (c : Beside) (units : List ℕ) (sizes : Sizes) (k : Ran) : Type 0 where
   pub names : Names c k.names k.used sizes.ends sizes.bytes
   pub ends : 2 * k.names ≤ sizes.ends
   pub splits : split_width * k.splits ≤ sizes.splits

@@ -8,7 +8,7 @@ use Rattle.gap_splits.specs.Added.{beside}
 use Rattle.run.specs.Run.{Result}
 use Rattle.run_outputs.specs.Laid.{Sizes, Laid}
 use Rattle.run_outputs.specs.Kept.{left_in, Fits, sizes_of}
-use Rattle.run_outputs.specs.declared.Kept.{Kept}
+use Rattle.run.specs.declared.Ran.{Ran}
 use Rattle.run_outputs.specs.declared.RunOutputs.{RunOutputs}
 
 -- the columns of the names that were added
@@ -20,12 +20,12 @@ sizes_in o =
     sizes_of o.ends.now o.bytes.now o.splits.now o.units.now o.pieces.now o.entries.now o.offsets.now o.counts.now
 
 -- what the tables hold, of which so many records are kept
-abbrev pub left_to : (added : Names) → SplitColumns → RunOutputs → Kept → Result
+abbrev pub left_to : (added : Names) → SplitColumns → RunOutputs → Ran → Result
 left_to added splits o k =
     left_in (beside_of added) (columns_of splits) o.units.now o.pieces.now o.entries.now o.offsets.now k
 
 -- .. which is there, and fits into the outputs
-abbrev pub FitsIn : (added : Names) → RunOutputs → Kept → Type 0
+abbrev pub FitsIn : (added : Names) → RunOutputs → Ran → Type 0
 FitsIn added o k = Fits (beside_of added) o.units.now (sizes_in o) k
 
 -- what is laid into outputs that were `before` and are `after`

@@ -18,6 +18,7 @@ use order::Unlinked;
 use outputs::{clear_from, put_count};
 use pieces::{Counts, PIECE_BYTES};
 use run::Ran;
+pub use run::Ran as Kept;
 use splits::SplitColumns;
 use stage_names::{NameOutput, first_names, put_names};
 use stage_splits::put_splits;
@@ -35,44 +36,26 @@ pub struct RunOutputs<'e, 'b, 's, 'u, 'p, 'y, 'o, 'c> {
     pub counts: &'c mut [u8],
 }
 
-// How many records are kept in each table.
-#[derive(Clone, Copy)]
-pub struct Kept {
-    pub names: usize,
-    pub used: usize,
-    pub splits: usize,
-    pub units: usize,
-    pub made: Counts,
-}
-
+// How many records an answer keeps in each table: those that it left, of a cycle its units, and none where it refused.
 pub fn kept_of(r: Result<Ran, Unlinked>) -> Kept
     ensures { result ≡ kept_by r }
 {
-    let mut kept = Kept {
+    let units = match r {
+        Ok(ran) => return ran,
+        Err(Unlinked::Cycle(units)) => units,
+        Err(Unlinked::Refused(_)) => 0,
+    };
+    Kept {
         names: 0,
         used: 0,
         splits: 0,
-        units: 0,
+        units,
         made: Counts {
             pieces: 0,
             symbols: 0,
             relocs: 0,
         },
-    };
-    match r {
-        Ok(ran) => {
-            kept = Kept {
-                names: ran.names,
-                used: ran.used,
-                splits: ran.splits,
-                units: ran.units,
-                made: ran.made,
-            };
-        }
-        Err(Unlinked::Cycle(units)) => kept.units = units,
-        Err(Unlinked::Refused(_)) => {}
     }
-    kept
 }
 
 // The answer as a word; "61 cycle" at (0, 0).
