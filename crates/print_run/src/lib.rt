@@ -56,6 +56,7 @@ fn print_lines<'a, W: Write>(
 }
 
 // The listing of a run that was done, of n units: the parts of the column of places are the tables of names, symbols and relocations.
+// The columns and what was made stay apart: `FileColumns` and `RunTables` are lent to the run by `&mut`, and this reads two of the one and one of the other.
 fn print_done<'a, W: Write>(
     out: &mut W,
     file: &'a [u8],
@@ -168,7 +169,8 @@ fn print_in<'a, W: Write>(
     print_ran(out, ran, file, counts, columns, &added.names(), tables)
 }
 
-// The same, with columns of its own for the split table and the names that are added.
+// The same, with columns of its own for the split table and the names that are added. `entry_split_file::with_tables` makes the same arrays: what is lent must lie in the function
+// that lends it, what reads them after the run differs, and one function for both would take that as a closure, whose contract says all that the two say now.
 fn print_with_tables<W: Write>(
     out: &mut W,
     file: &[u8],
