@@ -4,7 +4,7 @@
 
 ghost use Rattle.std.specs.Prelude.{◌≡◌, ◌≤◌};
 ghost use Rattle.loaded.specs.Tables.{file_names};
-ghost use Rattle.splits.specs.Table.{rows_in};
+ghost use Rattle.splits.specs.Table.{rows_in, SameLent as SameTable};
 ghost use Rattle.gap_splits.specs.Answers as entering;
 ghost use Rattle.run_splits.specs.Table.{split_table, split_tables, gaps_in, Ready};
 
@@ -16,7 +16,7 @@ use names::NameIndex;
 use obj::Refusal;
 use run_merge::merge_partials;
 use run_trim::check_and_trim;
-use splits::SplitTable;
+use splits::{SplitEnds, SplitTable};
 
 // The gaps of the table filled, with columns of its own for those that are found. `index` is that of the file's names.
 fn fill_gaps(
@@ -31,8 +31,8 @@ fn fill_gaps(
         (entering.added_in added.new) (rows_in table.new) result
         ≡ gaps_in loaded.now table.old.room
         (entering.ceilings (file_names loaded.now) added.old.most added.old.most_bytes) (rows_in table.old) }
-    ensures ceilings { entering.SameCeilings added.old added.new }
-    ensures room { table.new.room ≡ table.old.room }
+    ensures lent { SameTable table.old table.new }
+    ensures added { entering.SameLent added.old added.new }
 {
     let mut marks = [0u8; 4096];
     let mut keys = [0u64; 6208];
@@ -67,11 +67,22 @@ pub fn split_table(
         (entering.added_in added.new) (rows_in table.new) result
         ≡ split_table loaded.now.file.now (split_tables loaded.now) table.old.room
         (entering.ceilings (file_names loaded.now) added.old.most added.old.most_bytes) }
-    ensures ceilings { entering.SameCeilings added.old added.new }
-    ensures room { table.new.room ≡ table.old.room }
+    ensures lent { SameTable table.old table.new }
+    ensures added { entering.SameLent added.old added.new }
 {
     merge_partials(loaded, table)?;
     fill_gaps(loaded, index, table, added)?;
     let mut falls = [0u32; 1024];
-    check_and_trim(loaded, table, &mut falls)
+    let starts = &mut *table.starts;
+    let ends = &mut *table.ends;
+    let units = &mut *table.units;
+    let rest = &mut *table.rest;
+    let mut trimmed = SplitEnds {
+        starts: &*starts,
+        ends: &mut *ends,
+        units: &*units,
+        rest: &*rest,
+        count: table.count,
+    };
+    check_and_trim(loaded, &mut trimmed, &mut falls)
 }

@@ -40,7 +40,7 @@ returns-in_err-merge_partials-clause-tables c =
 pub fill_gaps-requires : goal.fill_gaps-requires
 fill_gaps-requires c =
     let q = c.requires in
-    (q.0, omega (arith, c.merge_partials.ensures.room, q.1))
+    (q.0, omega (arith, c.merge_partials.ensures.lent.room, q.1))
 
 pub returns-in_err-fill_gaps-clause-tables : goal.returns-in_err-fill_gaps-clause-tables
 returns-in_err-fill_gaps-clause-tables c =
@@ -50,7 +50,7 @@ returns-in_err-fill_gaps-clause-tables c =
     let merges = sym (ap (λ (r : Answer). merged r (rows_in m.new.table)) c.in_ok-merge_partials.was) ∙ m.ensures.rows in
     let g = c.fill_gaps in
     let p = err_from_is_err_and c.from_residual-in_err-fill_gaps.result c.from_residual-in_err-fill_gaps.ensures.1 in
-    let e = rw m.ensures.room at g.ensures.tables in
+    let e = rw m.ensures.lent.room at g.ensures.tables in
     let refused = sym (ap (meant (base_of a.loaded.now) (added_in g.new.added) (rows_in g.new.table)) c.in_err-fill_gaps.was) ∙ e in
     rw (p.1, p.2) (gaps_refused a.loaded.now.file.now (tables_of a.loaded.now) a.table.now.room room a.loaded.now.images.now c.requires.0.images_are merges refused)
 
@@ -63,14 +63,14 @@ check_and_trim-requires c =
     let m = c.merge_partials in
     let merges = sym (ap (λ (r : Answer). merged r (rows_in m.new.table)) c.in_ok-merge_partials.was) ∙ m.ensures.rows in
     let g = c.fill_gaps in
-    let e = rw m.ensures.room at g.ensures.tables in
+    let e = rw m.ensures.lent.room at g.ensures.tables in
     let filled = sym (ap (meant (base_of a.loaded.now) (added_in g.new.added) (rows_in g.new.table)) c.in_ok-fill_gaps.was) ∙ e in
     let u = g.new.table in (
       tables-ordered q.0.usable _ q.0.order_is,
       symbols_sound q.0.usable,
       images_kept q.0.usable _ q.0.images_are,
       rows-placed q.0.usable a.table.now.room room a.loaded.now.images.now q.0.images_are _ (gaps_given a.loaded.now.file.now t a.table.now.room room a.loaded.now.images.now q.0.images_are merges filled) _ _ refl,
-      omega (arith, u.fits, g.ensures.room, m.ensures.room, q.1),
+      omega (arith, u.fits, g.ensures.lent.room, m.ensures.lent.room, q.1),
     )
 
 pub returns-clause-tables : goal.returns-clause-tables
@@ -81,6 +81,10 @@ returns-clause-tables c =
     let m = c.merge_partials in
     let merges = sym (ap (λ (r : Answer). merged r (rows_in m.new.table)) c.in_ok-merge_partials.was) ∙ m.ensures.rows in
     let g = c.fill_gaps in
-    let e = rw m.ensures.room at g.ensures.tables in
+    let e = rw m.ensures.lent.room at g.ensures.tables in
     let filled = sym (ap (meant (base_of a.loaded.now) (added_in g.new.added) (rows_in g.new.table)) c.in_ok-fill_gaps.was) ∙ e in
-    ends_so a.loaded.now.file.now t a.table.now.room room a.loaded.now.images.now c.requires.0.images_are (base_of a.loaded.now) (added_in g.new.added) (rows_in c.check_and_trim.new.table) c.check_and_trim.result merges filled c.check_and_trim.ensures.rows
+    let u = c.check_and_trim in
+    let o = u.ensures.others in
+    let trimmed = rw (o.starts, o.units, o.rest, o.count) at u.ensures.rows in
+    let written = c.ends-2-1.given.1.1 (sym o.ends) in
+    rw written (ends_so a.loaded.now.file.now t a.table.now.room room a.loaded.now.images.now c.requires.0.images_are (base_of a.loaded.now) (added_in g.new.added) _ u.result merges filled trimmed)
