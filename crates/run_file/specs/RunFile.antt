@@ -71,6 +71,15 @@ pub record Lent (t : SplitTable) (a : AddedNames) : Type 0 where
 abbrev pub beside_in : AddedNames → Beside
 beside_in a = beside a.bytes.now a.places.now a.lengths.now
 
+-- the columns of the names that are added are still those that were lent, of the same lengths; how many may be added depends on the file
+pub record SameNames (before after : AddedNames) : Type 0 where
+  pub bytes : after.bytes.ghost_name ≡ before.bytes.ghost_name
+  pub places : after.places.ghost_name ≡ before.places.ghost_name
+  pub lengths : after.lengths.ghost_name ≡ before.lengths.ghost_name
+  pub bytes_size : length after.bytes.now ≡ length before.bytes.now
+  pub places_size : length after.places.now ≡ length before.places.now
+  pub lengths_size : length after.lengths.now ≡ length before.lengths.now
+
 -- what was loaded, in the loader's columns, with the places of the sections' bytes and the symbol order
 pub record Stored (file : List ℕ) (n : load.Counts) (ordered : ℕ) (places lengths heads chain images order : List ℕ) : Type 0 where
   pub usable : Usable file (tables_in n places lengths)

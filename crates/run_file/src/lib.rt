@@ -4,11 +4,11 @@
 
 ghost use Rattle.std.specs.Prelude.{◌≡◌, ◌/◌, length};
 ghost use Rattle.loaded.specs.Tables.{tables_of};
-ghost use Rattle.splits.specs.Table.{columns_in};
+ghost use Rattle.splits.specs.Table.{columns_in, SameLent as SameTable};
 ghost use Rattle.run_load.specs.Lent.{SameColumns};
 ghost use Rattle.run.specs.Run.{stages};
 ghost use Rattle.run.specs.Outputs.{room_lent, ran_to, SameLent};
-ghost use Rattle.run_file.specs.RunFile.{rooms_in, beside_in, ReadyIn, LoadedIn, Lent, StoredIn, HoldsIn, RunsIn};
+ghost use Rattle.run_file.specs.RunFile.{rooms_in, beside_in, ReadyIn, LoadedIn, Lent, SameNames, StoredIn, HoldsIn, RunsIn};
 
 use gap_splits::AddedNames;
 use load::{Counts, NAMES, RELOCATIONS, SPLITS, SYMBOLS, UNITS};
@@ -74,7 +74,8 @@ fn run_tables(
         (rooms_in loaded.now.file.now most most_bytes table.old.room (length out.old.units.now / 8) (room_lent out.old)
         (tables_of loaded.now)))
         × HoldsIn most most_bytes table.old.room out.old (beside_in added.new) out.new result }
-    ensures room { table.new.room ≡ table.old.room }
+    ensures table { SameTable table.old table.new }
+    ensures added { SameNames added.old added.new }
     ensures lent { SameLent out.old out.new }
 {
     added.count = 0;
@@ -105,7 +106,8 @@ pub fn run_file(
     requires { Lent table.old added.old }
     ensures columns { SameColumns columns.old columns.new }
     ensures run { RunsIn file.now most most_bytes table.old.room out.old result columns.new (beside_in added.new) (columns_in table.new) out.new }
-    ensures room { table.new.room ≡ table.old.room }
+    ensures table { SameTable table.old table.new }
+    ensures added { SameNames added.old added.new }
     ensures lent { SameLent out.old out.new }
 {
     let prepared = match prepare(file, columns) {

@@ -25,7 +25,7 @@ invariant_of-table c =
     let o = a.outputs.now in
     let room = fits a.table.now.room (length o.splits.now) c.requires.1 in
     let few = kept_few _ _ (sizes_in o) a.table.now.room room.0 room.1 f.result.ran f.ensures.run.holds in
-    record { long = f.new.table.long; fits = omega (arith, few, f.ensures.room, ap (λ (k : Ran). k.splits) c.kept_of-kept.ensures) }
+    record { long = f.new.table.long; fits = omega (arith, few, f.ensures.table.room, ap (λ (k : Ran). k.splits) c.kept_of-kept.ensures) }
 
 pub lay-requires : goal.lay-requires
 lay-requires c =

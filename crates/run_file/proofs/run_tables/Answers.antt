@@ -54,8 +54,8 @@ order_and_walk-requires c =
     let e = c.columns.ensures.columns in (
       record { usable = usable_rest u; images_are = q.0.images_are; order_is = q.0.order_is },
       λ accepts. rw (e.starts, e.ends, e.units, e.rest, e.count) (record {
-        few = omega (arith, s.new.table.fits, s.ensures.room, q.1.rows);
-        homed = rows_homed u _ _ _ (added_in o) (rows_in s.new.table) s.result (s.ensures.tables ∙ table_of_parts l.file.now (tables_of l) _ _) accepts (omega (arith, base, room, more, o.stand.few, s.ensures.ceilings.most));
+        few = omega (arith, s.new.table.fits, s.ensures.lent.room, q.1.rows);
+        homed = rows_homed u _ _ _ (added_in o) (rows_in s.new.table) s.result (s.ensures.tables ∙ table_of_parts l.file.now (tables_of l) _ _) accepts (omega (arith, base, room, more, o.stand.few, s.ensures.added.most));
       }),
     )
 
@@ -81,7 +81,7 @@ returns-clause-run c =
     let made = rw (e.starts, e.ends, e.units, e.rest, e.count) at w.ensures.run in (
       stages_are l.file.now l.names.now l.lengths.now l.sections.now l.symbols.now l.relocs.now l.partials.now l.units.now base rooms refl (made.0 base (beside o.bytes.now o.places.now o.lengths.now))
           (s.ensures.tables ∙ table_of_parts l.file.now t _ _ ∙ asked),
-      holds w.result a.most a.most_bytes cap output _ _ o.count o.used s.new.table.count made.1 o.stand (omega (arith, s.new.table.fits, s.ensures.room))
-          (omega (arith, s.ensures.ceilings.most, left_second a.most (length l.names.now) 4096 counted)) (omega (arith, s.ensures.ceilings.most, left_first a.most (length l.names.now) 4096 counted))
-          (omega (arith, s.ensures.ceilings.most_bytes, left_second a.most_bytes (sum l.lengths.now) 65535 sized)) (omega (arith, s.ensures.ceilings.most_bytes, left_first a.most_bytes (sum l.lengths.now) 65535 sized)),
+      holds w.result a.most a.most_bytes cap output _ _ o.count o.used s.new.table.count made.1 o.stand (omega (arith, s.new.table.fits, s.ensures.lent.room))
+          (omega (arith, s.ensures.added.most, left_second a.most (length l.names.now) 4096 counted)) (omega (arith, s.ensures.added.most, left_first a.most (length l.names.now) 4096 counted))
+          (omega (arith, s.ensures.added.most_bytes, left_second a.most_bytes (sum l.lengths.now) 65535 sized)) (omega (arith, s.ensures.added.most_bytes, left_first a.most_bytes (sum l.lengths.now) 65535 sized)),
     )
