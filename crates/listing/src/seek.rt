@@ -9,22 +9,6 @@ use crate::reading::piece_of;
 use crate::{Cursor, PieceLists};
 use pieces::{piece_at, piece_reloc_at, piece_symbol_at};
 
-fn piece_is(here: &UnitHere, k: usize) -> bool
-    requires { k < here.now.lists.now.made.pieces }
-    ensures { result ≡ piece_is here.now.unit (piece_on here.now.lists.now k) }
-{
-    let p = piece_at(here.lists.pieces, k);
-    p.unit == here.unit
-}
-
-fn symbol_is(here: &UnitHere, k: usize) -> bool
-    requires { k < here.now.lists.now.made.symbols }
-    ensures { result ≡ symbol_is here.now.unit (symbol_on here.now.lists.now k) }
-{
-    let y = piece_symbol_at(here.lists.symbols, k);
-    y.unit == here.unit
-}
-
 // A relocation is its piece's unit's.
 fn reloc_is(here: &UnitHere, k: usize) -> bool
     requires { k < here.now.lists.now.made.relocs }
@@ -75,18 +59,20 @@ fn seek_symbol(here: &UnitHere, at: usize) -> Cursor
     ensures { Sought here.now.units (listed_pieces here.now.lists.now) (listed_symbols here.now.lists.now) (listed_relocs here.now.lists.now) (Symbols here.now.unit at here.now.bytes) result }
 {
     let (unit, bytes) = (here.unit, here.bytes);
-    if let Some(at) = first_from(at, here.lists.made.symbols, |k| symbol_is(here, k)) {
+    let in_unit = |k: usize| piece_symbol_at(here.lists.symbols, k).unit == here.unit;
+    if let Some(at) = first_from(at, here.lists.made.symbols, in_unit) {
         return Cursor::Symbols { unit, at, bytes };
     }
     seek_reloc(here, 0)
 }
 
-// The next piece of the unit; "After a unit's pieces come `sym`".
+// The next piece of the unit; "After a unit's pieces come `sym`". As `seek_symbol`, with another cursor and other followers: one function for both would take these as closures.
 fn seek_piece(here: &UnitHere, at: usize) -> Cursor
     ensures { Sought here.now.units (listed_pieces here.now.lists.now) (listed_symbols here.now.lists.now) (listed_relocs here.now.lists.now) (Pieces here.now.unit at here.now.bytes) result }
 {
     let (unit, bytes) = (here.unit, here.bytes);
-    if let Some(at) = first_from(at, here.lists.made.pieces, |k| piece_is(here, k)) {
+    let in_unit = |k: usize| piece_at(here.lists.pieces, k).unit == here.unit;
+    if let Some(at) = first_from(at, here.lists.made.pieces, in_unit) {
         return Cursor::Pieces { unit, at, bytes };
     }
     seek_symbol(here, 0)

@@ -56,7 +56,7 @@ fn print_lines<'a, W: Write>(
 }
 
 // The listing of a run that was done, of n units: the parts of the column of places are the tables of names, symbols and relocations.
-// The columns and what was made stay apart: `FileColumns` and `RunTables` are lent to the run by `&mut`, and this reads two of the one and one of the other.
+// They stay apart, since it reads two of the file's columns and one of the run's tables; n says how many records stand at the front of `units`, of which the rest is not written.
 fn print_done<'a, W: Write>(
     out: &mut W,
     file: &'a [u8],
