@@ -1,5 +1,5 @@
 -- The outputs that are lent to a run: their sizes, what is left in them, and that a function leaves those that were lent.
-use Rattle.std.specs.Prelude.{◌≡◌}
+use Rattle.std.specs.Prelude.{◌≡◌, length}
 use Rattle.names.specs.Append.{Columns as Beside}
 use Rattle.names.specs.declared.Names.{Names}
 use Rattle.splits.specs.Table.{columns_of}
@@ -34,7 +34,7 @@ LaidIn r before after =
     Laid r (sizes_in before) after.ends.now after.bytes.now after.splits.now after.units.now after.pieces.now after.entries.now after.offsets.now
     after.counts.now
 
--- the outputs are still those that were lent
+-- the outputs are still those that were lent, of the same lengths
 pub record SameOutputs (before after : RunOutputs) : Type 0 where
   pub ends : after.ends.ghost_name ≡ before.ends.ghost_name
   pub bytes : after.bytes.ghost_name ≡ before.bytes.ghost_name
@@ -44,3 +44,11 @@ pub record SameOutputs (before after : RunOutputs) : Type 0 where
   pub entries : after.entries.ghost_name ≡ before.entries.ghost_name
   pub offsets : after.offsets.ghost_name ≡ before.offsets.ghost_name
   pub counts : after.counts.ghost_name ≡ before.counts.ghost_name
+  pub ends_size : length after.ends.now ≡ length before.ends.now
+  pub bytes_size : length after.bytes.now ≡ length before.bytes.now
+  pub splits_size : length after.splits.now ≡ length before.splits.now
+  pub units_size : length after.units.now ≡ length before.units.now
+  pub pieces_size : length after.pieces.now ≡ length before.pieces.now
+  pub entries_size : length after.entries.now ≡ length before.entries.now
+  pub offsets_size : length after.offsets.now ≡ length before.offsets.now
+  pub counts_size : length after.counts.now ≡ length before.counts.now
