@@ -16,8 +16,7 @@ use outputs::clear_from;
 use sections::Obj;
 use stage_gaps::{GapOutputs, with_splits};
 use stage_names::{bytes_room, fit_names, names_room};
-use stage_symbols::{take_image_places, take_symbol_order};
-use stage_tables::take_image;
+use stage_sections::{SectionArrays, SymbolArrays};
 
 // The symbols with their order, and the tables after them.
 fn from_symbols(
@@ -36,26 +35,12 @@ fn from_symbols(
     ensures gives { GivesIn (symbols_outcome names.now heads.now image.now lent.now most most_bytes outputs.old) result outputs.old outputs.new }
     ensures lent { SameLent outputs.old outputs.new }
 {
-    let mut places = [0u32; 4096];
-    let mut order = [0u16; 4096];
-    let mut scratch = [0u16; 4096];
-    let ordered = take_symbol_order(
-        names.lengths.len(),
-        heads,
-        lent.symbols,
-        4096,
-        &mut places,
-        &mut order,
-        &mut scratch,
-    )?;
-    let n = lent.symbols.len() / 20;
+    let mut symbols = SymbolArrays::new();
+    symbols.check(names.lengths.len(), heads, lent.symbols)?;
     with_splits(
         &Obj {
-            symbols: Table {
-                bytes: lent.symbols,
-                places: &places[..n],
-            },
-            order: &order[..ordered],
+            symbols: symbols.symbols(lent.symbols),
+            order: symbols.order(),
             names: *names,
             heads: *heads,
         },
@@ -81,29 +66,18 @@ fn from_sections(
     ensures gives { GivesIn (sections_outcome names.now lent.now most most_bytes outputs.old) result outputs.old outputs.new }
     ensures lent { SameLent outputs.old outputs.new }
 {
-    let mut heads = [0u32; 64];
-    let mut images = [0u32; 64];
-    take_image(
+    let mut sections = SectionArrays::new();
+    sections.check(
         names.lengths,
-        lent.section_places,
-        lent.image.len(),
         lent.sections,
-        64,
-        &mut heads,
+        lent.section_places,
+        lent.image,
     )?;
-    let n = lent.sections.len() / 15;
-    let p = take_image_places(lent.section_places, &mut images);
     from_symbols(
         names,
         index,
-        &Table {
-            bytes: lent.sections,
-            places: &heads[..n],
-        },
-        &Table {
-            bytes: lent.image,
-            places: &images[..p],
-        },
+        &sections.heads(lent.sections),
+        &sections.image(lent.image, lent.section_places),
         lent,
         most,
         most_bytes,

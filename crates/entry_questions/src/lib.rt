@@ -16,8 +16,8 @@ use names::{Names, name_at};
 use obj::{Refusal, SPLIT_BYTES, Table, refuse, section_at, split_at, word_of};
 use outputs::clear_from;
 use sections::{Obj, alignment_of, default_alignment, section_bytes};
-use stage_symbols::{take_image_places, take_symbol_order};
-use stage_tables::{take_image, take_splits};
+use stage_sections::{SectionArrays, SymbolArrays};
+use stage_tables::take_splits;
 
 // What is asked: the splitting end of a section, or the alignment of a split of the table.
 #[derive(Clone, Copy)]
@@ -83,24 +83,11 @@ fn with_symbols(
     requires { ReadableIn names.now × KeptIn heads.now image.now names.now }
     ensures { meaning result ≡ from_symbols_in names.now heads.now image.now lent.now question }
 {
-    let mut places = [0u32; 4096];
-    let mut order = [0u16; 4096];
-    let mut scratch = [0u16; 4096];
-    let ordered = take_symbol_order(
-        names.lengths.len(),
-        heads,
-        lent.symbols,
-        4096,
-        &mut places,
-        &mut order,
-        &mut scratch,
-    )?;
+    let mut symbols = SymbolArrays::new();
+    symbols.check(names.lengths.len(), heads, lent.symbols)?;
     let obj = Obj {
-        symbols: Table {
-            bytes: lent.symbols,
-            places: &places[..lent.symbols.len() / 20],
-        },
-        order: &order[..ordered],
+        symbols: symbols.symbols(lent.symbols),
+        order: symbols.order(),
         names: *names,
         heads: *heads,
     };
@@ -123,28 +110,17 @@ fn answered(lent: &StageTables, question: Question) -> Result<u32, Refusal>
     let mut columns = NameArrays::new();
     columns.check(lent.name_ends, lent.name_bytes, 4096)?;
     let names = columns.names(lent.name_ends, lent.name_bytes);
-    let mut heads = [0u32; 64];
-    take_image(
+    let mut sections = SectionArrays::new();
+    sections.check(
         names.lengths,
-        lent.section_places,
-        lent.image.len(),
         lent.sections,
-        64,
-        &mut heads,
+        lent.section_places,
+        lent.image,
     )?;
-    let n = lent.sections.len() / 15;
-    let mut images = [0u32; 64];
-    let p = take_image_places(lent.section_places, &mut images);
     with_symbols(
         &names,
-        &Table {
-            bytes: lent.sections,
-            places: &heads[..n],
-        },
-        &Table {
-            bytes: lent.image,
-            places: &images[..p],
-        },
+        &sections.heads(lent.sections),
+        &sections.image(lent.image, lent.section_places),
         lent,
         question,
     )

@@ -18,8 +18,8 @@ use obj::{Refusal, Table, word_of};
 use outputs::{clear_from, put_count};
 use pieces::{Counts, PIECE_BYTES, PieceTables};
 use sections::Obj;
-use stage_symbols::{take_image_places, take_symbol_order};
-use stage_tables::{take_image, take_relocs};
+use stage_sections::{SectionArrays, SymbolArrays};
+use stage_tables::take_relocs;
 use stage_walk::{room_of, with_splits};
 
 // The symbols with their order, the relocations, and the tables after them.
@@ -36,25 +36,12 @@ fn with_symbols(
         × Ceilings tables.old.room }
     ensures { Gives (from_symbols_in names.now heads.now image.now lent.now tables.old.room) tables.old tables.new result }
 {
-    let mut places = [0u32; 4096];
-    let mut order = [0u16; 4096];
-    let mut scratch = [0u16; 4096];
-    let ordered = take_symbol_order(
-        names.lengths.len(),
-        heads,
-        lent.symbols,
-        4096,
-        &mut places,
-        &mut order,
-        &mut scratch,
-    )?;
+    let mut symbols = SymbolArrays::new();
+    symbols.check(names.lengths.len(), heads, lent.symbols)?;
     let n = lent.symbols.len() / 20;
     let obj = Obj {
-        symbols: Table {
-            bytes: lent.symbols,
-            places: &places[..n],
-        },
-        order: &order[..ordered],
+        symbols: symbols.symbols(lent.symbols),
+        order: symbols.order(),
         names: *names,
         heads: *heads,
     };
@@ -76,28 +63,17 @@ fn checked(lent: &StageTables, tables: &mut PieceTables) -> Result<(), Refusal>
     let mut columns = NameArrays::new();
     columns.check(lent.name_ends, lent.name_bytes, 4096)?;
     let names = columns.names(lent.name_ends, lent.name_bytes);
-    let mut heads = [0u32; 64];
-    take_image(
+    let mut sections = SectionArrays::new();
+    sections.check(
         names.lengths,
-        lent.section_places,
-        lent.image.len(),
         lent.sections,
-        64,
-        &mut heads,
+        lent.section_places,
+        lent.image,
     )?;
-    let n = lent.sections.len() / 15;
-    let mut images = [0u32; 64];
-    let p = take_image_places(lent.section_places, &mut images);
     with_symbols(
         &names,
-        &Table {
-            bytes: lent.sections,
-            places: &heads[..n],
-        },
-        &Table {
-            bytes: lent.image,
-            places: &images[..p],
-        },
+        &sections.heads(lent.sections),
+        &sections.image(lent.image, lent.section_places),
         lent,
         tables,
     )

@@ -19,9 +19,8 @@ use names::Names;
 use obj::{Refusal, Table};
 use sections::Obj;
 use splits::SplitTable;
+use stage_sections::{SectionArrays, SymbolArrays};
 use stage_splits::{SplitOutput, finish, give_splits, room_of, take_split_columns};
-use stage_symbols::{take_image_places, take_symbol_order};
-use stage_tables::take_image;
 use trim::trim;
 
 // The splits and the trim of their table, which is then given.
@@ -76,26 +75,12 @@ fn from_symbols(
     ensures gives { GivesIn (symbols_outcome names.now heads.now image.now lent.now (length output.old.splits.now)) result output.old output.new }
     ensures lent { SameLent output.old output.new }
 {
-    let mut places = [0u32; 4096];
-    let mut order = [0u16; 4096];
-    let mut scratch = [0u16; 4096];
-    let ordered = take_symbol_order(
-        names.lengths.len(),
-        heads,
-        lent.symbols,
-        4096,
-        &mut places,
-        &mut order,
-        &mut scratch,
-    )?;
-    let n = lent.symbols.len() / 20;
+    let mut symbols = SymbolArrays::new();
+    symbols.check(names.lengths.len(), heads, lent.symbols)?;
     from_splits(
         &Obj {
-            symbols: Table {
-                bytes: lent.symbols,
-                places: &places[..n],
-            },
-            order: &order[..ordered],
+            symbols: symbols.symbols(lent.symbols),
+            order: symbols.order(),
             names: *names,
             heads: *heads,
         },
@@ -111,28 +96,17 @@ fn from_sections(names: &Names, lent: &StageTables, output: &mut SplitOutput) ->
     ensures gives { GivesIn (sections_outcome names.now lent.now (length output.old.splits.now)) result output.old output.new }
     ensures lent { SameLent output.old output.new }
 {
-    let mut heads = [0u32; 64];
-    let mut images = [0u32; 64];
-    take_image(
+    let mut sections = SectionArrays::new();
+    sections.check(
         names.lengths,
-        lent.section_places,
-        lent.image.len(),
         lent.sections,
-        64,
-        &mut heads,
+        lent.section_places,
+        lent.image,
     )?;
-    let n = lent.sections.len() / 15;
-    let p = take_image_places(lent.section_places, &mut images);
     from_symbols(
         names,
-        &Table {
-            bytes: lent.sections,
-            places: &heads[..n],
-        },
-        &Table {
-            bytes: lent.image,
-            places: &images[..p],
-        },
+        &sections.heads(lent.sections),
+        &sections.image(lent.image, lent.section_places),
         lent,
         output,
     )

@@ -1,9 +1,8 @@
--- Sections that are refused are the answer; else the fronts of the columns have their places and those of their bytes, and the symbols are asked with them.
-use Rattle.std.proofs.Common.{◌≡◌, sym, ap, ◌∙◌, arith, length}
+-- Sections that are refused are the answer; else the arrays have their places and those of their bytes, and the symbols are asked with them.
+use Rattle.std.proofs.Common.{refl, sym, ap, ◌∙◌, length}
 use Rattle.obj.specs.Answers.{meaning}
 use Rattle.obj.proofs.Errors.{same_err}
-use Rattle.stage_tables.proofs.Laws.{taken_few, taken_places, taken-count, taken-held}
-use Rattle.stage_symbols.proofs.Laws.{sections_kept, place_is}
+use Rattle.stage_sections.proofs.Laws.{heads_held, sections_kept, place_same}
 use Rattle.gap_splits.specs.Answers.{ceilings}
 use Rattle.names.specs.Listed.{names_in}
 use Rattle.entry_create_gap_splits.specs.Entry.{from_sections}
@@ -11,54 +10,41 @@ use Rattle.stage_gaps.proofs.Laws.{gives_as, gives_stops, gives_goes}
 use Rattle.entry_create_gap_splits.proofs.Passed.{sections_as, sections_short}
 use Rattle.entry_create_gap_splits.proofs.from_sections.Goals as goal
 
-pub returns-in_err-take_image-clause-gives : goal.returns-in_err-take_image-clause-gives
+pub returns-in_err-check-clause-gives : goal.returns-in_err-check-clause-gives
 unfolding from_sections
-returns-in_err-take_image-clause-gives c =
-    rw (same_err c.from_residual.result c.take_image.result c.from_residual.ensures.1 c.in_err-take_image.was)
-    (gives_stops _ c.take_image.ensures.said (ap meaning c.in_err-take_image.was))
-
-pub slice_bounds-heads-end : goal.slice_bounds-heads-end
-slice_bounds-heads-end c = omega (arith, taken_few 15 64 c.args.lent.now.sections.now _ _ c.take_image.ensures (ap meaning c.in_ok-take_image.was))
-
-pub slice_bounds-from_symbols-end : goal.slice_bounds-from_symbols-end
-slice_bounds-from_symbols-end c = sym (taken-count 15 64 c.args.lent.now.sections.now _ _ c.take_image.ensures (ap meaning c.in_ok-take_image.was))
+returns-in_err-check-clause-gives c =
+    rw (same_err c.from_residual.result c.check.result c.from_residual.ensures.1 c.in_err-check.was)
+    (gives_stops _ c.check.ensures.said (ap meaning c.in_err-check.was))
 
 pub from_symbols-requires : goal.from_symbols-requires
 from_symbols-requires c =
     let a = c.args in
-    let q = c.requires in
-    let t = c.take_image in
-    let p = c.take_image_places-p in
-    let e = ap meaning c.in_ok-take_image.was in
-    let passed = sym t.ensures.said ∙ e in (
-      q.0,
-      record {
-        all = taken-held 15 64 a.lent.now.sections.now _ _ t.ensures e (omega arith);
-        kept =
-            sections_kept 64 a.names.now.lengths.now a.lent.now.section_places.now a.lent.now.image.now a.lent.now.sections.now passed (omega arith) _ _ _ _
-            (taken_places 15 64 a.lent.now.sections.now _ _ t.ensures e) q.0.paired p.ensures (let e : length p.new.column ≡ 64 = omega arith in e);
-        short =
-            sections_short 64 a.names.now.lengths.now a.lent.now.section_places.now a.lent.now.image.now a.lent.now.sections.now passed _ a.names.now.bytes.now a.names.now.places.now
-            (taken_places 15 64 a.lent.now.sections.now _ _ t.ensures e);
-      },
-      q.1,
+    let t = a.lent.now in
+    let heads = c.heads.ensures in
+    let image = c.image.ensures in
+    let lengths = a.names.now.lengths.now in
+    let passed = sym c.check.ensures.said ∙ ap meaning c.in_ok-check.was in (
+      c.requires.0,
+      rw (heads.bytes, heads.places, image.bytes, image.places) (record {
+        all = heads_held lengths t.section_places.now t.image.now t.sections.now passed;
+        kept = sections_kept lengths t.section_places.now t.image.now t.sections.now passed _ c.requires.0.paired;
+        short = sections_short 64 lengths t.section_places.now t.image.now t.sections.now passed _ a.names.now.bytes.now a.names.now.places.now refl;
+      }),
+      c.requires.1,
     )
 
 pub returns-clause-gives : goal.returns-clause-gives
 unfolding from_sections
 returns-clause-gives c =
     let a = c.args in
-    let q = c.requires in
-    let t = c.take_image in
-    let p = c.take_image_places-p in
-    let e = ap meaning c.in_ok-take_image.was in
-    let passed = sym t.ensures.said ∙ e in
+    let n = a.names.now in
+    let t = a.lent.now in
+    let heads = c.heads.ensures in
+    let image = c.image.ensures in
+    let passed = sym c.check.ensures.said ∙ ap meaning c.in_ok-check.was in
     gives_goes passed
     (gives_as
-    (sections_as a.names.now.bytes.now a.names.now.places.now a.names.now.lengths.now a.lent.now.sections.now a.lent.now.image.now _ _ a.lent.now.section_places.now a.lent.now.symbols.now a.lent.now.splits.now
-    (ceilings (names_in a.names.now) a.most a.most_bytes) (length a.outputs.now.splits.now)
-    (taken_places 15 64 a.lent.now.sections.now _ _ t.ensures e)
-    (λ n h.
-    place_is 64 a.names.now.lengths.now a.lent.now.section_places.now a.lent.now.image.now a.lent.now.sections.now passed _ _ p.ensures n
-    (omega (arith, h, taken_few 15 64 a.lent.now.sections.now _ _ t.ensures e))))
-    c.from_symbols.ensures.gives)
+    (sections_as n.bytes.now n.places.now n.lengths.now t.sections.now t.image.now _ _ t.section_places.now t.symbols.now t.splits.now
+    (ceilings (names_in n) a.most a.most_bytes) (length a.outputs.now.splits.now) heads.places
+    (λ k h. rw image.places (place_same n.lengths.now t.section_places.now t.image.now t.sections.now passed k h)))
+    (rw (heads.bytes, image.bytes) at c.from_symbols.ensures.gives))

@@ -1,64 +1,48 @@
--- `entry_trim_splits::from_sections` meets its contract. Sections that are refused are the answer; else the fronts of the columns have their places and those of
--- their bytes, and the symbols are asked with them. Assumes nothing.
+-- `entry_trim_splits::from_sections` meets its contract. Sections that are refused are the answer; else the arrays have their places and those of their bytes, and the symbols
+-- are asked with them. Assumes nothing.
 use mathlib.Core.Path.{sym, ap, ◌∙◌}
-use native.Mathlib.Omega.{arith}
 use lib.ListN.{length}
-use lib.Seq.{length-take-le}
 use Rattle.obj.specs.Answers.{meaning}
 use Rattle.obj.proofs.Errors.{same_err}
-use Rattle.stage_tables.proofs.Laws.{taken_few, taken_places, taken-count, taken-held}
-use Rattle.stage_symbols.proofs.Laws.{sections_kept, place_is}
+use Rattle.stage_sections.proofs.Laws.{heads_held, sections_kept, place_same}
 use Rattle.stage_splits.proofs.Laws.{gives_as, gives_stops, gives_goes}
 use Rattle.entry_trim_splits.specs.Entry.{from_sections}
 use Rattle.entry_trim_splits.proofs.Laws.{sections_as}
 use Rattle.entry_trim_splits.proofs.from_sections.Goals as goal
 
-pub returns-in_err-take_image-clause-gives : goal.returns-in_err-take_image-clause-gives
+pub returns-in_err-check-clause-gives : goal.returns-in_err-check-clause-gives
 unfolding from_sections
-returns-in_err-take_image-clause-gives c =
-    rw (same_err c.from_residual.result c.take_image.result c.from_residual.ensures.1 c.in_err-take_image.was)
-    (gives_stops _ c.take_image.ensures.said (ap meaning c.in_err-take_image.was))
-
-pub slice_bounds-heads-end : goal.slice_bounds-heads-end
-slice_bounds-heads-end c =
-    let t = c.take_image in
-    let n = taken_few 15 64 c.args.lent.now.sections.now _ _ t.ensures (ap meaning c.in_ok-take_image.was) in
-    omega (arith, n, t.auto.places)
-
-pub slice_bounds-from_symbols-end : goal.slice_bounds-from_symbols-end
-slice_bounds-from_symbols-end c = sym (taken-count 15 64 c.args.lent.now.sections.now _ _ c.take_image.ensures (ap meaning c.in_ok-take_image.was))
-
-pub slice_bounds-from_symbols-end-2 : goal.slice_bounds-from_symbols-end-2
-slice_bounds-from_symbols-end-2 c = sym (length-take-le _ _ c.take_image_places-p.ensures.inside)
+returns-in_err-check-clause-gives c =
+    rw (same_err c.from_residual.result c.check.result c.from_residual.ensures.1 c.in_err-check.was)
+    (gives_stops _ c.check.ensures.said (ap meaning c.in_err-check.was))
 
 pub from_symbols-requires : goal.from_symbols-requires
 from_symbols-requires c =
-    let t = c.take_image in
-    let p = c.take_image_places-p in
     let a = c.args in
-    let e = ap meaning c.in_ok-take_image.was in (
+    let t = a.lent.now in
+    let heads = c.heads.ensures in
+    let image = c.image.ensures in
+    let lengths = a.names.now.lengths.now in
+    let passed = sym c.check.ensures.said ∙ ap meaning c.in_ok-check.was in (
       c.requires,
-      record {
-        all = taken-held 15 64 a.lent.now.sections.now _ _ t.ensures e (omega arith);
-        kept =
-            sections_kept 64 a.names.now.lengths.now a.lent.now.section_places.now a.lent.now.image.now a.lent.now.sections.now (sym t.ensures.said ∙ e) (omega arith) _ _ _ _
-            (taken_places 15 64 a.lent.now.sections.now _ _ t.ensures e) c.requires.paired p.ensures p.auto.column;
-      },
+      rw (heads.bytes, heads.places, image.bytes, image.places) (record {
+        all = heads_held lengths t.section_places.now t.image.now t.sections.now passed;
+        kept = sections_kept lengths t.section_places.now t.image.now t.sections.now passed _ c.requires.paired;
+      }),
     )
 
 pub returns-clause-gives : goal.returns-clause-gives
 unfolding from_sections
 returns-clause-gives c =
-    let t = c.take_image in
-    let p = c.take_image_places-p in
     let a = c.args in
-    let e = ap meaning c.in_ok-take_image.was in
-    let passed = sym t.ensures.said ∙ e in
+    let n = a.names.now in
+    let t = a.lent.now in
+    let heads = c.heads.ensures in
+    let image = c.image.ensures in
+    let passed = sym c.check.ensures.said ∙ ap meaning c.in_ok-check.was in
     gives_goes passed
     (gives_as
-    (sections_as a.names.now.bytes.now a.names.now.places.now a.names.now.lengths.now a.lent.now.sections.now a.lent.now.image.now _ _ a.lent.now.section_places.now a.lent.now.symbols.now a.lent.now.splits.now (length a.output.now.splits.now)
-    (taken_places 15 64 a.lent.now.sections.now _ _ t.ensures e)
-    (λ n h.
-    place_is 64 a.names.now.lengths.now a.lent.now.section_places.now a.lent.now.image.now a.lent.now.sections.now passed _ _ p.ensures n
-    (omega (arith, h, taken_few 15 64 a.lent.now.sections.now _ _ t.ensures e, p.auto.column))))
-    c.from_symbols.ensures.gives)
+    (sections_as n.bytes.now n.places.now n.lengths.now t.sections.now t.image.now _ _ t.section_places.now t.symbols.now t.splits.now
+    (length a.output.now.splits.now) heads.places
+    (λ k h. rw image.places (place_same n.lengths.now t.section_places.now t.image.now t.sections.now passed k h)))
+    (rw (heads.bytes, image.bytes) at c.from_symbols.ensures.gives))

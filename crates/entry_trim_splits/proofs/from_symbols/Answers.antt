@@ -1,50 +1,38 @@
--- `entry_trim_splits::from_symbols` meets its contract. Symbols that are refused are the answer; else the fronts of the columns have their places and their order,
--- and the splits are asked with them. Assumes nothing.
-use mathlib.Core.Path.{refl, sym}
-use native.Mathlib.Omega.{arith}
+-- `entry_trim_splits::from_symbols` meets its contract. Symbols that are refused are the answer; else the arrays have their places and their order, and the splits are
+-- asked with them. Assumes nothing.
+use mathlib.Core.Path.{sym, ap, ◌∙◌}
+use mathlib.Core.List.{List}
+use Prim.Native.Nat.{ℕ}
 use lib.ListN.{length}
-use lib.Seq.{length-take-le}
-use Rattle.std.specs.Prelude.{Ok}
-use Rattle.std.proofs.lemmas.Result.{err_from_is_err_and}
+use Rattle.obj.specs.Answers.{meaning}
+use Rattle.obj.proofs.Errors.{same_err}
+use Rattle.obj.proofs.Laws.{length-stage_places}
 use Rattle.tables.specs.Records.{sections_in}
+use Rattle.sections.specs.Image.{image_of}
 use Rattle.sections.specs.Sections.{sections_of}
-use Rattle.stage_symbols.proofs.Laws.{tables-taken}
+use Rattle.stage_symbols.proofs.Laws.{symbols_sound}
+use Rattle.stage_sections.proofs.Laws.{symbols_asked}
 use Rattle.stage_splits.proofs.Laws.{gives_as, gives_stops, gives_goes}
-use Rattle.entry_trim_splits.specs.Entry.{from_symbols}
-use Rattle.entry_trim_splits.proofs.Laws.{symbols_passed, symbols_few, sound_taken, symbols_as}
+use Rattle.entry_trim_splits.specs.Entry.{from_symbols, from_splits}
 use Rattle.entry_trim_splits.proofs.from_symbols.Goals as goal
 
-pub returns-in_err-ordered-clause-gives : goal.returns-in_err-ordered-clause-gives
+pub returns-in_err-check-clause-gives : goal.returns-in_err-check-clause-gives
 unfolding from_symbols
-returns-in_err-ordered-clause-gives c =
-    let p = err_from_is_err_and c.from_residual.result c.from_residual.ensures.1 in
-    rw (p.1, p.2) (gives_stops _ c.in_err-ordered.ensures.said refl)
-
-pub slice_bounds-places-end : goal.slice_bounds-places-end
-slice_bounds-places-end c = omega (arith, symbols_few _ _ _ _ _ (Ok c.in_ok-ordered.ordered) c.in_ok-ordered.ensures refl, c.take_symbol_order.auto.places)
-
-pub slice_bounds-from_splits-end : goal.slice_bounds-from_splits-end
-slice_bounds-from_splits-end c =
-    sym (length-take-le _ _ (omega (arith, symbols_few _ _ _ _ _ (Ok c.in_ok-ordered.ordered) c.in_ok-ordered.ensures refl, c.take_symbol_order.auto.places)))
-
-pub slice_bounds-order-end : goal.slice_bounds-order-end
-slice_bounds-order-end c =
-    let o = c.in_ok-ordered.ensures in
-    omega (arith, o.small, symbols_few _ _ _ _ _ (Ok c.in_ok-ordered.ordered) o refl, c.take_symbol_order.auto.order)
-
-pub slice_bounds-from_splits-end-2 : goal.slice_bounds-from_splits-end-2
-slice_bounds-from_splits-end-2 c =
-    let o = c.in_ok-ordered.ensures in
-    sym (length-take-le _ _ (omega (arith, o.small, symbols_few _ _ _ _ _ (Ok c.in_ok-ordered.ordered) o refl, c.take_symbol_order.auto.order)))
+returns-in_err-check-clause-gives c =
+    rw (same_err c.from_residual.result c.check.result c.from_residual.ensures.1 c.in_err-check.was)
+    (gives_stops _ c.check.ensures.said (ap meaning c.in_err-check.was))
 
 pub from_splits-requires : goal.from_splits-requires
 from_splits-requires c =
     let a = c.args in
+    let s = c.symbols.ensures in
     let q = c.requires in
-    let o = c.in_ok-ordered.ensures in
-    let r = Ok c.in_ok-ordered.ordered in (
-      tables-taken 4096 _ _ _ (symbols_passed _ _ _ _ _ r o refl) (omega arith) _ _ _ _ _ r o (sym q.0.paired) q.0.named,
-      sound_taken _ _ _ _ _ r o refl,
+    let passed = sym c.check.ensures.said ∙ ap meaning c.in_ok-check.was in
+    let held = c.check.ensures.stored passed in
+    let names = length a.names.now.lengths.now in
+    let heads = sections_in a.heads.now.bytes.now a.heads.now.places.now in (
+      rw (s.bytes, s.places, c.order.ensures, held.order) (symbols_asked names heads a.lent.now.symbols.now passed _ _ _ (sym q.0.paired) q.0.named),
+      rw (s.bytes, s.places, length-stage_places) (symbols_sound 4096 names heads a.lent.now.symbols.now passed),
       q.1.all,
       q.1.kept,
     )
@@ -52,14 +40,16 @@ from_splits-requires c =
 pub returns-clause-gives : goal.returns-clause-gives
 unfolding from_symbols
 returns-clause-gives c =
-    let names = c.args.names.now in
+    let n = c.args.names.now in
     let heads = c.args.heads.now in
     let image = c.args.image.now in
     let lent = c.args.lent.now in
-    let o = c.in_ok-ordered.ensures in
-    gives_goes (sym o.said)
+    let s = c.symbols.ensures in
+    gives_goes (sym c.check.ensures.said ∙ ap meaning c.in_ok-check.was)
     (gives_as
-    (symbols_as (length names.lengths.now) (sections_in heads.bytes.now heads.places.now) lent.symbols.now _ _ (Ok c.in_ok-ordered.ordered) o refl
-    names.bytes.now names.places.now names.lengths.now (sections_of heads.bytes.now heads.places.now image.bytes.now image.places.now) lent.splits.now
-    (length c.args.output.now.splits.now))
-    c.from_splits.ensures.gives)
+    (ap
+    (λ (l : List ℕ).
+    from_splits n.lengths.now (sections_in heads.bytes.now heads.places.now) (image_of lent.symbols.now l n.bytes.now n.places.now n.lengths.now)
+    (sections_of heads.bytes.now heads.places.now image.bytes.now image.places.now) lent.splits.now (length c.args.output.now.splits.now))
+    s.places)
+    (rw s.bytes at c.from_splits.ensures.gives))
