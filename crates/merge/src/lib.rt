@@ -14,7 +14,7 @@ ghost use Rattle.splits.specs.Questions.{of_unit};
 ghost use Rattle.splits.specs.Bytes.{Partials};
 ghost use Rattle.split_joins.specs.Joins.{joined_by};
 ghost use Rattle.merge.specs.Merge.{given, section_end, joint_of, on_joint, on_old, on_own, decide, merge_one, merge_all};
-ghost use Rattle.merge.specs.Answers.{decided, HandsGood, merged};
+ghost use Rattle.merge.specs.Answers.{decided, HandsGood, Begins, merged};
 
 use obj::{Refusal, Split, Table, partial_at, refuse, section_at};
 use split_edits::{join, push};
@@ -140,6 +140,21 @@ fn section_end(heads: &Table, i: usize) -> u64
     (head.address as u64) + (head.size as u64)
 }
 
+// 20 or 21 of a round with the split s, by its number, if its section is not there or it ends outside.
+fn outside(heads: &HeldHeads, s: Split) -> Option<u16>
+    ensures { Begins (sections_in heads.now.table.bytes.now heads.now.table.places.now) s result }
+{
+    let section = s.section as usize;
+    if heads.table.places.len() <= section {
+        return Some(20);
+    }
+    let limit = section_end(&heads.table, section);
+    if (s.end != 0) & (limit < s.end as u64) {
+        return Some(21);
+    }
+    None
+}
+
 // What a round does: 20, 21, then by the splits of its unit in the section.
 fn decide_round(
     splits: &SplitColumns,
@@ -150,13 +165,8 @@ fn decide_round(
     requires { Good new.alignment }
     ensures { (decided result ≡ decide (given (sections_in heads.now.table.bytes.now heads.now.table.places.now) room) (rows_of splits.now) new) × HandsGood result }
 {
-    let section = new.section as usize;
-    if heads.table.places.len() <= section {
-        return refuse_at(20, new);
-    }
-    let limit = section_end(&heads.table, section);
-    if (new.end != 0) & (limit < new.end as u64) {
-        return refuse_at(21, new);
+    if let Some(number) = outside(heads, new) {
+        return refuse_at(number, new);
     }
     decide_own(splits, room, new)
 }
@@ -174,12 +184,7 @@ fn join_at_once(table: &mut SplitTable, heads: &HeldHeads, joint: Split) -> bool
     ensures none { result ≡ false → Unchanged table.old table.new }
     ensures lent { SameLent table.old table.new }
 {
-    let section = joint.section as usize;
-    if heads.table.places.len() <= section {
-        return false;
-    }
-    let limit = section_end(&heads.table, section);
-    if (joint.end != 0) & (limit < joint.end as u64) {
+    if outside(heads, joint).is_some() {
         return false;
     }
     join_and_push(table, joint)
