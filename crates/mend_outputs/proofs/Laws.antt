@@ -52,9 +52,6 @@ module _ {A : Type 0} {P : A → Type 0} where
 
 -- ---- what was stored
 
-pub stores_refused : {r : Result ℕ Refusal} {l : List Split} {n : ℕ} {d : Refusal} {out counts : List ℕ} → r ≡ Err d → Stores r l n (Err d) out counts out counts
-stores_refused e = rw e (record { answered = refl; stored = λ size z. absurd (cc) })
-
 pub stores_rows : {r : Result ℕ Refusal} {l : List Split} {n size : ℕ} {out counts out' counts' : List ℕ} → r ≡ Ok size → out' ≡ sets out 0 (table_bytes l)
     → counts' ≡ store_counts 0 (n ∷ size ∷ []) counts → Stores r l n (Ok tt) out counts out' counts'
 stores_rows {n = n} {counts = counts} {counts' = counts'} e p q = rw e (record {
