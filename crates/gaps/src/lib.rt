@@ -44,16 +44,13 @@ fn is_stripped(y: Symbol) -> bool
 fn misses(current: u32, alignment: u32) -> bool
     ensures { result ≡ (not (eqb alignment 0) && not (eqb (current % alignment) 0)) }
 {
-    if alignment == 0 {
-        return false;
-    }
-    current % alignment != 0
+    alignment != 0 && current % alignment != 0
 }
 
 // `stop_of`, `end_at` and `clear_marks` take the table, a part and the marks apart: a struct would be made twice, for the part and for its first j numbers.
 
 // How many symbols of the part a gap from `current` on goes past: "to the first unstripped symbol whose name already occurred in the gap, or whose
-// alignment the *current address* misses". The names that occurred are left marked.
+// alignment the *current address* misses". The names that occurred are left marked. It is a count and no place, so no Option: the marks of so many go again.
 fn stop_of(table: &Table, part: &[u16], current: u32, marks: &mut [u8]) -> usize
     requires { Readable table.now.bytes.now table.now.places.now part.now × Markable (symbol_of table.now.bytes.now table.now.places.now) (length table.now.places.now) marks.old × Clean marks.old }
     ensures { Stopped (symbol_of table.now.bytes.now table.now.places.now) current part.now marks.new result }
@@ -254,6 +251,7 @@ fn section_gaps(
     let least = search.here.least;
     let mut current = start;
     let mut next = next_below(splits, section, end, 0);
+    // no count: the walk goes from a split of the section to the next
     while let Some(i) = next {
         if end <= current {
             return Ok(());

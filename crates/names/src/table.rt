@@ -12,8 +12,8 @@ pub fn put_bytes(out: &mut [u8], at: usize, from: &[u8])
     out[at..at + from.len()].copy_from_slice(from);
 }
 
-// Appends the name as number n, its bytes from `used` on, unless the table is full; says whether it did. The columns and their fills are fields of `gap_splits::AddedNames`,
-// the one table that grows so; what that struct keeps of them (its ghost field) is said above this crate.
+// Appends the name as number n, its bytes from `used` on, unless the table is full; says whether it did. As a method of `gap_splits::AddedNames`, whose columns these are,
+// it would ask that they hold all names that may be added (`Stand`), and a struct of what it asks (`Packed`) would have to be made for each name.
 pub fn append(
     bytes: &mut [u8],
     used: usize,
