@@ -1,7 +1,7 @@
 -- Whether some element passes a test, `some`: what is left from a place on, none left at the end, lists of which none passes; and the first that passes from a place
 -- on. Assumes nothing.
 use mathlib.Core.Path.{◌≡◌, refl, ap, ap₂, ◌∙◌}
-use mathlib.Core.List.{List, [], ◌∷◌}
+use mathlib.Core.List.{List, [], ◌∷◌, map}
 use mathlib.Core.Bool.{Bool, true, false, cond, ◌||◌, ◌&&◌}
 use Prim.Native.Nat.{ℕ, zero, suc, ◌+◌, ◌-◌, ◌≤◌, ◌<◌, suc-le-suc}
 use native.Mathlib.Nat.{le_of_suc-le-suc, not-suc-le-zero, zero-lt-suc}
@@ -59,6 +59,11 @@ module _ {A : Type 0} where
       go : (b : Bool) → some p (keep_if q l) ≡ some (λ (x : A). q x && p x) l → some p (cond b (x ∷ keep_if q l) (keep_if q l)) ≡ (b && p x) || some (λ (x : A). q x && p x) l
       go true ih = ap (λ (t : Bool). p x || t) ih
       go false ih = ih
+
+pub some-map : {A B : Type 0} (p : B → Bool) (f : A → B) (l : List A) → some p (map f l) ≡ some (λ (x : A). p (f x)) l
+unfolding some
+some-map p f [] = refl
+some-map p f (x ∷ l) = ap (λ (t : Bool). p (f x) || t) (some-map p f l)
 
 -- an element passes, so the first that does is there
 pub some_first : {A : Type 0} (p : A → Bool) (l : List A) → some p l ≡ true → first_in p l < length l

