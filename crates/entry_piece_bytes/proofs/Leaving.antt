@@ -1,13 +1,13 @@
 -- From the answer to the word and the eight bytes: what is left in the lent output, for every length of it. Assumes nothing.
 use Prim.Native.Nat.{ℕ, zero, suc, ◌-◌, ◌<◌, ◌≤◌}
-use mathlib.Core.Path.{◌≡◌, sym, ap, subst, ◌∙◌}
+use mathlib.Core.Path.{◌≡◌, sym, ap, ◌∙◌}
 use mathlib.Core.List.{List, [], ◌++◌}
 use native.Mathlib.Nat.{sub-zero, zero-add}
 use borrow.Author.Tests.{le-leb, lt-leb}
 use native.Mathlib.Omega.{arith}
 use lib.ListN.{length, replicate, drop, length-replicate}
 use lib.Seq.{sets, sets-eq}
-use Rattle.lists.specs.Outcome.{Outcome, accepted}
+use Rattle.lists.specs.Outcome.{accepted}
 use Rattle.lists.specs.Rows.{clear_from}
 use Rattle.lists.specs.Tables.{laid}
 use Rattle.lists.proofs.Clear.{clear_all}
@@ -73,7 +73,3 @@ module _ (r : Result Place Refusal) (out after : List ℕ) where
       where
         short : (size : ℕ) → size < 8 → place_bytes size (accepted p) ≡ laid size []
         short size k = rw (lt-leb 8 size k)
-
--- what an equal outcome leaves
-pub leaves_as : {o p : Outcome Place} {size answer : ℕ} {out : List ℕ} → o ≡ p → Leaves o size answer out → Leaves p size answer out
-leaves_as {o} {p} {size} {answer} {out} e l = subst (λ (x : Outcome Place). Leaves x size answer out) e l

@@ -8,16 +8,14 @@ use native.Mathlib.Omega.{arith}
 use borrow.Author.Tests.{le-leb, lt-leb, ltb-false, eq-eqb, ne_eqb}
 use lib.Dec.{ltb}
 use lib.ListN.{length, get_or, take, drop, length-take, length-drop}
-use Rattle.lists.specs.Outcome.{Outcome, accepted, refused, ◌>>◌}
+use Rattle.lists.specs.Outcome.{accepted, refused}
 use Rattle.lists.proofs.Outcomes.{fails, passes}
 use Rattle.lists.proofs.Tests.{or_false, and_false, none_of}
 use Rattle.obj.specs.Records.{section_at}
-use Rattle.obj.specs.declared.Refusal.{Refusal}
 use Rattle.obj.specs.declared.Section.{Section}
 use Rattle.tables.specs.Records.{bytes_cut}
 use Rattle.pieces.specs.Pieces.{piece_at, piece_width}
 use Rattle.pieces.specs.declared.Piece.{Piece}
-use Rattle.entry_piece_bytes.specs.declared.Place.{Place}
 use Rattle.entry_piece_bytes.specs.Entry.{within, in_section, of_piece, outside, placed, reach}
 
 -- ---- a piece whose section has this head
@@ -84,8 +82,3 @@ module _ (sections places : List ℕ) (image : ℕ) (pieces : List ℕ) (which :
   pub piece_there : which < length pieces / piece_width → of_piece sections places image pieces which ≡ in_section sections places image (piece_at pieces (piece_width * which))
   unfolding of_piece
   piece_there h = passes 20 0 which _ _ (lt-leb _ _ h)
-
--- ---- the tables: a refusal of one stands
-pub table-stops : {r : Refusal} {m : Outcome (Unit {0})} (rest : Outcome Place) → refused r.number r.section r.address ≡ m → refused r.number r.section r.address ≡ (m >> rest)
-unfolding ◌>>◌
-table-stops rest said = ap (λ (x : Outcome (Unit {0})). x >> rest) said

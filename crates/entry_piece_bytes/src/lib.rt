@@ -3,7 +3,7 @@
 #![tactic(auto)]
 
 ghost use Rattle.std.specs.Prelude.{◌≡◌, length, ◌+◌, ◌≤◌};
-ghost use Rattle.obj.specs.Answers.{meaning};
+ghost use Rattle.obj.specs.Answers.{meaning, word};
 ghost use Rattle.entry_piece_bytes.specs.Entry.{place_of, outside, reach, Leaves};
 ghost use Rattle.entry_piece_bytes.specs.Lent.{of_lent, in_lent, within_lent};
 
@@ -114,19 +114,16 @@ fn find(lent: &LentSections, pieces: &[u8], which: u32) -> Result<Place, Refusal
 }
 
 // The place into the lent output, where it was given and fits whole; zeros else.
-fn put_place(out: &mut [u8], r: Result<Place, Refusal>) -> u64
-    ensures { Leaves (meaning r) (length out.old) result out.new }
+fn put_place(out: &mut [u8], r: Result<Place, Refusal>) -> Result<(), Refusal>
+    ensures { Leaves (meaning r) (length out.old) (word result) out.new }
 {
     clear_from(out, 0);
-    let p = match r {
-        Ok(p) => p,
-        Err(e) => return word_of(Err(e)),
-    };
+    let p = r?;
     if 8 <= out.len() {
         put32(out, 0, p.offset);
         put32(out, 4, p.length);
     }
-    word_of(Ok(()))
+    Ok(())
 }
 
 // The entry: where the bytes of piece `which` lie in the image, an offset and a length, in eight bytes of `place`.
@@ -146,5 +143,5 @@ pub fn piece_bytes(
         image,
     };
     let r = find(&lent, pieces, which);
-    put_place(place, r)
+    word_of(put_place(place, r))
 }

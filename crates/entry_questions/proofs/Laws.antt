@@ -23,7 +23,7 @@ use Rattle.name_table.specs.Stored.{name_starts, stage_lengths}
 use Rattle.name_table.proofs.Laws.{length-stage_lengths}
 use Rattle.stage_tables.specs.StageTables.{stage_sections, stage_splits, image_check, symbols_check, splits_check, table_check}
 use Rattle.sections.specs.Image.{Image, image_of}
-use Rattle.sections.specs.Bytes.{bytes_of}
+use Rattle.stage_sections.proofs.Laws.{bytes_as}
 use Rattle.sections.specs.Sections.{Sections, sections_of, head_of}
 use Rattle.sections.specs.Ends.{splitting_end, end_meaning}
 use Rattle.sections.specs.Alignment.{Chosen, default_alignment, alignment_of}
@@ -48,11 +48,6 @@ module _ (g : Image) (sections : Sections) (section : ℕ) where
   pub end_found : section < sections.count → {head : Section} {bytes : List ℕ} (r : Result ℕ Short) → head ≡ sections.head section → bytes ≡ sections.bytes section
       → end_meaning section head.address r ≡ splitting_end g section head bytes → end_meaning section head.address r ≡ end_of g sections section
   end_found h r e q said = said ∙ ap₂ (splitting_end g section) e q ∙ sym (end_there h)
-
--- a section's bytes are asked at its own place alone
-bytes_as : (image I J : List ℕ) (n : ℕ) (head : Section) → get_or I n 0 ≡ get_or J n 0 → bytes_of image I n head ≡ bytes_of image J n head
-unfolding bytes_of
-bytes_as image I J n head e = rw e
 
 -- two columns that agree on the sections give the same end: of a section that is there its bytes, and 20 of one that is not
 pub end_as : (g : Image) (heads head_places image I J : List ℕ) (section : ℕ) → ((n : ℕ) → n < length head_places → get_or I n 0 ≡ get_or J n 0)

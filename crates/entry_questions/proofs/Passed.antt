@@ -1,34 +1,23 @@
--- What tables that passed are to the questions: each split's section is there; and a refused table is the answer.
+-- What tables that passed are to the questions: each split's section is there.
 -- Assumes nothing.
 use Prim.Native.Nat.{ℕ, ◌/◌, ◌%◌, ◌<◌, ◌≤◌}
 use mathlib.Core.Path.{◌≡◌, sym, ap}
 use mathlib.Core.List.{List}
 use native.Mathlib.Omega.{arith}
 use lib.ListN.{length, get_or}
-use Rattle.lists.specs.Outcome.{Outcome, accepted, refused, ◌>>◌}
+use Rattle.lists.specs.Outcome.{accepted}
 use Rattle.lists.proofs.Rows.{get_d_map}
 use Rattle.obj.specs.Records.{split_at, stage_places, split_width}
-use Rattle.obj.specs.declared.Refusal.{Refusal}
 use Rattle.obj.specs.declared.Section.{Section}
 use Rattle.obj.proofs.Laws.{length-stage_places}
-use Rattle.tables.specs.Tables.{records_check, AllHeld}
+use Rattle.tables.specs.Tables.{records_check}
 use Rattle.tables.specs.Records.{no_split, split_fault}
 use Rattle.tables.proofs.Laws.{splits_section}
 use Rattle.tables.proofs.Lookups.{held, stage_held}
 use Rattle.stage_tables.specs.StageTables.{stage_splits, splits_check}
 use Rattle.stage_tables.proofs.Laws.{table_passed}
-use Rattle.sections.specs.Sections.{Kept}
 use Rattle.entry_questions.specs.Entry.{split_of}
 use Rattle.entry_questions.specs.Lines.{Homes}
-
--- a refused table is the answer, whatever would follow
-pub asked_stops : {r : Refusal} {m : Outcome (Unit {0})} (rest : Outcome ℕ) → refused r.number r.section r.address ≡ m → refused r.number r.section r.address ≡ (m >> rest)
-unfolding ◌>>◌
-asked_stops rest said = ap (λ (x : Outcome (Unit {0})). x >> rest) said
-
--- the records of kept sections can be read
-pub kept_held : {heads head_places image image_places name_places : List ℕ} → Kept heads head_places image image_places name_places → AllHeld 15 heads head_places
-kept_held kept = record { few = omega (arith, kept.few); each = λ k h. (kept.held k h).inside }
 
 -- each split of a table that passed can be read, and its section is there
 pub homes_taken : (ceiling : ℕ) (lengths : List ℕ) (sections : List Section) (b : List ℕ) → splits_check ceiling lengths sections b ≡ accepted tt

@@ -3,7 +3,7 @@
 #![tactic(auto)]
 
 ghost use Rattle.std.specs.Prelude.{◌≡◌, length};
-ghost use Rattle.obj.specs.Answers.{meaning};
+ghost use Rattle.obj.specs.Answers.{meaning, word};
 ghost use Rattle.sections.specs.Image.{image_in, TablesIn};
 ghost use Rattle.name_table.specs.Columns.{ReadableIn};
 ghost use Rattle.entry_questions.specs.Entry.{end_of, alignment_at, end_answer, alignment_answer, Leaves};
@@ -37,11 +37,18 @@ fn splitting_end(obj: &Obj, image: &Table, section: u16) -> Result<u32, Refusal>
     }
     let head = section_at(&obj.heads, n);
     let bytes = section_bytes(image.bytes, image.places, n, head);
-    let end = sections::end_for_section(&obj.symbols, obj.order, &obj.names, section, head, bytes);
-    match end {
-        Ok(e) => Ok(e),
-        Err(_) => refuse(10, section, head.address),
-    }
+    let found = sections::end_for_section(
+        &obj.symbols,
+        obj.order,
+        &obj.names,
+        section,
+        head,
+        bytes,
+    );
+    let Ok(end) = found else {
+        return refuse(10, section, head.address);
+    };
+    Ok(end)
 }
 
 // The alignment of a split of the table: "11 start above end"; 20 where the split is not there.
@@ -127,18 +134,15 @@ fn answered(lent: &StageTables, question: Question) -> Result<u32, Refusal>
 }
 
 // The number into the lent output, where it was given and fits whole; zeros else.
-fn put_number(out: &mut [u8], r: Result<u32, Refusal>) -> u64
-    ensures { Leaves (meaning r) (length out.old) result out.new }
+fn put_number(out: &mut [u8], r: Result<u32, Refusal>) -> Result<(), Refusal>
+    ensures { Leaves (meaning r) (length out.old) (word result) out.new }
 {
     clear_from(out, 0);
-    let n = match r {
-        Ok(n) => n,
-        Err(e) => return word_of(Err(e)),
-    };
+    let n = r?;
     if 4 <= out.len() {
         put32(out, 0, n);
     }
-    word_of(Ok(()))
+    Ok(())
 }
 
 // The entry: the splitting end of a section, in four bytes of `end`.
@@ -166,7 +170,7 @@ pub fn end_for_section(
         },
         Question::End { section },
     );
-    put_number(end, r)
+    word_of(put_number(end, r))
 }
 
 // The entry: the alignment of split `which` of the table, in four bytes of `alignment`.
@@ -196,5 +200,5 @@ pub fn split_alignment(
         },
         Question::Alignment { split: which },
     );
-    put_number(alignment, r)
+    word_of(put_number(alignment, r))
 }

@@ -9,7 +9,6 @@ use lib.Dec.{ltb}
 use lib.ListN.{length, get_or}
 use Rattle.lists.specs.Rows.{keep_if}
 use Rattle.lists.specs.Outcome.{Outcome, accepted, refused, ◌>>=◌}
-use Rattle.obj.specs.declared.Section.{Section}
 use Rattle.obj.specs.declared.Reloc.{Reloc}
 use Rattle.obj.specs.declared.Split.{Split}
 use Rattle.sections.specs.Image.{Image}
@@ -18,12 +17,9 @@ use Rattle.sections.specs.Ends.{splitting_end}
 use Rattle.sections.specs.Sections.{head_of, sections_of}
 use Rattle.splits.specs.Questions.{within, next_start}
 use Rattle.pieces.specs.declared.Counts.{Counts}
+use Rattle.stage_sections.proofs.Laws.{bytes_as}
 use Rattle.walk.specs.Walk.{Input, Output, given, on_aligned, on_kept, on_split, walk_splits, walk_section, walk_sections, walk, nothing}
 use Rattle.walk.specs.Giving.{input_of}
-
-bytes_as : (image I J : List ℕ) (n : ℕ) (head : Section) → get_or I n 0 ≡ get_or J n 0 → bytes_of image I n head ≡ bytes_of image J n head
-unfolding bytes_of
-bytes_as image I J n head e = rw e
 
 -- the same goes on
 onward : {A B : Type 0} (m : Outcome A) (f h : A → Outcome B) → ((a : A) → f a ≡ h a) → (m >>= f) ≡ (m >>= h)

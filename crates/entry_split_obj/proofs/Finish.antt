@@ -7,7 +7,7 @@ use lib.ListN.{length, replicate}
 use Rattle.lists.specs.Outcome.{Outcome}
 use Rattle.lists.specs.Rows.{clear_from}
 use Rattle.lists.proofs.Clear.{clear_all}
-use Rattle.obj.specs.Answers.{outcome_word}
+use Rattle.obj.specs.Answers.{word, outcome_word}
 use Rattle.outputs.specs.Outputs.{counts_of, store_count, store_counts}
 use Rattle.outputs.proofs.Laws.{counts_stored}
 use Rattle.pieces.specs.declared.Counts.{Counts}
@@ -19,7 +19,7 @@ use Rattle.std.specs.Prelude.{Result, Ok, Err}
 use Rattle.obj.specs.declared.Refusal.{Refusal}
 use Rattle.stage_walk.proofs.Walked.{none_read}
 use Rattle.entry_split_obj.specs.Entry.{Sizes, Laid, Leaves, output_of}
-use Rattle.entry_split_obj.specs.Lines.{made_by, word_by, Fits}
+use Rattle.entry_split_obj.specs.Lines.{made_by, Fits}
 
 -- ---- the counts
 pub three_counts : (size a b c : ℕ) (before : List ℕ) → length before ≡ size
@@ -47,13 +47,13 @@ pub left_is : (t : PieceTables) (r : Result (Unit {0}) Refusal) → output_in t.
 left_is t (Ok u) = refl
 left_is t (Err r) = none_read t.pieces.now t.symbols.now t.relocs.now
 
-pub word_is : (t : PieceTables) (r : Result (Unit {0}) Refusal) → word_by r ≡ outcome_word (gave_meaning t r)
+pub word_is : (t : PieceTables) (r : Result (Unit {0}) Refusal) → word r ≡ outcome_word (gave_meaning t r)
 word_is t (Ok u) = refl
 word_is t (Err r) = refl
 
 -- the sizes are those of the lent tables, and what is left is what the outcome leaves
 pub leaves_at : (o : Outcome Output) (t : PieceTables) (made : Counts) (sizes lent : Sizes) (answer : ℕ) (r : Result (Unit {0}) Refusal) (before-pieces before-entries before-offsets pieces symbols relocs counts : List ℕ)
-    → before-pieces ≡ t.pieces.now → before-entries ≡ t.symbols.now → before-offsets ≡ t.relocs.now → made ≡ made_by r t.made → lent ≡ sizes → gave_meaning t r ≡ o → answer ≡ word_by r
+    → before-pieces ≡ t.pieces.now → before-entries ≡ t.symbols.now → before-offsets ≡ t.relocs.now → made ≡ made_by r t.made → lent ≡ sizes → gave_meaning t r ≡ o → answer ≡ word r
     → Laid (output_in before-pieces before-entries before-offsets made) lent pieces symbols relocs counts
     → Leaves o sizes answer pieces symbols relocs counts
 leaves_at o t made sizes lent answer r before-pieces before-entries before-offsets pieces symbols relocs counts p y f m z e w d =

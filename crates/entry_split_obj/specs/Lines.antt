@@ -1,7 +1,6 @@
 -- Inside the entry `split_obj`: its definition from the symbols on, over what the tables before them leave, and what the functions of the entry answer.
 use Rattle.std.specs.Prelude.{ℕ, ◌*◌, ◌/◌, ◌≤◌, List, length, Result, Ok, Err}
 use Rattle.lists.specs.Outcome.{Outcome, ◌>>◌}
-use Rattle.obj.specs.Answers.{refusal_word}
 use Rattle.obj.specs.Records.{stage_places}
 use Rattle.obj.specs.declared.Refusal.{Refusal}
 use Rattle.obj.specs.declared.Section.{Section}
@@ -45,11 +44,6 @@ split_obj_in t room =
 abbrev pub made_by : Result (Unit {0}) Refusal → Counts → Counts
 made_by (Ok u) made = made
 made_by (Err r) made = none
-
--- an answer's word
-abbrev pub word_by : Result (Unit {0}) Refusal → ℕ
-word_by (Ok u) = 0
-word_by (Err r) = refusal_word r.number r.section r.address
 
 -- so many records are whole in tables of these sizes
 pub record Fits (made : Counts) (pieces entries offsets : ℕ) : Type 0 where

@@ -8,7 +8,7 @@ ghost use Rattle.walk.specs.Giving.{output_in};
 ghost use Rattle.stage_walk.specs.Room.{room_in};
 ghost use Rattle.stage_walk.specs.Lines.{Gives, HeadedIn};
 ghost use Rattle.entry_split_obj.specs.Entry.{split_obj_of, Laid, Leaves};
-ghost use Rattle.entry_split_obj.specs.Lines.{from_symbols_in, split_obj_in, made_by, word_by, Fits, sizes_of};
+ghost use Rattle.entry_split_obj.specs.Lines.{from_symbols_in, split_obj_in, made_by, Fits, sizes_of};
 ghost use Rattle.pieces.specs.Room.{Ceilings};
 
 use lent_tables::StageTables;
@@ -93,16 +93,7 @@ pub fn made_of(r: Result<(), Refusal>, made: Counts) -> Counts
     }
 }
 
-fn word_for(r: Result<(), Refusal>) -> u64
-    ensures { result ≡ word_by r }
-{
-    match r {
-        Ok(_) => 0,
-        Err(e) => word_of(Err(e)),
-    }
-}
-
-// Zeros after the records, and their numbers in the counts.
+// Zeros after the records, and their numbers in the counts. The outputs of the C entry one by one: the counts are no part of PieceTables, and `made` is 0 after a refusal.
 pub fn lay(
     made: Counts,
     pieces: &mut [u8],
@@ -172,5 +163,5 @@ pub fn split_obj(
     );
     let made = made_of(r, tables.made);
     lay(made, pieces, entries, offsets, counts);
-    word_for(r)
+    word_of(r)
 }

@@ -1,32 +1,30 @@
 -- `entry_questions::answered` meets its contract. Names or sections that are refused are the answer; else the arrays have the names, the sections and the places of their bytes, and the
 -- symbols are asked with them. Assumes nothing.
-use Rattle.std.proofs.lemmas.Result.{err_from_is_err_and}
 use mathlib.Core.Path.{sym, ap, ◌∙◌}
 use mathlib.Core.List.{List}
 use Prim.Native.Nat.{ℕ}
 use lib.ListN.{length}
+use Rattle.lists.proofs.Binds.{after-stops}
 use Rattle.lists.proofs.Outcomes.{then_goes}
 use Rattle.obj.specs.Answers.{meaning}
 use Rattle.stage_tables.specs.StageTables.{image_check}
 use Rattle.stage_sections.proofs.Laws.{sections_kept, place_same}
+use Rattle.lent_tables.proofs.Answers.{is_err}
 use Rattle.entry_questions.specs.Entry.{answer_of}
 use Rattle.entry_questions.proofs.Laws.{symbols_as}
-use Rattle.entry_questions.proofs.Passed.{asked_stops}
 use Rattle.entry_questions.proofs.answered.Goals as goal
 
 pub returns-in_err-check : goal.returns-in_err-check
 unfolding answer_of
 returns-in_err-check c =
-    let p = err_from_is_err_and c.from_residual.result c.from_residual.ensures.1 in
-    rw (p.1, p.2) (asked_stops _ c.in_err-check.ensures.said)
+    rw (is_err _ c.from_residual.ensures.1) (sym (after-stops _ _ _ _ _ (sym c.in_err-check.ensures.said)))
 
 pub returns-in_err-check-2 : goal.returns-in_err-check-2
 unfolding answer_of
 returns-in_err-check-2 c =
     let t = c.args.lent.now in
-    let p = err_from_is_err_and c.from_residual-in_err-check-2.result c.from_residual-in_err-check-2.ensures.1 in
-    rw (p.1, p.2)
-    (asked_stops _ (c.in_err-check-2.ensures.said ∙ ap (λ (l : List ℕ). image_check 64 l t.section_places.now (length t.image.now) t.sections.now) c.names-names.ensures.lengths)
+    rw (is_err _ c.from_residual-in_err-check-2.ensures.1)
+    (sym (after-stops _ _ _ _ _ (sym (c.in_err-check-2.ensures.said ∙ ap (λ (l : List ℕ). image_check 64 l t.section_places.now (length t.image.now) t.sections.now) c.names-names.ensures.lengths)))
     ∙ then_goes c.check.ensures.said _ (ap meaning c.in_ok-check.was))
 
 pub with_symbols-requires : goal.with_symbols-requires

@@ -2,11 +2,9 @@
 -- Assumes nothing.
 use mathlib.Core.Path.{sym, ap, ◌∙◌}
 use Prim.Native.Nat.{ℕ}
-use Rattle.std.specs.Prelude.{Result}
+use Rattle.std.specs.Prelude.{Result, Ok, Err}
 use Rattle.obj.specs.declared.Refusal.{Refusal}
 use Rattle.obj.specs.Answers.{meaning}
-use Rattle.sections.specs.declared.Short.{Short}
-use Rattle.sections.specs.Ends.{end_meaning}
 use Rattle.sections.specs.Image.{image_in}
 use Rattle.sections.specs.Bytes.{bytes_of}
 use Rattle.sections.specs.Sections.{sections_of}
@@ -21,30 +19,25 @@ returns-then-obj-n c =
     let sections = sections_of a.obj.now.heads.bytes.now a.obj.now.heads.places.now a.image.now.bytes.now a.image.now.places.now in
     ap (λ (x : Result ℕ Refusal). meaning x) c.refuse.ensures ∙ sym (no_section g sections a.section c.if-obj-n.true)
 
-pub end_for_section-end-requires : goal.end_for_section-end-requires
-end_for_section-end-requires c =
+pub end_for_section-found-requires : goal.end_for_section-found-requires
+end_for_section-found-requires c =
     (c.requires.0, rw (c.section_bytes-bytes.ensures, c.section_at-head.ensures) (kept_whole _ _ _ _ _ c.requires.1 _ c.if-obj-n.false))
 
-pub returns-in-Ok : goal.returns-in-Ok
-returns-in-Ok c =
+pub returns : goal.returns
+returns c =
     let a = c.args in
     let g = image_in a.obj.now in
     let sections = sections_of a.obj.now.heads.bytes.now a.obj.now.heads.places.now a.image.now.bytes.now a.image.now.places.now in
-    let said =
-    end_found g sections a.section c.if-obj-n.false c.end_for_section-end.result c.section_at-head.ensures
+    end_found g sections a.section c.if-obj-n.false (Ok _) c.section_at-head.ensures
     (c.section_bytes-bytes.ensures ∙ ap (bytes_of a.image.now.bytes.now a.image.now.places.now a.section) c.section_at-head.ensures)
-    c.end_for_section-end.ensures in
-    sym (ap (λ (x : Result ℕ Short). end_meaning a.section c.section_at-head.result.address x) c.in-Ok.is) ∙ said
+    c.in-Ok.ensures
 
-pub returns-in-Err : goal.returns-in-Err
-returns-in-Err c =
+pub returns-in_default : goal.returns-in_default
+returns-in_default c =
     let a = c.args in
     let g = image_in a.obj.now in
     let sections = sections_of a.obj.now.heads.bytes.now a.obj.now.heads.places.now a.image.now.bytes.now a.image.now.places.now in
-    let said =
-    end_found g sections a.section c.if-obj-n.false c.end_for_section-end.result c.section_at-head.ensures
+    ap (λ (x : Result ℕ Refusal). meaning x) c.refuse-in_default.ensures
+    ∙ end_found g sections a.section c.if-obj-n.false (Err _) c.section_at-head.ensures
     (c.section_bytes-bytes.ensures ∙ ap (bytes_of a.image.now.bytes.now a.image.now.places.now a.section) c.section_at-head.ensures)
-    c.end_for_section-end.ensures in
-    ap (λ (x : Result ℕ Refusal). meaning x) c.refuse-in-Err.ensures
-    ∙ sym (ap (λ (x : Result ℕ Short). end_meaning a.section c.section_at-head.result.address x) c.in-Err.is)
-    ∙ said
+    c.in_default.ensures

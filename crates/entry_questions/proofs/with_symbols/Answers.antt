@@ -1,9 +1,9 @@
 -- `entry_questions::with_symbols` meets its contract. A table that is refused is the answer; one that passed is passed over, and the front of its column has the places of its records; then
 -- each question is asked by its own function, over the columns. Assumes nothing.
-use Rattle.std.proofs.lemmas.Result.{err_from_is_err_and}
 use mathlib.Core.Path.{sym, ap, ◌∙◌}
 use native.Mathlib.Omega.{arith}
 use lib.ListN.{length, length-map}
+use Rattle.lists.proofs.Binds.{after-stops}
 use Rattle.lists.proofs.Outcomes.{then_goes}
 use Rattle.obj.specs.Answers.{meaning}
 use Rattle.obj.specs.Records.{section_at, split_width}
@@ -12,23 +12,22 @@ use Rattle.sections.specs.Sections.{sections_of}
 use Rattle.sections.proofs.Kept.{kept_heads}
 use Rattle.stage_tables.proofs.Laws.{taken_few, taken_places, taken-count}
 use Rattle.stage_sections.proofs.Laws.{symbols_asked}
+use Rattle.lent_tables.proofs.Answers.{is_err}
 use Rattle.entry_questions.specs.Entry.{question_of}
 use Rattle.entry_questions.specs.Lines.{from_symbols}
 use Rattle.entry_questions.proofs.Laws.{asked_as}
-use Rattle.entry_questions.proofs.Passed.{asked_stops, homes_taken}
+use Rattle.entry_questions.proofs.Passed.{homes_taken}
 use Rattle.entry_questions.proofs.with_symbols.Goals as goal
 
 pub returns-in_err-check : goal.returns-in_err-check
 unfolding from_symbols
 returns-in_err-check c =
-    let p = err_from_is_err_and c.from_residual.result c.from_residual.ensures.1 in
-    rw (p.1, p.2) (asked_stops _ c.in_err-check.ensures.said)
+    rw (is_err _ c.from_residual.ensures.1) (sym (after-stops _ _ _ _ _ (sym c.in_err-check.ensures.said)))
 
 pub returns-in_err-take_splits : goal.returns-in_err-take_splits
 unfolding from_symbols
 returns-in_err-take_splits c =
-    let p = err_from_is_err_and c.from_residual-in_err-take_splits.result c.from_residual-in_err-take_splits.ensures.1 in
-    rw (p.1, p.2) (asked_stops _ c.in_err-take_splits.ensures.said ∙ then_goes c.check.ensures.said _ (ap meaning c.in_ok-check.was))
+    rw (is_err _ c.from_residual-in_err-take_splits.ensures.1) (sym (after-stops _ _ _ _ _ (sym c.in_err-take_splits.ensures.said)) ∙ then_goes c.check.ensures.said _ (ap meaning c.in_ok-check.was))
 
 pub slice_bounds-split_places-end : goal.slice_bounds-split_places-end
 slice_bounds-split_places-end c = omega (arith, taken_few split_width 1024 c.args.lent.now.splits.now _ _ c.take_splits.ensures (ap meaning c.in_ok-take_splits.was))

@@ -1,9 +1,6 @@
 -- `entry_split_obj::checked` meets its contract. Names or sections that are refused are the answer; else the arrays have the names, the sections and the places of
 -- their bytes, and the symbols are asked with them.
 -- Assumes nothing.
-use Rattle.std.specs.Prelude.{Err}
-use Rattle.std.proofs.lemmas.Result.{err_from_is_err_and}
-use Rattle.obj.specs.declared.Refusal.{Refusal}
 use Rattle.obj.specs.Answers.{meaning}
 use mathlib.Core.Path.{sym, ap, ◌∙◌}
 use mathlib.Core.List.{List}
@@ -14,6 +11,7 @@ use Rattle.name_table.proofs.Laws.{length-stage_lengths, names_passed}
 use Rattle.stage_tables.specs.StageTables.{image_check}
 use Rattle.stage_sections.proofs.Laws.{heads_held, sections_kept, place_same}
 use Rattle.stage_walk.proofs.Lines.{gives_as, gives_stops, gives_goes}
+use Rattle.lent_tables.proofs.Answers.{is_err}
 use Rattle.entry_split_obj.specs.Entry.{split_obj_of}
 use Rattle.entry_split_obj.proofs.Lines.{symbols_as}
 use Rattle.entry_split_obj.proofs.checked.Goals as goal
@@ -21,16 +19,14 @@ use Rattle.entry_split_obj.proofs.checked.Goals as goal
 pub returns-in_err-check : goal.returns-in_err-check
 unfolding split_obj_of
 returns-in_err-check c =
-    let p = err_from_is_err_and c.from_residual.result c.from_residual.ensures.1 in
-    gives_stops _ (p.1 ∙ ap (λ (x : Refusal). Err x) p.2) c.in_err-check.ensures.said lent_same
+    gives_stops _ (is_err _ c.from_residual.ensures.1) c.in_err-check.ensures.said lent_same
 
 pub returns-in_err-check-2 : goal.returns-in_err-check-2
 unfolding split_obj_of
 returns-in_err-check-2 c =
     let t = c.args.lent.now in
-    let p = err_from_is_err_and c.from_residual-in_err-check-2.result c.from_residual-in_err-check-2.ensures.1 in
     gives_goes (sym c.check.ensures.said ∙ ap meaning c.in_ok-check.was)
-    (gives_stops _ (p.1 ∙ ap (λ (x : Refusal). Err x) p.2)
+    (gives_stops _ (is_err _ c.from_residual-in_err-check-2.ensures.1)
     (c.in_err-check-2.ensures.said ∙ ap (λ (l : List ℕ). image_check 64 l t.section_places.now (length t.image.now) t.sections.now) c.names-names.ensures.lengths) lent_same)
 
 pub with_symbols-requires : goal.with_symbols-requires

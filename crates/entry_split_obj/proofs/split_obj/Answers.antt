@@ -34,4 +34,4 @@ returns c =
     c.made_of-made.ensures
     (λ d. record { pieces = c.pieces-1.given.1.0 d; symbols = c.entries-1.given.1.0 d; relocs = c.offsets-1.given.1.0 d; counts = length a.counts.now })
     (w.ensures.is ∙ ap (split_obj_of a.name_ends.now a.name_bytes.now a.sections.now a.section_places.now a.image.now a.symbols.now a.relocs.now a.splits.now a.unit_table.now) c.room_of.ensures)
-    c.word_for.ensures c.lay.ensures
+    c.word_of.ensures c.lay.ensures

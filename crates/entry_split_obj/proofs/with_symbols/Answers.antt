@@ -1,9 +1,6 @@
 -- `entry_split_obj::with_symbols` meets its contract. A table that is refused is the answer; else the fronts of the columns have the places of its records, and the tables after it are asked
 -- with them.
 -- Assumes nothing.
-use Rattle.std.specs.Prelude.{Err}
-use Rattle.std.proofs.lemmas.Result.{err_from_is_err_and}
-use Rattle.obj.specs.declared.Refusal.{Refusal}
 use Rattle.obj.specs.Answers.{meaning}
 use mathlib.Core.Path.{sym, ap, ◌∙◌}
 use Prim.Native.Nat.{◌/◌}
@@ -12,6 +9,7 @@ use lib.ListN.{length}
 use Rattle.stage_tables.proofs.Laws.{taken_few, taken_places, taken-count}
 use Rattle.sections.specs.Sections.{sections_of}
 use Rattle.tables.specs.Records.{sections_in}
+use Rattle.lent_tables.proofs.Answers.{is_err}
 use Rattle.entry_split_obj.specs.Lines.{from_symbols}
 use Rattle.pieces.proofs.Same.{lent_same}
 use Rattle.stage_walk.proofs.Lines.{gives_as, gives_stops, gives_goes}
@@ -25,14 +23,12 @@ use Rattle.entry_split_obj.proofs.with_symbols.Goals as goal
 pub returns-in_err-check : goal.returns-in_err-check
 unfolding from_symbols
 returns-in_err-check c =
-    let p = err_from_is_err_and c.from_residual.result c.from_residual.ensures.1 in
-    gives_stops _ (p.1 ∙ ap (λ (x : Refusal). Err x) p.2) c.in_err-check.ensures.said lent_same
+    gives_stops _ (is_err _ c.from_residual.ensures.1) c.in_err-check.ensures.said lent_same
 
 pub returns-in_err-take_relocs : goal.returns-in_err-take_relocs
 unfolding from_symbols
 returns-in_err-take_relocs c =
-    let p = err_from_is_err_and c.from_residual-in_err-take_relocs.result c.from_residual-in_err-take_relocs.ensures.1 in
-    gives_goes (sym c.check.ensures.said ∙ ap meaning c.in_ok-check.was) (gives_stops _ (p.1 ∙ ap (λ (x : Refusal). Err x) p.2) c.in_err-take_relocs.ensures.said lent_same)
+    gives_goes (sym c.check.ensures.said ∙ ap meaning c.in_ok-check.was) (gives_stops _ (is_err _ c.from_residual-in_err-take_relocs.ensures.1) c.in_err-take_relocs.ensures.said lent_same)
 
 pub slice_bounds-reloc_places-end : goal.slice_bounds-reloc_places-end
 slice_bounds-reloc_places-end c = omega (arith, taken_few 23 4096 c.args.lent.now.relocs.now _ _ c.take_relocs.ensures (ap meaning c.in_ok-take_relocs.was))
