@@ -1,6 +1,6 @@
 -- What tables that passed leave to the trim: symbols, sections and rows as its core requires them, and lines of the definition over the columns that are those
 -- over the lent tables. Assumes nothing.
-use Prim.Native.Nat.{ℕ, ◌/◌, ◌≤◌, ◌<◌}
+use Prim.Native.Nat.{ℕ, ◌/◌, ◌<◌}
 use mathlib.Core.Path.{◌≡◌, sym, ap, ◌∙◌}
 use mathlib.Core.List.{List}
 use native.Mathlib.Nat.{zero-add}
@@ -8,10 +8,9 @@ use native.Mathlib.Omega.{arith}
 use lib.ListN.{length, get_or, take, length-map}
 use Rattle.lists.specs.Outcome.{Outcome, accepted, ◌>>◌}
 use Rattle.lists.proofs.Rows.{get_d_tabulate, length-tabulate}
-use Rattle.obj.specs.Answers.{meaning}
 use Rattle.obj.specs.Records.{split_at, stage_places, split_width}
 use Rattle.obj.specs.Answers.{Answer}
-use Rattle.std.specs.Prelude.{Result, Ok, Err}
+use Rattle.std.specs.Prelude.{Ok, Err}
 use Rattle.obj.specs.declared.Section.{Section}
 use Rattle.obj.specs.declared.Split.{Split}
 use Rattle.obj.proofs.Laws.{length-stage_places}
@@ -23,14 +22,10 @@ use Rattle.name_table.specs.Stored.{stage_lengths, name_lengths, name_starts}
 use Rattle.name_table.proofs.Laws.{length-stage_names}
 use Rattle.stage_tables.specs.StageTables.{stage_sections, stage_splits, image_check, symbols_check, splits_check}
 use Rattle.stage_tables.proofs.Laws.{table_passed}
-use Rattle.symbol_order.specs.Order.{symbol_of}
-use Rattle.symbols.specs.Sound.{Sound}
 use Rattle.sections.specs.Image.{Image, image_of}
 use Rattle.sections.specs.Sections.{Sections, sections_of}
 use Rattle.splits.specs.Columns.{Columns, row_at, rows}
-use Rattle.stage_symbols.specs.StageSymbols.{answered, Ordered}
 use Rattle.obj.specs.declared.Refusal.{Refusal}
-use Rattle.stage_symbols.proofs.Laws.{symbols_sound}
 use Rattle.stage_splits.specs.StageSplits.{room_of, Laid, Gives}
 use Rattle.stage_splits.proofs.Laws.{gives_refused, gives_laid, gives_said, gives_as, gives_goes}
 use Rattle.trim.specs.Trim.{trimmed}
@@ -80,32 +75,6 @@ rows-placed ceiling lengths heads b c held passed taken count e =
 
     row_is : (k : ℕ) → k < held → row_at c k ≡ get_or (stage_splits b) k no_split
     row_is k h = sym (get_d_tabulate (row_at c) 0 held k no_split h ∙ ap (row_at c) (zero-add k)) ∙ ap (λ (l : List Split). get_or l k no_split) taken
-
--- ---- symbols that passed
-module _ (names : ℕ) (heads : List Section) (b places order : List ℕ) (r : Result ℕ Refusal) (o : Ordered (symbols_check 4096 names heads b) b places order r)
-    (e : meaning (answered r) ≡ accepted tt) where
-  pub symbols_passed : symbols_check 4096 names heads b ≡ accepted tt
-  symbols_passed = sym o.said ∙ e
-
-  pub symbols_few : length b / 20 ≤ 4096
-  symbols_few = (table_passed 20 4096 b _ symbols_passed).1
-
-  pub places_are : take (length b / 20) places ≡ stage_places 20 (length b / 20)
-  places_are = o.placed symbols_passed
-
-  pub sound_taken : Sound (symbol_of b (take (length b / 20) places)) (length (take (length b / 20) places))
-  sound_taken = rw (places_are, length-stage_places) (symbols_sound 4096 names heads b symbols_passed)
-
-  -- the splits are asked with them
-  image_as : (name_bytes name_places name_lengths : List ℕ)
-      → image_of b (take (length b / 20) places) name_bytes name_places name_lengths ≡ image_of b (stage_places 20 (length b / 20)) name_bytes name_places name_lengths
-  image_as name_bytes name_places name_lengths = ap (λ (l : List ℕ). image_of b l name_bytes name_places name_lengths) places_are
-
-  pub symbols_as : (name_bytes name_places name_lengths : List ℕ) (sections : Sections) (splits : List ℕ) (size : ℕ)
-      → from_splits name_lengths heads (image_of b (take (length b / 20) places) name_bytes name_places name_lengths) sections splits size
-      ≡ from_splits name_lengths heads (image_of b (stage_places 20 (length b / 20)) name_bytes name_places name_lengths) sections splits size
-  symbols_as name_bytes name_places name_lengths sections splits size =
-      ap (λ (g : Image). from_splits name_lengths heads g sections splits size) (image_as name_bytes name_places name_lengths)
 
 -- ---- sections that passed: the symbols are asked with their columns
 pub sections_as : (name_bytes name_places name_lengths b image head_places I places symbols splits : List ℕ) (size : ℕ)

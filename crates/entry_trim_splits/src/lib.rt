@@ -18,7 +18,7 @@ use name_table::NameArrays;
 use names::Names;
 use obj::{Refusal, Table};
 use sections::Obj;
-use splits::SplitTable;
+use splits::{SplitEnds, SplitTable};
 use stage_sections::{SectionArrays, SymbolArrays};
 use stage_splits::{SplitOutput, finish, give_splits, room_of, take_split_columns};
 use trim::trim;
@@ -58,8 +58,16 @@ fn from_splits(
         &mut places,
         &mut table,
     )?;
-    trim(obj, image, &mut table, &mut falls)?;
-    give_splits(&table.columns(), output);
+    let count = table.count;
+    let mut trimmed = SplitEnds {
+        starts: &starts,
+        ends: &mut ends,
+        units: &units,
+        rest: &rest,
+        count,
+    };
+    trim(obj, image, &mut trimmed, &mut falls)?;
+    give_splits(&trimmed.columns(), output);
     Ok(())
 }
 

@@ -44,41 +44,59 @@ pub trim-requires : goal.trim-requires
 trim-requires c =
     let a = c.args in
     let t = c.take_split_columns in
+    let k = t.ensures.lent in
     let heads = a.obj.now.heads in
     let passed = sym t.ensures.taken.said ∙ ap meaning c.in_ok-take_split_columns.was in
-    let low = room_low (length a.output.now.splits.now) in (
+    let low = room_low (length a.output.now.splits.now) in
+    let starts = c.starts-2-1.given.1.1 (sym k.starts) in
+    let ends = c.ends-2-1.given.1.1 (sym k.ends) in
+    let units = c.units-2-1.given.1.1 (sym k.units) in
+    let rest = c.rest-2-1.given.1.1 (sym k.rest) in (
       c.requires.0,
       c.requires.1,
       c.requires.3,
-      rows-placed _ a.obj.now.names.lengths.now (sections_in heads.bytes.now heads.places.now) a.splits.now (columns_in t.new.table) t.new.table.count passed
-          (t.ensures.taken.taken passed) (length heads.places.now) (length-map heads.places.now (section_at heads.bytes.now)),
-      omega (arith, t.new.table.fits, t.ensures.room, c.room_of.ensures, low),
+      rw (starts, ends, units, rest) (rows-placed _ a.obj.now.names.lengths.now (sections_in heads.bytes.now heads.places.now) a.splits.now (columns_in t.new.table) t.new.table.count passed
+          (t.ensures.taken.taken passed) (length heads.places.now) (length-map heads.places.now (section_at heads.bytes.now))),
+      omega (arith, t.new.table.fits, k.room, c.room_of.ensures, low),
     )
 
 pub returns-in_err-trim-clause-gives : goal.returns-in_err-trim-clause-gives
 returns-in_err-trim-clause-gives c =
     let a = c.args in
     let t = c.take_split_columns in
+    let k = t.ensures.lent in
     let heads = a.obj.now.heads in
     let passed = sym t.ensures.taken.said ∙ ap meaning c.in_ok-take_split_columns.was in
+    let starts = c.starts-2-1.given.1.1 (sym k.starts) in
+    let ends = c.ends-2-1.given.1.1 (sym k.ends) in
+    let units = c.units-2-1.given.1.1 (sym k.units) in
+    let rest = c.rest-2-1.given.1.1 (sym k.rest) in
     rw (same_err c.from_residual-in_err-trim.result c.trim.result c.from_residual-in_err-trim.ensures.1 c.in_err-trim.was)
     (trim_goes a.obj.now.names.lengths.now (sections_in heads.bytes.now heads.places.now) (image_in a.obj.now) (sections_lent a.obj.now a.image.now) a.splits.now
-    (length a.output.now.splits.now) c.room_of.ensures passed (t.ensures.taken.taken passed) (seen_refused _ _ _ c.trim.ensures.rows c.in_err-trim.was))
+    (length a.output.now.splits.now) c.room_of.ensures passed (t.ensures.taken.taken passed)
+    (seen_refused _ _ _ (rw (starts, ends, units, rest) at c.trim.ensures.rows) c.in_err-trim.was))
 
 pub give_splits-requires : goal.give_splits-requires
 give_splits-requires c =
     let t = c.take_split_columns in
-    let n = c.columns.ensures.columns.count in
+    let n = c.columns.ensures.count in
     let m = c.trim.ensures.others.count in
+    let room = t.ensures.lent.room in
     let size = length c.args.output.now.splits.now in
-    (omega (arith, n, m, t.new.table.fits, t.ensures.room, c.room_of.ensures, room_fits size), omega (arith, n, m, t.new.table.fits, t.ensures.room, c.room_of.ensures, room_low size))
+    (omega (arith, n, m, t.new.table.fits, room, c.room_of.ensures, room_fits size), omega (arith, n, m, t.new.table.fits, room, c.room_of.ensures, room_low size))
 
 pub returns-clause-gives : goal.returns-clause-gives
 returns-clause-gives c =
     let a = c.args in
     let t = c.take_split_columns in
+    let k = t.ensures.lent in
+    let e = c.columns.ensures in
     let heads = a.obj.now.heads in
     let passed = sym t.ensures.taken.said ∙ ap meaning c.in_ok-take_split_columns.was in
-    let w = seen-laid _ _ _ c.trim.ensures.rows c.in_ok-trim.was (rw c.columns.ensures.rows at c.give_splits.ensures.laid) in
+    let starts = c.starts-2-1.given.1.1 (sym k.starts) in
+    let ends = c.ends-2-1.given.1.1 (sym k.ends) in
+    let units = c.units-2-1.given.1.1 (sym k.units) in
+    let rest = c.rest-2-1.given.1.1 (sym k.rest) in
+    let w = seen-laid _ _ _ (rw (starts, ends, units, rest) at c.trim.ensures.rows) c.in_ok-trim.was (rw (e.columns, e.count) at c.give_splits.ensures.laid) in
     trim_goes a.obj.now.names.lengths.now (sections_in heads.bytes.now heads.places.now) (image_in a.obj.now) (sections_lent a.obj.now a.image.now) a.splits.now
     (length a.output.now.splits.now) c.room_of.ensures passed (t.ensures.taken.taken passed) (rw c.in_ok-trim.was at w)
