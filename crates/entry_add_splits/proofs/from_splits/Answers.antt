@@ -72,16 +72,16 @@ returns-in_err-add_splits-clause-gives c =
     rw (same_err c.from_residual-in_err-add_splits.result c.add_splits.result c.from_residual-in_err-add_splits.ensures.1 c.in_err-add_splits.was)
     (merge_goes a.lengths.now heads a.lent.now.splits.now a.lent.now.partials.now (room_of (length a.output.now.splits.now)) c.room_of.ensures passed (t.ensures.taken.taken passed)
     (sym u.ensures.said ∙ told) (ap (partials_in a.lent.now.partials.now) (taken_places partial_width 1024 a.lent.now.partials.now _ _ u.ensures told))
-    (merge_refused _ (rw t.ensures.room at c.add_splits.ensures.rows) c.in_err-add_splits.was))
+    (merge_refused _ (rw t.ensures.lent.room at c.add_splits.ensures.rows) c.in_err-add_splits.was))
 
 pub give_splits-requires : goal.give_splits-requires
 give_splits-requires c =
     let t = c.take_split_columns in
     let n = c.columns.ensures.columns.count in
     let fits = c.add_splits.new.table.fits in
-    let m = c.add_splits.ensures.room in
+    let m = c.add_splits.ensures.lent.room in
     let size = length c.args.output.now.splits.now in
-    (omega (arith, n, m, fits, t.ensures.room, c.room_of.ensures, room_fits size), omega (arith, n, m, fits, t.ensures.room, c.room_of.ensures, room_low size))
+    (omega (arith, n, m, fits, t.ensures.lent.room, c.room_of.ensures, room_fits size), omega (arith, n, m, fits, t.ensures.lent.room, c.room_of.ensures, room_low size))
 
 pub returns-clause-gives : goal.returns-clause-gives
 returns-clause-gives c =
@@ -93,4 +93,4 @@ returns-clause-gives c =
     let told = ap meaning c.in_ok-take_partials.was in
     merge_goes a.lengths.now heads a.lent.now.splits.now a.lent.now.partials.now (room_of (length a.output.now.splits.now)) c.room_of.ensures passed (t.ensures.taken.taken passed)
     (sym u.ensures.said ∙ told) (ap (partials_in a.lent.now.partials.now) (taken_places partial_width 1024 a.lent.now.partials.now _ _ u.ensures told))
-    (merge_laid _ (rw t.ensures.room at c.add_splits.ensures.rows) c.in_ok-add_splits.was (rw c.columns.ensures.rows at c.give_splits.ensures.laid))
+    (merge_laid _ (rw t.ensures.lent.room at c.add_splits.ensures.rows) c.in_ok-add_splits.was (rw c.columns.ensures.rows at c.give_splits.ensures.laid))
