@@ -1,13 +1,10 @@
 -- The ceilings that the tables are asked with, and what the tables before leave in the columns is what the definition asks.
 -- Assumes nothing.
 use Prim.Native.Nat.{ℕ, ◌/◌}
-use mathlib.Core.Path.{◌≡◌, refl, ap, ◌∙◌}
+use mathlib.Core.Path.{◌≡◌, ap, ◌∙◌}
 use mathlib.Core.List.{List}
 use lib.ListN.{length}
 use Rattle.lists.specs.Outcome.{Outcome, ◌>>◌}
-use Rattle.obj.specs.Answers.{word, outcome_word, meaning}
-use Rattle.obj.specs.Answers.{Answer}
-use Rattle.std.specs.Prelude.{Ok, Err}
 use Rattle.obj.specs.Records.{stage_places}
 use Rattle.tables.specs.Records.{sections_in}
 use Rattle.name_table.specs.Stored.{stage_lengths}
@@ -34,8 +31,3 @@ symbols_as ends bytes b symbols relocations splits units lengths places el ep =
     >> (relocs_check 4096 (stage_sections b) (length symbols / 20) relocations
     >> (splits_check 1024 (stage_lengths ends bytes) (stage_sections b) splits >> units_check 1024 (stage_lengths ends bytes) units)))
     (length-stage_lengths ends bytes)
-
--- the word of an answer is that of its meaning
-pub word_means : (a : Answer) → word a ≡ outcome_word (meaning a)
-word_means (Ok u) = refl
-word_means (Err r) = refl

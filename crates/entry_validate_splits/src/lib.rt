@@ -13,8 +13,8 @@ use lent_tables::{NO_TABLES, StageTables};
 use name_table::NameArrays;
 use obj::{Refusal, Table, word_of};
 use splits::SplitTable;
+use stage_sections::SymbolArrays;
 use stage_splits::take_split_columns;
-use stage_symbols::take_symbol_order;
 use stage_tables::take_sections;
 use validate::validate;
 
@@ -53,24 +53,16 @@ fn with_symbols(lengths: &[u8], heads: &Table, lent: &StageTables) -> Result<(),
     requires { AllHeld 15 heads.now.bytes.now heads.now.places.now }
     ensures { meaning result ≡ from_symbols_in lengths.now heads.now lent.now }
 {
-    let mut places = [0u32; 4096];
-    let mut order = [0u16; 4096];
-    let mut scratch = [0u16; 4096];
-    let ordered = take_symbol_order(
-        lengths.len(),
-        heads,
-        lent.symbols,
-        4096,
-        &mut places,
-        &mut order,
-        &mut scratch,
-    )?;
-    let symbols = Table {
-        bytes: lent.symbols,
-        places: &places[..lent.symbols.len() / 20],
-    };
+    let mut symbols = SymbolArrays::new();
+    symbols.check(lengths.len(), heads, lent.symbols)?;
     // a function of its own, so that the order is made without the columns of the splits on the stack
-    with_splits(lengths, heads, &symbols, &order[..ordered], lent.splits)
+    with_splits(
+        lengths,
+        heads,
+        &symbols.symbols(lent.symbols),
+        symbols.order(),
+        lent.splits,
+    )
 }
 
 // All tables: the names, the sections, and what comes after them.
