@@ -17,10 +17,7 @@ use Rattle.lists.proofs.First.{first-none, first_le}
 use Rattle.lists.proofs.Outcomes.{then_inv}
 use Rattle.lists.proofs.Rows.{get_d_map, length-tabulate, tabulate_more, tabulate_ext}
 use Rattle.lists.proofs.Tests.{or_false}
-use Rattle.std.specs.Prelude.{Result, Ok}
-use Rattle.obj.specs.Answers.{place, meaning}
-use Rattle.obj.specs.declared.Refusal.{Refusal}
-use Rattle.stage_symbols.specs.StageSymbols.{Ordered, answered, ordered}
+use Rattle.obj.specs.Answers.{place}
 use Rattle.obj.specs.Records.{section_at, stage_places}
 use Rattle.obj.specs.declared.Section.{Section}
 use Rattle.obj.proofs.Laws.{length-stage_places}
@@ -36,7 +33,7 @@ use Rattle.stage_tables.specs.StageTables.{stage_sections, stage_splits, image_c
 use Rattle.stage_tables.proofs.Laws.{table_passed}
 use Rattle.stage_names.specs.StageNames.{names_room, bytes_room, beyond, first_beyond, fit_check, flat}
 use Rattle.stage_names.proofs.Fits.{not_beyond, flat_append}
-use Rattle.sections.specs.Bytes as section_bytes_lem
+use Rattle.stage_sections.proofs.Laws.{bytes_as}
 use Rattle.sections.specs.Image.{Image, image_of}
 use Rattle.sections.specs.Sections.{head_of, sections_of}
 use Rattle.obj.specs.declared.Split.{Split}
@@ -53,10 +50,6 @@ use Rattle.stage_gaps.proofs.Laws.{flat_bytes}
 use Rattle.entry_create_gap_splits.specs.Entry.{from_symbols, from_sections}
 
 -- ---- two columns of places that agree on the sections: their gaps agree, since a section's bytes are asked at its own place alone
-bytes_as : (image I J : List ℕ) (n : ℕ) (head : Section) → get_or I n 0 ≡ get_or J n 0 → section_bytes_lem.bytes_of image I n head ≡ section_bytes_lem.bytes_of image J n head
-unfolding section_bytes_lem.bytes_of
-bytes_as image I J n head e = rw e
-
 module _ (g : Image) (heads head_places image I J : List ℕ) (same : (n : ℕ) → n < length head_places → get_or I n 0 ≡ get_or J n 0) where
   section_alike : (n : ℕ) (rows : List Split) → n < length head_places
       → section_gaps g (sections_of heads head_places image I) n rows ≡ section_gaps g (sections_of heads head_places image J) n rows
@@ -107,17 +100,6 @@ sections_short ceiling lengths places image b passed head_places name_bytes name
   where
     sections_passed : records_check (section_fault lengths (stage_sections b)) (length b / 15) ≡ accepted tt
     sections_passed = tables.image_sections lengths (image_places_of places) (length image) (stage_sections b) (length b / 15) (table_passed 15 ceiling b _ passed).2
-
--- ---- symbols that were put in order: they passed, and are few
-module _ {b places order : List ℕ} {r : Result ℕ Refusal} {n : ℕ} (is : r ≡ Ok n) where
-  pub order-passed : {want : Outcome (Unit {0})} → Ordered want b places order r → want ≡ accepted tt
-  order-passed o = sym o.said ∙ ap (λ (x : Result ℕ Refusal). meaning (answered x)) is
-
-  pub order_few : {want : Outcome (Unit {0})} → Ordered want b places order r → n ≤ length b / 20
-  order_few o = omega (arith, ap ordered is, o.small)
-
-  pub order_symbols : (names : ℕ) (heads : List Section) → Ordered (symbols_check 4096 names heads b) b places order r → length b / 20 ≤ 4096
-  order_symbols names heads o = (table_passed 20 4096 b _ (order-passed o)).1
 
 -- ---- the bytes of names
 flat_one : (x : List ℕ) → length (flat (x ∷ [])) ≡ length x

@@ -21,11 +21,12 @@ use Rattle.tables.proofs.Laws as tables
 use Rattle.tables.proofs.Lookups.{held, stage_held}
 use Rattle.stage_tables.specs.StageTables.{stage_sections, symbols_check, image_check}
 use Rattle.stage_tables.proofs.Laws.{table_passed}
-use Rattle.symbol_order.specs.Order.{symbol_of, order_of}
+use Rattle.symbol_order.specs.Order.{symbol_of, order_of, Order}
+use Rattle.sections.specs.Bytes.{bytes_of}
 use Rattle.sections.specs.Image.{Tables, Lies}
 use Rattle.sections.specs.Sections.{head_of, Kept}
 use Rattle.stage_symbols.specs.StageSymbols.{Placed}
-use Rattle.stage_symbols.proofs.Laws.{symbol_named}
+use Rattle.stage_symbols.proofs.Laws.{symbol_named, symbol_whole}
 
 -- a number that a list has something above 0 for is one of its places
 known : (l : List ℕ) (k : ℕ) → 0 < get_or l k 0 → k < length l
@@ -43,6 +44,11 @@ placed_held {l} {column} {r} p long =
     let is = p.is ∙ ap (λ (n : ℕ). take n l) long in
     let count = sym (length-take-le r column p.inside) ∙ ap length is in
     record { is = ap (λ (n : ℕ). take n column) (sym count) ∙ p.is; inside = omega (arith, count, p.inside) }
+
+-- ---- a section's bytes are asked at its own place alone
+pub bytes_as : (image I J : List ℕ) (n : ℕ) (head : Section) → get_or I n 0 ≡ get_or J n 0 → bytes_of image I n head ≡ bytes_of image J n head
+unfolding bytes_of
+bytes_as image I J n head e = rw e
 
 -- ---- sections with bytes in an image
 module _ (lengths places image b : List ℕ) (passed : image_check 64 lengths places (length image) b ≡ accepted tt) where
@@ -95,21 +101,24 @@ module _ (lengths places image b : List ℕ) (passed : image_check 64 lengths pl
             inside = λ q. rw (place_same n h) (bytes q).1;
           })
 
--- ---- symbols, their order and names belong together
+-- ---- symbols and their order
+pub symbols_ordered : (names : ℕ) (sections : List Section) (b : List ℕ) → symbols_check 4096 names sections b ≡ accepted tt
+    → Order b (stage_places 20 (length b / 20)) (order_of (symbol_of b (stage_places 20 (length b / 20))) (length b / 20))
+symbols_ordered names sections b passed =
+    record {
+      whole = symbol_whole 4096 names sections b passed (omega arith);
+      is = sym (ap (order_of (symbol_of b (stage_places 20 (length b / 20)))) (length-stage_places 20 (length b / 20)));
+    }
+
+-- .. and names belong together
 pub symbols_asked : (names : ℕ) (sections : List Section) (b : List ℕ) → symbols_check 4096 names sections b ≡ accepted tt
     → (name_bytes name_places name_lengths : List ℕ) → length name_places ≡ names → Named name_bytes name_places name_lengths (length name_places)
     → Tables b (stage_places 20 (length b / 20)) (order_of (symbol_of b (stage_places 20 (length b / 20))) (length b / 20)) name_bytes name_places name_lengths
 symbols_asked names sections b passed name_bytes name_places name_lengths count named =
     record {
-      symbols = record {
-        whole = record { each = (stage_held 20 (length b / 20) b (omega (arith, few)) (mul-div-le (length b) 20)).each };
-        is = sym (ap (order_of (symbol_of b (stage_places 20 (length b / 20)))) (length-stage_places 20 (length b / 20)));
-      };
+      symbols = symbols_ordered names sections b passed;
       names = record {
         names = named;
         named = λ i h. rw count (symbol_named 4096 names sections b passed i (rw length-stage_places at h));
       };
     }
-  where
-    few : length b / 20 ≤ 4096
-    few = (table_passed 20 4096 b _ passed).1
