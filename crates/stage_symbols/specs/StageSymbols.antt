@@ -1,5 +1,5 @@
--- The symbols of a stage: their table with all its checks, and the symbol order made of it. What tables that passed are to the questions of `symbols` and
--- `sections`: the laws of proofs/Laws.antt.
+-- The symbols of a stage: their table with all its checks, and the symbol order made of it. What a table that passed is to the questions of `symbols`: the
+-- laws of proofs/Laws.antt; what it is to those of `sections`: stage_sections.
 use Rattle.std.specs.Prelude.{ℕ, ◌/◌, ◌≤◌, ◌≡◌, List, length, take, Result, Ok, Err}
 use Rattle.lists.specs.Outcome.{Outcome, accepted}
 use Rattle.obj.specs.Answers.{Answer, meaning}
