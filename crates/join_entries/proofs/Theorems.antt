@@ -2,7 +2,7 @@
 use Prim.Native.Nat.{ℕ, suc, ◌+◌, ◌-◌, ◌/◌, ◌≤◌, ◌<◌}
 use mathlib.Core.Path.{◌≡◌, refl, sym, ap, subst, ◌∙◌}
 use mathlib.Core.List.{List, [], ◌∷◌, map, Memᴰ, Permᴰ}
-use mathlib.Core.Bool.{Bool, true, false, cond, not}
+use mathlib.Core.Bool.{not}
 use native.Mathlib.Omega.{arith}
 use lib.Dec.{eqb}
 use lib.ListN.{length, get_or, take, drop, length-map, get_or-append}
@@ -10,6 +10,7 @@ use Rattle.lists.specs.Outcome.{Outcome, accepted, ◌>>◌}
 use Rattle.lists.specs.Rows.{keep_if}
 use Rattle.lists.specs.Sort.{All, none, each}
 use Rattle.lists.proofs.Binds.{bind_goes, after_goes}
+use Rattle.lists.proofs.Ranks.{length-kept}
 use Rattle.lists.proofs.Filter.{map_keep}
 use Rattle.lists.proofs.Outcomes.{then_both}
 use Rattle.lists.proofs.Parts.{tabulate_list}
@@ -101,15 +102,6 @@ perm_length (Permᴰ.cons e q) = ap suc (perm_length q)
 perm_length (Permᴰ.swap e f) = refl
 perm_length (Permᴰ.trans q r) = perm_length q ∙ perm_length r
 
-keep_length : {A : Type 0} (p : A → Bool) (l : List A) → length (keep_if p l) ≤ length l
-unfolding keep_if
-keep_length p [] = omega arith
-keep_length {A} p (x ∷ l) = go (p x) (keep_length p l)
-  where
-    go : (b : Bool) → length (keep_if p l) ≤ length l → length (cond b (x ∷ keep_if p l) (keep_if p l)) ≤ suc (length l)
-    go true h = omega arith
-    go false h = omega arith
-
 -- ---- J1
 
 module _ (r : Run) (parts : List Part) (order : Permᴰ parts (parts_of_walk (input r).sections (pieces_of r))) where
@@ -173,7 +165,7 @@ module _ (r : Run) (parts : List Part) (order : Permᴰ parts (parts_of_walk (in
   few_parts =
       let a = perm_length walk_order in
       let b = length-map (keep_if (of_bytes (input r).sections) out.pieces) (part_in (input r).sections) in
-      let d = keep_length (of_bytes (input r).sections) out.pieces in
+      let d = length-kept (of_bytes (input r).sections) out.pieces in
       let e = pieces_room (input r) out (passed r).walked in
       let f = few 1024 piece_width c.sizes.pieces in
       omega arith

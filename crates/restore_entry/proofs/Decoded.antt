@@ -13,6 +13,7 @@ use Rattle.fields.proofs.Laws.{round16, round32}
 use Rattle.sections.specs.Sections.{Sections}
 use Rattle.pieces.specs.declared.Piece.{Piece}
 use Rattle.pieces.specs.Pieces.{piece_at, piece_head, piece_bytes, pieces_in, packed, piece_width}
+use Rattle.pieces.proofs.Laws.{length-piece_bytes}
 use Rattle.walk.specs.Walk.{Input, start_in}
 use Rattle.restore.specs.Restoring.{Part, part_of, parts, returned, laid, Inside, Restored}
 use Rattle.restore_entry.specs.Tables.{Spot, spot}
@@ -62,10 +63,6 @@ first p rest f = λ z. record {
   alignment = round32 p.alignment f.alignment z;
 }
 
-length_record : (p : Piece) → length (piece_bytes p) ≡ piece_width
-unfolding piece_bytes piece_head
-length_record p = refl
-
 read : (ps : List Piece) (rest : List ℕ) → All Small ps → (k : ℕ) → k < length ps
     → spot (piece_at (packed piece_bytes ps ++ rest) (piece_width * k)) ≡ spot (get_or ps k no_piece)
 unfolding packed
@@ -74,7 +71,7 @@ read (p ∷ ps) rest (each f all) zero h =
     ap (λ (b : List ℕ). spot (piece_at b 0)) (append_assoc (piece_bytes p) (packed piece_bytes ps) rest) ∙ first p (packed piece_bytes ps ++ rest) f
 read (p ∷ ps) rest (each f all) (suc k) h =
     ap (λ (b : List ℕ). spot (piece_at b (piece_width * suc k))) (append_assoc (piece_bytes p) (packed piece_bytes ps) rest)
-    ∙ ap (λ (at : ℕ). spot (piece_at (piece_bytes p ++ (packed piece_bytes ps ++ rest)) at)) (let e : piece_width * suc k ≡ length (piece_bytes p) + piece_width * k = omega (arith, length_record p) in e)
+    ∙ ap (λ (at : ℕ). spot (piece_at (piece_bytes p ++ (packed piece_bytes ps ++ rest)) at)) (let e : piece_width * suc k ≡ length (piece_bytes p) + piece_width * k = omega (arith, length-piece_bytes p) in e)
     ∙ after (piece_bytes p) (packed piece_bytes ps ++ rest) (piece_width * k)
     ∙ read ps rest all k (omega arith)
 
