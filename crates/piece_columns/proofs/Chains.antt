@@ -12,6 +12,7 @@ use lib.Dec.{eqb}
 use lib.ListN.{length, get_or, set, replicate, length-set, get_or-append}
 use lib.Seq.{get_or-set_same, get_or-set_other, get_or-append_seam}
 use borrow.Author.Tests.{eq-eqb, ne_eqb, eqb-true}
+use Rattle.std.proofs.Math.Bool.{or-false, or-true, or_assoc, and-false}
 use Rattle.lists.specs.Rows.{tabulate}
 use Rattle.lists.proofs.Rows.{tabulate_more, get_d_tabulate, length-tabulate, get_or_same}
 use Rattle.pieces.specs.declared.PieceSymbol.{PieceSymbol}
@@ -24,26 +25,9 @@ pub record PushedEntry (heads prevs before after : List ℕ) (k : ℕ) (y : Piec
   pub more : symbols_in after (k + 1) ≡ symbols_in before k ++ (y ∷ [])
   pub chained : Chained heads prevs after (k + 1)
 
--- ---- Booleans
-or_false : (b : Bool) → (b || false) ≡ b
-or_false true = refl
-or_false false = refl
-
-or_true : (b : Bool) → (b || true) ≡ true
-or_true true = refl
-or_true false = refl
-
-or_assoc : (a b c : Bool) → ((a || b) || c) ≡ (a || (b || c))
-or_assoc true b c = refl
-or_assoc false b c = refl
-
-and_false : (b : Bool) → (b && false) ≡ false
-and_false true = refl
-and_false false = refl
-
 has_snoc : (unit symbol : ℕ) (l : List PieceSymbol) (y : PieceSymbol) → has unit symbol (l ++ (y ∷ [])) ≡ (has unit symbol l || (eqb y.unit unit && eqb y.symbol symbol))
 unfolding has
-has_snoc unit symbol [] y = or_false (eqb y.unit unit && eqb y.symbol symbol)
+has_snoc unit symbol [] y = or-false (eqb y.unit unit && eqb y.symbol symbol)
 has_snoc unit symbol (x ∷ l) y =
     ap (λ (b : Bool). (eqb x.unit unit && eqb x.symbol symbol) || b) (has_snoc unit symbol l y)
     ∙ sym (or_assoc (eqb x.unit unit && eqb x.symbol symbol) (has unit symbol l) (eqb y.unit unit && eqb y.symbol symbol))
@@ -66,8 +50,8 @@ module _ (f : ℕ → PieceSymbol) (unit symbol : ℕ) where
       go : (t : Bool) → eqb (f k).symbol symbol ≡ t → below k ≡ below (last_of f symbol k) → below (suc k) ≡ below (cond t (suc k) (last_of f symbol k))
       go true e ih = refl
       go false e ih =
-          below_suc k ∙ ap (λ (b : Bool). below k || (eqb (f k).unit unit && b)) e ∙ ap (λ (b : Bool). below k || b) (and_false (eqb (f k).unit unit))
-          ∙ or_false (below k) ∙ ih
+          below_suc k ∙ ap (λ (b : Bool). below k || (eqb (f k).unit unit && b)) e ∙ ap (λ (b : Bool). below k || b) (and-false (eqb (f k).unit unit))
+          ∙ or-false (below k) ∙ ih
 
   last_le : (k : ℕ) → last_of f symbol k ≤ k
   unfolding last_of
@@ -91,11 +75,11 @@ module _ (f : ℕ → PieceSymbol) (unit symbol : ℕ) where
   -- at such a place: it is the unit's, or the chain goes on
   below_here : (m : ℕ) → (f m).symbol ≡ symbol → (f m).unit ≡ unit → below (suc m) ≡ true
   below_here m e u =
-      below_suc m ∙ ap₂ (λ (a b : Bool). below m || (a && b)) (eq-eqb (f m).unit unit u) (eq-eqb (f m).symbol symbol e) ∙ or_true (below m)
+      below_suc m ∙ ap₂ (λ (a b : Bool). below m || (a && b)) (eq-eqb (f m).unit unit u) (eq-eqb (f m).symbol symbol e) ∙ or-true (below m)
 
   below_on : (m : ℕ) → (f m).unit ≢ unit → below (suc m) ≡ below (last_of f symbol m)
   below_on m u =
-      below_suc m ∙ ap (λ (b : Bool). below m || (b && eqb (f m).symbol symbol)) (ne_eqb (f m).unit unit u) ∙ or_false (below m) ∙ below_last m
+      below_suc m ∙ ap (λ (b : Bool). below m || (b && eqb (f m).symbol symbol)) (ne_eqb (f m).unit unit u) ∙ or-false (below m) ∙ below_last m
 
   below_none : below 0 ≡ false
   unfolding has tabulate

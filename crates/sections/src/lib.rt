@@ -52,7 +52,7 @@ impl Alignment {
     }
 }
 
-// The bytes of section n: a part of the image, none for kind 3.
+// The bytes of section n: a part of the image, none for kind 3. n is a section's number and no length, and the image and its places are two slices since they have two owners.
 pub fn section_bytes<'a>(image: &'a [u8], places: &[u32], n: usize, head: Section) -> &'a [u8]
     requires { Lies image.now places.now n head }
     ensures { result.now ≡ bytes_of image.now places.now n head }
@@ -100,7 +100,7 @@ fn lower(table: &Table, part: &[u16], names: &Names, end: u32) -> u32
     low
 }
 
-// "less 4 if `.ctors` or `.dtors` ends in four zero bytes"
+// "less 4 if `.ctors` or `.dtors` ends in four zero bytes". `list` says whether the name is one of these, since the refusal before it asks that too.
 fn less_four(bytes: &[u8], list: bool, end: u32) -> u32
     requires { Four list (length bytes.now) end }
     ensures { result ≡ less_four list bytes.now end }

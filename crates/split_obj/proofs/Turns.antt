@@ -14,6 +14,7 @@ use Rattle.std.specs.Prelude.{None, Some}
 use Rattle.lists.specs.Rows.{tabulate, keep_if}
 use Rattle.lists.specs.Outcome.{Outcome, accepted, refused, ◌>>=◌}
 use Rattle.lists.proofs.Outcomes.{fails, passes}
+use Rattle.lists.proofs.Binds.{bind_goes, bind_stops}
 use Rattle.lists.proofs.Both.{both}
 use Rattle.obj.specs.declared.Split.{Split}
 use Rattle.splits.specs.Columns.{Columns, row_of, row_at, rows}
@@ -24,15 +25,6 @@ use Rattle.walk.proofs.Deciding.{carried, decide_then_give}
 use Rattle.split_obj.specs.Loop.{Hits}
 
 -- ---- chains
-module _ {A B : Type 0} (m : Outcome A) (f : A → Outcome B) where
-  pub bind_refused : (number section address : ℕ) → m ≡ refused number section address → (m >>= f) ≡ refused number section address
-  unfolding ◌>>=◌
-  bind_refused number section address e = ap (λ (x : Outcome A). x >>= f) e
-
-  pub bind_goes : (a : A) → m ≡ accepted a → (m >>= f) ≡ f a
-  unfolding ◌>>=◌
-  bind_goes a e = ap (λ (x : Outcome A). x >>= f) e
-
 bind_assoc : {A B C : Type 0} (m : Outcome A) (f : A → Outcome B) (g : B → Outcome C) → ((m >>= f) >>= g) ≡ (m >>= λ a. f a >>= g)
 unfolding ◌>>=◌
 bind_assoc (accepted a) f g = refl
@@ -98,7 +90,7 @@ module _ (t : Input) (n end current : ℕ) (out : Output) where
         -- 11 and 71 to 74
         pub turn_fault : (number section address : ℕ) → refused number section address ≡ decide t.image t.sections t.units n current next (row_at c i)
             → here ≡ refused number section address
-        turn_fault number section address d = decided ∙ bind_refused _ _ number section address (sym d)
+        turn_fault number section address d = decided ∙ bind_stops _ _ number section address (sym d)
 
         -- it is skipped
         pub turn_skip : accepted None ≡ decide t.image t.sections t.units n current next (row_at c i) → here ≡ after out
@@ -115,11 +107,11 @@ module _ (t : Input) (n end current : ℕ) (out : Output) where
           -- "75 alignment misfits"
           pub turn_misfit : current % a ≢ 0 → here ≡ refused 75 n current
           unfolding on_aligned
-          turn_misfit z = gives ∙ bind_refused _ after 75 n current (fails 75 n current _ _ (ap not (ne_eqb (current % a) 0 z)))
+          turn_misfit z = gives ∙ bind_stops _ after 75 n current (fails 75 n current _ _ (ap not (ne_eqb (current % a) 0 z)))
 
           -- 11 and 76
           pub turn_refused : (number section address : ℕ) → on_aligned t n current unit a (row_at c i) out ≡ refused number section address → here ≡ refused number section address
-          turn_refused number section address e = gives ∙ bind_refused _ after number section address e
+          turn_refused number section address e = gives ∙ bind_stops _ after number section address e
 
           -- it has given
           pub turn_given : (o : Output) → on_aligned t n current unit a (row_at c i) out ≡ accepted o → here ≡ after o
@@ -145,7 +137,7 @@ module _ (t : Input) (n last : ℕ) (out : Output) where
     -- "10 `.ctors` or `.dtors` with 1 to 3 bytes"
     pub section_short : (low : ℕ) → splitting_end_in t.image t.sections n ≡ refused 10 n low → walk_sections t n (last - n) out ≡ refused 10 n low
     unfolding walk_section
-    section_short low e = sections_turn ∙ bind_refused _ later 10 n low (bind_refused _ _ 10 n low e)
+    section_short low e = sections_turn ∙ bind_stops _ later 10 n low (bind_stops _ _ 10 n low e)
 
     -- its splits, from the first that is taken
     pub section_starts : (low end : ℕ) → splitting_end_in t.image t.sections n ≡ accepted end → low ≡ start_in t.sections n

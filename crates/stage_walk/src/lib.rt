@@ -26,11 +26,7 @@ pub fn room_for(ceiling: usize, width: usize, size: usize) -> usize
     requires { 0 < width }
     ensures { result ≡ room_for ceiling width size }
 {
-    let whole = size / width;
-    if whole < ceiling {
-        return whole;
-    }
-    ceiling
+    (size / width).min(ceiling)
 }
 
 // How many records lent tables of these sizes may take.
@@ -43,6 +39,9 @@ pub fn room_of(pieces: usize, symbols: usize, relocs: usize) -> Counts
         relocs: room_for(4096, 8, relocs),
     }
 }
+
+// That the room is within the ceilings is a clause of the next three: as a ghost field of `PieceTables` it would be asked of all who make one. The tables stay apart,
+// since each comes from a check of its own, and the splits and the units are still bytes in the last of the three.
 
 // The walk of all sections from nothing, with columns of its own beside the outputs.
 pub fn walk_columns(

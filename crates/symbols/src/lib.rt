@@ -108,7 +108,7 @@ pub fn is_sized_unstripped(y: Symbol, objects: bool) -> bool
     (!objects | (y.kind == 2)) & ((y.size_known == 1) & (y.size != 0) & (y.flags / 4 % 2 != 1))
 }
 
-// The last sized unstripped symbol of a part.
+// The last sized unstripped symbol of a part. Here and in `last_below` `objects` stays, though all callers ask for every kind: the definition has both cases, and so has what is promised.
 pub fn last_of(table: &Table, part: &[u16], objects: bool) -> Option<usize>
     requires { Readable table.now.bytes.now table.now.places.now part.now }
     ensures { result ≡ last_or None (keep_if (λ i. sized_unstripped objects (symbol_of table.now.bytes.now table.now.places.now i)) part.now) }

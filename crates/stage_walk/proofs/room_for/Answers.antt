@@ -1,16 +1,25 @@
 -- `stage_walk::room_for` meets its contract: the lower of two numbers.
 -- Assumes nothing.
-use Prim.Native.Nat.{◌/◌}
-use mathlib.Core.Path.{sym, ap}
+use Prim.Native.Nat.{ℕ, ◌≤◌, ◌<◌}
+use mathlib.Core.Path.{◌≡◌, sym, ap, ◌∙◌}
 use mathlib.Core.Bool.{Bool, cond}
+use mathlib.Core.Logic.{◌⊎◌, inl, inr}
+use native.Mathlib.Omega.{arith}
 use borrow.Author.Tests.{lt-ltb, le-ltb}
+use lib.Dec.{ltb}
+use Rattle.std.specs.Prelude.{min}
+use Rattle.std.proofs.Math.Nat.{min-eq_left, min-eq_right}
+use Rattle.lists.proofs.Compare.{lt_or_ge}
 use Rattle.stage_walk.specs.Room.{room_for}
 use Rattle.stage_walk.proofs.room_for.Goals as goal
 
-pub returns-then-whole-ceiling : goal.returns-then-whole-ceiling
-unfolding room_for
-returns-then-whole-ceiling c = ap (λ (t : Bool). cond t (c.args.size / c.args.width) c.args.ceiling) (sym (lt-ltb _ _ c.if-whole-ceiling.true))
+lower : (a b : ℕ) → min a b ≡ cond (ltb a b) a b
+lower a b = go (lt_or_ge a b)
+  where
+    go : (a < b) ⊎ (b ≤ a) → min a b ≡ cond (ltb a b) a b
+    go (inl h) = min-eq_left (omega arith) ∙ sym (ap (λ (t : Bool). cond t a b) (lt-ltb a b h))
+    go (inr h) = min-eq_right h ∙ sym (ap (λ (t : Bool). cond t a b) (le-ltb a b h))
 
 pub returns : goal.returns
 unfolding room_for
-returns c = ap (λ (t : Bool). cond t (c.args.size / c.args.width) c.args.ceiling) (sym (le-ltb _ _ c.if-whole-ceiling.false))
+returns c = c.min.ensures ∙ lower _ c.args.ceiling
