@@ -230,13 +230,7 @@ fn show_counts(rt: &impl Print, counts: &[u8]) -> io::Result<()> {
 
 // The bytes in from..to, none where these are no places.
 fn part(bytes: &[u8], from: usize, to: usize) -> &[u8] {
-    if bytes.len() < to {
-        return &bytes[..0];
-    }
-    if to < from {
-        return &bytes[..0];
-    }
-    &bytes[from..to]
+    bytes.get(from..to).unwrap_or(&[])
 }
 
 impl Reading<'_> {
