@@ -32,15 +32,11 @@ fn with_splits(
     ensures { meaning result ≡ from_splits_in lengths.now heads.now symbols.now splits.now }
 {
     let mut places = [0u32; 1024];
-    let mut starts = [0u32; 1024];
-    let mut ends = [0u32; 1024];
-    let mut units = [0u16; 1024];
-    let mut rest = [0u64; 1024];
     let mut table = SplitTable {
-        starts: &mut starts,
-        ends: &mut ends,
-        units: &mut units,
-        rest: &mut rest,
+        starts: &mut [0u32; 1024],
+        ends: &mut [0u32; 1024],
+        units: &mut [0u16; 1024],
+        rest: &mut [0u64; 1024],
         count: 0,
         room: 1024,
     };

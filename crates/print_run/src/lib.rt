@@ -179,25 +179,18 @@ fn print_with_tables<W: Write>(
 ) -> io::Result<()>
     ensures { OnOk result (Prints file.now (length tables.old.units.now / 8) (room_lent tables.old) (W.contents out.old) (W.contents out.new)) }
 {
-    let mut starts = [0u32; 1024];
-    let mut ends = [0u32; 1024];
-    let mut units = [0u16; 1024];
-    let mut rest = [0u64; 1024];
-    let mut added_bytes = [0u8; 65535];
-    let mut added_places = [0u32; 4096];
-    let mut added_lengths = [0u8; 4096];
     let mut table = SplitTable {
-        starts: &mut starts,
-        ends: &mut ends,
-        units: &mut units,
-        rest: &mut rest,
+        starts: &mut [0u32; 1024],
+        ends: &mut [0u32; 1024],
+        units: &mut [0u16; 1024],
+        rest: &mut [0u64; 1024],
         count: 0,
         room: 1024,
     };
     let mut added = AddedNames {
-        bytes: &mut added_bytes,
-        places: &mut added_places,
-        lengths: &mut added_lengths,
+        bytes: &mut [0u8; 65535],
+        places: &mut [0u32; 4096],
+        lengths: &mut [0u8; 4096],
         count: 0,
         used: 0,
         most: 4096,
