@@ -42,7 +42,8 @@ fn take_lengths(
     check_names(name_ends, name_bytes, 4096, &mut columns)
 }
 
-// The split table, its mending and the outputs. `section_ends` says where each section ends.
+// The split table, its mending and the outputs. `section_ends` says where each section ends. `output` and `lines` are two parameters of three functions: of a struct of
+// both the entry doesn't know at its end what the slices of the inner struct hold (tried).
 fn from_splits(
     lengths: &[u8],
     heads: &Table,
