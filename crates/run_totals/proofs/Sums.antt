@@ -16,10 +16,10 @@ use Rattle.pieces.specs.declared.PieceSymbol.{PieceSymbol}
 use Rattle.pieces.specs.Pieces.{piece_at, symbol_at, pieces_in, symbols_in, piece_width}
 use Rattle.pieces.proofs.Laws.{length-pieces_in}
 use Rattle.lines.specs.Lines.{total_line}
-use Rattle.listing.specs.Listing.{Run, sum_by, sizes, pieces_of, common_size, commons, figure, figures, units_lines, listing}
+use Rattle.listing.specs.Listing.{Run, sum_by, common_size, figure, figures, units_lines, listing}
 use Rattle.listing.specs.Tables.{Tables, run_of}
 use Rattle.listing.proofs.Sums.{total_is_all}
-use Rattle.run_totals.specs.Totals.{sum, Once, total_of, Totals, unit_in, size_in, added_by, common_in, common_by, figure_in, total_in, Read}
+use Rattle.run_totals.specs.Totals.{sum, Once, total_of, Totals, figure_in, total_in, Read}
 
 -- ---- the sum of a table's rows
 
