@@ -13,11 +13,12 @@ use Rattle.tables.specs.Records.{no_split}
 use Rattle.load.specs.Load.{Loaded}
 use Rattle.load.proofs.Laws.{name_known}
 use Rattle.loaded.specs.Tables.{Usable}
-use Rattle.loaded.proofs.Laws.{few_names, all_named, section_named, sections_heads}
+use Rattle.loaded.proofs.Laws.{few_names, few_units, measured, all_named, section_named, sections_heads}
 use Rattle.splits.specs.Columns.{Columns, row_at, rows}
 use Rattle.symbol_order.specs.Keys.{unit_of}
 use Rattle.order_numbers.specs.Numbers.{Whole}
 use Rattle.link_graph.specs.Columns.{SectionNames, Splits, UnitsBelow}
+use Rattle.order.specs.Columns.{SplitsTaken, UnitsTaken}
 use Rattle.run_splits.specs.Table.{Homed}
 use Rattle.run.specs.Answers.{Tabled}
 
@@ -44,3 +45,10 @@ module _ {file : List ℕ} {t : Loaded} (u : Usable file t) where
 
   pub records_below : (k : ℕ) → k < length t.units → (unit_of file t.units k).name < 4096
   records_below k h = omega (arith, few_names u, name_known u.good _ (u.good.units.each k h).named)
+
+  -- ---- the two tables whole
+  pub splits-taken : (c : Columns) (n : ℕ) → Tabled (length t.sections) c n → SplitsTaken c n file t.sections file t.names t.lengths
+  splits-taken c n w = record { given = splits_held c n w; named = rows_below c n w; few = omega (arith, measured u, few_names u) }
+
+  pub units_taken : UnitsTaken file t.units
+  units_taken = record { whole = units_whole; few = few_units u; named = records_below }
