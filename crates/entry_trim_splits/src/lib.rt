@@ -9,7 +9,7 @@ ghost use Rattle.symbols.specs.Sound.{Sound};
 ghost use Rattle.sections.specs.Image.{TablesIn};
 ghost use Rattle.stage_splits.specs.StageSplits.{Leaves};
 ghost use Rattle.stage_splits.specs.Output.{GivesIn, SameLent};
-ghost use Rattle.trim.specs.Lent.{KeptIn};
+ghost use Rattle.sections.specs.Sections.{KeptIn};
 ghost use Rattle.entry_trim_splits.specs.Entry.{trim_of};
 ghost use Rattle.entry_trim_splits.specs.Lent.{tables_outcome, splits_outcome, symbols_outcome, sections_outcome, HeadsHeld, HeadedIn};
 

@@ -1,5 +1,6 @@
 // The tables that a trim reads. A struct with a ghost field imports all that its file does, so it stands in a file of its own.
-ghost use Rattle.trim.specs.Lent.{AsksIn, KeptIn};
+ghost use Rattle.sections.specs.Sections.{KeptIn};
+ghost use Rattle.trim.specs.Lent.{AsksIn};
 
 use obj::Table;
 use sections::Obj;

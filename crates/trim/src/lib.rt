@@ -9,17 +9,16 @@ ghost use Rattle.symbol_order.specs.Order.{symbol_of, Whole};
 ghost use Rattle.symbols.specs.Ranges.{Within};
 ghost use Rattle.symbols.specs.Sound.{Sound};
 ghost use Rattle.sections.specs.Image.{image_in, TablesIn};
-ghost use Rattle.sections.specs.Bytes.{bytes_of};
-ghost use Rattle.sections.specs.Ends.{splitting_end, end_meaning};
+ghost use Rattle.sections.specs.Sections.{head_in, KeptIn};
 ghost use Rattle.splits.specs.Columns.{row_at};
 ghost use Rattle.splits.specs.Table.{columns_of, rows_of, ends_columns, ends_rows, OnlyEnds};
 ghost use Rattle.trim.specs.Trim.{end_of, ask_next, aligned_end, fall_of, falls_of, carry_one, carry_from, cut_last, cut_section, cut_from, trimmed};
 ghost use Rattle.trim.specs.Steps.{asked_meaning, seen, Placed, AllPlaced, Past, LastOf};
-ghost use Rattle.trim.specs.Lent.{head_in, sections_in, KeptIn, PlacedIn};
+ghost use Rattle.trim.specs.Lent.{sections_in, PlacedIn};
 
 use align::align_up;
-use obj::{Refusal, Section, Split, Table, refuse, section_at, symbol_at};
-use sections::{Obj, Short, end_for_section, section_bytes, split_alignment};
+use obj::{Refusal, Split, Table, refuse, section_at, symbol_at};
+use sections::{Obj, split_alignment};
 use splits::{SplitColumns, SplitEnds, row, set_end};
 use symbols::{Backwards, last_in};
 
@@ -206,18 +205,6 @@ fn cut_last(table: &mut SplitEnds, section: u16, end: u32)
     set_end(table, k, end);
 }
 
-// The splitting end of section k, which has this head.
-fn end_at(tables: &CheckedTables, k: usize, head: Section) -> Result<u32, Short>
-    requires { (k < length tables.now.obj.heads.places.now) × (head ≡ head_in tables.now.obj k) }
-    ensures { end_meaning k head.address result
-        ≡ splitting_end (image_in tables.now.obj) k (head_in tables.now.obj k)
-        (bytes_of tables.now.image.bytes.now tables.now.image.places.now k (head_in tables.now.obj k)) }
-{
-    let obj = &tables.obj;
-    let bytes = section_bytes(tables.image.bytes, tables.image.places, k, head);
-    end_for_section(&obj.symbols, obj.order, &obj.names, k as u16, head, bytes)
-}
-
 // Section k: "where the splitting end isn't the section's end", its last split.
 fn cut_section(tables: &CheckedTables, table: &mut SplitEnds, k: usize) -> Result<(), Refusal>
     requires { k < length tables.now.obj.heads.places.now }
@@ -226,7 +213,7 @@ fn cut_section(tables: &CheckedTables, table: &mut SplitEnds, k: usize) -> Resul
     ensures others { OnlyEnds table.old table.new }
 {
     let head = section_at(&tables.obj.heads, k);
-    let end = end_at(tables, k, head);
+    let end = sections::end_of(&tables.obj, &tables.image, k);
     let low = end.map_err(|_| Refusal {
         number: 10,
         section: k as u16,

@@ -12,7 +12,7 @@ use Rattle.sections.proofs.Good.{from_good}
 use Rattle.trim.specs.Trim.{end_of}
 use Rattle.trim.specs.Steps.{up_by}
 use Rattle.trim.proofs.Falls.{aligned_found, aligned_backwards}
-use Rattle.trim.specs.Lent.{head_in}
+use Rattle.sections.specs.Sections.{head_in}
 use Rattle.trim.proofs.aligned_end.Goals as goal
 
 pub returns-in_err-found : goal.returns-in_err-found

@@ -9,7 +9,7 @@ use Rattle.splits.specs.Columns.{row_at}
 use Rattle.splits.specs.Table.{columns_of}
 use Rattle.trim.specs.Steps.{unused}
 use Rattle.trim.proofs.Falls.{next_none, next_other, next_asked}
-use Rattle.trim.specs.Lent.{head_in}
+use Rattle.sections.specs.Sections.{head_in}
 use Rattle.trim.proofs.ask_next.Goals as goal
 
 pub returns-then-splits-j : goal.returns-then-splits-j

@@ -7,6 +7,7 @@ use Rattle.obj.specs.Answers.{meaning}
 use Rattle.std.proofs.lemmas.Result.{err_from_is_err_and}
 use Rattle.obj.specs.declared.Section.{Section}
 use Rattle.sections.specs.Image.{image_in}
+use Rattle.sections.specs.Sections.{head_in}
 use Rattle.sections.proofs.Kept.{kept-held}
 use Rattle.trim.proofs.Answers.{end_else}
 use Rattle.trim.proofs.Cut.{section_short, section_whole, section_cut}
@@ -19,7 +20,7 @@ section_at-head-requires c = kept-held _ _ _ _ _ c.args.tables.now.kept c.args.k
 pub returns-in_err-low-clause-rows : goal.returns-in_err-low-clause-rows
 returns-in_err-low-clause-rows c =
     let a = c.args in
-    let is = sym c.end_at-end.ensures ∙ end_else a.k c.section_at-head.result.address c.end_at-end.result c.map_err.result c.map_err.ensures.cases (λ e d q. search rules) ∙ ap meaning c.in_err-low.was in
+    let is = sym c.end_of-end.ensures ∙ end_else a.k (head_in a.tables.now.obj a.k).address c.end_of-end.result c.map_err.result c.map_err.ensures.cases (λ e d q. search rules) ∙ ap meaning c.in_err-low.was in
     let p = err_from_is_err_and c.from_residual.result c.from_residual.ensures.1 in
     rw (p.1, p.2)
     (sym (section_short (image_in a.tables.now.obj) (sections_in a.tables.now.obj a.tables.now.image) a.k _ _ _ _ is))
@@ -28,12 +29,12 @@ pub returns-then-head-low-clause-rows : goal.returns-then-head-low-clause-rows
 returns-then-head-low-clause-rows c =
     let a = c.args in
     let whole = ap (λ (h : Section). h.address + h.size) c.section_at-head.ensures in
-    let is = sym c.end_at-end.ensures ∙ end_else a.k c.section_at-head.result.address c.end_at-end.result c.map_err.result c.map_err.ensures.cases (λ e d q. search rules) ∙ ap meaning c.in_ok-low.was in
+    let is = sym c.end_of-end.ensures ∙ end_else a.k (head_in a.tables.now.obj a.k).address c.end_of-end.result c.map_err.result c.map_err.ensures.cases (λ e d q. search rules) ∙ ap meaning c.in_ok-low.was in
     ap accepted c.cut_last.ensures.rows ∙ sym (section_cut (image_in a.tables.now.obj) (sections_in a.tables.now.obj a.tables.now.image) a.k _ _ is (λ e. c.if-head-low.true (whole ∙ e)))
 
 pub returns-else-head-low-clause-rows : goal.returns-else-head-low-clause-rows
 returns-else-head-low-clause-rows c =
     let a = c.args in
     let whole = ap (λ (h : Section). h.address + h.size) c.section_at-head.ensures in
-    let is = sym c.end_at-end.ensures ∙ end_else a.k c.section_at-head.result.address c.end_at-end.result c.map_err.result c.map_err.ensures.cases (λ e d q. search rules) ∙ ap meaning c.in_ok-low.was in
+    let is = sym c.end_of-end.ensures ∙ end_else a.k (head_in a.tables.now.obj a.k).address c.end_of-end.result c.map_err.result c.map_err.ensures.cases (λ e d q. search rules) ∙ ap meaning c.in_ok-low.was in
     sym (section_whole (image_in a.tables.now.obj) (sections_in a.tables.now.obj a.tables.now.image) a.k _ _ is (sym whole ∙ c.if-head-low.false))

@@ -9,7 +9,7 @@ use Rattle.splits.specs.Columns.{row_at}
 use Rattle.splits.specs.Table.{columns_of}
 use Rattle.trim.specs.Steps.{asked_meaning}
 use Rattle.trim.proofs.Falls.{falls_to, falls_not, falls_backwards}
-use Rattle.trim.specs.Lent.{head_in}
+use Rattle.sections.specs.Sections.{head_in}
 use Rattle.trim.proofs.fall_of.Goals as goal
 
 pub returns-in_err-low : goal.returns-in_err-low

@@ -16,7 +16,7 @@ use Rattle.trim.proofs.Answers.{asked_else}
 use Rattle.trim.proofs.Falls.{falls_start, fall_turn, fall_stops, falls_ended}
 use Rattle.splits.proofs.Rows.{good_row}
 use Rattle.splits.proofs.Alignment.{alignment_good}
-use Rattle.trim.specs.Lent.{head_in}
+use Rattle.sections.specs.Sections.{head_in}
 use Rattle.trim.proofs.find_falls.Goals as goal
 
 pub loop-i-init : goal.loop-i-init

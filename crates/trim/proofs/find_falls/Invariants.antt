@@ -6,7 +6,7 @@ use Rattle.splits.specs.Columns.{row_at}
 use Rattle.splits.specs.Table.{columns_of, rows_of}
 use Rattle.trim.specs.Trim.{falls_of}
 use Rattle.trim.proofs.Falls.{falls_from}
-use Rattle.trim.specs.Lent.{head_in}
+use Rattle.sections.specs.Sections.{head_in}
 use Rattle.trim.proofs.find_falls.Given as goal
 
 abbrev pub invariant-loop-i : goal.invariant-loop-i
