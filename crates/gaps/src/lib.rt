@@ -10,7 +10,7 @@ ghost use Rattle.symbol_order.specs.Order.{symbol_of, Readable, Order};
 ghost use Rattle.symbols.specs.Ranges.{stripped};
 ghost use Rattle.symbols.specs.Sound.{Sound};
 ghost use Rattle.sections.specs.Image.{image_in, TablesIn};
-ghost use Rattle.sections.specs.Sections.{head_of, sections_of, Kept};
+ghost use Rattle.sections.specs.Sections.{sections_of, head_in, KeptIn};
 ghost use Rattle.splits.specs.Table.{columns_of, rows_of};
 ghost use Rattle.splits.specs.Questions.{NextHit};
 ghost use Rattle.gap_columns.specs.Table.{found_in, SameLent};
@@ -20,9 +20,8 @@ ghost use Rattle.gaps.specs.Found.{alignment_of_next, next_meaning, searched, Cl
 
 use align::align_up;
 use gap_columns::{GapTable, place_gap};
-use names::name_at;
-use obj::{Refusal, Section, Split, Symbol, Table, refuse, section_at, symbol_at};
-use sections::{Obj, alignment_of, default_alignment, end_for_section, section_bytes};
+use obj::{Refusal, Split, Symbol, Table, refuse, section_at, symbol_at};
+use sections::{Obj, alignment_of, default_of};
 use splits::{SplitColumns, row};
 use symbol_order::{key_of, number};
 use symbols::{Backwards, for_section_range};
@@ -277,11 +276,11 @@ fn gaps_of(
     k: usize,
 ) -> Result<(), Refusal>
     requires { TablesIn obj.now
-        × Kept obj.now.heads.bytes.now obj.now.heads.places.now image.now.bytes.now image.now.places.now obj.now.names.places.now
+        × KeptIn obj.now image.now
         × Lent obj.now.symbols.bytes.now obj.now.symbols.places.now obj.now.order.now marks.old
         × Sound (symbol_of obj.now.symbols.bytes.now obj.now.symbols.places.now) (length obj.now.symbols.places.now)
         × (k < length obj.now.heads.places.now)
-        × SectionSpace (symbol_of obj.now.symbols.bytes.now obj.now.symbols.places.now) (length obj.now.symbols.places.now) k (head_of obj.now.heads.bytes.now obj.now.heads.places.now k).address (rows_of splits.now) found.old }
+        × SectionSpace (symbol_of obj.now.symbols.bytes.now obj.now.symbols.places.now) (length obj.now.symbols.places.now) k (head_in obj.now k).address (rows_of splits.now) found.old }
     ensures gaps { searched found.new result
         ≡ into (found_in found.old)
         (section_gaps
@@ -292,13 +291,11 @@ fn gaps_of(
     ensures lent { SameLent found.old found.new }
 {
     let section = k as u16;
-    let head = section_at(&obj.heads, k);
-    let bytes = section_bytes(image.bytes, image.places, k, head);
-    let Ok(end) = end_for_section(&obj.symbols, obj.order, &obj.names, section, head, bytes) else {
-        return refuse(10, section, head.address);
+    let start = section_at(&obj.heads, k).address;
+    let Ok(end) = sections::end_of(obj, image, k) else {
+        return refuse(10, section, start);
     };
-    let name = name_at(&obj.names, head.name as usize);
-    let least = default_alignment(head, name);
+    let least = default_of(&obj.names, &obj.heads, k);
     let here = GapSection {
         symbols: obj.symbols,
         order: obj.order,
@@ -306,7 +303,7 @@ fn gaps_of(
         least,
     };
     let mut search = GapSearch { here, marks };
-    section_gaps(&mut search, found, splits, head.address, end)
+    section_gaps(&mut search, found, splits, start, end)
 }
 
 // All gaps of all sections, in the order in which they enter, or the first refusal: 10, 11, 40, 41, 42.
@@ -318,7 +315,7 @@ pub fn find_gaps(
     found: &mut GapTable,
 ) -> Result<(), Refusal>
     requires { TablesIn obj.now
-        × Kept obj.now.heads.bytes.now obj.now.heads.places.now image.now.bytes.now image.now.places.now obj.now.names.places.now
+        × KeptIn obj.now image.now
         × Sound (symbol_of obj.now.symbols.bytes.now obj.now.symbols.places.now) (length obj.now.symbols.places.now)
         × Clean marks.old × (length obj.now.names.places.now ≤ length marks.old)
         × (length obj.now.heads.places.now + 2 * splits.now.count + length obj.now.symbols.places.now ≤ found.old.room) }
