@@ -1,7 +1,7 @@
 -- The questions over tables that passed: what each of the code's answers is to the definition, and that the columns of the code ask what the lent tables do.
 -- For readers of the contracts: `no_splits` and `end_answer_lem` say what `end_for_section` answers without its empty split table. Assumes nothing.
 use Prim.Native.Nat.{ℕ, ◌/◌, ◌<◌, ◌≤◌}
-use mathlib.Core.Path.{◌≡◌, refl, sym, ap, ap₂, ◌∙◌}
+use mathlib.Core.Path.{◌≡◌, refl, sym, ap, ◌∙◌}
 use mathlib.Core.List.{List, []}
 use mathlib.Core.Bool.{Bool, true, false}
 use native.Mathlib.Omega.{arith}
@@ -25,10 +25,8 @@ use Rattle.stage_tables.specs.StageTables.{stage_sections, stage_splits, image_c
 use Rattle.sections.specs.Image.{Image, image_of}
 use Rattle.stage_sections.proofs.Laws.{bytes_as}
 use Rattle.sections.specs.Sections.{Sections, sections_of, head_of}
-use Rattle.sections.specs.Ends.{splitting_end, end_meaning}
-use Rattle.sections.specs.Alignment.{Chosen, default_alignment, alignment_of}
-use Rattle.std.specs.Prelude.{Result}
-use Rattle.sections.specs.declared.Short.{Short}
+use Rattle.sections.specs.Ends.{splitting_end}
+use Rattle.sections.specs.Alignment.{Chosen, alignment_from}
 use Rattle.entry_questions.specs.declared.Question.{Question}
 use Rattle.entry_questions.specs.declared.Question.TheVariants as questions
 use Rattle.entry_questions.specs.Entry.{end_of, alignment_at, question_of, image_in, sections_in, split_in, split_of, answer_of, end_answer}
@@ -43,11 +41,6 @@ module _ (g : Image) (sections : Sections) (section : ℕ) where
   pub end_there : section < sections.count → end_of g sections section ≡ splitting_end g section (sections.head section) (sections.bytes section)
   unfolding end_of
   end_there h = passes 20 section 0 _ _ (lt-leb _ _ h)
-
-  -- the code's answer, for the head and the bytes that it read
-  pub end_found : section < sections.count → {head : Section} {bytes : List ℕ} (r : Result ℕ Short) → head ≡ sections.head section → bytes ≡ sections.bytes section
-      → end_meaning section head.address r ≡ splitting_end g section head bytes → end_meaning section head.address r ≡ end_of g sections section
-  end_found h r e q said = said ∙ ap₂ (splitting_end g section) e q ∙ sym (end_there h)
 
 -- two columns that agree on the sections give the same end: of a section that is there its bytes, and 20 of one that is not
 pub end_as : (g : Image) (heads head_places image I J : List ℕ) (section : ℕ) → ((n : ℕ) → n < length head_places → get_or I n 0 ≡ get_or J n 0)
@@ -70,31 +63,20 @@ module _ (g : Image) (head : ℕ → Section) (count : ℕ) (split : ℕ → Spl
   unfolding alignment_at
   no_split h = fails 20 0 which _ _ (le-leb _ _ h)
 
-  -- the code's answer, for the split, the head, the name and the default that it read
-  module _ (h : which < count) {s : Split} {home : Section} {name : List ℕ} {least : ℕ}
-      (is : s ≡ split which) (at : home ≡ head s.section) (named : name ≡ g.name home.name) (e : least ≡ default_alignment home name) where
-    abbrev asked : Split → Outcome ℕ
-    asked x =
-        alignment_of g.symbol g.count x.section (default_alignment (head x.section) (g.name (head x.section).name)) x.alignment x.start x.end
-        >>= λ c. accepted c.value
-
-    alignment_found : (m : Outcome Chosen) → m ≡ alignment_of g.symbol g.count s.section least s.alignment s.start s.end
-        → (m >>= λ c. accepted c.value) ≡ alignment_at g head count split which
+  -- the code's answer, for the split that it read
+  module _ (h : which < count) {s : Split} (is : s ≡ split which) where
+    alignment_found : (m : Outcome Chosen) → m ≡ alignment_from g head s.start s → (m >>= λ c. accepted c.value) ≡ alignment_at g head count split which
     unfolding alignment_at
     alignment_found m said =
-        ap (λ (m : Outcome Chosen). m >>= λ c. accepted c.value)
-        (said ∙ ap (λ (k : ℕ). alignment_of g.symbol g.count s.section k s.alignment s.start s.end)
-        (e ∙ ap (default_alignment home) named ∙ ap (λ (x : Section). default_alignment x (g.name x.name)) at))
-        ∙ ap asked is
+        ap (λ (m : Outcome Chosen). m >>= λ c. accepted c.value) said
+        ∙ ap (λ (x : Split). alignment_from g head x.start x >>= λ c. accepted c.value) is
         ∙ sym (passes 20 0 which _ _ (lt-leb _ _ h))
 
-    pub alignment_given : (c : Chosen) → accepted c ≡ alignment_of g.symbol g.count s.section least s.alignment s.start s.end
-        → accepted c.value ≡ alignment_at g head count split which
+    pub alignment_given : (c : Chosen) → accepted c ≡ alignment_from g head s.start s → accepted c.value ≡ alignment_at g head count split which
     unfolding ◌>>=◌
     alignment_given c said = alignment_found (accepted c) said
 
-    pub alignment_refused : refused 11 s.section s.start ≡ alignment_of g.symbol g.count s.section least s.alignment s.start s.end
-        → refused 11 s.section s.start ≡ alignment_at g head count split which
+    pub alignment_refused : refused 11 s.section s.start ≡ alignment_from g head s.start s → refused 11 s.section s.start ≡ alignment_at g head count split which
     unfolding ◌>>=◌
     alignment_refused said = alignment_found (refused 11 s.section s.start) said
 

@@ -16,7 +16,7 @@ use Rattle.stage_tables.specs.StageTables.{stage_sections, image_check, symbols_
 use Rattle.sections.specs.Image.{Image, image_of}
 use Rattle.sections.specs.Sections.{Sections, sections_of}
 use Rattle.sections.specs.Ends.{splitting_end}
-use Rattle.sections.specs.Alignment.{default_alignment, alignment_of}
+use Rattle.sections.specs.Alignment.{alignment_from}
 use Rattle.entry_questions.specs.declared.Question.{Question}
 use Rattle.entry_questions.specs.declared.Question.TheVariants.{End, Alignment}
 
@@ -32,9 +32,7 @@ end_of g sections section = do
 unfoldable pub alignment_at : Image → (head : ℕ → Section) → (count : ℕ) → (split : ℕ → Split) → (which : ℕ) → Outcome ℕ
 alignment_at g head count split which = do
   refuse 20 0 which (leb count which)
-  chosen ← alignment_of g.symbol g.count (split which).section
-      (default_alignment (head (split which).section) (g.name (head (split which).section).name))
-      (split which).alignment (split which).start (split which).end
+  chosen ← alignment_from g head (split which).start (split which)
   accepted chosen.value
 
 unfoldable pub question_of : Image → Sections → (count : ℕ) → (split : ℕ → Split) → Question → Outcome ℕ

@@ -12,7 +12,7 @@ use Rattle.tables.specs.Tables.{main_ceilings}
 use Rattle.tables.specs.Records as records
 use Rattle.stage_tables.specs.StageTables.{symbols_check, splits_check}
 use Rattle.sections.specs.Image.{image_of}
-use Rattle.sections.specs.Sections.{Sections, sections_of, head_of, Kept, Heads}
+use Rattle.sections.specs.Sections.{Sections, sections_of, Kept, Heads}
 use Rattle.sections.specs.declared.Obj.{Obj}
 use Rattle.entry_questions.specs.declared.Question.{Question}
 use Rattle.entry_questions.specs.Entry.{question_of, answer_of, split_of, split_in}
@@ -40,10 +40,7 @@ answer_in t question = answer_of t.name_ends.now t.name_bytes.now t.sections.now
 
 -- ---- what the functions are given
 
--- section n's record, and split k's
-abbrev pub head_in : (heads : Table) → ℕ → Section
-head_in heads = head_of heads.bytes.now heads.places.now
-
+-- split k's record
 abbrev pub split_at_in : (splits : Table) → ℕ → Split
 split_at_in splits = split_of splits.bytes.now splits.places.now
 

@@ -5,17 +5,18 @@
 ghost use Rattle.std.specs.Prelude.{◌≡◌, length};
 ghost use Rattle.obj.specs.Answers.{meaning, word};
 ghost use Rattle.sections.specs.Image.{image_in, TablesIn};
+ghost use Rattle.sections.specs.Sections.{head_in};
 ghost use Rattle.name_table.specs.Columns.{ReadableIn};
 ghost use Rattle.entry_questions.specs.Entry.{end_of, alignment_at, end_answer, alignment_answer, Leaves};
-ghost use Rattle.entry_questions.specs.Lines.{answer_in, from_symbols_in, sections_lent, head_in, split_at_in, KeptIn, HeadsIn, HomesIn};
+ghost use Rattle.entry_questions.specs.Lines.{answer_in, from_symbols_in, sections_lent, split_at_in, KeptIn, HeadsIn, HomesIn};
 
 use fields::put32;
 use lent_tables::{NO_TABLES, StageTables};
 use name_table::NameArrays;
-use names::{Names, name_at};
+use names::Names;
 use obj::{Refusal, SPLIT_BYTES, Table, refuse, section_at, split_at, word_of};
 use outputs::clear_from;
-use sections::{Obj, alignment_of, default_alignment, section_bytes};
+use sections::Obj;
 use stage_sections::{SectionArrays, SymbolArrays};
 use stage_tables::take_splits;
 
@@ -35,18 +36,8 @@ fn splitting_end(obj: &Obj, image: &Table, section: u16) -> Result<u32, Refusal>
     if obj.heads.places.len() <= n {
         return refuse(20, section, 0);
     }
-    let head = section_at(&obj.heads, n);
-    let bytes = section_bytes(image.bytes, image.places, n, head);
-    let found = sections::end_for_section(
-        &obj.symbols,
-        obj.order,
-        &obj.names,
-        section,
-        head,
-        bytes,
-    );
-    let Ok(end) = found else {
-        return refuse(10, section, head.address);
+    let Ok(end) = sections::end_of(obj, image, n) else {
+        return refuse(10, section, section_at(&obj.heads, n).address);
     };
     Ok(end)
 }
@@ -54,26 +45,14 @@ fn splitting_end(obj: &Obj, image: &Table, section: u16) -> Result<u32, Refusal>
 // The alignment of a split of the table: "11 start above end"; 20 where the split is not there.
 fn alignment(obj: &Obj, splits: &Table, which: u16) -> Result<u32, Refusal>
     requires { TablesIn obj.now × HeadsIn obj.now × HomesIn splits.now obj.now.heads }
-    ensures { meaning result ≡ alignment_at (image_in obj.now) (head_in obj.now.heads) (length splits.now.places.now) (split_at_in splits.now) which }
+    ensures { meaning result ≡ alignment_at (image_in obj.now) (head_in obj.now) (length splits.now.places.now) (split_at_in splits.now) which }
 {
     let k = which as usize;
     if splits.places.len() <= k {
         return refuse(20, 0, which as u32);
     }
     let s = split_at(splits, k);
-    let head = section_at(&obj.heads, s.section as usize);
-    let name = name_at(&obj.names, head.name as usize);
-    let least = default_alignment(head, name);
-    let found = alignment_of(
-        &obj.symbols,
-        obj.order,
-        s.section,
-        least,
-        s.alignment,
-        s.start,
-        s.end,
-    );
-    let Ok(chosen) = found else {
+    let Ok(chosen) = sections::split_alignment(obj, s, s.start) else {
         return refuse(11, s.section, s.start);
     };
     Ok(chosen.value())

@@ -1,15 +1,15 @@
--- `entry_questions::splitting_end` meets its contract: 20 past the last section, else the splitting end of the head and the bytes that are read.
+-- `entry_questions::splitting_end` meets its contract: 20 past the last section, else its splitting end.
 -- Assumes nothing.
 use mathlib.Core.Path.{sym, ap, ◌∙◌}
 use Prim.Native.Nat.{ℕ}
-use Rattle.std.specs.Prelude.{Result, Ok, Err}
+use Rattle.std.specs.Prelude.{Result}
 use Rattle.obj.specs.declared.Refusal.{Refusal}
+use Rattle.obj.specs.declared.Section.{Section}
 use Rattle.obj.specs.Answers.{meaning}
+use Rattle.lists.specs.Outcome.{refused}
 use Rattle.sections.specs.Image.{image_in}
-use Rattle.sections.specs.Bytes.{bytes_of}
 use Rattle.sections.specs.Sections.{sections_of}
-use Rattle.sections.proofs.Kept.{kept_whole}
-use Rattle.entry_questions.proofs.Laws.{no_section, end_found}
+use Rattle.entry_questions.proofs.Laws.{no_section, end_there}
 use Rattle.entry_questions.proofs.splitting_end.Goals as goal
 
 pub returns-then-obj-n : goal.returns-then-obj-n
@@ -19,18 +19,12 @@ returns-then-obj-n c =
     let sections = sections_of a.obj.now.heads.bytes.now a.obj.now.heads.places.now a.image.now.bytes.now a.image.now.places.now in
     ap (λ (x : Result ℕ Refusal). meaning x) c.refuse.ensures ∙ sym (no_section g sections a.section c.if-obj-n.true)
 
-pub end_for_section-found-requires : goal.end_for_section-found-requires
-end_for_section-found-requires c =
-    (c.requires.0, rw (c.section_bytes-bytes.ensures, c.section_at-head.ensures) (kept_whole _ _ _ _ _ c.requires.1 _ c.if-obj-n.false))
-
 pub returns : goal.returns
 returns c =
     let a = c.args in
     let g = image_in a.obj.now in
     let sections = sections_of a.obj.now.heads.bytes.now a.obj.now.heads.places.now a.image.now.bytes.now a.image.now.places.now in
-    end_found g sections a.section c.if-obj-n.false (Ok _) c.section_at-head.ensures
-    (c.section_bytes-bytes.ensures ∙ ap (bytes_of a.image.now.bytes.now a.image.now.places.now a.section) c.section_at-head.ensures)
-    c.in-Ok.ensures
+    c.in-Ok.ensures ∙ sym (end_there g sections a.section c.if-obj-n.false)
 
 pub returns-in_default : goal.returns-in_default
 returns-in_default c =
@@ -38,6 +32,5 @@ returns-in_default c =
     let g = image_in a.obj.now in
     let sections = sections_of a.obj.now.heads.bytes.now a.obj.now.heads.places.now a.image.now.bytes.now a.image.now.places.now in
     ap (λ (x : Result ℕ Refusal). meaning x) c.refuse-in_default.ensures
-    ∙ end_found g sections a.section c.if-obj-n.false (Err _) c.section_at-head.ensures
-    (c.section_bytes-bytes.ensures ∙ ap (bytes_of a.image.now.bytes.now a.image.now.places.now a.section) c.section_at-head.ensures)
-    c.in_default.ensures
+    ∙ ap (λ (h : Section). refused 10 a.section h.address) c.section_at.ensures
+    ∙ c.in_default.ensures ∙ sym (end_there g sections a.section c.if-obj-n.false)
