@@ -5,7 +5,7 @@ use mathlib.Core.Path.{◌≡◌, sym, ap, ◌∙◌}
 use mathlib.Core.List.{List}
 use native.Mathlib.Nat.{zero-add}
 use native.Mathlib.Omega.{arith}
-use lib.ListN.{length, get_or, take, length-map}
+use lib.ListN.{length, get_or, length-map}
 use Rattle.lists.specs.Outcome.{Outcome, accepted, ◌>>◌}
 use Rattle.lists.proofs.Rows.{get_d_tabulate, length-tabulate}
 use Rattle.obj.specs.Records.{split_at, stage_places, split_width}
