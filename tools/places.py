@@ -60,7 +60,7 @@ def functions():
                 i = text.index("{", i)
                 head = text[end:i].rstrip()
                 last = head.split("\n")[-1]
-                if re.search(r"(requires|ensures|where|ghost)\b[^\n{]*$", last) and re.search(r"(requires|ensures)\b", last):
+                if re.search(r"\b(requires|ensures|where|ghost)\b[^\n{]*$", last) and re.search(r"(requires|ensures)\b", last):
                     i = closing(text, i)
                     continue
                 break
