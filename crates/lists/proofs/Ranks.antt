@@ -1,6 +1,6 @@
 -- Where an element that passes a test stands among those that pass, and lists cut in two by a test; `flat_map`: its length and its parts. Assumes nothing.
-use mathlib.Core.Path.{◌≡◌, refl, sym, ap, ap₂, ◌∙◌}
-use mathlib.Core.List.{List, [], ◌∷◌, ◌++◌, map, flat_map, append_assoc}
+use mathlib.Core.Path.{◌≡◌, refl, ap, ap₂, ◌∙◌}
+use mathlib.Core.List.{List, [], ◌∷◌, ◌++◌, map, flat_map}
 use mathlib.Core.Bool.{Bool, true, false, cond, not}
 use Prim.Native.Nat.{ℕ, zero, suc, ◌+◌, ◌*◌, ◌≤◌, ◌<◌}
 use native.Mathlib.Nat.{le_of_suc-le-suc, not-suc-le-zero}
@@ -92,8 +92,3 @@ all_parts {A} {B} {P} f (x ∷ l) h = each (go (f x) h).0 (all_parts f l (go (f 
     go : (s : List B) → All P (s ++ flat_map f l) → All P s × All P (flat_map f l)
     go [] q = (none, q)
     go (y ∷ s) (each e q) = let r = go s q in (each e r.0, r.1)
-
-pub flat_map_append : {A B : Type 0} (f : A → List B) (l r : List A) → flat_map f (l ++ r) ≡ flat_map f l ++ flat_map f r
-unfolding flat_map
-flat_map_append f [] r = refl
-flat_map_append {A} {B} f (x ∷ l) r = ap (λ (t : List B). f x ++ t) (flat_map_append f l r) ∙ sym (append_assoc (f x) (flat_map f l) (flat_map f r))
