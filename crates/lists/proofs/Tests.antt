@@ -1,10 +1,12 @@
--- Where the two arms of a test meet, and what is known where none of several tests holds. Assumes nothing.
-use mathlib.Core.Path.{◌≡◌, refl}
+-- Where the two arms of a test meet, what is known where none of several tests holds, and a test of two numbers the other way round. Assumes nothing.
+use mathlib.Core.Path.{◌≡◌, refl, sym}
 use mathlib.Core.List.{List, [], ◌∷◌}
 use mathlib.Core.Bool.{Bool, true, false, cond, ◌&&◌, ◌||◌}
 use Prim.Native.Nat.{ℕ, zero, suc}
 use native.Mathlib.Omega.{arith}
+use lib.Dec.{eqb}
 use lib.ListN.{get_or}
+use borrow.Author.Tests.{eqb-true, eqb-false, eq-eqb, ne_eqb}
 use Rattle.lists.specs.Rows.{any_of, any_from}
 
 -- where a test's arms meet: x is what the arm that was taken gives
@@ -38,3 +40,11 @@ none_of (t ∷ l) i e = none_from_here t l i e
 pub and_false : (a b : Bool) → (a && b) ≡ false → a ≡ true → b ≡ false
 and_false true b e h = e
 and_false false b e h = absurd (let z : ◌≡◌ {A = ℕ} 0 1 = cc in omega arith)
+
+-- two numbers are the same either way round
+pub eqb_sym : (a b : ℕ) → eqb a b ≡ eqb b a
+eqb_sym a b = go (eqb b a) refl
+  where
+    go : (t : Bool) → eqb b a ≡ t → eqb a b ≡ t
+    go true e = eq-eqb a b (sym (eqb-true b a e))
+    go false e = ne_eqb a b (λ q. eqb-false b a e (sym q))

@@ -9,18 +9,12 @@ use Prim.Native.Char.{code}
 use native.Mathlib.Omega.{arith}
 use lib.Dec.{eqb, leb}
 use lib.ListN.{length}
-use borrow.Author.Tests.{eqb-true, eqb-false, eq-eqb, ne_eqb, leb-true}
+use borrow.Author.Tests.{eqb-false, leb-true}
 use Rattle.lists.specs.Rows.{some, keep_if}
+use Rattle.lists.proofs.Tests.{eqb_sym}
 use Rattle.names.specs.Names.{same_name}
 use Rattle.names.specs.Fixed.{codes, spells, spells_one, of_length, linker_labels, is_linker_label}
 use Rattle.names.proofs.Laws.{both, other_lengths}
-
-eqb_sym : (a b : ℕ) → eqb a b ≡ eqb b a
-eqb_sym a b = go (eqb b a) refl
-  where
-    go : (t : Bool) → eqb b a ≡ t → eqb a b ≡ t
-    go true e = eq-eqb a b (sym (eqb-true b a e))
-    go false e = ne_eqb a b (λ q. eqb-false b a e (sym q))
 
 -- a name is compared with a text's bytes
 pub spelled : (text : String) (name : List ℕ) → same_name name (codes text) ≡ spells text name

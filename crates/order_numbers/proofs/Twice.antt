@@ -5,7 +5,7 @@ use mathlib.Core.List.{List, [], ◌∷◌, map}
 use mathlib.Core.Bool.{Bool, true, false, cond, ◌||◌}
 use native.Mathlib.Numerals.{add-one}
 use native.Mathlib.Omega.{arith}
-use borrow.Author.Tests.{eqb-true, eqb-false, eq-eqb, ne_eqb}
+use borrow.Author.Tests.{eqb-false, ne_eqb}
 use lib.Dec.{eqb, leb}
 use lib.ListN.{length, get_or, drop, length-drop, length-map}
 use lib.Seq.{drop-cons}
@@ -14,16 +14,10 @@ use Rattle.lists.specs.Sort.{insert_key, sort_by, All, none, each, Sorted}
 use Rattle.lists.proofs.All.{all_map}
 use Rattle.lists.proofs.Rows.{get_d_map}
 use Rattle.lists.proofs.Sort.{sorted_sort}
+use Rattle.lists.proofs.Tests.{eqb_sym}
 use Rattle.order_numbers.specs.Numbers.{twice, next_same}
 
 -- ---- tests
-same_swap : (a b : ℕ) → eqb a b ≡ eqb b a
-same_swap a b = go (eqb b a) refl
-  where
-    go : (t : Bool) → eqb b a ≡ t → eqb a b ≡ t
-    go true e = eq-eqb a b (sym (eqb-true b a e))
-    go false e = ne_eqb a b (λ q. eqb-false b a e (sym q))
-
 -- (e or a) or (b or t), in another order
 swap_or : (e a b t : Bool) → ((e || a) || (b || t)) ≡ ((e || b) || (a || t))
 swap_or true a b t = refl
@@ -62,7 +56,7 @@ twice-insert x (y ∷ l) = go (leb x y) (twice-insert x l)
         → twice (cond t (x ∷ y ∷ l) (y ∷ insert_key (λ z. z) x l)) ≡ ((eqb y x || some (λ z. eqb z x) l) || (some (λ z. eqb z y) l || twice l))
     go true ih = refl
     go false ih =
-        ap₂ (λ (a b : Bool). a || b) (some-insert (λ z. eqb z y) x l ∙ ap (λ (e : Bool). e || some (λ z. eqb z y) l) (same_swap x y)) ih
+        ap₂ (λ (a b : Bool). a || b) (some-insert (λ z. eqb z y) x l ∙ ap (λ (e : Bool). e || some (λ z. eqb z y) l) (eqb_sym x y)) ih
         ∙ swap_or (eqb y x) (some (λ z. eqb z y) l) (some (λ z. eqb z x) l) (twice l)
 
 pub twice_sort : (l : List ℕ) → twice (sort_by (λ y. y) l) ≡ twice l
@@ -89,11 +83,11 @@ next_twice (x ∷ y ∷ l) s = go (eqb x y) refl s.0 (next_twice (y ∷ l) s.1)
   where
     go : (t : Bool) → eqb x y ≡ t → All (λ z. x ≤ z) (y ∷ l) → next_same (y ∷ l) ≡ twice (y ∷ l)
         → (t || next_same (y ∷ l)) ≡ ((eqb y x || some (λ z. eqb z x) l) || twice (y ∷ l))
-    go true e a ih = ap (λ (b : Bool). (b || some (λ z. eqb z x) l) || twice (y ∷ l)) (sym (same_swap y x ∙ e))
+    go true e a ih = ap (λ (b : Bool). (b || some (λ z. eqb z x) l) || twice (y ∷ l)) (sym (eqb_sym y x ∙ e))
     go false e a ih =
         let above : x < y = first_above (eqb-false x y e) a in
         ih
-        ∙ ap₂ (λ (a b : Bool). (a || b) || twice (y ∷ l)) (sym (same_swap y x ∙ e))
+        ∙ ap₂ (λ (a b : Bool). (a || b) || twice (y ∷ l)) (sym (eqb_sym y x ∙ e))
         (sym (none_same x (all_map (λ z q. omega arith) s.1.0)))
 
 pub sorted_twice : (l : List ℕ) → next_same (sort_by (λ y. y) l) ≡ twice l
