@@ -2,16 +2,18 @@
 -- Assumes nothing.
 use mathlib.Core.Path.{◌≡◌, refl, sym, ap, ap₂, ◌∙◌}
 use mathlib.Core.List.{List, []}
-use mathlib.Core.Bool.{Bool, true, false, not}
-use Prim.Native.Nat.{ℕ, ◌+◌, ◌-◌, ◌≤◌, ◌<◌}
+use mathlib.Core.Bool.{Bool, true, false, not, ◌||◌}
+use Prim.Native.Nat.{ℕ, zero, suc, ◌+◌, ◌-◌, ◌≤◌, ◌<◌}
+use native.Mathlib.Numerals.{add-one}
 use native.Mathlib.Omega.{arith}
 use borrow.Author.Tests.{eq-eqb, ne_eqb, ltb-true, ltb-false, le-leb, lt-leb, le-ltb, lt-ltb}
 use lib.Dec.{eqb, ltb, leb}
 use lib.ListN.{length, take, drop}
+use Rattle.std.specs.List.{list_any, range_with_len}
 use Rattle.lists.specs.Outcome.{accepted, refused, refuse}
 use Rattle.lists.proofs.Outcomes.{fails, passes, refuses, allows, then_inv, refuse_inv}
 use Rattle.elf.specs.Strings.{ended_at, EndedBelow}
-use Rattle.lists.specs.Rows.{first_from}
+use Rattle.lists.specs.Rows.{some, tabulate, first_from}
 use Rattle.lists.proofs.First.{first_here, first_on, first_end}
 use Rattle.elf.specs.Elf.{header_at, no_section_header}
 use Rattle.elf.specs.declared.SectionHeader.{SectionHeader}
@@ -24,6 +26,12 @@ asked f e p q = sym (ap f p) ∙ sym e ∙ q
 
 pub asked_both : {A B : Type 0} (f : A → B → Bool) {x y : A} {u v : B} {r t : Bool} → r ≡ f x u → x ≡ y → u ≡ v → r ≡ t → f y v ≡ t
 asked_both f e p q t = sym (ap₂ f p q) ∙ sym e ∙ t
+
+-- asking the places of a table's rows is asking its rows
+pub some_asked : {A : Type 0} (p : A → Bool) (f : ℕ → A) (i n : ℕ) → list_any (λ k. p (f k)) (range_with_len i n) ≡ some p (tabulate f i n)
+unfolding some tabulate
+some_asked p f i zero = refl
+some_asked p f i (suc n) = ap (λ (t : Bool). p (f i) || t) (some_asked p f (i + 1) n ∙ ap (λ (k : ℕ). some p (tabulate f k n)) (add-one i))
 
 -- ---- parts of the file
 
