@@ -3,7 +3,7 @@
 use mathlib.Core.Path.{sym, ap, ◌∙◌}
 use Prim.Native.Nat.{ℕ}
 use Rattle.std.specs.Prelude.{Option, is_some, unwrap_or}
-use Rattle.std.proofs.lemmas.Result.{err_from_is_err_and}
+use Rattle.obj.proofs.Errors.{is_err}
 use Rattle.lists.specs.Outcome.{accepted}
 use Rattle.splits.specs.Table.{rest_rows}
 use Rattle.common.specs.Common.{from_of, start_meaning}
@@ -15,8 +15,7 @@ pub returns-in_err-from-clause-rows : goal.returns-in_err-from-clause-rows
 returns-in_err-from-clause-rows c =
     let a = c.args in
     let start = rw (c.columns.ensures.columns, c.columns.ensures.count) at c.common_start.ensures in
-    let p = err_from_is_err_and c.from_residual.result c.from_residual.ensures.1 in
-    rw (p.1, p.2)
+    rw (is_err _ c.from_residual.ensures.1)
     (common_refused (is_some a.given) (unwrap_or a.given 0) (bss_numbers a.names.now a.heads.now) (rest_rows a.table.now) (sym (ap start_meaning c.in_err-from.was) ∙ start))
 
 pub returns-in-Some-clause-rows : goal.returns-in-Some-clause-rows

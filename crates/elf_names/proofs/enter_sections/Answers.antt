@@ -1,6 +1,6 @@
 -- Each turn enters one section's name, or finds no place for it.
 use Rattle.std.proofs.Common.{arith, List, ℕ}
-use Rattle.std.proofs.lemmas.Result.{err_from_is_err_and}
+use Rattle.obj.proofs.Errors.{is_err}
 use Rattle.elf_file.specs.File.{header_of}
 use Rattle.number_names.specs.Numbers.{Room}
 use Rattle.elf_names.specs.Names.{enter_section}
@@ -16,8 +16,7 @@ enter_section-requires c = (omega arith, omega (arith, c.loop-i.invariant.sized)
 
 pub returns-in_err-enter_section : goal.returns-in_err-enter_section
 returns-in_err-enter_section c =
-    let p = err_from_is_err_and c.from_residual.result c.from_residual.ensures.1 in
-    rw (p.1, p.2)
+    rw (is_err _ c.from_residual.ensures.1)
     (entering_stops _ _ _ _ (λ (room : Room) (names : List (List ℕ)). enter_section room c.args.strings.now names (header_of c.args.headers.now c.loop-i.i)) c.loop-i.invariant
     (λ names. sections_turn _ _ _ names _ c.loop-i-test.true) c.enter_section.new.names c.enter_section.new.seen _ c.in_err-enter_section.ensures)
 

@@ -1,6 +1,6 @@
 -- Each turn enters one symbol's name, or finds no place for it.
 use Rattle.std.proofs.Common.{arith, List, ℕ}
-use Rattle.std.proofs.lemmas.Result.{err_from_is_err_and}
+use Rattle.obj.proofs.Errors.{is_err}
 use Rattle.elf.specs.Strings.{string_at}
 use Rattle.number_names.specs.Numbers.{Room, enter_name}
 use Rattle.elf_names.proofs.Laws.{symbols_all, symbols_turn, symbols_done}
@@ -15,8 +15,7 @@ enter_string-requires c = omega (arith, c.loop-i.invariant.sized)
 
 pub returns-in_err-enter_string : goal.returns-in_err-enter_string
 returns-in_err-enter_string c =
-    let p = err_from_is_err_and c.from_residual.result c.from_residual.ensures.1 in
-    rw (p.1, p.2)
+    rw (is_err _ c.from_residual.ensures.1)
     (entering_stops _ _ _ _ (λ (room : Room) (names : List (List ℕ)). enter_name room names (string_at c.args.strings.now c.read_symbol_entry-s.result.name)) c.loop-i.invariant
     (λ names. rw c.read_symbol_entry-s.ensures (symbols_turn _ _ _ names _ c.loop-i-test.true)) c.enter_string.new.names c.enter_string.new.seen _ c.in_err-enter_string.ensures)
 

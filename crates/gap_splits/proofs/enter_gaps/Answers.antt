@@ -1,6 +1,6 @@
 -- Each gap enters as the definition lets it enter, and leaves the tables of the next one.
 use Rattle.std.proofs.Common.{refl, arith, length}
-use Rattle.std.proofs.lemmas.Result.{err_from_is_err_and}
+use Rattle.obj.proofs.Errors.{is_err}
 use Rattle.tables.specs.Records.{sections_in}
 use Rattle.splits.proofs.Lent.{lent_same as table_same, lent_still as table_still}
 use Rattle.merge.specs.Merge.{given}
@@ -50,9 +50,8 @@ returns-in_err-enter_gap-clause-tables c =
     let o = c.enter_gap in
     let g = a.gaps.now in
     let here = gap_here g.keys.now g.ends.now l.i c.section_of-section.ensures c.start_of-start.ensures in
-    let p = err_from_is_err_and c.from_residual.result c.from_residual.ensures.1 in
     let e = rw (l.invariant.1.most, l.invariant.1.most_bytes, l.invariant.2.room) at o.ensures.tables in
-    rw (p.1, p.2) (refused_here _ _ _ _ _ _ _ _ _ _ l.i l.invariant.0 c.loop-i-test.true _ _ _ here e.is c.in_err-enter_gap.was)
+    rw (is_err _ c.from_residual.ensures.1) (refused_here _ _ _ _ _ _ _ _ _ _ l.i l.invariant.0 c.loop-i-test.true _ _ _ here e.is c.in_err-enter_gap.was)
 
 pub loop-i-preserved : goal.loop-i-preserved
 loop-i-preserved c =

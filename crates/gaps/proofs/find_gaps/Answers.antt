@@ -1,6 +1,6 @@
 -- The gaps of each section enter after those found.
 use Rattle.std.proofs.Common.{◌∙◌, refl, sym, ap, arith}
-use Rattle.std.proofs.lemmas.Result.{err_from_is_err_and}
+use Rattle.obj.proofs.Errors.{is_err}
 use Rattle.sections.specs.Image.{image_in}
 use Rattle.sections.specs.Sections.{sections_of}
 use Rattle.splits.specs.Table.{columns_of}
@@ -31,8 +31,7 @@ pub returns-in_err-gaps_of-clause-gaps : goal.returns-in_err-gaps_of-clause-gaps
 returns-in_err-gaps_of-clause-gaps c =
     let l = c.loop-k in
     let g = c.gaps_of in
-    let e = err_from_is_err_and c.from_residual.result c.from_residual.ensures.1 in
-    rw (e.1, e.2) (search_refused _ _ _ _ _ _ _ l.invariant.holds c.loop-k-test.true _ _ _ (sym (ap (searched g.new.found) c.in_err-gaps_of.was) ∙ g.ensures.gaps))
+    rw (is_err _ c.from_residual.ensures.1) (search_refused _ _ _ _ _ _ _ l.invariant.holds c.loop-k-test.true _ _ _ (sym (ap (searched g.new.found) c.in_err-gaps_of.was) ∙ g.ensures.gaps))
 
 pub loop-k-preserved : goal.loop-k-preserved
 loop-k-preserved c =

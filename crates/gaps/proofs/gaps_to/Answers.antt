@@ -1,5 +1,5 @@
 -- Each gap begins where the one before ends, and enters.
-use Rattle.std.proofs.lemmas.Result.{err_from_is_err_and}
+use Rattle.obj.proofs.Errors.{is_err}
 use Rattle.std.proofs.Common.{◌<◌, ◌∙◌, refl, sym, ap, arith}
 use Rattle.align.specs.Align.{align_up}
 use Rattle.obj.specs.Answers.{meaning}
@@ -60,5 +60,4 @@ returns-in_err-end-clause-gaps c =
     let l = c.loop-current in
     let follows : align_up l.at a.alignment < a.next = omega (arith, c.if-next-align_up.false, c.align_up.ensures.is) in
     let is = sym (rw l.invariant.same.here at c.gap_end.ensures.end) ∙ ap meaning c.in_err-end.was in
-    let e = err_from_is_err_and c.from_residual.result c.from_residual.ensures.1 in
-    rw (e.1, e.2) (turn_refused _ _ _ _ _ _ _ c.requires.3 _ _ l.invariant.holds follows _ _ _ is)
+    rw (is_err _ c.from_residual.ensures.1) (turn_refused _ _ _ _ _ _ _ c.requires.3 _ _ l.invariant.holds follows _ _ _ is)

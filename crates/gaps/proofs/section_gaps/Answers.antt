@@ -1,6 +1,6 @@
 -- The gaps before each split enter, up to the splitting end.
 use Rattle.std.proofs.Common.{◌+◌, ◌∙◌, refl, sym, ap, arith}
-use Rattle.std.proofs.lemmas.Result.{err_from_is_err_and}
+use Rattle.obj.proofs.Errors.{is_err}
 use Rattle.splits.specs.Table.{columns_of}
 use Rattle.gaps.specs.Gaps.{below}
 use Rattle.gaps.specs.Found.{searched}
@@ -44,8 +44,7 @@ returns-in_err-gaps_before-clause-gaps c =
     let g = c.gaps_before in
     let w = rw c.in-Some.is at l.invariant.holds in
     let t = l.invariant.there c.in-Some.i c.in-Some.is in
-    let e = err_from_is_err_and c.from_residual.result c.from_residual.ensures.1 in
-    rw (e.1, e.2) (
+    rw (is_err _ c.from_residual.ensures.1) (
     walk_refused _ _ _ _ _ _ _ _ _ h.sound h.good _ _ _ w t _ c.row-s.ensures c.if-end-current.false _ _ _
     (sym (ap (searched g.new.found) c.in_err-gaps_before.was) ∙ rw l.invariant.same.here at g.ensures.gaps)
     )

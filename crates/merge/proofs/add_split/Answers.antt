@@ -1,7 +1,7 @@
 -- What a round decides is an outcome of `decide`, and what is then done is the round's end or the rows of the next one.
 use Rattle.std.proofs.Common.{◌≡◌, ◌∙◌, sym, ap, arith, List}
 use Rattle.std.specs.Prelude.{Ok}
-use Rattle.std.proofs.lemmas.Result.{err_from_is_err_and}
+use Rattle.obj.proofs.Errors.{is_err}
 use Rattle.lists.specs.Outcome.{accepted}
 use Rattle.obj.specs.declared.Split.{Split}
 use Rattle.tables.specs.Records.{sections_in}
@@ -18,9 +18,8 @@ use Rattle.merge.proofs.add_split.Goals as goal
 pub returns-in_err-decide_round-clause-rows : goal.returns-in_err-decide_round-clause-rows
 returns-in_err-decide_round-clause-rows c =
     let l = c.loop-table in
-    let p = err_from_is_err_and c.from_residual.result c.from_residual.ensures.1 in
     let e = sym (rw c.columns.ensures.rows at c.decide_round.ensures.0) ∙ ap decided c.in_err-decide_round.was in
-    rw (p.1, p.2) (sym (round_refused _ _ l.s _ _ _ e) ∙ l.invariant.merges)
+    rw (is_err _ c.from_residual.ensures.1) (sym (round_refused _ _ l.s _ _ _ e) ∙ l.invariant.merges)
 
 pub returns-in-Keep-clause-rows : goal.returns-in-Keep-clause-rows
 returns-in-Keep-clause-rows c =

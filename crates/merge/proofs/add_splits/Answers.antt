@@ -1,6 +1,6 @@
 -- Each split is merged as the definition merges it, and the rows that it leaves are those of the next one.
 use Rattle.std.proofs.Common.{◌∙◌, sym, ap}
-use Rattle.std.proofs.lemmas.Result.{err_from_is_err_and}
+use Rattle.obj.proofs.Errors.{is_err}
 use Rattle.lists.proofs.Parts.{tabulate_all}
 use Rattle.align.specs.Align.{bad_align}
 use Rattle.obj.specs.Answers.{Answer}
@@ -30,8 +30,7 @@ returns-in_err-add_split-clause-rows c =
     let l = c.loop-i in
     let a = c.args in
     let o = c.add_split in
-    let p = err_from_is_err_and c.from_residual.result c.from_residual.ensures.1 in
-    rw (p.1, p.2)
+    rw (is_err _ c.from_residual.ensures.1)
     (sym (places_refused a.partials.now.bytes.now a.partials.now.places.now _ _ l.i c.loop-i-test.true _ c.partial_at-new.ensures
     (sym (rw l.invariant.lent.room at o.ensures.rows) ∙ ap (λ (r : Answer). merged r (rows_in o.new.table)) c.in_err-add_split.was))
     ∙ l.invariant.merges)

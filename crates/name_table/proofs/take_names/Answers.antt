@@ -1,6 +1,6 @@
 -- A name is refused or stored; what is known of the names before it is known of it too.
 use Rattle.std.proofs.Common.{refl, arith}
-use Rattle.std.proofs.lemmas.Result.{err_from_is_err_and}
+use Rattle.obj.proofs.Errors.{is_err}
 use Rattle.tables.proofs.Loops.{going, stops, goes_on, passes_all, passed_fault}
 use Rattle.name_table.proofs.Lent.{lent_same, lent_still}
 use Rattle.name_table.proofs.Laws.{stores_all, stores_nothing}
@@ -11,9 +11,8 @@ loop-i-init c = record { going = going; stored = c.requires.1; lent = lent_same 
 
 pub returns-in_err-name_fault-clause-stored : goal.returns-in_err-name_fault-clause-stored
 returns-in_err-name_fault-clause-stored c =
-    let p = err_from_is_err_and c.from_residual.result c.from_residual.ensures.1 in
     let fault = rw c.names.ensures.0 at c.in_err-name_fault.ensures in
-    rw (p.1, p.2) (stores_nothing (stops c.loop-i.invariant.going c.loop-i-test.true fault) refl)
+    rw (is_err _ c.from_residual.ensures.1) (stores_nothing (stops c.loop-i.invariant.going c.loop-i-test.true fault) refl)
 
 pub add_name-requires : goal.add_name-requires
 add_name-requires c =

@@ -5,11 +5,10 @@ use Prim.Native.Nat.{ℕ, ◌≤◌, ◌<◌}
 use native.Mathlib.Omega.{arith}
 use borrow.Author.Tests.{eq-eqb}
 use lib.ListN.{length}
-use Rattle.std.specs.Prelude.{Ok, Err, Option}
-use Rattle.std.proofs.lemmas.Result.{err_from_is_err_and}
+use Rattle.std.specs.Prelude.{Ok, Option}
+use Rattle.obj.proofs.Errors.{is_err}
 use Rattle.lists.specs.Outcome.{accepted}
 use Rattle.align.specs.Align.{bad_align}
-use Rattle.obj.specs.declared.Refusal.{Refusal}
 use Rattle.obj.specs.declared.Split.{Split}
 use Rattle.sections.specs.Sections.{head_of}
 use Rattle.sections.proofs.Kept.{kept-held, kept_lies}
@@ -100,8 +99,7 @@ returns-in_err-target c =
     ∙ goes_section tp n a.last (output_of p.tables) _ p.invariant.0.same below low c.section_start-low.ensures end c.in-Ok.ensures k a.splits.now.count (place_in a.splits.now.count c.next_split-i.result) refl c.next_split-i.ensures.hits in
     let small : c.in-Some.k < a.splits.now.count = split_small q.invariant.0 c.in-Some.is in
     let r = c.in_err-target.field-0.0 in
-    let gone = err_from_is_err_and c.from_residual.result c.from_residual.ensures.1 in
-    refused_at _ _ _ _ _ r _ (gone.1 ∙ ap (λ (x : Refusal). Err x) gone.2)
+    refused_at _ _ _ _ _ r _ (is_err _ c.from_residual.ensures.1)
     (ends_fault t a.last n low end k a.splits.now.count q.current c.in-Some.k out _ carried c.loop-current-test.true small (place_in a.splits.now.count c.next_split-i-in-loop-current.result) c.start_of-next.result c.next_split-i-in-loop-current.ensures.hits c.start_of-next.ensures c.row-s.result c.row-s.ensures r c.in_err-target.ensures.0)
     (lent_still p.invariant.1 q.invariant.1)
 
@@ -169,8 +167,7 @@ returns-in_err-give c =
     let small : c.in-Some.k < a.splits.now.count = split_small q.invariant.0 c.in-Some.is in
     let gives = subst (λ (x : Option Target). Sane (length a.unit_table.now.places.now) q.current c.row-s.result (Ok x)) c.in-Some-target.is c.in_ok-target.ensures.1 in
     let r = c.in_err-give.field-0.0 in
-    let gone = err_from_is_err_and c.from_residual-in_err-give.result c.from_residual-in_err-give.ensures.1 in
-    refused_at _ _ _ _ _ r _ (gone.1 ∙ ap (λ (x : Refusal). Err x) gone.2)
+    refused_at _ _ _ _ _ r _ (is_err _ c.from_residual-in_err-give.ensures.1)
     (ends_refused t a.last n low end k a.splits.now.count q.current c.in-Some.k out _ carried c.loop-current-test.true small (place_in a.splits.now.count c.next_split-i-in-loop-current.result) c.start_of-next.result c.next_split-i-in-loop-current.ensures.hits c.start_of-next.ensures c.row-s.result c.row-s.ensures c.in-Some-target.field-0.unit c.in-Some-target.field-0.alignment (ap (λ (x : Option Target). accepted x) (sym c.in-Some-target.is) ∙ c.in_ok-target.ensures.0) c.loop-a.a (half_fits _ _ _ c.loop-a.invariant c.if-current-a-eq0.true) gives.starts r
     (c.in_err-give.ensures.is (length a.obj.now.heads.places.now) t.sections.bytes t.splits t.units))
     (lent_still p.invariant.1 (lent_still q.invariant.1 c.in_err-give.ensures.lent))

@@ -3,15 +3,14 @@
 use mathlib.Core.Path.{sym, ap}
 use native.Mathlib.Omega.{arith}
 use Rattle.obj.specs.Answers.{meaning}
-use Rattle.std.proofs.lemmas.Result.{err_from_is_err_and}
+use Rattle.obj.proofs.Errors.{is_err}
 use Rattle.stage_tables.proofs.Laws.{taken_few, taken-count}
 use Rattle.stage_symbols.proofs.Orders.{none-ordered, order_room, room_kept, symbols_whole, all_ordered}
 use Rattle.stage_symbols.proofs.take_symbol_order.Goals as goal
 
 pub returns-in_err-take_symbols : goal.returns-in_err-take_symbols
 returns-in_err-take_symbols c =
-    let p = err_from_is_err_and c.from_residual.result c.from_residual.ensures.1 in
-    rw (p.1, p.2) (none-ordered _ _ _ c.in_err-take_symbols.ensures)
+    rw (is_err _ c.from_residual.ensures.1) (none-ordered _ _ _ c.in_err-take_symbols.ensures)
 
 pub slice_bounds-make_order-end : goal.slice_bounds-make_order-end
 slice_bounds-make_order-end c =

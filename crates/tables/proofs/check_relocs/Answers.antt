@@ -1,7 +1,7 @@
 -- A relocation's fault, found by the column, is the definition's; one without a fault leaves its floor there.
 use Rattle.std.proofs.Common.{◌<◌, arith, length}
 use Rattle.std.proofs.lemmas.List.{length-map}
-use Rattle.std.proofs.lemmas.Result.{err_from_is_err_and}
+use Rattle.obj.proofs.Errors.{is_err}
 use Rattle.obj.specs.Records.{reloc_at}
 use Rattle.tables.specs.Records.{relocs_in, no_reloc}
 use Rattle.tables.proofs.Loops.{going, stops, goes_on, passes_all}
@@ -16,8 +16,7 @@ pub returns-in_err-reloc_fault : goal.returns-in_err-reloc_fault
 returns-in_err-reloc_fault c =
     let a = c.args in
     let l = c.loop-i in
-    let p = err_from_is_err_and c.from_residual.result c.from_residual.ensures.1 in
-    rw (p.1, p.2)
+    rw (is_err _ c.from_residual.ensures.1)
     (stops l.invariant.going c.loop-i-test.true
     (reloc_fault_here a.heads.now.bytes.now a.heads.now.places.now _ a.table.now.bytes.now a.table.now.places.now _ l.floors c.reloc_at-r.ensures c.in_err-reloc_fault.ensures l.invariant.left c.loop-i-test.true))
 

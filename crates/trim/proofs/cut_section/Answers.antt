@@ -4,7 +4,7 @@ use mathlib.Core.Path.{sym, ap, ◌∙◌}
 use Prim.Native.Nat.{◌+◌}
 use Rattle.lists.specs.Outcome.{accepted}
 use Rattle.obj.specs.Answers.{meaning}
-use Rattle.std.proofs.lemmas.Result.{err_from_is_err_and}
+use Rattle.obj.proofs.Errors.{is_err}
 use Rattle.obj.specs.declared.Section.{Section}
 use Rattle.sections.specs.Image.{image_in}
 use Rattle.sections.specs.Sections.{head_in}
@@ -21,8 +21,7 @@ pub returns-in_err-low-clause-rows : goal.returns-in_err-low-clause-rows
 returns-in_err-low-clause-rows c =
     let a = c.args in
     let is = sym c.end_of-end.ensures ∙ end_else a.k (head_in a.tables.now.obj a.k).address c.end_of-end.result c.map_err.result c.map_err.ensures.cases (λ e d q. search rules) ∙ ap meaning c.in_err-low.was in
-    let p = err_from_is_err_and c.from_residual.result c.from_residual.ensures.1 in
-    rw (p.1, p.2)
+    rw (is_err _ c.from_residual.ensures.1)
     (sym (section_short (image_in a.tables.now.obj) (sections_in a.tables.now.obj a.tables.now.image) a.k _ _ _ _ is))
 
 pub returns-then-head-low-clause-rows : goal.returns-then-head-low-clause-rows

@@ -6,7 +6,7 @@ use native.Mathlib.Omega.{arith}
 use lib.ListN.{take}
 use Rattle.lists.specs.Outcome.{accepted}
 use Rattle.obj.specs.Answers.{meaning}
-use Rattle.std.proofs.lemmas.Result.{err_from_is_err_and}
+use Rattle.obj.proofs.Errors.{is_err}
 use Rattle.obj.specs.declared.Split.{Split}
 use Rattle.align.specs.Align.{bad_align}
 use Rattle.sections.specs.Image.{image_in}
@@ -54,8 +54,7 @@ returns-in_err-falls c =
     let row = row_at (columns_of a.splits.now) in
     let l = c.loop-i in
     let fall = sym c.fall_of-fall.ensures ∙ asked_else c.row-s.result.section c.row-s.result.start c.fall_of-fall.result c.map_err.result c.map_err.ensures.cases (λ e d q. search rules) ∙ ap meaning c.in_err-falls.was in
-    let p = err_from_is_err_and c.from_residual.result c.from_residual.ensures.1 in
-    rw (p.1, p.2)
+    rw (is_err _ c.from_residual.ensures.1)
     (sym (fall_stops g head row a.splits.now.count l.i c.loop-i-test.true c.row-s.result c.row-s.ensures (take l.i l.falls) _ _ _ fall) ∙ l.invariant)
 
 pub returns : goal.returns
