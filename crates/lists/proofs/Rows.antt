@@ -122,3 +122,9 @@ pub get_or_same : {A : Type 0} (n i : ℕ) (a : A) → get_or (replicate n a) i 
 get_or_same zero i a = refl
 get_or_same (suc n) zero a = refl
 get_or_same (suc n) (suc i) a = get_or_same n i a
+
+-- a number that a list has something above 0 for is one of its places
+pub has_place : (l : List ℕ) (k : ℕ) → 0 < get_or l k 0 → k < length l
+has_place [] k h = absurd (omega (arith, h))
+has_place (x ∷ l) zero h = omega arith
+has_place (x ∷ l) (suc k) h = suc-le-suc (has_place l k h)

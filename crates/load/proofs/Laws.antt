@@ -5,13 +5,13 @@ use mathlib.Core.Path.{◌≡◌, refl, subst}
 use mathlib.Core.Bool.{Bool, true, false, cond}
 use mathlib.Core.List.{List, [], ◌∷◌, ◌++◌, map-append}
 use native.Mathlib.Omega.{arith}
-use borrow.Author.Tests.{ltb-true, ltb-false}
+use borrow.Author.Tests.{ltb-false}
 use lib.Dec.{ltb, leb}
-use lib.ListN.{length, get_or, take, drop, length-append, length-map, length-drop, get_or-eq_default}
+use lib.ListN.{length, get_or, take, drop, length-append, length-map, length-drop}
 use lib.Seq.{length-take-le}
 use Rattle.lists.specs.Outcome.{accepted, refused}
 use Rattle.lists.proofs.Outcomes.{not_both, same_accepted, then_inv}
-use Rattle.lists.proofs.Rows.{get_d_map}
+use Rattle.lists.proofs.Rows.{get_d_map, has_place}
 use Rattle.fields.specs.Fields.{le16, le32}
 use Rattle.obj.specs.Records.{section_at, symbol_at, reloc_at, partial_at, partial_numbered, unit_at, partial_width}
 use Rattle.lists.proofs.Tests.{none_of}
@@ -257,11 +257,7 @@ any_number lengths file at k g = record { named = g.named; renamed = g.renamed; 
 module _ {c : Ceilings} {file : List ℕ} {t : Loaded} (g : Good c file t) where
   -- a name that has a length is known
   pub name_known : (k : ℕ) → 0 < get_or t.lengths k 0 → k < length t.names
-  name_known k h = by_test (ltb k (length t.lengths)) refl
-    where
-      by_test : (b : Bool) → ltb k (length t.lengths) ≡ b → k < length t.names
-      by_test true e = omega (arith, ltb-true k (length t.lengths) e, g.names.measured)
-      by_test false e = absurd (omega (arith, get_or-eq_default t.lengths 0 (ltb-false k (length t.lengths) e)))
+  name_known k h = omega (arith, has_place t.lengths k h, g.names.measured)
 
   pub names-named : Named file t.names t.lengths (length t.names)
   names-named = record { placed = omega arith; measured = omega (arith, g.names.measured); inside = g.names.held }

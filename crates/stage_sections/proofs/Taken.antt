@@ -9,7 +9,7 @@ use lib.ListN.{length, get_or, take, length-take}
 use lib.Seq.{get_or-take}
 use Rattle.std.specs.Prelude.{Result}
 use Rattle.lists.specs.Outcome.{accepted}
-use Rattle.lists.proofs.Rows.{get_d_map}
+use Rattle.lists.proofs.Rows.{get_d_map, has_place}
 use Rattle.obj.specs.Records.{section_at, stage_places}
 use Rattle.obj.specs.declared.Section.{Section}
 use Rattle.obj.specs.declared.Refusal.{Refusal}
@@ -26,12 +26,6 @@ use Rattle.sections.specs.Image.{Tables, Lies}
 use Rattle.sections.specs.Sections.{head_of, Kept}
 use Rattle.stage_symbols.specs.StageSymbols.{ordered, Ordered, Placed}
 use Rattle.stage_symbols.proofs.Laws.{symbol_named, symbol_whole}
-
--- a number that a list has something above 0 for is one of its places
-known : (l : List ℕ) (k : ℕ) → 0 < get_or l k 0 → k < length l
-known [] k h = absurd (omega (arith, h))
-known (x ∷ l) zero h = omega arith
-known (x ∷ l) (suc k) h = suc-le-suc (known l k h)
 
 -- ---- symbols
 module _ (ceiling names : ℕ) (sections : List Section) (b : List ℕ) (passed : symbols_check ceiling names sections b ≡ accepted tt) where
@@ -97,7 +91,7 @@ module _ (ceiling : ℕ) (lengths places image b : List ℕ) (passed : image_che
       below n h = rw length-stage_places at h
 
       named : (n : ℕ) → n < length b / 15 → (get_or (stage_sections b) n no_section).name < length lengths
-      named n h = known lengths _ (tables.sections_named lengths (stage_sections b) (length b / 15) sections_passed n h).0
+      named n h = has_place lengths _ (tables.sections_named lengths (stage_sections b) (length b / 15) sections_passed n h).0
 
       lies : (n : ℕ) → n < length b / 15 → Lies image (take m (image_places_of places)) n (head_of b (stage_places 15 (length b / 15)) n)
       lies n h =
