@@ -2,7 +2,7 @@
 use native.Mathlib.Omega.{arith}
 use mathlib.Core.Path.{refl, sym, ◌∙◌}
 use lib.ListN.{length}
-use Rattle.std.proofs.lemmas.Result.{err_from_is_err_and}
+use Rattle.obj.proofs.Errors.{is_err}
 use Rattle.stage_tables.specs.StageTables.{stage_sections}
 use Rattle.join.specs.Join.{join_of}
 use Rattle.head_tables.proofs.Laws.{sections_few, count_stops, count_goes, parts_whole}
@@ -15,8 +15,7 @@ pub returns-in_err-n : goal.returns-in_err-n
 unfolding join_pieces
 returns-in_err-n c =
     let a = c.args in
-    let p = err_from_is_err_and c.from_residual.result c.from_residual.ensures.1 in
-    rw (p.1, p.2) (writes_refused (count_stops a.name_ends.now a.name_bytes.now a.sections.now a.pieces.now _ c.in_err-n.ensures) refl)
+    rw (is_err _ c.from_residual.ensures.1) (writes_refused (count_stops a.name_ends.now a.name_bytes.now a.sections.now a.pieces.now _ c.in_err-n.ensures) refl)
 
 pub join-requires : goal.join-requires
 join-requires c =
@@ -29,8 +28,7 @@ unfolding join_pieces
 returns-in_err-join c =
     let a = c.args in
     let same = count_goes a.name_ends.now a.name_bytes.now a.sections.now a.pieces.now _ c.in_ok-n.ensures in
-    let p = err_from_is_err_and c.from_residual-in_err-join.result c.from_residual-in_err-join.ensures.1 in
-    rw (p.1, p.2) (writes_stopped _ (joins_as same c.in_err-join.ensures))
+    rw (is_err _ c.from_residual-in_err-join.ensures.1) (writes_stopped _ (joins_as same c.in_err-join.ensures))
 
 pub base_of-total-requires : goal.base_of-total-requires
 base_of-total-requires c =
