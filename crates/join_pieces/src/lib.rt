@@ -40,6 +40,7 @@ pub fn base_of(sections: &[u8], k: usize) -> usize
     ensures { Base sections.now k result }
 {
     let mut sum: usize = 0;
+    // a loop: as std's sum over the places the proof did not close, for it asks that each partial sum fits, and the contract's bound is 2^32 a section
     for i in 0..k {
         sum += held_by(sections, i) as usize;
     }
