@@ -1,6 +1,6 @@
 -- The gaps that the search leaves in the columns enter, or its refusal is handed on.
 use Rattle.std.proofs.Common.{◌∙◌}
-use Rattle.std.proofs.lemmas.Result.{err_from_is_err_and}
+use Rattle.obj.proofs.Errors.{is_err}
 use Rattle.tables.specs.Records.{sections_in}
 use Rattle.sections.specs.Image.{image_in}
 use Rattle.sections.specs.Sections.{sections_of}
@@ -32,8 +32,7 @@ returns-in_err-find_gaps-clause-tables c =
     let g = image_in o in
     let sections = sections_of o.heads.bytes.now o.heads.places.now a.image.now.bytes.now a.image.now.places.now in
     let e = rw c.columns.ensures.rows at c.find_gaps.ensures.gaps in
-    let p = err_from_is_err_and c.from_residual.result c.from_residual.ensures.1 in
-    rw (p.1, p.2)
+    rw (is_err _ c.from_residual.ensures.1)
     (filled_refused g sections (rows_in a.table.now) c.find_gaps.new.found (given (sections_in o.heads.bytes.now o.heads.places.now) a.table.now.room) (ceilings_in o.names a.added.now) (names_in o.names) _ e c.in_err-find_gaps.was)
 
 pub returns-clause-tables : goal.returns-clause-tables
