@@ -9,7 +9,6 @@ use lib.Seq.{sets, take-append_seam}
 use Rattle.lists.specs.Outcome.{Outcome, accepted, ◌>>◌}
 use Rattle.lists.specs.Sort.{All}
 use Rattle.lists.proofs.Outcomes.{then_both}
-use Rattle.obj.proofs.Laws.{length-stage_places}
 use Rattle.tables.specs.Tables.{main_ceilings, records_check}
 use Rattle.tables.specs.Records.{section_fault, split_fault}
 use Rattle.tables.proofs.Lookups.{split_origins}
@@ -17,7 +16,7 @@ use Rattle.name_table.specs.NameTable.{names_check}
 use Rattle.name_table.specs.Stored.{name_lengths, stage_lengths}
 use Rattle.name_table.proofs.Laws.{length-stage_names, names_passed}
 use Rattle.stage_tables.specs.StageTables.{stage_sections, stage_splits, sections_check, splits_check}
-use Rattle.stage_tables.proofs.Laws.{table_passed}
+use Rattle.stage_tables.proofs.Laws.{table_passed, length_sections, length_splits}
 use Rattle.splits.specs.Updates.{with_end}
 use Rattle.splits.proofs.Bytes.{length-table_bytes}
 use Rattle.stage_splits.specs.StageSplits.{room_of}
@@ -75,26 +74,20 @@ module _ (ends bytes sections : List ℕ) where
         let n = (names_passed main_ceilings.names ends bytes parts.0).few in
         simp length-map (omega (arith, n, length-stage_names ends bytes (length ends / 2)))
 
-    count_sections : length (stage_sections sections) ≡ length sections / 15
-    count_sections = simp length-map (length-stage_places 15 (length sections / 15))
-
-    count-splits : length (stage_splits splits) ≡ length splits / split_width
-    count-splits = simp length-map (length-stage_places split_width (length splits / split_width))
-
     heads_passed : records_check (section_fault (stage_lengths ends bytes) (stage_sections sections)) (length (stage_sections sections)) ≡ accepted tt
     heads_passed =
-        ap (records_check (section_fault (stage_lengths ends bytes) (stage_sections sections))) count_sections
+        ap (records_check (section_fault (stage_lengths ends bytes) (stage_sections sections))) (length_sections sections)
         ∙ (table_passed 15 main_ceilings.sections sections (section_fault (stage_lengths ends bytes) (stage_sections sections)) parts.1).2
 
     splits_passed : records_check (split_fault (stage_lengths ends bytes) (stage_sections sections) (stage_splits splits)) (length (stage_splits splits)) ≡ accepted tt
     splits_passed =
-        ap (records_check (split_fault (stage_lengths ends bytes) (stage_sections sections) (stage_splits splits))) count-splits
+        ap (records_check (split_fault (stage_lengths ends bytes) (stage_sections sections) (stage_splits splits))) (length_splits splits)
         ∙ (table_passed split_width (room_of size) splits (split_fault (stage_lengths ends bytes) (stage_sections sections) (stage_splits splits)) parts.2).2
 
     few_sections : length (stage_sections sections) ≤ 65535
     few_sections =
         let n = (table_passed 15 main_ceilings.sections sections (section_fault (stage_lengths ends bytes) (stage_sections sections)) parts.1).1 in
-        omega (arith, n, count_sections)
+        omega (arith, n, length_sections sections)
 
     -- as many as were handed in
     pub few_given : length m.splits ≤ room_of size
@@ -102,7 +95,7 @@ module _ (ends bytes sections : List ℕ) where
         let n = (table_passed split_width (room_of size) splits (split_fault (stage_lengths ends bytes) (stage_sections sections) (stage_splits splits)) parts.2).1 in
         let k = length_mended (section_ends_of (stage_sections sections)) (stage_splits splits) in
         let same = ap (λ (x : Mended). length x.splits) (mend_inv (section_ends_of (stage_sections sections)) room (stage_splits splits) m parts.3).2 in
-        omega (arith, n, k, same, count-splits)
+        omega (arith, n, k, same, length_splits splits)
 
     table_good : records_check (split_fault (stage_lengths ends bytes) (stage_sections sections) m.splits) (length m.splits) ≡ accepted tt
     table_good = mend_table (stage_lengths ends bytes) (stage_sections sections) heads_passed (stage_splits splits) splits_passed room m parts.3

@@ -3,15 +3,13 @@ use Prim.Native.Nat.{ℕ, ◌*◌, ◌/◌, ◌≤◌, ◌<◌}
 use mathlib.Core.Path.{◌≡◌, refl, sym, ap, ap₂, subst, ◌∙◌}
 use mathlib.Core.List.{List, [], ◌∷◌}
 use mathlib.Core.Bool.{Bool}
-use mathlib.Core.Logic.{◌⊎◌, inl, inr}
 use native.Mathlib.Nat.{zero-add}
 use native.Mathlib.Omega.{arith}
-use lib.ListN.{length, get_or, take, length-map, get_or-eq_default}
+use lib.ListN.{length, get_or, take, length-map}
 use lib.Seq.{get_or-take}
 use Rattle.lists.specs.Rows.{clear_from}
 use Rattle.lists.specs.Outcome.{Outcome, accepted, refused, ◌>>◌}
-use Rattle.lists.proofs.Rows.{get_d_map, get_d_tabulate, length-tabulate}
-use Rattle.lists.proofs.Compare.{lt_or_ge}
+use Rattle.lists.proofs.Rows.{get_d_map, get_d_tabulate, length-tabulate, has_place}
 use Rattle.lists.proofs.Outcomes.{then_goes}
 use Rattle.lists.proofs.Clear.{clear_all}
 use Rattle.obj.specs.Answers.{word, outcome_word, meaning}
@@ -35,7 +33,7 @@ use Rattle.name_table.specs.NameTable.{name_in, stage_names, names_check}
 use Rattle.name_table.specs.Stored.{Stored, Readable, name_starts, name_lengths, stage_lengths}
 use Rattle.name_table.proofs.Laws.{length-stage_lengths}
 use Rattle.stage_tables.specs.StageTables.{stage_sections, stage_splits, stage_units, sections_check, splits_check, units_check, Filled}
-use Rattle.stage_tables.proofs.Laws.{table_passed, taken_places, taken-count, taken-held}
+use Rattle.stage_tables.proofs.Laws.{table_passed, taken_places, taken-count, taken-held, length_sections}
 use Rattle.stage_splits.specs.StageSplits.{Taken}
 use Rattle.splits.specs.Columns.{Columns, rows, row_at}
 use Rattle.toposort.specs.Search.{End}
@@ -65,14 +63,6 @@ refused_table {check} {e} splits us rest before a r said told given low =
     let small : Low {A = Unit {0}} (refused e.number e.section e.address) = subst (λ (x : Outcome (Unit {0})). Low x) stop low in
     rw (q, stop) record { said = refl; counted = refl; front = refl; room = omega arith; few = omega arith; other = λ z. omega (arith, small.1, z) }
 
--- ---- a name that has bytes is there
-pub known : (l : List ℕ) (v : ℕ) → 0 < get_or l v 0 → v < length l
-known l v h = go (lt_or_ge v (length l))
-  where
-    go : (v < length l) ⊎ (length l ≤ v) → v < length l
-    go (inl q) = q
-    go (inr q) = absurd (omega (arith, get_or-eq_default l 0 q))
-
 -- ---- names
 -- the names that are read in the columns are those of the table
 name_is : (ends bytes places lengths heads chain : List ℕ) (n : ℕ) → Stored ends bytes places lengths heads chain n → (k : ℕ) → k < n
@@ -98,7 +88,7 @@ module _ (lengths b : List ℕ) (e : sections_check 64 lengths b ≡ accepted tt
   head_named : (k : ℕ) → k < length b / 15 → (section_at b (get_or (stage_places 15 (length b / 15)) k 0)).name < length lengths
   head_named k h =
       let named = (tables.sections_named lengths (stage_sections b) (length b / 15) passed_sections k h).0 in
-      rw (sym (ap (λ (s : Section). s.name) (head_at k h))) (known lengths (get_or (stage_sections b) k no_section).name named)
+      rw (sym (ap (λ (s : Section). s.name) (head_at k h))) (has_place lengths (get_or (stage_sections b) k no_section).name named)
 
 pub sections_taken : (lengths b places name_bytes name_places : List ℕ) {answer : Outcome (Unit {0})} → Filled answer (sections_check 64 lengths b) 15 (length b) places
     → answer ≡ accepted tt → Readable name_bytes name_places lengths → length lengths ≤ 4096 → SectionsTaken b (take (length b / 15) places) name_bytes name_places lengths
@@ -149,7 +139,7 @@ module _ (lengths heads head_places name_bytes name_places b : List ℕ) (c : Co
     named = λ i h.
         let partials = tables.splits_partials lengths (sections_in heads head_places) (stage_splits b) (length b / split_width) passed_table.1 in
         let there = tables.partials_named lengths (stage_splits b) (length b / split_width) partials i (omega (arith, count_taken, h)) in
-        let q = known lengths (get_or (stage_splits b) i no_split).unit there in
+        let q = has_place lengths (get_or (stage_splits b) i no_split).unit there in
         omega (arith, ap (λ (r : Split). r.unit) (row_taken i h), s.few);
     few = s.few;
   }
@@ -168,7 +158,7 @@ units_taken lengths b places f e few =
       named = λ k h.
           let q : k < length b / 8 = omega arith in
           let at : get_or (stage_units b) k no_unit ≡ unit_at b (get_or (stage_places 8 (length b / 8)) k 0) = get_d_map (unit_at b) (stage_places 8 (length b / 8)) k 0 no_unit (omega (arith, length-stage_places 8 (length b / 8))) in
-          let n = known lengths (get_or (stage_units b) k no_unit).name (tables.units_named lengths (stage_units b) (length b / 8) passed.2 k q) in
+          let n = has_place lengths (get_or (stage_units b) k no_unit).name (tables.units_named lengths (stage_units b) (length b / 8) passed.2 k q) in
           let m : (unit_at b (get_or (stage_places 8 (length b / 8)) k 0)).name < 4096 = omega (arith, ap (λ (u : units.Unit). u.name) at) in
           subst (λ (l : List ℕ). (unit_at b (get_or l k 0)).name < 4096) (sym there) m;
     }
@@ -240,7 +230,7 @@ from_names_as {S} {us} {r} {before} {after} ends bytes places lengths heads chai
     ∙ pointers_splits L (stage_sections sections) (pointers_in sections (stage_places 15 (length sections / 15)) bytes (name_starts ends (length ends / 2)) L) Q sb ub size
     (λ k h.
     pointers_named ends bytes places lengths heads chain sections sb ub s sp k
-    (omega (arith, h, length-map (stage_places 15 (length sections / 15)) (section_at sections), length-stage_places 15 (length sections / 15))))
+    (omega (arith, h, length_sections sections)))
     ∙ then_goes refl (from_splits L (stage_sections sections) Q sb ub size) sp
     ∙ then_goes refl _ np)
     w

@@ -23,6 +23,7 @@ use Rattle.tables.proofs.Laws.{size_passed}
 use Rattle.name_table.specs.NameTable.{name_cut, name_wrong, name_fault, names_check}
 use Rattle.stage_tables.specs.StageTables.{table_check, stage_sections, stage_splits, stage_units, sections_check, splits_check, units_check}
 use Rattle.obj.specs.Records.{split_width}
+use Rattle.obj.proofs.Laws.{place_small}
 
 abbrev pub Low : {A : Type 0} → Outcome A → Type 0
 Low (accepted a) = Unit {0}
@@ -38,13 +39,6 @@ low_then : (m n : Outcome (Unit {0})) → Low m → (m ≡ accepted tt → Low n
 unfolding ◌>>◌
 low_then (accepted u) n l f = f refl
 low_then (refused number section address) n l f = l
-
-place_small : (k : ℕ) → place k < 4294967296
-place_small k = by_test (ltb k 4294967296) refl
-  where
-    by_test : (t : Bool) → ltb k 4294967296 ≡ t → cond t k 4294967295 < 4294967296
-    by_test true e = ltb-true k 4294967296 e
-    by_test false e = omega arith
 
 low_size : (width ceiling size : ℕ) → ceiling ≤ 4096 → Low (size_check width ceiling size)
 unfolding size_check

@@ -17,9 +17,8 @@ use Rattle.lists.specs.Rows.{tabulate, keep_if, some}
 use Rattle.lists.specs.Members.{In}
 use Rattle.lists.specs.Outcome.{Outcome, accepted, refused, ◌>>◌}
 use Rattle.lists.specs.Tables.{laid}
-use Rattle.lists.proofs.Rows.{get_d_map, get_or_same}
+use Rattle.lists.proofs.Rows.{get_d_map, get_or_same, has_place}
 use Rattle.lists.proofs.Parts.{tabulate_list}
-use Rattle.lists.proofs.FirstIn.{first_in_passes}
 use Rattle.lists.proofs.Compare.{never}
 use Rattle.lists.proofs.Outcomes.{then_goes}
 use Rattle.obj.specs.Answers.{refusal_word, outcome_word}
@@ -31,7 +30,6 @@ use Rattle.outputs.specs.Outputs.{counts_of}
 use Rattle.tables.specs.Records.{no_split, no_unit, split_fault, unit_fault}
 use Rattle.tables.specs.Tables.{records_check}
 use Rattle.tables.proofs.Laws as tables
-use Rattle.tables.proofs.Laws.{size_passed}
 use Rattle.name_table.specs.NameTable.{names_check}
 use Rattle.name_table.specs.Stored.{stage_lengths}
 use Rattle.name_table.proofs.Laws.{length-stage_lengths, names_passed}
@@ -50,10 +48,9 @@ use Rattle.order.specs.LinkOrder.{link_order, nodes_left, first_record, hand_of,
 use Rattle.order.specs.Bytes.{units_bytes, Fits}
 use Rattle.order.specs.Columns.{said_of}
 use Rattle.order.proofs.Bytes.{length-units_bytes, units_back}
-use Rattle.order.proofs.Stage.{length_records}
+use Rattle.order.proofs.Stage.{length_records, own_name as record_named}
 use Rattle.order.proofs.Theorems.{units_at, Ways, number_twice, no_room, ordered, on_cycle, ways}
 use Rattle.entry_resolve_link_order.specs.Entry.{given_in, resolve_of, Leaves, units_read, names_read, Records, Accepted, Shown, Good}
-use Rattle.entry_resolve_link_order.proofs.Laws.{known}
 use Rattle.entry_resolve_link_order.proofs.Refusals.{Low, low_names, low_sections, low_splits, low_units}
 
 -- ---- every input goes one of two ways
@@ -155,7 +152,7 @@ module _ (ends bytes sections splits us : List ℕ) (p : Passed ends bytes secti
   unit_small : (v : ℕ) → In v (nodes S) → v < 65536
   unit_small v i =
       let k = node_split S v i in
-      let h = known L (get_or S k.0 no_split).unit (tables.partials_named L S (length splits / split_width) (tables.splits_partials L (stage_sections sections) S (length splits / split_width) passed_splits.1) k.0 (omega (arith, length_S, k.1))) in
+      let h = has_place L (get_or S k.0 no_split).unit (tables.partials_named L S (length splits / split_width) (tables.splits_partials L (stage_sections sections) S (length splits / split_width) passed_splits.1) k.0 (omega (arith, length_S, k.1))) in
       omega (arith, names_few, k.2)
 
   -- a unit record has its widths
@@ -163,7 +160,7 @@ module _ (ends bytes sections splits us : List ℕ) (p : Passed ends bytes secti
   record_fits k h =
       let q : k < length us / 8 = omega (arith, length_U) in
       let yes-no = tables.units_answers L U (length us / 8) passed_units.1 k q in
-      let name = known L (get_or U k no_unit).name (tables.units_named L U (length us / 8) passed_units.1 k q) in
+      let name = has_place L (get_or U k no_unit).name (tables.units_named L U (length us / 8) passed_units.1 k q) in
       let at : get_or U k no_unit ≡ unit_at us (get_or (stage_places 8 (length us / 8)) k 0) = get_d_map (unit_at us) (stage_places 8 (length us / 8)) k 0 no_unit (omega (arith, length-stage_places 8 (length us / 8))) in
       record {
         name = omega (arith, names_few);
@@ -174,12 +171,7 @@ module _ (ends bytes sections splits us : List ℕ) (p : Passed ends bytes secti
 
 -- a unit's record has its name
 pub own_name : (S : List Split) (U : List units.Unit) (v : ℕ) → (record_of S U v).name ≡ v
-unfolding record_of
-own_name S U v = by_record (ltb (first_record U v) (length U)) refl (some (hand_of v) S)
-  where
-    by_record : (t : Bool) → ltb (first_record U v) (length U) ≡ t → (s : Bool) → (cond t (get_or U (first_record U v) no_unit) (made_unit v (cond s 0 1))).name ≡ v
-    by_record true e s = eqb-true _ _ (first_in_passes (λ (u : units.Unit). eqb u.name v) U no_unit (ltb-true (first_record U v) (length U) e))
-    by_record false e s = refl
+own_name S U v = record_named S U v
 
 -- ---- the records read back from the table
 

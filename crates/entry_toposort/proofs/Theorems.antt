@@ -7,9 +7,6 @@ use mathlib.Core.Logic.{◌⊎◌, inl, inr, ◌↔◌}
 use native.Mathlib.Nat.{zero-add}
 use native.Mathlib.Decide.{ℕ_discrete, dec_lt}
 use native.Mathlib.Omega.{arith}
-use mathlib.Core.Bool.{Bool, true, false, cond}
-use borrow.Author.Tests.{ltb-true}
-use lib.Dec.{ltb}
 use lib.ListN.{length, get_or}
 use lib.Seq.{ext_get_or}
 use Rattle.lists.specs.Rows.{tabulate}
@@ -19,6 +16,7 @@ use Rattle.lists.specs.Members.{In}
 use Rattle.lists.proofs.Rows.{length-tabulate, get_d_tabulate}
 use Rattle.fields.specs.Fields.{le16, enc16}
 use Rattle.obj.specs.Answers.{refusal_word, place}
+use Rattle.obj.proofs.Laws.{place_small}
 use Rattle.outputs.specs.Outputs.{halves, counts_of}
 use Rattle.toposort.specs.Search.{Graph, End, all, cyclic, lost, searched}
 use Rattle.toposort.specs.Answers.{Edge, Path, Closes, IsCycle, IsOrder, HasCycle, Right}
@@ -105,13 +103,6 @@ module _ (nodes : ℕ) (edges : List ℕ) (size : ℕ) where
           let short : length edges / 4 ≤ 2048 = omega arith in
           subst (Ways nodes edges size) (sym (table_sorted nodes edges size few w short))
           (sorted (within nodes edges few short) (sorted_right (graph_of nodes edges) (size / 2) (within nodes edges few short)))
-
-place_small : (k : ℕ) → place k < 4294967296
-place_small k = by_test (ltb k 4294967296) refl
-  where
-    by_test : (t : Bool) → ltb k 4294967296 ≡ t → cond t k 4294967295 < 4294967296
-    by_test true e = ltb-true k 4294967296 e
-    by_test false e = omega arith
 
 -- what a way that ends with word 0, and one that ends with 61, leaves in the node table
 ordered_of : (nodes : ℕ) (edges : List ℕ) (size : ℕ) (o : Outcome End) → Ways nodes edges size o → word_of o ≡ 0

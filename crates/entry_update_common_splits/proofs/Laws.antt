@@ -15,7 +15,7 @@ use Rattle.lists.proofs.Compare.{lt_or_ge}
 use Rattle.lists.proofs.Filter.{keep_same}
 use Rattle.lists.proofs.Mapping.{numbers_all}
 use Rattle.lists.proofs.Outcomes.{not_both, same_accepted}
-use Rattle.lists.proofs.Rows.{get_d_map}
+use Rattle.lists.proofs.Rows.{get_d_map, has_place}
 use Rattle.obj.specs.Answers.{meaning}
 use Rattle.obj.specs.Records.{section_at, stage_places}
 use Rattle.obj.specs.Answers.{Answer}
@@ -65,14 +65,6 @@ update_goes lengths heads bss splits given start size fits passed taken w =
 
 -- ---- the sections
 
--- what is there has a place
-within : (l : List ℕ) (j : ℕ) → 0 < get_or l j 0 → j < length l
-within l j h = go (lt_or_ge j (length l))
-  where
-    go : (j < length l) ⊎ (length l ≤ j) → j < length l
-    go (inl q) = q
-    go (inr q) = absurd (let z : ⊥ = omega (arith, h, get_or-eq_default l 0 q) in z)
-
 -- sections that were accepted, with the names that they have
 pub sections_of_lem : {name_bytes name_places name_lengths : List ℕ} (b places : List ℕ) {answer : Outcome (Unit {0})} → Readable name_bytes name_places name_lengths
     → Filled answer (sections_check 64 name_lengths b) 15 (length b) places → answer ≡ accepted tt
@@ -92,7 +84,7 @@ sections_of_lem {name_bytes} {name_places} {name_lengths} b places names f e = r
         let at = ap (λ (l : List ℕ). (section_at b (get_or l k 0)).name) (taken_places 15 64 b places _ f e) in
         let there = ap (λ (s : Section). s.name) (get_d_map (section_at b) (stage_places 15 n) k 0 no_section (omega (arith, h, length-stage_places 15 n))) in
         let named = (sections_named name_lengths (stage_sections b) n (table_passed 15 64 b _ (sym f.said ∙ e)).2 k h).0 in
-        omega (arith, at, there, within name_lengths (get_or (stage_sections b) k no_section).name named, names.paired)
+        omega (arith, at, there, has_place name_lengths (get_or (stage_sections b) k no_section).name named, names.paired)
 
 -- ---- the sections named `.bss`
 

@@ -11,10 +11,9 @@ use Rattle.tables.specs.Records.{section_fault, no_section}
 use Rattle.tables.proofs.Laws.{sections_end}
 use Rattle.name_table.specs.Stored.{stage_lengths}
 use Rattle.stage_tables.specs.StageTables.{stage_sections}
-use Rattle.stage_tables.proofs.Laws.{table_passed}
+use Rattle.stage_tables.proofs.Laws.{table_passed, length_sections}
 use Rattle.obj.specs.declared.Section.{Section}
 use Rattle.join.specs.Join.{Part}
-use Rattle.join_pieces.proofs.Laws.{heads_length}
 use Rattle.srecords.specs.Lines.{write_of}
 use Rattle.head_tables.specs.HeadTables.{head_tables}
 use Rattle.write_srecords.specs.Along.{room_along, Ended}
@@ -26,7 +25,7 @@ unfolding head_tables
 tables_ended ends bytes sections e =
     let t = table_passed 15 64 sections (section_fault (stage_lengths ends bytes) (stage_sections sections)) (then_both _ _ _ e).1 in
     all_placed (stage_sections sections) no_section
-    (λ k h. let z = sections_end (stage_lengths ends bytes) (stage_sections sections) (length sections / 15) t.2 k (let l = heads_length sections in omega arith) in omega arith)
+    (λ k h. let z = sections_end (stage_lengths ends bytes) (stage_sections sections) (length sections / 15) t.2 k (let l = length_sections sections in omega arith) in omega arith)
 
 -- an accepted outcome holds the lines
 pub write_size : (heads : List Section) (room : ℕ) (parts : List Part) (bytes : List ℕ) → write_of heads room parts ≡ accepted bytes

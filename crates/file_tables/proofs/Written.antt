@@ -4,19 +4,18 @@ use Prim.Native.Nat.{ℕ, ◌*◌, ◌/◌, ◌≤◌, ◌<◌}
 use mathlib.Core.Path.{◌≡◌, refl, sym, ap, ◌∙◌}
 use mathlib.Core.Bool.{Bool, true, false}
 use mathlib.Core.List.{List, [], ◌++◌, append-nil, map, map-id, map-map}
-use mathlib.Core.Logic.{◌⊎◌, inl, inr}
 use native.Mathlib.Nat.{zero-add, not-suc-le-zero}
 use native.Mathlib.Omega.{arith}
 use borrow.Author.Tests.{eqb-true, eqb-false}
 use lib.Dec.{eqb}
-use lib.ListN.{length, get_or, drop, get_or-eq_default}
+use lib.ListN.{length, get_or, drop}
 use lib.Seq.{sets, sets-eq, drop-length}
 use Rattle.lists.specs.Outcome.{accepted}
 use Rattle.lists.specs.Rows.{tabulate}
 use Rattle.lists.specs.Sort.{All}
 use Rattle.lists.proofs.All.{all_at}
-use Rattle.lists.proofs.Compare.{lt_or_ge}
 use Rattle.lists.proofs.Parts.{tabulate-map, tabulate_list}
+use Rattle.lists.proofs.Rows.{has_place}
 use Rattle.align.specs.Align.{bad_align}
 use Rattle.align.proofs.Laws.{good_parts, not_bad}
 use Rattle.obj.specs.Records.{unit_at, stage_places, split_width}
@@ -57,14 +56,6 @@ low_align a e = go (eqb a 0) refl
     go true q = let z = eqb-true a 0 q in omega arith
     go false q = let z = (good_parts a (not_bad a e (eqb-false a 0 q))).1 in omega arith
 
--- a name that has a length is one of the names
-pub known : (lengths : List ℕ) (k : ℕ) → 0 < get_or lengths k 0 → k < length lengths
-known lengths k h = go (lt_or_ge k (length lengths))
-  where
-    go : (k < length lengths) ⊎ (length lengths ≤ k) → k < length lengths
-    go (inl q) = q
-    go (inr q) = absurd (omega (arith, get_or-eq_default lengths 0 q))
-
 module _ (lengths : List ℕ) (sections : List Section) (rows : List Split) (few_names : length lengths ≤ 65536) (few_sections : length sections ≤ 65536)
     (faultless : (k : ℕ) → k < length rows → split_fault lengths sections rows k ≡ 0) (origins : All (λ s. s.origin < 65536) rows) where
   -- the fields of a split without a fault have their widths
@@ -76,7 +67,7 @@ module _ (lengths : List ℕ) (sections : List Section) (rows : List Split) (few
         section = omega (arith, splits_section lengths sections rows (length rows) s k h);
         start = omega (arith, partials_start lengths rows (length rows) p k h);
         end = omega (arith, partials_end lengths rows (length rows) p k h);
-        unit = omega (arith, known lengths _ (partials_named lengths rows (length rows) p k h));
+        unit = omega (arith, has_place lengths _ (partials_named lengths rows (length rows) p k h));
         alignment = low_align _ (partials_aligned lengths rows (length rows) p k h);
         flags = omega (arith, partials_flags lengths rows (length rows) p k h);
         rename = rename (eqb (get_or rows k no_split).rename 65535) refl;
@@ -87,7 +78,7 @@ module _ (lengths : List ℕ) (sections : List Section) (rows : List Split) (few
       rename true q = omega (arith, eqb-true (get_or rows k no_split).rename 65535 q)
       rename false q =
           let p = splits_partials lengths sections rows (length rows) (records_pass (split_fault lengths sections rows) (length rows) faultless) in
-          omega (arith, known lengths (get_or rows k no_split).rename (partials_renamed lengths rows (length rows) p k h (eqb-false (get_or rows k no_split).rename 65535 q)))
+          omega (arith, has_place lengths (get_or rows k no_split).rename (partials_renamed lengths rows (length rows) p k h (eqb-false (get_or rows k no_split).rename 65535 q)))
 
   -- THEOREM: rows without a fault are read back ..
   pub split_table_back : stage_splits (table_bytes rows) ≡ rows

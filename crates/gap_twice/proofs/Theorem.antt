@@ -6,14 +6,15 @@ use mathlib.Core.Bool.{Bool, true, false}
 use mathlib.Core.Logic.{◌⊎◌, inl, inr}
 use Prim.Native.Nat.{ℕ, ◌≤◌, ◌<◌}
 use native.Mathlib.Omega.{arith}
-use lib.ListN.{length, length-map, get_or, get_or-eq_default}
+use lib.ListN.{length, length-map, get_or}
 use Rattle.lists.specs.Outcome.{accepted}
 use Rattle.lists.specs.Sort.{All, Sorted}
 use Rattle.lists.proofs.All.{all_any, all_map, all_both}
 use Rattle.lists.proofs.Binds.{bind_goes}
-use Rattle.lists.proofs.Compare.{lt_or_ge, never, same_or_other}
+use Rattle.lists.proofs.Compare.{never, same_or_other}
 use Rattle.lists.proofs.Each.{all_placed}
 use Rattle.lists.proofs.Outcomes.{bind_inv}
+use Rattle.lists.proofs.Rows.{has_place}
 use Rattle.obj.specs.declared.Section.{Section}
 use Rattle.obj.specs.declared.Split.{Split}
 use Rattle.names.specs.Names.{same_name}
@@ -41,11 +42,7 @@ use Rattle.gap_twice.proofs.Entered.{unit_in, Telling, Ready, entered_among}
 
 -- a name that is not empty has a number
 pub name_there : (names : List (List ℕ)) (k : ℕ) → 0 < get_or (map length names) k 0 → k < length names
-name_there names k h = go (lt_or_ge k (length names))
-  where
-    go : (k < length names) ⊎ (length names ≤ k) → k < length names
-    go (inl l) = l
-    go (inr l) = let d = get_or-eq_default (map length names) 0 {n = k} (let m = length-map names length in omega arith) in absurd (omega arith)
+name_there names k h = omega (arith, has_place (map length names) k h, length-map names length)
 
 -- ---- a table that passed the table checks
 module _ (heads : List Section) (t : Filled) (q : Faultless heads t) where

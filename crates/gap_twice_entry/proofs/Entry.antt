@@ -24,7 +24,7 @@ use Rattle.name_table.specs.NameTable.{stage_names, names_check}
 use Rattle.name_table.specs.Stored.{name_starts, name_lengths, stage_lengths}
 use Rattle.name_table.proofs.Laws.{length-stage_names}
 use Rattle.stage_tables.specs.StageTables.{stage_sections, stage_symbols, stage_splits, image_check, symbols_check, splits_check}
-use Rattle.stage_tables.proofs.Laws.{table_passed}
+use Rattle.stage_tables.proofs.Laws.{table_passed, length_sections, length_splits}
 use Rattle.stage_names.specs.StageNames.{names_room, bytes_room, fit_check, flat}
 use Rattle.stage_gaps.proofs.Laws.{flat_bytes}
 use Rattle.sections.specs.Image.{Image, image_of}
@@ -125,9 +125,6 @@ module _ (c : Call) (t' : Filled) (e : outcome c ≡ accepted t') where
   sections_few : length sections / 15 ≤ 64
   sections_few = (table_passed 15 64 sections _ lines.headed).1
 
-  heads_count : length heads ≡ length sections / 15
-  heads_count = length-map (stage_places 15 (length sections / 15)) (section_at sections) ∙ length-stage_places 15 (length sections / 15)
-
   sections_passed : records_check (section_fault (stage_lengths ends bytes) heads) (length sections / 15) ≡ accepted tt
   sections_passed = table-laws.image_sections (stage_lengths ends bytes) (image_places_of places) (length image) heads (length sections / 15) (table_passed 15 64 sections _ lines.headed).2
 
@@ -164,12 +161,9 @@ module _ (c : Call) (t' : Filled) (e : outcome c ≡ accepted t') where
       let is : image_of_lem.symbol i ≡ get_or (stage_symbols symbols) i no_symbol = sym (get_d_map (symbol_at symbols) (stage_places 20 (length symbols / 20)) i 0 no_symbol (rw length-stage_places q)) in
       rw is (table-laws.symbols_name (length ends / 2) heads (stage_symbols symbols) (length symbols / 20) (table_passed 20 4096 symbols _ lines.marked).2 i q)
 
-  rows-count : length (stage_splits splits) ≡ length splits / split_width
-  rows-count = length-map (stage_places split_width (length splits / split_width)) _ ∙ length-stage_places split_width (length splits / split_width)
-
   faultless : Faultless heads (list_of c)
   unfolding name_lengths
-  faultless k h = table-laws.records_passed (split_fault (stage_lengths ends bytes) heads (stage_splits splits)) (length splits / split_width) (table_passed split_width most-splits splits _ lines.split).2 k (omega (arith, h, rows-count))
+  faultless k h = table-laws.records_passed (split_fault (stage_lengths ends bytes) heads (stage_splits splits)) (length splits / split_width) (table_passed split_width most-splits splits _ lines.split).2 k (omega (arith, h, (length_splits splits)))
 
   within : Within room old
   within = record {
@@ -181,7 +175,7 @@ module _ (c : Call) (t' : Filled) (e : outcome c ≡ accepted t') where
   leaves = gap-tables.filled_good image_of_lem sections_of_lem heads most-splits room (list_of c) t' below faultless lines.filled_first
 
   pub rows_few : length t'.rows ≤ most-splits
-  rows_few = leaves.few (omega (arith, rows-count, (table_passed split_width most-splits splits _ lines.split).1))
+  rows_few = leaves.few (omega (arith, length_splits splits, (table_passed split_width most-splits splits _ lines.split).1))
 
   within-after : Within room t'.names
   within-after = leaves.within within
@@ -212,7 +206,7 @@ module _ (c : Call) (t' : Filled) (e : outcome c ≡ accepted t') where
   few_lengths = omega (arith, length-map t'.names length, names_clean.few)
 
   few_heads : length heads ≤ 65536
-  few_heads = omega (arith, heads_count, sections_few)
+  few_heads = omega (arith, length_sections sections, sections_few)
 
   -- the lent split table is of bytes, as every table is, so that its origins have 16 bits
   abbrev OfBytes : Type 0

@@ -7,6 +7,7 @@ use native.Mathlib.Omega.{arith}
 use borrow.Author.Tests.{lt-leb}
 use lib.ListN.{length, get_or, get_or-append}
 use Rattle.lists.specs.Outcome.{accepted}
+use Rattle.lists.proofs.Rows.{has_place}
 use Rattle.obj.specs.declared.Section.{Section}
 use Rattle.obj.specs.declared.Symbol.{Symbol}
 use Rattle.faults.specs.Faults.{section_bad, symbol_bad}
@@ -16,7 +17,6 @@ use Rattle.tables.proofs.Laws as table-laws
 use Rattle.stage_tables.specs.StageTables.{stage_sections, stage_symbols, table_check, image_check, symbols_check}
 use Rattle.stage_tables.proofs.Laws.{table_passed}
 use Rattle.file_tables.proofs.Checks.{table_passes}
-use Rattle.file_tables.proofs.Written.{known}
 
 -- the check of a table whose faults are no more
 table_more : (width ceiling : ℕ) (b : List ℕ) (fault fault' : ℕ → ℕ) → ((k : ℕ) → fault k ≡ 0 → fault' k ≡ 0) → table_check width ceiling b fault ≡ accepted tt → table_check width ceiling b fault' ≡ accepted tt
@@ -28,7 +28,7 @@ table_more width ceiling b fault fault' f e =
 
 -- the length of a name that is there stays
 length-kept : (lengths more : List ℕ) (k : ℕ) → 0 < get_or lengths k 0 → get_or (lengths ++ more) k 0 ≡ get_or lengths k 0
-length-kept lengths more k h = get_or-append lengths more 0 k (known lengths k h)
+length-kept lengths more k h = get_or-append lengths more 0 k (has_place lengths k h)
 
 section_more : (lengths more : List ℕ) (sections : List Section) (k : ℕ) → section_fault lengths sections k ≡ 0 → section_fault (lengths ++ more) sections k ≡ 0
 unfolding section_fault

@@ -5,7 +5,7 @@ use mathlib.Core.Bool.{Bool, true, false, ◌||◌}
 use Prim.Native.Nat.{ℕ, ◌+◌, ◌*◌, ◌-◌, ◌≤◌, ◌<◌, ◌/◌}
 use native.Mathlib.Omega.{arith}
 use native.Mathlib.Numerals.{add-one}
-use lib.ListN.{length, get_or, take, drop, length-map, get_or-eq_default}
+use lib.ListN.{length, get_or, take, drop, get_or-eq_default}
 use lib.Seq.{sets, take_all}
 use lib.Dec.{eqb, ltb}
 use Rattle.lists.specs.Rows.{any_of, any_from}
@@ -18,6 +18,7 @@ use Rattle.join.proofs.Sizes.{held_suc, inside, listed}
 use Rattle.names.specs.Names.{same_name}
 use Rattle.join.specs.Laying.{spot_of, laid_over}
 use Rattle.stage_tables.specs.StageTables.{stage_sections}
+use Rattle.stage_tables.proofs.Laws.{length_sections}
 use Rattle.piece_records.specs.Records.{part_at, next_at, parts_at}
 use Rattle.piece_records.proofs.Laws.{parts_turn, parts_end}
 use Rattle.join_pieces.specs.Joins.{Base}
@@ -27,27 +28,24 @@ abbrev test : (start size : ℕ) → Section → Bool
 test start size s = (eqb s.kind 3 || ltb start s.address) || ltb (s.address + s.size) (start + size)
 
 module _ (b : List ℕ) where
-  pub heads_length : length (stage_sections b) ≡ length b / 15
-  heads_length = length-map (stage_places 15 (length b / 15)) (section_at b) ∙ length-stage_places 15 (length b / 15)
-
   pub head_there : (k : ℕ) → k < length b / 15 → get_or (stage_sections b) k nowhere ≡ section_at b (15 * k)
   head_there k h =
       get_d_map (section_at b) (stage_places 15 (length b / 15)) k 0 nowhere (rw length-stage_places h)
       ∙ ap (section_at b) (stage_place 15 (length b / 15) k h)
 
   pub head_past : (k : ℕ) → length b / 15 ≤ k → get_or (stage_sections b) k nowhere ≡ nowhere
-  head_past k h = get_or-eq_default (stage_sections b) nowhere (let l = heads_length in omega arith)
+  head_past k h = get_or-eq_default (stage_sections b) nowhere (let l = length_sections b in omega arith)
 
   -- the bytes held before the next section
   pub held_turn : (k : ℕ) → k < length b / 15 → held (take (k + 1) (stage_sections b)) ≡ held (take k (stage_sections b)) + held_by (get_or (stage_sections b) k nowhere)
-  held_turn k h = rw add-one (held_suc (stage_sections b) k (let l = heads_length in omega arith))
+  held_turn k h = rw add-one (held_suc (stage_sections b) k (let l = length_sections b in omega arith))
 
   pub held_none : held (take 0 (stage_sections b)) ≡ 0
   unfolding held
   held_none = refl
 
   pub held_all : held (take (length b / 15) (stage_sections b)) ≡ held (stage_sections b)
-  held_all = ap held (take_all (length b / 15) (stage_sections b) (let l = heads_length in omega arith))
+  held_all = ap held (take_all (length b / 15) (stage_sections b) (let l = length_sections b in omega arith))
 
   -- a section number that isn't there is 82
   pub outside_past : (p : Part) → length b / 15 ≤ p.section → true ≡ outside (stage_sections b) p
@@ -62,7 +60,7 @@ module _ (b : List ℕ) where
 
   -- a piece that isn't 82 names a section that is there
   pub section_there : (p : Part) → outside (stage_sections b) p ≡ false → p.section < length b / 15
-  section_there p e = let l = listed (stage_sections b) p.section (inside (stage_sections b) p e).holds in let z = heads_length in omega arith
+  section_there p e = let l = listed (stage_sections b) p.section (inside (stage_sections b) p e).holds in let z = length_sections b in omega arith
 
   -- .. whose record is read there
   pub home_there : (p : Part) {s : Section} {n : ℕ} → outside (stage_sections b) p ≡ false → n ≡ p.section → s ≡ section_at b (15 * n) → s ≡ home_of (stage_sections b) p

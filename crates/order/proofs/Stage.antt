@@ -2,16 +2,19 @@
 use Prim.Native.Nat.{ℕ, ◌*◌, ◌/◌, ◌≤◌, ◌<◌}
 use mathlib.Core.Path.{◌≡◌, refl, sym, ap, subst, ◌∙◌}
 use mathlib.Core.List.{List, [], ◌∷◌, ◌++◌, map}
-use mathlib.Core.Bool.{Bool, true, false}
+use mathlib.Core.Bool.{Bool, true, false, cond}
 use mathlib.Core.Logic.{◌⊎◌, inl, inr}
 use native.Mathlib.Omega.{arith}
+use borrow.Author.Tests.{ltb-true, eqb-true}
+use lib.Dec.{ltb, eqb}
 use lib.ListN.{length, get_or, take, length-append, length-map}
 use lib.Seq.{sets, length-take-le, take-append-le}
 use Rattle.lists.specs.Sort.{All, none, each}
 use Rattle.lists.specs.Members.{In}
-use Rattle.lists.specs.Rows.{keep_if}
+use Rattle.lists.specs.Rows.{keep_if, some}
 use Rattle.lists.specs.Outcome.{Outcome, accepted, refuse, ◌>>◌}
 use Rattle.lists.proofs.Outcomes.{fails, passes}
+use Rattle.lists.proofs.FirstIn.{first_in_passes}
 use Rattle.lists.proofs.Rows.{get_d_map, length-tabulate}
 use Rattle.obj.specs.Answers.{meaning}
 use Rattle.obj.specs.declared.Split.{Split}
@@ -26,7 +29,7 @@ use Rattle.toposort.specs.Answers.{Edge, Path, Closes, Right}
 use Rattle.toposort.specs.declared.Unsorted.{Unsorted}
 use Rattle.toposort.specs.declared.Unsorted.TheVariants.{Cycle, NoNode, Short}
 use Rattle.toposort.proofs.Theorems.{Gives, no_node, too_short, answer, sorted_right}
-use Rattle.tables.specs.Records.{no_split}
+use Rattle.tables.specs.Records.{no_split, no_unit}
 use Rattle.splits.specs.Columns.{Columns, rows, row_at}
 use Rattle.order_numbers.specs.Numbers.{ordered, order_twice}
 use Rattle.link_graph.specs.Graph.{Given, UnitEdge, units_of, node_of, has_node, nodes, split_at, chained, links, edges, graph_of}
@@ -38,7 +41,7 @@ use Rattle.link_graph.proofs.Graph.{same_edges}
 use Rattle.order.specs.declared.Unlinked.{Unlinked}
 use Rattle.order.specs.declared.Unlinked.TheVariants.{Refused}
 use Rattle.order.specs.Columns as stage
-use Rattle.order.specs.LinkOrder.{link_order, nodes_left, record_of, records_of}
+use Rattle.order.specs.LinkOrder.{link_order, nodes_left, first_record, hand_of, made_unit, record_of, records_of}
 use Rattle.order.specs.Bytes.{units_bytes}
 use Rattle.order.specs.Columns.{said_of, Room, Resolves}
 
@@ -183,3 +186,12 @@ same_pointers splits us p q room agree =
 pub length_records : (splits : List Split) (us : List units.Unit) (l : List ℕ) → length (records_of splits us l) ≡ length l
 unfolding records_of
 length_records splits us l = length-map l (λ v. record_of splits us (get_or (nodes splits) v 0))
+
+-- a unit's record has its name
+pub own_name : (S : List Split) (U : List units.Unit) (v : ℕ) → (record_of S U v).name ≡ v
+unfolding record_of
+own_name S U v = by_record (ltb (first_record U v) (length U)) refl (some (hand_of v) S)
+  where
+    by_record : (t : Bool) → ltb (first_record U v) (length U) ≡ t → (s : Bool) → (cond t (get_or U (first_record U v) no_unit) (made_unit v (cond s 0 1))).name ≡ v
+    by_record true e s = eqb-true _ _ (first_in_passes (λ (u : units.Unit). eqb u.name v) U no_unit (ltb-true (first_record U v) (length U) e))
+    by_record false e s = refl

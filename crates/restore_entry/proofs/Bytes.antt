@@ -10,6 +10,7 @@ use Rattle.lists.specs.Sort.{All}
 use Rattle.obj.specs.declared.Section.{Section}
 use Rattle.obj.proofs.Laws.{length-stage_places}
 use Rattle.tables.specs.Records.{no_section}
+use Rattle.stage_tables.proofs.Laws.{length_sections}
 use Rattle.pieces.specs.declared.Piece.{Piece}
 use Rattle.walk.specs.Walk.{Output, start_in, splitting_end_in}
 use Rattle.restore.specs.Restoring.{bytes_in, parts, byte_at, Plain, Restored, Alike}
@@ -17,7 +18,7 @@ use Rattle.restore.specs.Alignments.{Largest}
 use Rattle.restore.proofs.Steps.{From}
 use Rattle.restore.proofs.Theorems as walks
 use Rattle.restore_entry.specs.Tables.{Lent, input_in, Accepted, SameTables, spot}
-use Rattle.restore_entry.proofs.Tables.{head_is, length_sections, sections_few, splits_end, input_checked}
+use Rattle.restore_entry.proofs.Tables.{head_is, sections_few, splits_end, input_checked}
 use Rattle.restore_entry.proofs.Decoded.{parts_same}
 use Rattle.restore_entry.proofs.Pieces as pieces
 

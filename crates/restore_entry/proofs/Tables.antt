@@ -5,7 +5,7 @@ use mathlib.Core.List.{List}
 use mathlib.Core.Bool.{false}
 use mathlib.Core.Logic.{◌≢◌}
 use native.Mathlib.Omega.{arith}
-use lib.ListN.{length, get_or, drop, length-drop, length-map}
+use lib.ListN.{length, get_or, drop, length-drop}
 use lib.Seq.{length-take-le}
 use borrow.Author.Tests.{ne_eqb}
 use Rattle.lists.specs.Outcome.{accepted}
@@ -13,7 +13,7 @@ use Rattle.lists.specs.Sort.{All}
 use Rattle.lists.proofs.Each.{all_placed}
 use Rattle.lists.proofs.Rows.{get_d_map}
 use Rattle.align.specs.Align.{bad_align}
-use Rattle.obj.specs.Records.{section_at, split_at, stage_places, split_width}
+use Rattle.obj.specs.Records.{section_at, stage_places, split_width}
 use Rattle.obj.specs.declared.Section.{Section}
 use Rattle.obj.specs.declared.Split.{Split}
 use Rattle.obj.proofs.Laws.{length-stage_places}
@@ -21,7 +21,7 @@ use Rattle.tables.specs.Tables.{records_check}
 use Rattle.tables.specs.Records.{image_places_of, no_section, no_split, image_fault, partial_fault, split_fault}
 use Rattle.tables.proofs.Laws.{image_bytes, splits_section, splits_in_section, splits_partials, partials_aligned, partials_end}
 use Rattle.stage_tables.specs.StageTables.{stage_sections, stage_splits}
-use Rattle.stage_tables.proofs.Laws.{table_passed}
+use Rattle.stage_tables.proofs.Laws.{table_passed, length_sections, length_splits}
 use Rattle.symbols.specs.Sound.{Sound}
 use Rattle.symbol_order.specs.Order.{symbol_of}
 use Rattle.sections.specs.Sections.{head_of}
@@ -36,12 +36,6 @@ use Rattle.restore_entry.specs.Tables.{Lent, input_in, Passed}
 pub head_is : (sections : List ℕ) (n : ℕ) → n < length sections / 15
     → head_of sections (stage_places 15 (length sections / 15)) n ≡ get_or (stage_sections sections) n no_section
 head_is sections n h = sym (get_d_map (section_at sections) (stage_places 15 (length sections / 15)) n 0 no_section (rw length-stage_places h))
-
-pub length_sections : (sections : List ℕ) → length (stage_sections sections) ≡ length sections / 15
-length_sections sections = length-map (stage_places 15 (length sections / 15)) (section_at sections) ∙ length-stage_places 15 (length sections / 15)
-
-length-splits : (splits : List ℕ) → length (stage_splits splits) ≡ length splits / split_width
-length-splits splits = length-map (stage_places split_width (length splits / split_width)) (split_at splits) ∙ length-stage_places split_width (length splits / split_width)
 
 module _ (t : Lent) (a : Passed t) where
   abbrev head : ℕ → Section
@@ -75,7 +69,7 @@ module _ (t : Lent) (a : Passed t) where
   partials = splits_partials t.name_lengths (stage_sections t.sections) (stage_splits t.splits) (length t.splits / split_width) records
 
   each_split : (P : Split → Type 0) → ((k : ℕ) → k < length t.splits / split_width → P (get_or (stage_splits t.splits) k no_split)) → All P (stage_splits t.splits)
-  each_split P f = all_placed (stage_splits t.splits) no_split (λ k h. f k (omega (arith, length-splits t.splits)))
+  each_split P f = all_placed (stage_splits t.splits) no_split (λ k h. f k (omega (arith, length_splits t.splits)))
 
   split_ends : (k : ℕ) → k < length t.splits / split_width → let s = get_or (stage_splits t.splits) k no_split in
       s.end ≤ (head s.section).address + (head s.section).size

@@ -7,8 +7,8 @@ use mathlib.Core.Bool.{Bool, true, false, cond}
 use mathlib.Core.Logic.{◌⊎◌, inl, inr}
 use native.Mathlib.Nat.{zero-add}
 use native.Mathlib.Omega.{arith}
-use borrow.Author.Tests.{ltb-true, eqb-true}
-use lib.Dec.{ltb, eqb}
+use borrow.Author.Tests.{ltb-true}
+use lib.Dec.{ltb}
 use lib.ListN.{length, get_or, take, drop, length-map}
 use lib.Seq.{sets, sets-eq, length-sets}
 use mir.Syntax.{w32}
@@ -21,7 +21,6 @@ use Rattle.lists.proofs.Rows.{get_d_map}
 use Rattle.lists.proofs.Parts.{tabulate-map, tabulate_list}
 use Rattle.lists.proofs.All.{all_at}
 use Rattle.lists.proofs.Stores.{take-sets}
-use Rattle.lists.proofs.FirstIn.{first_in_passes}
 use Rattle.obj.specs.Records.{unit_at, stage_places}
 use Rattle.obj.specs.declared.Split.{Split}
 use Rattle.obj.specs.declared.Unit as units
@@ -42,18 +41,9 @@ use Rattle.order.specs.Columns.{kept, Resolves}
 use Rattle.std.specs.Prelude.{Result}
 use Rattle.order.specs.declared.Unlinked.{Unlinked}
 use Rattle.order.proofs.Bytes.{length-units_bytes, units_back}
-use Rattle.order.proofs.Stage.{length_records}
+use Rattle.order.proofs.Stage.{length_records, own_name}
 use Rattle.run_splits.specs.Table.{Homed}
 use Rattle.run.specs.Answers.{units_at, Units}
-
--- a unit's record has its name
-own_name : (S : List Split) (U : List units.Unit) (v : ℕ) → (record_of S U v).name ≡ v
-unfolding record_of
-own_name S U v = by_record (ltb (first_record U v) (length U)) refl (some (hand_of v) S)
-  where
-    by_record : (t : Bool) → ltb (first_record U v) (length U) ≡ t → (s : Bool) → (cond t (get_or U (first_record U v) no_unit) (made_unit v (cond s 0 1))).name ≡ v
-    by_record true e s = eqb-true _ _ (first_in_passes (λ (u : units.Unit). eqb u.name v) U no_unit (ltb-true (first_record U v) (length U) e))
-    by_record false e s = refl
 
 -- the unit of a node is that of a row
 unit_low : {sections names : ℕ} (S : List Split) → All (Homed sections names) S → (v : ℕ) → In v (nodes S) → v < names

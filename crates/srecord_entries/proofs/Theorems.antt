@@ -21,10 +21,10 @@ use Rattle.fields.proofs.Laws.{round64}
 use Rattle.obj.specs.Answers.{outcome_word}
 use Rattle.obj.specs.declared.Section.{Section}
 use Rattle.stage_tables.specs.StageTables.{stage_sections}
+use Rattle.stage_tables.proofs.Laws.{length_sections}
 use Rattle.head_tables.specs.HeadTables.{head_tables}
 use Rattle.join.specs.Join.{Part, outside, differ, joined, held}
 use Rattle.join.proofs.Sizes.{joined_reads}
-use Rattle.join_pieces.proofs.Laws.{heads_length}
 use Rattle.join_pieces.proofs.Joining.{is_joined}
 use Rattle.piece_records.specs.Records.{part_at, next_at, parts_at, parts_of}
 use Rattle.kept_output.specs.Kept.{output_of, size_of}
@@ -113,7 +113,7 @@ module _ (c : Call) where
       let a = ap length (sym passed.is) ∙ room_is heads passed.parts in
       let b = room_most heads (tables_ended c.ends c.bytes c.sections passed.tables) in
       let n = tables_few c.ends c.bytes c.sections passed.tables in
-      omega (arith, heads_length c.sections)
+      omega (arith, length_sections c.sections)
 
   written_is : written c ≡ lines_of (stage_sections c.sections) passed.parts
   written_is =

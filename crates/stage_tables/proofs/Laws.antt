@@ -6,15 +6,15 @@ use mathlib.Core.Path.{◌≡◌, sym, ap, ◌∙◌}
 use mathlib.Core.List.{List}
 use native.Mathlib.Nat.{mul-le-mul, mul-div-le}
 use native.Mathlib.Omega.{arith}
-use lib.ListN.{length, take}
+use lib.ListN.{length, take, length-map}
 use Rattle.lists.specs.Outcome.{Outcome, accepted, refused}
 use Rattle.lists.proofs.Outcomes.{not_both, then_stops, then_goes, then_both}
-use Rattle.obj.specs.Records.{stage_places}
+use Rattle.obj.specs.Records.{stage_places, section_at, split_at, split_width}
 use Rattle.obj.proofs.Laws.{length-stage_places}
 use Rattle.tables.specs.Tables.{size_check, records_check, AllHeld}
 use Rattle.tables.proofs.Lookups.{stage_held}
 use Rattle.tables.proofs.Laws.{size_passed}
-use Rattle.stage_tables.specs.StageTables.{table_check, Filled}
+use Rattle.stage_tables.specs.StageTables.{stage_sections, stage_splits, table_check, Filled}
 
 -- ---- a table that passed
 pub table_passed : (width ceiling : ℕ) (b : List ℕ) (fault : ℕ → ℕ) → table_check width ceiling b fault ≡ accepted tt
@@ -84,3 +84,10 @@ module _ (width ceiling : ℕ) (b places : List ℕ) {size : Outcome (Unit {0})}
               ∙ then_goes f.said _ e;
           filled = λ _. p;
         }
+
+-- there are as many sections, and splits, as their table has records
+pub length_sections : (sections : List ℕ) → length (stage_sections sections) ≡ length sections / 15
+length_sections sections = length-map (stage_places 15 (length sections / 15)) (section_at sections) ∙ length-stage_places 15 (length sections / 15)
+
+pub length_splits : (splits : List ℕ) → length (stage_splits splits) ≡ length splits / split_width
+length_splits splits = length-map (stage_places split_width (length splits / split_width)) (split_at splits) ∙ length-stage_places split_width (length splits / split_width)

@@ -1,12 +1,12 @@
 -- What tables that passed leave to the walk: splits whose unit names are there, units with a place for each name. Assumes nothing.
-use Prim.Native.Nat.{ℕ, zero, suc, ◌/◌, ◌≤◌, ◌<◌, suc-le-suc}
+use Prim.Native.Nat.{ℕ, ◌/◌, ◌≤◌, ◌<◌}
 use mathlib.Core.Path.{◌≡◌, sym, ap, subst, ◌∙◌}
-use mathlib.Core.List.{List, [], ◌∷◌}
+use mathlib.Core.List.{List}
 use native.Mathlib.Nat.{zero-add, mul-div-le}
 use native.Mathlib.Omega.{arith}
 use lib.ListN.{length, get_or, length-map}
 use Rattle.lists.specs.Outcome.{accepted}
-use Rattle.lists.proofs.Rows.{get_d_tabulate, get_d_map, length-tabulate}
+use Rattle.lists.proofs.Rows.{get_d_tabulate, get_d_map, length-tabulate, has_place}
 use Rattle.obj.specs.Records.{unit_at, split_at, stage_places, split_width}
 use Rattle.obj.specs.declared.Section.{Section}
 use Rattle.obj.specs.declared.Split.{Split}
@@ -22,19 +22,13 @@ use Rattle.splits.specs.Columns.{Columns, row_at, rows}
 use Rattle.units.specs.Units.{Listed}
 use Rattle.stage_walk.specs.Lines.{Rowed}
 
--- a number that a list has something above 0 for is one of its places
-known : (l : List ℕ) (k : ℕ) → 0 < get_or l k 0 → k < length l
-known [] k h = absurd (omega (arith, h))
-known (x ∷ l) zero h = omega arith
-known (x ∷ l) (suc k) h = suc-le-suc (known l k h)
-
 -- ---- splits
 pub rows_named : (ceiling : ℕ) (lengths : List ℕ) (heads : List Section) (b : List ℕ) (c : Columns) (n : ℕ) → splits_check ceiling lengths heads b ≡ accepted tt
     → rows c n ≡ stage_splits b → Rowed c n (length lengths)
 rows_named ceiling lengths heads b c n passed taken =
     record {
       named = λ k h.
-          known lengths (row_at c k).unit
+          has_place lengths (row_at c k).unit
           (subst (λ (s : Split). 0 < get_or lengths s.unit 0) (sym (row_is k h))
           (tables.partials_named lengths (stage_splits b) m (tables.splits_partials lengths heads (stage_splits b) m records) k (omega (arith, h, many))));
     }
@@ -67,6 +61,6 @@ module _ (lengths b : List ℕ) (passed : units_check 1024 lengths b ≡ accepte
         held = λ k h. held (stage_held 8 (length b / 8) b (omega (arith, units_few)) (mul-div-le (length b) 8)) k h;
         named = λ k h.
             let q : k < length b / 8 = rw length-stage_places at h in
-            let there = known lengths _ (tables.units_named lengths (stage_units b) (length b / 8) (table_passed 8 1024 b _ passed).2 k q) in
+            let there = has_place lengths _ (tables.units_named lengths (stage_units b) (length b / 8) (table_passed 8 1024 b _ passed).2 k q) in
             omega (arith, there, ap (λ (u : unit_records.Unit). u.name) (unit_is k q), long);
       })

@@ -60,6 +60,7 @@ pub fn lines_room(sections: &[u8]) -> usize
     ensures { result ≡ room_along (stage_sections sections.now) + 15 }
 {
     let mut sum: usize = 15;
+    // a loop, as in join_pieces::base_of: std's sum asks that each partial sum fits, and that did not prove there
     for k in 0..sections.len() / 15 {
         sum += lines_size(held_by(sections, k));
     }

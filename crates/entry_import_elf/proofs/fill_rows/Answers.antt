@@ -1,7 +1,7 @@
 -- The heads and places are written, and what was written is asked.
 use Rattle.std.proofs.Common.{ℕ, ◌∙◌, List, sym, ap, arith, length, length-take-le}
 use Rattle.std.proofs.lemmas.List.Edits.{sets}
-use Rattle.std.proofs.lemmas.Result.{err_from_is_err_and}
+use Rattle.obj.proofs.Errors.{is_err}
 use Rattle.number_names.specs.Tables.{listed}
 use Rattle.import_rows.specs.Rows.{sections_table, places_table}
 use Rattle.import_rows.proofs.Laws.{long_sections, long_places}
@@ -28,14 +28,13 @@ returns-in_err-count c =
     let file = a.source.now.file.bytes.now in
     let names = listed a.source.now.names.known in
     let t = tables_of file names in
-    let p = err_from_is_err_and c.from_residual.result c.from_residual.ensures.1 in
     let n = ap (λ (l : List ℕ). length l) a.source.now.all ∙ sym (sections_count file names) in
     let headers = c.header_table-headers.ensures in
     let fs = c.put_sections.ensures ∙ ap (sets a.sections.now 0) (sections_written file names headers c.section_strings.ensures a.source.now.all) in
     let fp = c.put_places.ensures ∙ ap (sets a.section_places.now 0) (places_written file names headers a.source.now.all) in
     let ws = front a.sections.now (sections_table t.sections) fs (omega (arith, n, long_sections t.sections)) (omega (arith, c.requires.0)) in
     let wp = front a.section_places.now (places_table t.places) fp (omega (arith, n, long_places t.places, places_count file names, sections_count file names)) (omega (arith, c.requires.1)) in
-    rw (p.1, p.2) (c.in_err-count.ensures ws wp)
+    rw (is_err _ c.from_residual.ensures.1) (c.in_err-count.ensures ws wp)
 
 pub returns : goal.returns
 returns c =

@@ -1,6 +1,6 @@
 -- Sections that are refused are the answer; else the symbols are asked over them.
 use Rattle.std.proofs.Common.{ℕ, ◌∙◌, List, refl, sym, ap, arith, length}
-use Rattle.std.proofs.lemmas.Result.{err_from_is_err_and}
+use Rattle.obj.proofs.Errors.{is_err}
 use Rattle.obj.specs.Answers.{meaning}
 use Rattle.tables.specs.Records.{sections_in}
 use Rattle.name_table.specs.Stored.{stage_lengths}
@@ -21,11 +21,10 @@ returns-in_err-take_image c =
     let file = a.source.now.file.bytes.now in
     let names = listed a.source.now.names.known in
     let t = tables_of file names in
-    let r = err_from_is_err_and c.from_residual.result c.from_residual.ensures.1 in
     let k = a.source.now.names.known.known.laid in
     let m = a.source.now.names.measured ∙ (λ z. stage_lengths (k.ends_are z) (k.bytes_are z)) ∙ ap (λ (x : List (List ℕ)). stage_lengths (name_ends x) (flat x)) (sym (names_are file names)) in
     let said = image_said (length file) t c.in_err-take_image.ensures.said m p s in
-    rw (r.1, r.2) (sym (image_stops (length file) 64 (symbols_room (length a.symbols.now)) t said refl))
+    rw (is_err _ c.from_residual.ensures.1) (sym (image_stops (length file) 64 (symbols_room (length a.symbols.now)) t said refl))
 
 pub slice_bounds-heads-end : goal.slice_bounds-heads-end
 slice_bounds-heads-end c =

@@ -1,6 +1,6 @@
 -- Names that are refused are the answer; else the sections and symbols are asked over them.
 use Rattle.std.proofs.Common.{ℕ, ◌∙◌, List, refl, sym, subst, ap, length}
-use Rattle.std.proofs.lemmas.Result.{err_from_is_err_and}
+use Rattle.obj.proofs.Errors.{is_err}
 use Rattle.obj.specs.Answers.{meaning}
 use Rattle.stage_names.specs.StageNames.{flat}
 use Rattle.number_names.specs.Numbers.{name_ends}
@@ -17,9 +17,8 @@ returns-in_err-check-clause-given c =
     let file = a.file.now.bytes.now in
     let t = tables_of file names in
     let n = sym (names_are file names) in
-    let p = err_from_is_err_and c.from_residual.result c.from_residual.ensures.1 in
     let said = names_said t c.in_err-check.ensures.said (l.ends_are ∙ ap (λ (x : List (List ℕ)). name_ends x) n) (l.bytes_are ∙ ap (λ (x : List (List ℕ)). flat x) n) in
-    rw (p.1, p.2) (sym (names_stop (length file) (record { names = room; sections = sections_room (length a.rows.now.sections.now) (length a.rows.now.places.now); symbols = symbols_room (length a.rows.now.symbols.now) }) t said refl))
+    rw (is_err _ c.from_residual.ensures.1) (sym (names_stop (length file) (record { names = room; sections = sections_room (length a.rows.now.sections.now) (length a.rows.now.places.now); symbols = symbols_room (length a.rows.now.symbols.now) }) t said refl))
 
 pub names-requires : goal.names-requires
 names-requires c = let s = c.check.ensures in s.stored (sym s.said ∙ ap meaning c.in_ok-check.was)

@@ -1,7 +1,7 @@
 -- Too many are refused; else they are written, and what was written is asked.
 use Rattle.std.proofs.Common.{ℕ, ◌-◌, ◌*◌, ◌/◌, ◌≡◌, ◌≤◌, ◌∙◌, List, sym, ap, arith, length, take, length-take-le}
 use Rattle.std.proofs.lemmas.List.Edits.{sets}
-use Rattle.std.proofs.lemmas.Result.{err_from_is_err_and}
+use Rattle.obj.proofs.Errors.{is_err}
 use Rattle.lists.specs.Outcome.{refused}
 use Rattle.elf.specs.declared.SectionHeader.{SectionHeader}
 use Rattle.elf_file.specs.File.{section_bytes, symbol_table}
@@ -42,14 +42,13 @@ returns-in_err-take_symbols c =
     let file = a.source.now.file.bytes.now in
     let names = listed a.source.now.names.known in
     let t = tables_of file names in
-    let p = err_from_is_err_and c.from_residual.result c.from_residual.ensures.1 in
     let table = c.section_bytes-table.ensures ∙ ap (λ (h : SectionHeader). section_bytes file h) (c.symbol_table-t.ensures ∙ ap symbol_table c.header_table.ensures) in
     let n = c.entry_count-n.ensures.1 ∙ ap (λ (l : List ℕ). length l / 16 - 1) table ∙ sym (symbols_count file names) in
     let w = c.put_symbols.ensures ∙ ap (sets a.symbols.now 0) (symbols_written file names table c.symbol_strings.ensures a.source.now.all) in
     let whole : take (20 * c.entry_count-n.result) c.put_symbols.new.out ≡ symbols_table t.symbols = front a.symbols.now (symbols_table t.symbols) w (omega (arith, n, long_symbols t.symbols)) (omega (arith, c.if-room-n.false, c.smaller-room.ensures.2)) in
     let ends = a.source.now.names.known.known.laid.ends_are ∙ ap (λ (l : List (List ℕ)). name_ends l) (sym (names_are file names)) in
     let few : c.entry_count-n.result ≤ symbols_room (length a.symbols.now) = omega (arith, c.if-room-n.false, c.smaller-room.ensures.0) in
-    rw (p.1, p.2) (sym (symbols_asked (symbols_room (length a.symbols.now)) t n few c.in_err-take_symbols.ensures.said ends s whole))
+    rw (is_err _ c.from_residual.ensures.1) (sym (symbols_asked (symbols_room (length a.symbols.now)) t n few c.in_err-take_symbols.ensures.said ends s whole))
 
 pub returns : goal.returns
 returns c =

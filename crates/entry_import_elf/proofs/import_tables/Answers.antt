@@ -1,6 +1,6 @@
 -- Each return is one step of the definition, in its order.
 use Rattle.std.proofs.Common.{refl, sym, arith, length, length-take-le}
-use Rattle.std.proofs.lemmas.Result.{err_from_is_err_and}
+use Rattle.obj.proofs.Errors.{is_err}
 use Rattle.elf_file.proofs.Laws.{file_passed}
 use Rattle.import.specs.Import.{tables_of}
 use Rattle.entry_import_elf.specs.Entry.{rooms_of}
@@ -11,8 +11,7 @@ pub returns-in_err-check_file-clause-given : goal.returns-in_err-check_file-clau
 returns-in_err-check_file-clause-given c =
     let a = c.args in
     let rooms = rooms_of (length a.name_ends.now) (length a.name_bytes.now) (length a.rows.now.sections.now) (length a.rows.now.places.now) (length a.rows.now.symbols.now) in
-    let p = err_from_is_err_and c.from_residual.result c.from_residual.ensures.1 in
-    rw (p.1, p.2) (file_stops a.file.now rooms c.in_err-check_file.ensures refl)
+    rw (is_err _ c.from_residual.ensures.1) (file_stops a.file.now rooms c.in_err-check_file.ensures refl)
 
 pub invariant_of-elf : goal.invariant_of-elf
 invariant_of-elf c = record { headed = (file_passed c.args.file.now (sym c.in_ok-check_file.ensures)).long }
@@ -21,9 +20,8 @@ pub returns-in_err-count-clause-given : goal.returns-in_err-count-clause-given
 returns-in_err-count-clause-given c =
     let a = c.args in
     let rooms = rooms_of (length a.name_ends.now) (length a.name_bytes.now) (length a.rows.now.sections.now) (length a.rows.now.places.now) (length a.rows.now.symbols.now) in
-    let p = err_from_is_err_and c.from_residual-in_err-count.result c.from_residual-in_err-count.ensures.1 in
     let e = c.in_err-count.ensures in
-    rw (p.1, p.2, e.was) (names_refused a.file.now rooms c.in_ok-check_file.ensures refl e.is)
+    rw (is_err _ c.from_residual-in_err-count.ensures.1, e.was) (names_refused a.file.now rooms c.in_ok-check_file.ensures refl e.is)
 
 pub slice_bounds-from_names-end : goal.slice_bounds-from_names-end
 slice_bounds-from_names-end c = let n = c.in_ok-count.ensures in omega (arith, n.ends_fit, numbered_ends n)
@@ -44,9 +42,8 @@ pub returns-in_err-r-clause-given : goal.returns-in_err-r-clause-given
 returns-in_err-r-clause-given c =
     let a = c.args in
     let rooms = rooms_of (length a.name_ends.now) (length a.name_bytes.now) (length a.rows.now.sections.now) (length a.rows.now.places.now) (length a.rows.now.symbols.now) in
-    let p = err_from_is_err_and c.from_residual-in_err-r.result c.from_residual-in_err-r.ensures.1 in
     let n = c.in_ok-count.ensures in
-    rw (p.1, p.2) (import_refused a.file.now rooms c.in_ok-check_file.ensures refl n.names n.is (c.in_err-r.ensures.given n.names rooms.names (numbered-laid n)))
+    rw (is_err _ c.from_residual-in_err-r.ensures.1) (import_refused a.file.now rooms c.in_ok-check_file.ensures refl n.names n.is (c.in_err-r.ensures.given n.names rooms.names (numbered-laid n)))
 
 pub returns-clause-given : goal.returns-clause-given
 returns-clause-given c =

@@ -7,7 +7,7 @@ use lib.Seq.{sets}
 use Rattle.lists.specs.Rows.{clear_from}
 use Rattle.lists.proofs.Stores.{sets_then}
 use Rattle.obj.specs.Answers.{word}
-use Rattle.lent_tables.proofs.Answers.{is_err}
+use Rattle.obj.proofs.Errors.{is_err}
 use Rattle.fields.specs.Fields.{enc32}
 use Rattle.entry_piece_bytes.proofs.Leaving.{refused_leaves, put_leaves, none_leaves}
 use Rattle.entry_piece_bytes.proofs.put_place.Goals as goal

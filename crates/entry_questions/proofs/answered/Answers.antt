@@ -9,7 +9,7 @@ use Rattle.lists.proofs.Outcomes.{then_goes}
 use Rattle.obj.specs.Answers.{meaning}
 use Rattle.stage_tables.specs.StageTables.{image_check}
 use Rattle.stage_sections.proofs.Laws.{sections_kept, place_same}
-use Rattle.lent_tables.proofs.Answers.{is_err}
+use Rattle.obj.proofs.Errors.{is_err}
 use Rattle.entry_questions.specs.Entry.{answer_of}
 use Rattle.entry_questions.proofs.Laws.{symbols_as}
 use Rattle.entry_questions.proofs.answered.Goals as goal

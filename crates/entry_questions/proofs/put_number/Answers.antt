@@ -5,7 +5,7 @@ use mathlib.Core.List.{List}
 use native.Mathlib.Omega.{arith}
 use lib.Seq.{sets}
 use Rattle.obj.specs.Answers.{word}
-use Rattle.lent_tables.proofs.Answers.{is_err}
+use Rattle.obj.proofs.Errors.{is_err}
 use Rattle.fields.specs.Fields.{enc32}
 use Rattle.entry_questions.proofs.Numbers.{refused_leaves, put_leaves, none_leaves}
 use Rattle.entry_questions.proofs.put_number.Goals as goal

@@ -12,7 +12,7 @@ use Rattle.sections.specs.Sections.{sections_of}
 use Rattle.sections.proofs.Kept.{kept_heads}
 use Rattle.stage_tables.proofs.Laws.{taken_few, taken_places, taken-count}
 use Rattle.stage_sections.proofs.Laws.{symbols_asked}
-use Rattle.lent_tables.proofs.Answers.{is_err}
+use Rattle.obj.proofs.Errors.{is_err}
 use Rattle.entry_questions.specs.Entry.{question_of}
 use Rattle.entry_questions.specs.Lines.{from_symbols}
 use Rattle.entry_questions.proofs.Laws.{asked_as}

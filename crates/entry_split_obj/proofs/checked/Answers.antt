@@ -11,7 +11,7 @@ use Rattle.name_table.proofs.Laws.{length-stage_lengths, names_passed}
 use Rattle.stage_tables.specs.StageTables.{image_check}
 use Rattle.stage_sections.proofs.Laws.{heads_held, sections_kept, place_same}
 use Rattle.stage_walk.proofs.Lines.{gives_as, gives_stops, gives_goes}
-use Rattle.lent_tables.proofs.Answers.{is_err}
+use Rattle.obj.proofs.Errors.{is_err}
 use Rattle.entry_split_obj.specs.Entry.{split_obj_of}
 use Rattle.entry_split_obj.proofs.Lines.{symbols_as}
 use Rattle.entry_split_obj.proofs.checked.Goals as goal

@@ -9,7 +9,7 @@ use lib.ListN.{length}
 use Rattle.stage_tables.proofs.Laws.{taken_few, taken_places, taken-count}
 use Rattle.sections.specs.Sections.{sections_of}
 use Rattle.tables.specs.Records.{sections_in}
-use Rattle.lent_tables.proofs.Answers.{is_err}
+use Rattle.obj.proofs.Errors.{is_err}
 use Rattle.entry_split_obj.specs.Lines.{from_symbols}
 use Rattle.pieces.proofs.Same.{lent_same}
 use Rattle.stage_walk.proofs.Lines.{gives_as, gives_stops, gives_goes}

@@ -1,7 +1,7 @@
 -- `entry_write_srecords::write_tables`: what the checks refuse is the answer; else the pieces that were counted are whole, and are written.
 use mathlib.Core.Path.{refl, sym, ◌∙◌}
 use lib.ListN.{length}
-use Rattle.std.proofs.lemmas.Result.{err_from_is_err_and}
+use Rattle.obj.proofs.Errors.{is_err}
 use Rattle.stage_tables.specs.StageTables.{stage_sections}
 use Rattle.srecords.specs.Lines.{write_of}
 use Rattle.head_tables.proofs.Laws.{sections_few, tables_passed, count_stops, count_goes, parts_whole, parts_few}
@@ -14,8 +14,7 @@ pub returns-in_err-n : goal.returns-in_err-n
 unfolding write_srecords
 returns-in_err-n c =
     let a = c.args in
-    let p = err_from_is_err_and c.from_residual.result c.from_residual.ensures.1 in
-    rw (p.1, p.2) (writes_refused (count_stops a.name_ends.now a.name_bytes.now a.sections.now a.pieces.now _ c.in_err-n.ensures) refl)
+    rw (is_err _ c.from_residual.ensures.1) (writes_refused (count_stops a.name_ends.now a.name_bytes.now a.sections.now a.pieces.now _ c.in_err-n.ensures) refl)
 
 pub write-requires : goal.write-requires
 write-requires c =
@@ -33,8 +32,7 @@ unfolding write_srecords
 returns-in_err-write c =
     let a = c.args in
     let same = count_goes a.name_ends.now a.name_bytes.now a.sections.now a.pieces.now _ c.in_ok-n.ensures in
-    let p = err_from_is_err_and c.from_residual-in_err-write.result c.from_residual-in_err-write.ensures.1 in
-    rw (p.1, p.2) (writes_stopped _ (joins_as same c.in_err-write.ensures))
+    rw (is_err _ c.from_residual-in_err-write.ensures.1) (writes_stopped _ (joins_as same c.in_err-write.ensures))
 
 pub lines_room-total-requires : goal.lines_room-total-requires
 lines_room-total-requires c =

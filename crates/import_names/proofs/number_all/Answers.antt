@@ -1,6 +1,6 @@
 -- An index of zeros has no name; what the table holds after it is what the outputs hold.
 use Rattle.std.proofs.Common.{rules, refl, arith, sym, ap, length}
-use Rattle.std.proofs.lemmas.Result.{err_from_is_err_and}
+use Rattle.obj.proofs.Errors.{is_err}
 use Rattle.import.specs.Import.{names_of}
 use Rattle.names.proofs.Indexes.{indexed_cleared}
 use Rattle.number_names.proofs.Laws.{held_standing}
@@ -17,10 +17,9 @@ pub returns-in_err-number_in : goal.returns-in_err-number_in
 returns-in_err-number_in c =
     let a = c.args in
     let s = c.in_err-number_in.ensures.0 in
-    let p = err_from_is_err_and c.from_residual.result c.from_residual.ensures.1 in
     let e = c.in_err-number_in.ensures.1 a.name_ends.now a.name_bytes.now (held_none (indexed_cleared _ _ _ refl refl (omega arith))) in
     let room = ap (names_of a.file.now.bytes.now) (room_as (length a.name_ends.now) (length a.name_bytes.now) c.names_room-most.ensures c.bytes_room-most_bytes.ensures) in
-    rw (p.1, p.2) (numbered_short room (search (rules, sym s.ends)) (search (rules, sym s.bytes)) e)
+    rw (is_err _ c.from_residual.ensures.1) (numbered_short room (search (rules, sym s.ends)) (search (rules, sym s.bytes)) e)
 
 pub returns : goal.returns
 returns c =

@@ -1,6 +1,6 @@
 -- The names of the sections are entered into an empty table, and those of the symbols behind them.
 use Rattle.std.proofs.Common.{◌∙◌, [], sym, ap}
-use Rattle.std.proofs.lemmas.Result.{err_from_is_err_and}
+use Rattle.obj.proofs.Errors.{is_err}
 use Rattle.elf.specs.declared.SectionHeader.{SectionHeader}
 use Rattle.elf_file.specs.File.{section_bytes, symbol_table}
 use Rattle.elf_names.specs.Names.{symbol_names}
@@ -15,10 +15,9 @@ returns-in_err-enter_sections c = (
   c.in_err-enter_sections.ensures.0,
   λ ends₀ bytes₀ h.
       let a = c.args in
-      let p = err_from_is_err_and c.from_residual.result c.from_residual.ensures.1 in
       let e = c.in_err-enter_sections.ensures.1 [] ends₀ bytes₀ h in
       let said = read_sections a.file.now.bytes.now (room_of a.names.now) c.header_table-headers.ensures c.section_strings.ensures in
-      rw (p.1, p.2) (short_as (e.is ∙ names_stop a.file.now.bytes.now (room_of a.names.now) (sym said ∙ e.is)) e),
+      rw (is_err _ c.from_residual.ensures.1) (short_as (e.is ∙ names_stop a.file.now.bytes.now (room_of a.names.now) (sym said ∙ e.is)) e),
 )
 
 pub returns : goal.returns

@@ -1,8 +1,8 @@
--- `import_rows::home_of` meets its contract. Invariant: the first that is left is the first of all. Assumes nothing.
-use native.Mathlib.Omega.{arith}
+-- `import_rows::home_of`: what std's search says of the place, or of there being none, is what the definition asks.
+use Rattle.std.proofs.Common.{rules, ◌≡◌, ◌<◌, ℕ, length, get_or, arith}
 use lib.Dec.{eqb}
 use borrow.Author.Tests.{eq-eqb, ne_eqb}
-use Rattle.lists.proofs.Some.{first_here, first_on, first-over}
+use Rattle.lists.proofs.FirstIn.{first_in_is, first_in-none}
 use Rattle.import_rows.specs.Rows.{reserved}
 use Rattle.import_rows.proofs.Laws.{home_reserved, home_there, home_none}
 use Rattle.import_rows.proofs.home_of.Goals as goal
@@ -11,22 +11,20 @@ pub returns-then-shndx : goal.returns-then-shndx
 unfolding reserved
 returns-then-shndx c = home_reserved _ _ c.if-shndx.true
 
-pub returns-then-taken-i : goal.returns-then-taken-i
+pub returns-in-Some : goal.returns-in-Some
 unfolding reserved
-returns-then-taken-i c =
-    let a = c.args in
-    let z = first_here (λ k. eqb k a.shndx) a.taken.numbers.now c.loop-i.i c.loop-i-test.true (eq-eqb _ _ c.if-taken-i.true) in
-    home_there _ _ c.if-shndx.false (omega (arith, z, c.loop-i.invariant)) c.loop-i-test.true
+returns-in-Some c =
+    let l = c.args.taken.numbers.now in
+    let n = c.args.shndx in
+    let within : c.in-Some.i < length l = search rules in
+    let here : get_or l c.in-Some.i 0 ≡ n = search rules in
+    let before : (j : ℕ) → j < c.in-Some.i → get_or l j 0 ≡ n → ⊥ = search rules in
+    home_there l n c.if-shndx.false (first_in_is (λ k. eqb k n) l c.in-Some.i 0 within (eq-eqb _ _ here) (λ j h. ne_eqb _ _ (before j h))) within
 
-pub loop-i-preserved : goal.loop-i-preserved
-loop-i-preserved c =
-    let a = c.args in
-    let z = first_on (λ k. eqb k a.shndx) a.taken.numbers.now c.loop-i.i c.loop-i-test.true (ne_eqb _ _ c.if-taken-i.false) in
-    omega (arith, z, c.loop-i.invariant)
-
-pub returns : goal.returns
+pub returns-in-None : goal.returns-in-None
 unfolding reserved
-returns c =
-    let a = c.args in
-    let z = first-over (λ k. eqb k a.shndx) a.taken.numbers.now c.loop-i.i c.loop-i-test.false in
-    home_none _ _ c.if-shndx.false (omega (arith, z, c.loop-i.invariant))
+returns-in-None c =
+    let l = c.args.taken.numbers.now in
+    let n = c.args.shndx in
+    let none : (j : ℕ) → j < length l → get_or l j 0 ≡ n → ⊥ = search rules in
+    home_none l n c.if-shndx.false (omega (arith, first_in-none (λ k. eqb k n) l 0 (λ j h. ne_eqb _ _ (none j h))))

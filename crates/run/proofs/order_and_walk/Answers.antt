@@ -2,7 +2,7 @@
 use Prim.Native.Nat.{◌/◌}
 use mathlib.Core.List.{[]}
 use lib.ListN.{length}
-use Rattle.std.proofs.lemmas.Result.{err_from_is_err_and}
+use Rattle.obj.proofs.Errors.{is_err}
 use Rattle.splits.specs.Table.{columns_of}
 use Rattle.link_graph.specs.Columns.{Splits}
 use Rattle.loaded.proofs.Laws.{few_units}
@@ -14,12 +14,11 @@ use Rattle.run.proofs.order_and_walk.Goals as goal
 
 pub returns-in_err-filled-clause-run : goal.returns-in_err-filled-clause-run
 returns-in_err-filled-clause-run c =
-    let p = err_from_is_err_and c.from_residual.result c.from_residual.ensures.1 in
     let a = c.args in
     let t = walked_tables a.loaded.now in
     let out = a.out.now in
     let table = columns_of a.splits.now in
-    rw (p.1, p.2) (refused_before a.loaded.now.file.now t (room_lent out) table a.names a.used a.splits.now.count out.units.now out.pieces.now out.entries.now out.offsets.now (length out.units.now / 8) a.filled c.in_err-filled.was)
+    rw (is_err _ c.from_residual.ensures.1) (refused_before a.loaded.now.file.now t (room_lent out) table a.names a.used a.splits.now.count out.units.now out.pieces.now out.entries.now out.offsets.now (length out.units.now / 8) a.filled c.in_err-filled.was)
 
 pub invariant_of-ordered : goal.invariant_of-ordered
 invariant_of-ordered c =
@@ -53,7 +52,6 @@ walk_lent-requires c =
 pub returns-in_err-k-clause-run : goal.returns-in_err-k-clause-run
 returns-in_err-k-clause-run c =
     let r = c.from_residual-in_err-k in
-    let p = err_from_is_err_and r.result r.ensures.1 in
     let a = c.args in
     let q = c.requires in
     let t = walked_tables a.loaded.now in
@@ -62,14 +60,13 @@ returns-in_err-k-clause-run c =
     let w = q.1 c.in_ok-filled.was in
     let o = c.ordered-linked in
     let linked = rw (c.heads.ensures, c.names.ensures) at o.ensures in
-    rw (p.1, p.2)
+    rw (is_err _ r.ensures.1)
     (entered_before a.loaded.now.file.now t (room_lent out) table a.names a.used a.splits.now.count o.new.out out.pieces.now out.entries.now out.offsets.now (length out.units.now / 8) a.filled c.in_ok-filled.was
     (unlinked_right a.loaded.now.file.now t (room_lent out) table a.names a.used a.splits.now.count o.new.out out.pieces.now out.entries.now out.offsets.now q.0.usable w (length out.units.now) linked _ c.in_err-k.was))
 
 pub returns-in_err-made-clause-run : goal.returns-in_err-made-clause-run
 returns-in_err-made-clause-run c =
     let r = c.from_residual-in_err-made in
-    let p = err_from_is_err_and r.result r.ensures.1 in
     let a = c.args in
     let q = c.requires in
     let t = walked_tables a.loaded.now in
@@ -79,7 +76,7 @@ returns-in_err-made-clause-run c =
     let o = c.ordered-linked in
     let linked = rw (c.heads.ensures, c.names.ensures) at o.ensures in
     let n = c.walk_lent.new in
-    rw (p.1, p.2)
+    rw (is_err _ r.ensures.1)
     (entered_before a.loaded.now.file.now t (room_lent out) table a.names a.used a.splits.now.count o.new.out n.pieces n.entries n.offsets (length out.units.now / 8) a.filled c.in_ok-filled.was
     (refused_right a.loaded.now.file.now t (room_lent out) table a.names a.used a.splits.now.count o.new.out n.pieces n.entries n.offsets q.0.usable w (length out.units.now) linked _ c.in_ok-k.was _ c.in_err-made.ensures))
 

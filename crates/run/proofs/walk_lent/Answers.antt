@@ -3,7 +3,7 @@
 use mathlib.Core.Path.{refl, sym, ap, ◌∙◌}
 use native.Mathlib.Omega.{arith}
 use lib.ListN.{length}
-use Rattle.std.proofs.lemmas.Result.{err_from_is_err_and}
+use Rattle.obj.proofs.Errors.{is_err}
 use Rattle.lists.specs.Outcome.{accepted}
 use Rattle.loaded.proofs.Laws.{few_symbols}
 use Rattle.pieces.specs.declared.Counts.{Counts}
@@ -43,10 +43,9 @@ pub returns-in_err-walk_columns : goal.returns-in_err-walk_columns
 returns-in_err-walk_columns c =
     let a = c.args in
     let l = a.loaded.now in
-    let p = err_from_is_err_and c.from_residual.result c.from_residual.ensures.1 in
     let placed = places_front 8 a.count _ c.fill_places.new.places (omega (arith, c.requires.2.few)) c.fill_places.ensures in
     let w = walked_as c.requires.0 (rows_of a.splits.now) a.unit_table.now _ a.count _ placed (rw (c.obj.ensures, c.image.ensures) at c.in_err-walk_columns.ensures) in
-    rw (p.1, p.2)
+    rw (is_err _ c.from_residual.ensures.1)
     (record {
       is = w.is ∙ ap (λ (room : Counts). walked l.file.now (walked_tables l) room (rows_of a.splits.now) (units_at a.unit_table.now a.count)) c.room_of.ensures;
       within = tt;

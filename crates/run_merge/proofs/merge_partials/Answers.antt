@@ -1,6 +1,6 @@
 -- A refused merge is handed on, else the marked rows are those of the stage.
 use Rattle.std.proofs.Common.{◌∙◌, sym, ap}
-use Rattle.std.proofs.lemmas.Result.{err_from_is_err_and}
+use Rattle.obj.proofs.Errors.{is_err}
 use Rattle.lists.specs.Rows.{tabulate}
 use Rattle.obj.specs.Answers.{Answer}
 use Rattle.splits.specs.Table.{rows_in}
@@ -12,9 +12,8 @@ pub returns-in_err-add_splits-clause-rows : goal.returns-in_err-add_splits-claus
 unfolding tabulate
 returns-in_err-add_splits-clause-rows c =
     let m = c.add_splits in
-    let p = err_from_is_err_and c.from_residual.result c.from_residual.ensures.1 in
     let said = sym (rw c.heads-heads.ensures at m.ensures.rows) ∙ ap (λ (r : Answer). merged r (rows_in m.new.table)) c.in_err-add_splits.was in
-    rw (p.1, p.2) (marked_refused _ said)
+    rw (is_err _ c.from_residual.ensures.1) (marked_refused _ said)
 
 pub returns-clause-rows : goal.returns-clause-rows
 unfolding tabulate

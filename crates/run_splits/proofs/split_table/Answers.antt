@@ -1,6 +1,6 @@
 -- The loaded tables meet what each stage asks, each stage leaves rows that the next can take, and the stages one after another are the definition.
 use Rattle.std.proofs.Common.{◌∙◌, refl, sym, ap, arith}
-use Rattle.std.proofs.lemmas.Result.{err_from_is_err_and}
+use Rattle.obj.proofs.Errors.{is_err}
 use Rattle.obj.specs.Answers.{Answer}
 use Rattle.merge.specs.Answers.{merged}
 use Rattle.loaded.specs.Tables.{file_names}
@@ -22,9 +22,8 @@ returns-in_err-merge_partials-clause-tables c =
     let a = c.args in
     let room = ceilings (file_names a.loaded.now) a.added.now.most a.added.now.most_bytes in
     let m = c.merge_partials in
-    let p = err_from_is_err_and c.from_residual.result c.from_residual.ensures.1 in
     let refused = sym (ap (λ (r : Answer). merged r (rows_in m.new.table)) c.in_err-merge_partials.was) ∙ m.ensures.rows in
-    rw (p.1, p.2) (merge_refused a.loaded.now.file.now (split_tables a.loaded.now) a.table.now.room room a.loaded.now.images.now c.requires.0.images_are refused)
+    rw (is_err _ c.from_residual.ensures.1) (merge_refused a.loaded.now.file.now (split_tables a.loaded.now) a.table.now.room room a.loaded.now.images.now c.requires.0.images_are refused)
 
 pub fill_gaps-requires : goal.fill_gaps-requires
 fill_gaps-requires c =
@@ -38,10 +37,9 @@ returns-in_err-fill_gaps-clause-tables c =
     let m = c.merge_partials in
     let merges = sym (ap (λ (r : Answer). merged r (rows_in m.new.table)) c.in_ok-merge_partials.was) ∙ m.ensures.rows in
     let g = c.fill_gaps in
-    let p = err_from_is_err_and c.from_residual-in_err-fill_gaps.result c.from_residual-in_err-fill_gaps.ensures.1 in
     let e = rw m.ensures.lent.room at g.ensures.tables in
     let refused = sym (ap (meant (file_names a.loaded.now) (added_in g.new.added) (rows_in g.new.table)) c.in_err-fill_gaps.was) ∙ e in
-    rw (p.1, p.2) (gaps_refused a.loaded.now.file.now (split_tables a.loaded.now) a.table.now.room room a.loaded.now.images.now c.requires.0.images_are merges refused)
+    rw (is_err _ c.from_residual-in_err-fill_gaps.ensures.1) (gaps_refused a.loaded.now.file.now (split_tables a.loaded.now) a.table.now.room room a.loaded.now.images.now c.requires.0.images_are merges refused)
 
 pub check_and_trim-requires : goal.check_and_trim-requires
 check_and_trim-requires c =

@@ -1,8 +1,6 @@
 -- `stage_walk::with_splits` meets its contract. Splits that are refused are the answer; else the columns hold them, and the units are asked with them.
 -- Assumes nothing.
-use Rattle.std.specs.Prelude.{Err}
-use Rattle.std.proofs.lemmas.Result.{err_from_is_err_and}
-use Rattle.obj.specs.declared.Refusal.{Refusal}
+use Rattle.obj.proofs.Errors.{is_err}
 use mathlib.Core.Path.{sym, ap, ◌∙◌}
 use lib.ListN.{length}
 use Rattle.pieces.proofs.Same.{lent_same}
@@ -40,5 +38,4 @@ returns c =
 pub returns-in_err-take_split_columns : goal.returns-in_err-take_split_columns
 unfolding from_splits
 returns-in_err-take_split_columns c =
-    let p = err_from_is_err_and c.from_residual.result c.from_residual.ensures.1 in
-    gives_stops _ (p.1 ∙ ap (λ (x : Refusal). Err x) p.2) c.in_err-take_split_columns.ensures.taken.said lent_same
+    gives_stops _ (is_err _ c.from_residual.ensures.1) c.in_err-take_split_columns.ensures.taken.said lent_same

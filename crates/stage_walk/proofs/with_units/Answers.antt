@@ -1,8 +1,6 @@
 -- `stage_walk::with_units` meets its contract. Units that are refused are the answer; else each name has the number of its unit, and the sections are walked.
 -- Assumes nothing.
-use Rattle.std.specs.Prelude.{Err}
-use Rattle.std.proofs.lemmas.Result.{err_from_is_err_and}
-use Rattle.obj.specs.declared.Refusal.{Refusal}
+use Rattle.obj.proofs.Errors.{is_err}
 use mathlib.Core.Path.{sym, ap, ◌∙◌}
 use Prim.Native.Nat.{◌/◌, ◌≤◌}
 use native.Mathlib.Omega.{arith}
@@ -44,5 +42,4 @@ returns c =
 pub returns-in_err-take_units : goal.returns-in_err-take_units
 unfolding from_units
 returns-in_err-take_units c =
-    let p = err_from_is_err_and c.from_residual.result c.from_residual.ensures.1 in
-    gives_stops _ (p.1 ∙ ap (λ (x : Refusal). Err x) p.2) c.in_err-take_units.ensures.said lent_same
+    gives_stops _ (is_err _ c.from_residual.ensures.1) c.in_err-take_units.ensures.said lent_same

@@ -10,7 +10,7 @@ use lib.ListN.{length, get_or, drop}
 use Rattle.lists.specs.Rows.{some}
 use Rattle.join.specs.Join.{nowhere}
 use Rattle.stage_tables.specs.StageTables.{stage_sections}
-use Rattle.join_pieces.proofs.Laws.{heads_length}
+use Rattle.stage_tables.proofs.Laws.{length_sections}
 use Rattle.srecords.specs.Lines.{share_address}
 use Rattle.write_srecords.proofs.Laws.{share_places}
 use Rattle.write_srecords.proofs.any_share.Goals as goal
@@ -21,4 +21,4 @@ returns c =
     let n = length c.args.sections.now / 15 in
     any_from_yields_List (λ (k : ℕ). some (share_address (get_or heads k nowhere)) (drop (k + 1) heads)) _ _ _ c.any.ensures.ran (YieldsList-from_range 0 n n refl (omega arith))
     (λ x b q k. search rules)
-    ∙ share_places heads 0 n (let z = heads_length c.args.sections.now in omega arith)
+    ∙ share_places heads 0 n (let z = length_sections c.args.sections.now in omega arith)
