@@ -13,6 +13,7 @@ pub fn get_be16(s: &[u8], at: usize) -> u16
 }
 
 // The number of 4 bytes at `at`.
+// Beside `fields::get32`: each is one call of std, and one over the byte order would be two with a name for it.
 pub fn get_be32(s: &[u8], at: usize) -> u32
     requires { at + 4 ≤ length s.now }
     ensures { result ≡ be32 s.now at }

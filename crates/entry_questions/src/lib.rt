@@ -21,6 +21,7 @@ use stage_sections::{SectionArrays, SymbolArrays};
 use stage_tables::take_splits;
 
 // What is asked: the splitting end of a section, or the alignment of a split of the table.
+// An enum, as the contract says the answer by its cases: a closure would go through two functions with a contract of its own.
 #[derive(Clone, Copy)]
 pub enum Question {
     End { section: u16 },

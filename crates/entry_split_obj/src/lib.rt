@@ -56,6 +56,7 @@ fn with_symbols(
 }
 
 // All tables: the names, the sections with the places of their bytes, and the tables after them.
+// The first two as in `entry_questions::answered`, by the same two structs; what is asked after them differs.
 fn checked(lent: &StageTables, tables: &mut PieceTables) -> Result<(), Refusal>
     requires { Ceilings tables.old.room }
     ensures { Gives (split_obj_in lent.now tables.old.room) tables.old tables.new result }

@@ -27,6 +27,7 @@ fn write_tables(
 }
 
 // The entry: the S3 lines of the sections that hold bytes and the S7 line, and how many bytes they are.
+// As `entry_join_pieces::join_pieces`: the tables that they make differ, and what they have in common is `settle`.
 pub fn write_srecords(
     name_ends: &[u8],
     name_bytes: &[u8],

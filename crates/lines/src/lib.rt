@@ -133,6 +133,7 @@ pub fn write_total(out: &mut [u8], units: u16, pieces: u16, bytes: u64) -> usize
 }
 
 // "A refusal prints only `refused`, number, section, address."
+// As `write_total`, another of document 01's lines, of other fields.
 pub fn write_refused(out: &mut [u8], number: u16, section: u16, address: u32) -> usize
     requires { 208 ≤ length out.old }
     ensures { Written out.old out.new (refused_line number section address) result }

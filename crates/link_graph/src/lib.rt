@@ -34,6 +34,7 @@ pub fn blank(column: &mut [u16])
 }
 
 // "Units count by first split." The column is blank.
+// m goes on where a unit is new, which the column that the loop writes says: no iterator reads a column that it writes.
 fn count_units(us: &[u16], graph: &mut LinkGraph)
     requires { Countable us.now graph.old.column.now graph.old.nodes.now }
     ensures counted { Counted us.now graph.new.column.now graph.new.nodes.now graph.new.count }
@@ -107,6 +108,7 @@ fn apart(tables: &LinkTables, i: usize) -> bool
 }
 
 // The edges of neighbours; the column has the nodes.
+// e is where the next edge goes, and its number stays in the table: with `filter` and `enumerate` it would have to be counted again.
 fn split_edges(tables: &LinkTables, graph: &mut LinkGraph)
     requires { UnitsBelow (columns_of tables.now.splits) tables.now.splits.count (length graph.old.column.now) }
     ensures edges { Listed (λ (e : UnitEdge). get_or graph.old.column.now e.from 0) (λ (e : UnitEdge). get_or graph.old.column.now e.to 0)
@@ -141,6 +143,7 @@ fn node_at(unit_table: &Table, graph: &LinkGraph, k: usize) -> Option<u16>
 }
 
 // "chain those that have splits": the records' numbers become nodes, and those without a node go.
+// k is where the next one goes in the column that is read: no iterator reads a column that it writes.
 fn keep_nodes(unit_table: &Table, graph: &LinkGraph, s: &mut [u16]) -> usize
     requires { Units unit_table.now.bytes.now unit_table.now.places.now graph.now.column.now × All (λ k. k < length unit_table.now.places.now) s.old }
     ensures { Front s.new

@@ -44,6 +44,7 @@ pub const FLOORS: usize = 14400;
 
 pub const PLACES: usize = 14464;
 
+// As `tables::main_ceilings`, other numbers of one struct, which the definitions have under this name.
 fn no_counts() -> Counts
     ensures { result ≡ no_counts }
 {

@@ -191,6 +191,7 @@ fn join_at_once(table: &mut SplitTable, heads: &HeldHeads, joint: Split) -> bool
 }
 
 // One split, by rounds: "then the merge begins again with the joint split".
+// There is nothing to count: a join takes a row away, so the rounds end.
 pub fn add_split(table: &mut SplitTable, heads: &Table, new: Split) -> Result<(), Refusal>
     requires { AllHeld 15 heads.now.bytes.now heads.now.places.now × Good new.alignment }
     ensures rows { merged result (rows_in table.new)

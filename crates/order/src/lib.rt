@@ -88,6 +88,7 @@ fn room_of(size: usize) -> usize
 }
 
 // The sort of the graph, in the lent `table`, which is for the work; the records of the nodes that it leaves are written to the front of `out`.
+// `table` and `out` are no columns of one table: the first is for the work, the second the caller's.
 fn sort_graph(
     tables: &LinkTables,
     graph: &mut LinkGraph,

@@ -114,6 +114,7 @@ fn write_units(unit_table: &Table, column: &[u16], nodes: &[u16], list: &[u16], 
 }
 
 // The same, with the column filled first; what it holds at first is of no matter. It has a place for each name, and `out` the records.
+// `column` and `out` are no columns of one table: the first is for the work, the second the caller's.
 pub fn write_records(
     tables: &LinkTables,
     column: &mut [u16],

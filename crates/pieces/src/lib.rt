@@ -100,6 +100,7 @@ pub fn piece_reloc_at(b: &[u8], k: usize) -> PieceReloc
     }
 }
 
+// ---- records written: each field by field at its place, as document 01 lists them; what two kinds have in common is that they have five or seven fields
 // ---- records written
 
 // What document 01 gives a piece: all but its origin.
@@ -165,6 +166,7 @@ impl PieceTables<'_, '_, '_> {
         self.made.symbols += 1;
     }
 
+    // As `add_symbol`, a record of another kind in another column: one function would be lent both.
     pub fn add_reloc(&mut self, r: PieceReloc)
         requires { self.old.made.relocs < self.old.room.relocs }
         ensures { AddedReloc self.old self.new r }

@@ -28,6 +28,7 @@ use std::io::Write;
 use tables::fill_places;
 
 // The listing, line by line: a unit, "After a unit's pieces come `sym` ..; then `reloc` ..", and at the end the total.
+// A line says which comes next: there is nothing to count.
 fn print_lines<'a, W: Write>(
     out: &mut W,
     base: &Names<'a, '_, '_>,

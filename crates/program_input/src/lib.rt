@@ -12,6 +12,7 @@ use std::io;
 use std::io::Read;
 
 // Reads until the buffer is full or the input ends, and says how many bytes of the buffer were read.
+// A read gives as many bytes as it likes: there is nothing to count.
 pub fn read_full<R: Read>(input: &mut R, buf: &mut [u8]) -> io::Result<usize>
     ensures inside { IfOk result (λ n. n ≤ length buf.new) }
     ensures bytes { IfOk result (λ n. Consumes (R.remaining input.old) (R.remaining input.new) (take n buf.new)) }

@@ -22,6 +22,7 @@ use run_splits::split_table;
 use splits::SplitTable;
 
 // What the run answers, and how many records of each kind the file has.
+// The counts stand beside the result, since they are promised with every answer, a cycle's and a refusal's too.
 #[derive(Clone, Copy)]
 pub struct RanFile {
     pub ran: Result<Ran, Unlinked>,

@@ -49,6 +49,7 @@ impl SymbolArrays {
     }
 
     // The symbols of a table that passed.
+    // As `SectionArrays::heads`, over another width and another struct's places.
     pub fn symbols<'a>(&'a self, symbols: &'a [u8]) -> Table<'a, 'a>
         requires { SymbolsHeld symbols.now self.now }
         ensures bytes { result.bytes.now ≡ symbols.now }

@@ -164,6 +164,7 @@ pub fn take_splits(
     )
 }
 
+// As `take_sections`, of units: what they have in common is `fill_table`.
 // Units: "8 unit: ..".
 pub fn take_units(
     lengths: &[u8],

@@ -111,6 +111,7 @@ fn number_at(column: &[u32], k: usize) -> u32
 // records, of any width, so it has no such fact of its own, and a struct of a table and a number would be made anew for each record.
 
 // Record k is refused with this number if the test holds.
+// The test is the answer of a rule, and no step to run.
 #[tactic(auto, unfolding(lists::specs::Outcome::refuse))]
 fn refuse_if(number: u16, k: usize, test: bool) -> Result<(), Refusal>
     requires { (0 < number) × (k ≤ 4294967295) }
@@ -334,6 +335,7 @@ pub fn check_splits(lengths: &[u8], heads: &Table, table: &Table) -> Result<(), 
 
 // ---- units
 
+// A fault and a check for each kind of record: they differ in what is read and in the tables that are looked up, and have `check_records` in common.
 // The fault of unit k.
 fn unit_fault(lengths: &[u8], table: &Table, k: usize) -> Result<(), Refusal>
     requires { AllHeld 8 table.now.bytes.now table.now.places.now × (k < length table.now.places.now) }
