@@ -24,6 +24,7 @@ impl Gathered<'_> {
             → (self.new.buffer.now ≡ set self.old.buffer.now self.old.used v) × (self.new.used ≡ self.old.used + 1) }
         ensures none { length self.old.buffer.now ≤ self.old.used
             → (self.new.buffer.now ≡ self.old.buffer.now) × (self.new.used ≡ self.old.used) }
+        ensures lent { self.new.buffer.ghost_name ≡ self.old.buffer.ghost_name }
     {
         if self.used < self.buffer.len() {
             self.buffer[self.used] = v;
@@ -35,6 +36,7 @@ impl Gathered<'_> {
     pub fn take_up(&mut self, n: usize)
         ensures count { self.new.used ≡ min n (length self.old.buffer.now) }
         ensures same { self.new.buffer.now ≡ self.old.buffer.now }
+        ensures lent { self.new.buffer.ghost_name ≡ self.old.buffer.ghost_name }
     {
         self.used = n.min(self.buffer.len());
     }
