@@ -12,7 +12,7 @@ ghost use Rattle.common.specs.Records.{Kept};
 ghost use Rattle.common.specs.Sections.{has_bss_name, bss_numbers, bss_of, first_of, given_of, SectionsIn};
 
 use names::{Names, is_bss, name_at};
-use obj::{Refusal, Split, Table, refuse, section_at};
+use obj::{Refusal, Section, Split, Table, refuse};
 use splits::{SplitColumns, SplitRest, rest_of, row};
 
 mod named_sections;
@@ -34,7 +34,7 @@ fn is_bss_at(sections: &NamedSections, k: usize) -> bool
     requires { k < length sections.now.heads.places.now }
     ensures { result ≡ has_bss_name sections.now.names sections.now.heads k }
 {
-    let head = section_at(&sections.heads, k);
+    let head = sections.heads.record::<Section>(k);
     let name = head.name as usize;
     is_bss(name_at(&sections.names, name))
 }
@@ -200,17 +200,7 @@ fn records(splits: &SplitColumns) -> [Split; 1024]
     requires { splits.now.count ≤ 1024 }
     ensures { take splits.now.count result ≡ rows_of splits.now }
 {
-    let none = Split {
-        section: 0,
-        start: 0,
-        end: 0,
-        unit: 0,
-        alignment: 0,
-        flags: 0,
-        rename: 0,
-        origin: 0,
-    };
-    let mut table = [none; 1024];
+    let mut table = [Split::default(); 1024];
     for i in 0..splits.count {
         table[i] = row(splits, i);
     }

@@ -8,7 +8,7 @@ ghost use Rattle.entry_piece_bytes.specs.Entry.{place_of, outside, reach, Leaves
 ghost use Rattle.entry_piece_bytes.specs.Lent.{of_lent, in_lent, within_lent};
 
 use fields::put32;
-use obj::{Refusal, Section, read_section, refuse, word_of};
+use obj::{Record, Refusal, Section, refuse, word_of};
 use outputs::clear_from;
 use pieces::{PIECE_BYTES, Piece, piece_at};
 use tables::{bytes_cut, image_place, table_size};
@@ -68,7 +68,7 @@ fn find_within(lent: &LentSections, head: Section, p: Piece) -> Result<Place, Re
     if is_outside(head, p) {
         return refuse(72, p.section, p.address);
     }
-    if head.kind == 3 {
+    if head.is_bss() {
         return Ok(Place {
             offset: 0,
             length: 0,
@@ -90,7 +90,7 @@ fn find_in_section(lent: &LentSections, p: Piece) -> Result<Place, Refusal>
     if lent.heads.len() / 15 <= n {
         return refuse(20, p.section, 0);
     }
-    find_within(lent, read_section(lent.heads, 15 * n), p)
+    find_within(lent, Section::read(lent.heads, 15 * n), p)
 }
 
 // The place of the piece of this number: 20 where it is not there.

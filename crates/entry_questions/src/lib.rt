@@ -14,7 +14,7 @@ use fields::put32;
 use lent_tables::{NO_TABLES, StageTables};
 use name_table::NameArrays;
 use names::Names;
-use obj::{Refusal, SPLIT_BYTES, Table, refuse, section_at, split_at, word_of};
+use obj::{SPLIT_BYTES, Refusal, Section, Split, Table, refuse, word_of};
 use outputs::clear_from;
 use sections::Obj;
 use stage_sections::{SectionArrays, SymbolArrays};
@@ -38,7 +38,7 @@ fn splitting_end(obj: &Obj, image: &Table, section: u16) -> Result<u32, Refusal>
         return refuse(20, section, 0);
     }
     let Ok(end) = sections::end_of(obj, image, n) else {
-        return refuse(10, section, section_at(&obj.heads, n).address);
+        return refuse(10, section, obj.heads.record::<Section>(n).address);
     };
     Ok(end)
 }
@@ -52,7 +52,7 @@ fn alignment(obj: &Obj, splits: &Table, which: u16) -> Result<u32, Refusal>
     if splits.places.len() <= k {
         return refuse(20, 0, which as u32);
     }
-    let s = split_at(splits, k);
+    let s = splits.record::<Split>(k);
     let Ok(chosen) = sections::split_alignment(obj, s, s.start) else {
         return refuse(11, s.section, s.start);
     };

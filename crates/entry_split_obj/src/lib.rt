@@ -86,11 +86,7 @@ pub fn made_of(r: Result<(), Refusal>, made: Counts) -> Counts
 {
     match r {
         Ok(_) => made,
-        Err(_) => Counts {
-            pieces: 0,
-            symbols: 0,
-            relocs: 0,
-        },
+        Err(_) => Counts::default(),
     }
 }
 
@@ -138,11 +134,7 @@ pub fn split_obj(
 {
     let mut tables = PieceTables {
         room: room_of(pieces.len(), entries.len(), offsets.len()),
-        made: Counts {
-            pieces: 0,
-            symbols: 0,
-            relocs: 0,
-        },
+        made: Counts::default(),
         pieces: &mut *pieces,
         symbols: &mut *entries,
         relocs: &mut *offsets,

@@ -1,7 +1,7 @@
 // Numbers read from and written to bytes, little-endian (document 01, "Records and ceilings": "all little-endian").
 #![tactic(auto)]
 
-ghost use Rattle.std.specs.Prelude.{◌≡◌, ◌+◌, ◌≤◌, length};
+ghost use Rattle.std.specs.Prelude.{◌≡◌, ◌+◌, ◌≤◌, ◌<◌, length, get_or};
 ghost use Rattle.std.proofs.lemmas.List.Edits.{sets};
 ghost use Rattle.fields.specs.Fields.{le16, le32, le64, enc16, enc32, enc64, signed32, signed64, word32};
 
@@ -84,4 +84,12 @@ pub fn get_i64(s: &[u8], at: usize) -> i64
     ensures { result ≡ signed64 (le64 s.now at) }
 {
     get64(s, at).cast_signed()
+}
+
+// Element i of a column of 16-bit numbers, as the place or the count that it is.
+pub fn number(column: &[u16], i: usize) -> usize
+    requires { i < length column.now }
+    ensures { result ≡ get_or column.now i 0 }
+{
+    usize::from(column[i])
 }

@@ -19,7 +19,7 @@ ghost use Rattle.names.specs.Listed.{names_in};
 use gap_columns::GapColumns;
 use merge::add_split;
 use names::{NameIndex, Names, append, find, name_at, write_gap_name};
-use obj::{Refusal, Split, Table, refuse, section_at};
+use obj::{Refusal, Section, Split, Table, refuse};
 use splits::SplitTable;
 
 mod added_names;
@@ -106,7 +106,7 @@ fn unit_of(tables: &NamedTables, added: &mut AddedNames, section: u16, start: u3
     ensures added { SameLent added.old added.new }
 {
     let mut text = [0u8; 81];
-    let head = section_at(&tables.heads, section as usize);
+    let head = tables.heads.record::<Section>(section as usize);
     let name = name_at(&tables.names, head.name as usize);
     let size = write_gap_name(&mut text, section, start, name);
     number_of_name(&tables.names, &tables.index, added, &text[..size])

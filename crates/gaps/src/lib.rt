@@ -20,10 +20,11 @@ ghost use Rattle.gaps.specs.Found.{alignment_of_next, next_meaning, searched, Cl
 
 use align::align_up;
 use gap_columns::{GapTable, place_gap};
-use obj::{Refusal, Split, Symbol, Table, refuse, section_at, symbol_at};
+use fields::number;
+use obj::{Refusal, Section, Split, Symbol, Table, refuse};
 use sections::{Obj, alignment_of, default_of};
 use splits::{SplitColumns, row};
-use symbol_order::{key_of, number};
+use symbol_order::{key_of};
 use symbols::{Backwards, for_section_range};
 
 mod gap_search;
@@ -55,7 +56,7 @@ fn stop_of(table: &Table, part: &[u16], current: u32, marks: &mut [u8]) -> usize
     ensures { Stopped (symbol_of table.now.bytes.now table.now.places.now) current part.now marks.new result }
 {
     for j in 0..part.len() {
-        let y = symbol_at(table, number(part, j));
+        let y = table.record::<Symbol>(number(part, j));
         if is_stripped(y) {
             continue;
         }
@@ -74,7 +75,7 @@ fn clear_marks(table: &Table, part: &[u16], marks: &mut [u8])
     ensures { Unmarked (symbol_of table.now.bytes.now table.now.places.now) part.now marks.old marks.new }
 {
     for j in 0..part.len() {
-        let y = symbol_at(table, number(part, j));
+        let y = table.record::<Symbol>(number(part, j));
         let k = y.name as usize;
         marks[k] = 0;
     }
@@ -97,7 +98,7 @@ fn end_at(
     if part.len() <= j {
         return Ok(next);
     }
-    let y = symbol_at(table, number(part, j));
+    let y = table.record::<Symbol>(number(part, j));
     let k = y.name as usize;
     if (marks[k] != 0) & (y.address % 4 != 0) {
         return refuse(41, section, current);
@@ -291,7 +292,7 @@ fn gaps_of(
     ensures lent { SameLent found.old found.new }
 {
     let section = k as u16;
-    let start = section_at(&obj.heads, k).address;
+    let start = obj.heads.record::<Section>(k).address;
     let Ok(end) = sections::end_of(obj, image, k) else {
         return refuse(10, section, start);
     };

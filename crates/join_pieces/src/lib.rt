@@ -15,7 +15,7 @@ ghost use Rattle.piece_records.specs.Records.{part_at, parts_at, Lying, Whole};
 ghost use Rattle.join_pieces.specs.Joins.{Base, Among, Joins, zeroed};
 
 use names::{put_bytes, same};
-use obj::{Refusal, read_section, refuse};
+use obj::{Record, Refusal, Section, refuse};
 use outputs::clear_from;
 use piece_records::{bytes_at, head_at, next_at};
 use whole_pieces::WholePieces;
@@ -27,8 +27,8 @@ pub fn held_by(sections: &[u8], k: usize) -> u32
     requires { k < length sections.now / 15 }
     ensures { result ≡ held_by (get_or (stage_sections sections.now) k nowhere) }
 {
-    let s = read_section(sections, 15 * k);
-    if s.kind == 3 {
+    let s = Section::read(sections, 15 * k);
+    if s.is_bss() {
         return 0;
     }
     s.size
@@ -75,10 +75,10 @@ fn is_outside(sections: &[u8], b: &[u8], at: usize) -> bool
     if sections.len() / 15 <= n {
         return true;
     }
-    let s = read_section(sections, 15 * n);
+    let s = Section::read(sections, 15 * n);
     let end = (s.address as usize) + (s.size as usize);
     let past = (p.address as usize) + (p.length as usize);
-    (s.kind == 3) | (p.address < s.address) | (end < past)
+    s.is_bss() | (p.address < s.address) | (end < past)
 }
 
 // Some of the n pieces is.
@@ -98,7 +98,7 @@ fn spot_of(pieces: &WholePieces, at: usize) -> usize
 {
     let p = head_at(pieces.bytes, at);
     let n = p.section as usize;
-    let s = read_section(pieces.sections, 15 * n);
+    let s = Section::read(pieces.sections, 15 * n);
     base_of(pieces.sections, n) + ((p.address - s.address) as usize)
 }
 

@@ -13,7 +13,7 @@ ghost use Rattle.link_graph.specs.Columns.{pointers_in, SectionNames, UnitsBelow
 ghost use Rattle.link_graph.specs.Tables.{given_of, Edgeable, Edged, Lent, Graphed, OnlyEdges, SameLent};
 
 use names::{Names, is_pointer_list, name_at};
-use obj::{Split, Table, section_at, unit_at};
+use obj::{Section, Split, Table, Unit};
 use splits::{SplitColumns, row};
 
 mod link_tables;
@@ -72,7 +72,7 @@ fn has_pointers(heads: &Table, names: &Names, k: usize) -> bool
     requires { SectionNames heads.now.bytes.now heads.now.places.now names.now.bytes.now names.now.places.now names.now.lengths.now × (k < length heads.now.places.now) }
     ensures { result ≡ pointers_in heads.now.bytes.now heads.now.places.now names.now.bytes.now names.now.places.now names.now.lengths.now k }
 {
-    let head = section_at(heads, k);
+    let head = heads.record::<Section>(k);
     is_pointer_list(name_at(names, head.name as usize))
 }
 
@@ -135,7 +135,7 @@ fn node_at(unit_table: &Table, graph: &LinkGraph, k: usize) -> Option<u16>
     ensures { MatchOption result (get_or graph.now.column.now (unit_of unit_table.now.bytes.now unit_table.now.places.now k).name 0 ≡ 65535)
         (λ v. (v ≡ get_or graph.now.column.now (unit_of unit_table.now.bytes.now unit_table.now.places.now k).name 0) × (v ≢ 65535)) }
 {
-    let u = unit_at(unit_table, k);
+    let u = unit_table.record::<Unit>(k);
     match graph.column[u.name as usize] {
         NONE => None,
         v => Some(v),

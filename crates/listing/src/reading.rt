@@ -8,7 +8,7 @@ ghost use Rattle.listing.specs.Lent.{listed_pieces, listed_symbols, piece_on, sy
 use crate::PieceLists;
 use crate::lent::RunTables;
 use names::name_at;
-use obj::symbol_at;
+use obj::{Symbol};
 use pieces::{Piece, piece_at, piece_symbol_at};
 
 // A number below the base's count is a base name, else an added one.
@@ -29,17 +29,7 @@ pub fn piece_of(lists: &PieceLists, k: usize) -> Piece
     if k < lists.made.pieces {
         return piece_at(lists.pieces, k);
     }
-    Piece {
-        unit: 0,
-        number: 0,
-        section: 0,
-        name: 0,
-        address: 0,
-        size: 0,
-        alignment: 0,
-        offset: 0,
-        origin: 0,
-    }
+    Piece::default()
 }
 
 // "piece or `common`": the number of the piece in its unit, if a piece has the symbol.
@@ -88,7 +78,7 @@ fn common_in(tables: &RunTables, k: usize, unit: u16) -> u64
     if y.piece != 65535 {
         return 0;
     }
-    let s = symbol_at(tables.symbols, y.symbol as usize);
+    let s = tables.symbols.record::<Symbol>(y.symbol as usize);
     if s.size_known == 1 {
         return s.size as u64;
     }

@@ -10,7 +10,7 @@ ghost use Rattle.listing.specs.Lent.{listed_pieces, piece_on, symbol_on, reloc_o
 use crate::lent::RunTables;
 use crate::reading::{name_of, owner_of, piece_of};
 use lines::{write_piece, write_reloc, write_symbol, write_unit};
-use obj::{reloc_at, symbol_at, unit_at};
+use obj::{Reloc, Symbol, Unit};
 use pieces::{piece_at, piece_reloc_at, piece_symbol_at};
 
 // "Unit: number, name", and its figure.
@@ -19,7 +19,7 @@ pub fn unit_line(tables: &RunTables, unit: u16, size: u64, out: &mut [u8]) -> us
     ensures { Written out.old out.new
         (unit_line unit (name_in (columns_of tables.now.base.now) (columns_of tables.now.added.now) (unit_at tables.now.units.now.bytes.now (get_or tables.now.units.now.places.now unit 0)).name) size) result }
 {
-    let u = unit_at(tables.units, unit as usize);
+    let u = tables.units.record::<Unit>(unit as usize);
     let name = name_of(tables, u.name as usize);
     write_unit(out, unit, name, size)
 }
@@ -50,7 +50,7 @@ pub fn symbol_line(tables: &RunTables, at: usize, out: &mut [u8]) -> usize
         (symbol_text (name_in (columns_of tables.now.base.now) (columns_of tables.now.added.now)) (symbol_of tables.now.symbols.now) (listed_pieces tables.now.lists.now) (symbol_on tables.now.lists.now at)) result }
 {
     let y = piece_symbol_at(tables.lists.symbols, at);
-    let s = symbol_at(tables.symbols, y.symbol as usize);
+    let s = tables.symbols.record::<Symbol>(y.symbol as usize);
     let owner = owner_of(tables.lists, y.piece);
     let name = name_of(tables, s.name as usize);
     write_symbol(out, name, owner, y.address, s.size)
@@ -64,6 +64,6 @@ pub fn reloc_line(tables: &RunTables, at: usize, out: &mut [u8]) -> usize
 {
     let r = piece_reloc_at(tables.lists.relocs, at);
     let p = piece_of(tables.lists, r.piece as usize);
-    let i = reloc_at(tables.relocs, r.relocation as usize);
+    let i = tables.relocs.record::<Reloc>(r.relocation as usize);
     write_reloc(out, p.number, r.offset, i.kind, i.target, i.addend)
 }

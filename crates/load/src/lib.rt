@@ -18,10 +18,7 @@ ghost use Rattle.load.specs.Columns.{part, tables_in, floors_in, no_counts, faul
 use faults::{reloc_bad, section_bad, split_bad, symbol_bad, unit_bad};
 use fields::{get16, get32};
 use names::{Names, bad_name, bucket_of, clear_heads, enter, find};
-use obj::{
-    PARTIAL_BYTES, Refusal, Section, Table, read_partial, read_reloc, read_section, read_symbol,
-    read_unit, refuse,
-};
+use obj::{PARTIAL_BYTES, Record, Refusal, Reloc, Section, Symbol, Table, Unit, read_partial, refuse};
 use reading::{Columns, Payload, SoFar};
 pub use tables::Counts;
 use tables::{Ceilings, length_of, section_or_none};
@@ -48,14 +45,7 @@ pub const PLACES: usize = 14464;
 fn no_counts() -> Counts
     ensures { result ≡ no_counts }
 {
-    Counts {
-        names: 0,
-        sections: 0,
-        symbols: 0,
-        relocations: 0,
-        splits: 0,
-        units: 0,
-    }
+    Counts::default()
 }
 
 // ---- what a record refers to
@@ -143,8 +133,8 @@ fn section_length_wrong(payload: &Payload) -> bool
     if payload.len < 15 {
         return true;
     }
-    let s = read_section(payload.before.file, payload.at);
-    if s.kind == 3 {
+    let s = Section::read(payload.before.file, payload.at);
+    if s.is_bss() {
         return payload.len != 15;
     }
     payload.len != 15 + (s.size as usize)
@@ -161,7 +151,7 @@ fn section_number(payload: &Payload) -> Result<(), u16>
     if before.most.sections <= before.counts.sections {
         return Err(2);
     }
-    let s = read_section(before.file, payload.at);
+    let s = Section::read(before.file, payload.at);
     if section_bad(s, name_length(before, s.name)) {
         return Err(4);
     }
@@ -180,7 +170,7 @@ fn symbol_number(payload: &Payload) -> Result<(), u16>
     if before.most.symbols <= n.symbols {
         return Err(2);
     }
-    let s = read_symbol(before.file, payload.at);
+    let s = Symbol::read(before.file, payload.at);
     if symbol_bad(s, n.names, n.sections, home_of(before, s.section)) {
         return Err(5);
     }
@@ -199,7 +189,7 @@ fn reloc_number(payload: &Payload) -> Result<(), u16>
     if before.most.relocations <= n.relocations {
         return Err(2);
     }
-    let r = read_reloc(before.file, payload.at);
+    let r = Reloc::read(before.file, payload.at);
     let home = home_of(before, r.section);
     let floor = floor_of(before, r.section);
     if reloc_bad(r, n.sections, n.symbols, home, floor) {
@@ -240,7 +230,7 @@ fn unit_number(payload: &Payload) -> Result<(), u16>
     if before.most.units <= before.counts.units {
         return Err(2);
     }
-    let u = read_unit(before.file, payload.at);
+    let u = Unit::read(before.file, payload.at);
     if unit_bad(u, name_length(before, u.name)) {
         return Err(8);
     }
@@ -350,7 +340,7 @@ fn keep_reloc(file: &[u8], at: usize, n: Counts, places: &mut [u32]) -> Counts
     ensures { (result ≡ one_more 4 n)
         × (places.new ≡ set (set places.old (14400 + (reloc_at file.now at).section) ((reloc_at file.now at).address + 1)) (slot_of 4 n) at) }
 {
-    let r = read_reloc(file, at);
+    let r = Reloc::read(file, at);
     let i = FLOORS + (r.section as usize);
     places[i] = r.address + 1;
     keep_place(4, at, n, places)

@@ -14,7 +14,7 @@ ghost use Rattle.mend.specs.Steps.{Joins, Turned, Fills, Mends, LowHeads};
 
 use lines::{put_decimal, put_hex8};
 use names::put_bytes;
-use obj::{Refusal, Table, refuse, section_at};
+use obj::{Refusal, Section, Table, refuse};
 use splits::{SplitColumns, SplitEnds, row};
 
 const SPACE: u8 = 32;
@@ -185,7 +185,7 @@ pub fn fill_section_ends(heads: &Table, section_ends: &mut [u32])
         ≡ section_ends_of (map (section_at heads.now.bytes.now) heads.now.places.now) }
 {
     for k in 0..heads.places.len() {
-        let head = section_at(heads, k);
+        let head = heads.record::<Section>(k);
         section_ends[k] = head.address + head.size;
     }
 }

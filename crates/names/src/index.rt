@@ -3,6 +3,7 @@ ghost use Rattle.std.specs.Prelude.{◌≡◌, ◌+◌, ◌≤◌, ◌<◌, leng
 ghost use Rattle.names.specs.Names.{name_at, names_of, Named, same_name};
 ghost use Rattle.names.specs.Index.{InBucket, Indexed, Sought};
 
+use fields::number;
 use crate::{NameIndex, Names, name_at, same};
 
 // The bucket of a name: its bytes mixed into 32 bits, of which the upper 13 are taken.
@@ -14,14 +15,6 @@ pub fn bucket_of(name: &[u8]) -> usize
         hash = (hash * 16777619 + usize::from(*byte)) % 4294967296;
     }
     hash / 524288
-}
-
-// Element k of a column of 16-bit numbers.
-pub fn number_at(column: &[u16], k: usize) -> usize
-    requires { k < length column.now }
-    ensures { result ≡ get_or column.now k 0 }
-{
-    usize::from(column[k])
 }
 
 // Name k is x.
@@ -39,14 +32,14 @@ pub fn find(names: &Names, n: usize, index: &NameIndex, x: &[u8]) -> Option<usiz
     requires { Named names.now.bytes.now names.now.places.now names.now.lengths.now n × Indexed (names_of names.now.bytes.now names.now.places.now names.now.lengths.now n) index.now.heads.now index.now.chain.now }
     ensures { Sought (names_of names.now.bytes.now names.now.places.now names.now.lengths.now n) x.now result }
 {
-    let mut cur = number_at(index.heads, bucket_of(x));
+    let mut cur = number(index.heads, bucket_of(x));
     // A walk along a chain, which is no count.
     while cur != 0 {
         let k = cur - 1;
         if is_name(names, k, x) {
             return Some(k);
         }
-        cur = number_at(index.chain, k);
+        cur = number(index.chain, k);
     }
     None
 }

@@ -10,9 +10,9 @@ ghost use Rattle.name_table.specs.NameTable.{name_in};
 ghost use Rattle.number_names.specs.Numbers.{enter_name, InTable};
 ghost use Rattle.number_names.specs.Tables.{listed, room_of, SameTable, HeldBy, EnteredBy};
 
-use fields::put16;
+use fields::{number, put16};
 use name_table::{end_of, start_of};
-use names::{bucket_of, enter, number_at, put_bytes, same};
+use names::{bucket_of, enter, put_bytes, same};
 use obj::{Refusal, refuse};
 pub use table::{KnownNames, NumberedNames};
 
@@ -39,14 +39,14 @@ fn is_name(ends: &[u8], bytes: &[u8], k: usize, x: &[u8]) -> bool
 pub fn find_name(names: &KnownNames, x: &[u8]) -> Option<usize>
     ensures { Sought (listed names.now) x.now result }
 {
-    let mut cur = number_at(names.index.heads, bucket_of(x));
+    let mut cur = number(names.index.heads, bucket_of(x));
     // no count: the chain says which name is next
     while cur != 0 {
         let k = cur - 1;
         if is_name(names.ends, names.bytes, k, x) {
             return Some(k);
         }
-        cur = number_at(names.index.chain, k);
+        cur = number(names.index.chain, k);
     }
     None
 }

@@ -14,7 +14,7 @@ ghost use Rattle.order.specs.Columns.{record_by, node_record, HandMarked, Record
 
 use fields::{put_i32, put16};
 use link_graph::{LinkTables, blank};
-use obj::{Split, Table, Unit, unit_at};
+use obj::{Split, Table, Unit};
 use splits::{SplitColumns, row};
 
 // What a column by name number has for a unit beside the number of its first record, which is below 1,024: numbers too, since a place is two bytes of a
@@ -50,7 +50,7 @@ fn mark_records(unit_table: &Table, column: &mut [u16])
     ensures { RecordMarked (units_in unit_table.now.bytes.now unit_table.now.places.now) column.old column.new }
 {
     for k in (0..unit_table.places.len()).rev() {
-        let u = unit_at(unit_table, k);
+        let u = unit_table.record::<Unit>(k);
         column[u.name as usize] = k as u16;
     }
 }
@@ -78,7 +78,7 @@ fn record_of(unit_table: &Table, mark: u16, name: u16) -> Unit
     if mark == HAND {
         return made_unit(name, 0);
     }
-    unit_at(unit_table, mark as usize)
+    unit_table.record::<Unit>(mark as usize)
 }
 
 // One unit as a record at `at`.

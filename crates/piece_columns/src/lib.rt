@@ -9,7 +9,7 @@ ghost use Rattle.pieces.specs.Questions.{count_of, has};
 ghost use Rattle.piece_columns.specs.Columns.{Counted, ChainedOf, CountedIn, ChainedIn, lasts_in, prevs_in, PushedPiece, PushedSymbol};
 
 use pieces::{Piece, PieceSymbol, PieceTables, piece_symbol_at};
-use symbol_order::number;
+use fields::number;
 
 // How many of the pieces are the unit's, whichever are counted: the number in its unit of the next one.
 pub fn count_of(counts: &[u16], unit: usize) -> u16

@@ -11,7 +11,7 @@ ghost use Rattle.pieces.specs.Pieces.{piece_width, piece_head, piece_bytes, symb
 use fields::{get16, get32, get64, put16, put32, put64};
 pub use lent::PieceTables;
 
-#[derive(Clone, Copy)]
+#[derive(Clone, Copy, Default)]
 pub struct Piece {
     pub unit: u16,
     pub number: u16,
@@ -41,7 +41,7 @@ pub struct PieceReloc {
 }
 
 // So many pieces, piece symbols and piece relocations.
-#[derive(Clone, Copy)]
+#[derive(Clone, Copy, Default)]
 pub struct Counts {
     pub pieces: usize,
     pub symbols: usize,

@@ -7,15 +7,15 @@ ghost use Rattle.lists.specs.Sort.{between};
 ghost use Rattle.obj.specs.Records.{Held};
 ghost use Rattle.relocs.specs.Relocs.{reloc_of, relocs_of, address_of, Whole, Room, Readable, Ordered, Leads};
 
-use obj::{Table, reloc_at};
-use symbol_order::number;
+use obj::{Reloc, Table};
+use fields::number;
 
 // The address of the relocation whose number stands at place i.
 pub fn address_in(table: &Table, part: &[u16], i: usize) -> u32
     requires { (i < length part.now) × Readable table.now.bytes.now table.now.places.now part.now }
     ensures { result ≡ address_of table.now.bytes.now table.now.places.now (get_or part.now i 0) }
 {
-    reloc_at(table, number(part, i)).address
+    table.record::<Reloc>(number(part, i)).address
 }
 
 // The section's relocations, in the order of the table, and how many they are: they are `part[..r]`.
@@ -26,7 +26,7 @@ pub fn for_section(table: &Table, section: u16, part: &mut [u16]) -> usize
 {
     let mut k = 0;
     for i in 0..table.places.len() {
-        if reloc_at(table, i).section == section {
+        if table.record::<Reloc>(i).section == section {
             part[k] = i as u16;
             k += 1;
         }

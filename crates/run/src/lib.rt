@@ -25,7 +25,7 @@ use tables::fill_places;
 use units::number_units;
 
 // What a run leaves: how many names were added, with how many bytes, and how many splits, units and records of the walk there are.
-#[derive(Clone, Copy)]
+#[derive(Clone, Copy, Default)]
 pub struct Ran {
     pub names: usize,
     pub used: usize,
@@ -74,11 +74,7 @@ fn walk_lent(
     number_units(&unit_records, &mut unit_numbers);
     let mut tables = PieceTables {
         room: room_of(pieces.len(), entries.len(), offsets.len()),
-        made: Counts {
-            pieces: 0,
-            symbols: 0,
-            relocs: 0,
-        },
+        made: Counts::default(),
         pieces: &mut *pieces,
         symbols: &mut *entries,
         relocs: &mut *offsets,

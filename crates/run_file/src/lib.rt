@@ -116,14 +116,7 @@ pub fn run_file(
         Err(refusal) => {
             return RanFile {
                 ran: Err(Unlinked::Refused(refusal)),
-                counts: Counts {
-                    names: 0,
-                    sections: 0,
-                    symbols: 0,
-                    relocations: 0,
-                    splits: 0,
-                    units: 0,
-                },
+                counts: Counts::default(),
             };
         }
     };

@@ -46,15 +46,8 @@ pub fn kept_of(r: Result<Ran, Unlinked>) -> Kept
         Err(Unlinked::Refused(_)) => 0,
     };
     Kept {
-        names: 0,
-        used: 0,
-        splits: 0,
         units,
-        made: Counts {
-            pieces: 0,
-            symbols: 0,
-            relocs: 0,
-        },
+        ..Kept::default()
     }
 }
 

@@ -13,8 +13,8 @@ ghost use Rattle.sections.specs.Sections.{head_of, Heads, head_in, KeptIn};
 ghost use Rattle.sections.specs.Alignment.{default_alignment, larger, alignment_of, alignment_from, alignment_meaning, chosen};
 
 use names::{Names, is_four_aligned, is_linker_generated_object, is_pointer_list, name_at};
-use obj::{Section, Split, Symbol, Table, section_at, symbol_at};
-use symbol_order::number;
+use obj::{Section, Split, Symbol, Table};
+use fields::number;
 use symbols::{Backwards, for_section, highest_in, is_sized_unstripped};
 
 // What the stages ask a guest: its symbols with their order by address, its names and the heads of its sections. A lifetime for each slice, as they have
@@ -57,7 +57,7 @@ pub fn section_bytes<'a>(image: &'a [u8], places: &[u32], n: usize, head: Sectio
     requires { Lies image.now places.now n head }
     ensures { result.now ≡ bytes_of image.now places.now n head }
 {
-    if head.kind == 3 {
+    if head.is_bss() {
         return &image[..0];
     }
     let from = places[n] as usize;
@@ -87,7 +87,7 @@ fn lower(table: &Table, part: &[u16], names: &Names, end: u32) -> u32
 {
     let mut low = end;
     for j in (0..part.len()).rev() {
-        let y = symbol_at(table, number(part, j));
+        let y = table.record::<Symbol>(number(part, j));
         if is_object_below(y, low) {
             let k = usize::from(y.name);
             if is_linker_generated_object(name_at(names, k)) {
@@ -125,7 +125,7 @@ pub fn end_for_section(
     ensures { end_meaning section head.address result ≡ splitting_end (image_of table.now.bytes.now table.now.places.now names.now.bytes.now names.now.places.now names.now.lengths.now) section head bytes.now }
 {
     let end = head.address + head.size;
-    if (head.kind == 3) | (head.size == 0) {
+    if head.is_bss() | (head.size == 0) {
         return Ok(end);
     }
     let k = usize::from(head.name);
@@ -144,7 +144,7 @@ pub fn end_of(obj: &Obj, image: &Table, n: usize) -> Result<u32, Short>
     ensures { end_meaning n (head_in obj.now n).address result
         ≡ splitting_end (image_in obj.now) n (head_in obj.now n) (bytes_of image.now.bytes.now image.now.places.now n (head_in obj.now n)) }
 {
-    let head = section_at(&obj.heads, n);
+    let head = obj.heads.record::<Section>(n);
     let bytes = section_bytes(image.bytes, image.places, n, head);
     end_for_section(&obj.symbols, obj.order, &obj.names, n as u16, head, bytes)
 }
@@ -195,7 +195,7 @@ pub fn default_of(names: &Names, heads: &Table, n: usize) -> u32
     requires { NamedIn names.now × Held 15 heads.now.bytes.now heads.now.places.now n × ((head_of heads.now.bytes.now heads.now.places.now n).name < length names.now.places.now) }
     ensures { result ≡ default_alignment (head_of heads.now.bytes.now heads.now.places.now n) (name_at names.now.bytes.now names.now.places.now names.now.lengths.now (head_of heads.now.bytes.now heads.now.places.now n).name) }
 {
-    let head = section_at(heads, n);
+    let head = heads.record::<Section>(n);
     let name = usize::from(head.name);
     default_alignment(head, name_at(names, name))
 }

@@ -15,7 +15,7 @@ ghost use Rattle.walk.specs.Walk.{walk_sections};
 ghost use Rattle.walk.specs.Giving.{input_of, output_of, gave_meaning, Besides};
 ghost use Rattle.split_obj.specs.Loop.{FirstHit, start_at, Ready, Tabled};
 
-use obj::{Refusal, Table, section_at};
+use obj::{Refusal, Section, Table};
 use pieces::PieceTables;
 use relocs::for_section;
 use sections::{Obj, end_of};
@@ -57,7 +57,7 @@ fn section_start(heads: &Table, n: usize) -> u32
     requires { Held 15 heads.now.bytes.now heads.now.places.now n }
     ensures { result ≡ (head_of heads.now.bytes.now heads.now.places.now n).address }
 {
-    let head = section_at(heads, n);
+    let head = heads.record::<Section>(n);
     head.address
 }
 

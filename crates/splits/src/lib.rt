@@ -13,7 +13,7 @@ ghost use Rattle.splits.specs.Questions.{in_range, of_unit, NextHit, FirstPlace,
 ghost use Rattle.splits.specs.Bytes.{partial_bytes, split_bytes, table_bytes, Loadable};
 
 use fields::{put16, put32};
-use obj::{PARTIAL_BYTES, SPLIT_BYTES, Split, Table, split_at};
+use obj::{PARTIAL_BYTES, SPLIT_BYTES, Split, Table};
 
 mod one_column;
 mod one_column_read;
@@ -173,7 +173,7 @@ pub fn load(lent: &Table, table: &mut SplitTable)
     ensures lent { SameLent table.old table.new }
 {
     for i in 0..lent.places.len() {
-        let s = split_at(lent, i);
+        let s = lent.record::<Split>(i);
         table.starts[i] = s.start;
         table.ends[i] = s.end;
         table.units[i] = s.unit;

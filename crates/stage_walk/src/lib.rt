@@ -62,11 +62,7 @@ pub fn walk_columns(
 {
     let mut scratch = [0u16; 9216];
     let mut part = [0u16; 4096];
-    tables.made = Counts {
-        pieces: 0,
-        symbols: 0,
-        relocs: 0,
-    };
+    tables.made = Counts::default();
     walk_sections(
         &mut scratch,
         &mut part,

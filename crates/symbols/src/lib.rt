@@ -9,8 +9,9 @@ ghost use Rattle.symbol_order.specs.Order.{symbol_of, key_at, symbols_of, Readab
 ghost use Rattle.symbols.specs.Ranges.{sized, sized_unstripped, last_or, highest_of, symbols_between, symbols_through, has_symbols};
 ghost use Rattle.symbols.specs.Ranges.{backwards, last_below, last_in, highest_in, found_meaning, highest_meaning, raise};
 
-use obj::{Symbol, Table, symbol_at};
-use symbol_order::{first_at, key_in, key_of, number, part};
+use fields::number;
+use obj::{Symbol, Table};
+use symbol_order::{first_at, key_in, key_of, part};
 
 // 11: a range that ends before it starts, asked of a section that has symbols.
 #[derive(Clone, Copy, Debug, PartialEq, Eq)]
@@ -105,7 +106,7 @@ pub fn is_sized(y: Symbol) -> bool
 pub fn is_sized_unstripped(y: Symbol, objects: bool) -> bool
     ensures { result ≡ sized_unstripped objects y }
 {
-    (!objects | (y.kind == 2)) & ((y.size_known == 1) & (y.size != 0) & (y.flags / 4 % 2 != 1))
+    (!objects | (y.kind == 2)) & ((y.size_known == 1) & (y.size != 0) & !y.is_stripped())
 }
 
 // The last sized unstripped symbol of a part. Here and in `last_below` `objects` stays, though all callers ask for every kind: the definition has both cases, and so has what is promised.
@@ -115,7 +116,7 @@ pub fn last_of(table: &Table, part: &[u16], objects: bool) -> Option<usize>
 {
     for j in (0..part.len()).rev() {
         let i = number(part, j);
-        if is_sized_unstripped(symbol_at(table, i), objects) {
+        if is_sized_unstripped(table.record::<Symbol>(i), objects) {
             return Some(i);
         }
     }
@@ -144,7 +145,7 @@ pub fn last_below(
     );
     for j in (0..end).rev() {
         let i = number(order, j);
-        let y = symbol_at(&symbols, i);
+        let y = symbols.record::<Symbol>(i);
         if y.section < section {
             return None;
         }
@@ -191,7 +192,7 @@ fn highest_of(table: &Table, part: &[u16]) -> u32
 {
     let mut most: u32 = 0;
     for k in part {
-        most = raised(most, symbol_at(table, usize::from(*k)));
+        most = raised(most, table.record::<Symbol>(usize::from(*k)));
     }
     most
 }

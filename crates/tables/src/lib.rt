@@ -10,13 +10,10 @@ ghost use Rattle.tables.specs.Records.{sections_in, symbols_in, relocs_in, parti
 
 use faults::{reloc_bad, section_bad, split_bad, split_misplaced, symbol_bad, unit_bad};
 use fields::get32;
-use obj::{
-    Refusal, Reloc, Section, Split, Table, place_of, read_partial, refuse, reloc_at, section_at,
-    split_at, symbol_at, unit_at,
-};
+use obj::{Refusal, Reloc, Section, Split, Symbol, Table, Unit, place_of, read_partial, refuse};
 
 // How many records of each kind there are, or how many there may be.
-#[derive(Clone, Copy)]
+#[derive(Clone, Copy, Default)]
 pub struct Counts {
     pub names: usize,
     pub sections: usize,
@@ -86,15 +83,9 @@ pub fn section_or_none(table: &Table, k: usize) -> Section
     ensures { result ≡ get_or (sections_in table.now.bytes.now table.now.places.now) k no_section }
 {
     if k < table.places.len() {
-        return section_at(table, k);
+        return table.record::<Section>(k);
     }
-    Section {
-        name: 0,
-        kind: 0,
-        address: 0,
-        size: 0,
-        offset: 0,
-    }
+    Section::default()
 }
 
 // The number at place k of a column, 0 past its end.
@@ -141,7 +132,7 @@ fn section_fault(lengths: &[u8], table: &Table, k: usize) -> Result<(), Refusal>
     requires { AllHeld 15 table.now.bytes.now table.now.places.now × (k < length table.now.places.now) }
     ensures { meaning result ≡ record_check (section_fault lengths.now (sections_in table.now.bytes.now table.now.places.now) k) k }
 {
-    let s = section_at(table, k);
+    let s = table.record::<Section>(k);
     refuse_if(4, k, section_bad(s, length_of(lengths, s.name as usize)))
 }
 
@@ -182,7 +173,7 @@ fn image_fault(
     requires { AllHeld 15 table.now.bytes.now table.now.places.now × (k < length table.now.places.now) }
     ensures { meaning result ≡ record_check (image_fault lengths.now (image_places_of image_places.now) image (sections_in table.now.bytes.now table.now.places.now) k) k }
 {
-    if bytes_cut(image_places, image, k, section_at(table, k)) {
+    if bytes_cut(image_places, image, k, table.record::<Section>(k)) {
         return refuse(1, 0, k as u32);
     }
     section_fault(lengths, table, k)
@@ -211,7 +202,7 @@ fn symbol_fault(names: usize, heads: &Table, table: &Table, k: usize) -> Result<
     requires { AllHeld 15 heads.now.bytes.now heads.now.places.now × AllHeld 20 table.now.bytes.now table.now.places.now × (k < length table.now.places.now) }
     ensures { meaning result ≡ record_check (symbol_fault names (sections_in heads.now.bytes.now heads.now.places.now) (symbols_in table.now.bytes.now table.now.places.now) k) k }
 {
-    let s = symbol_at(table, k);
+    let s = table.record::<Symbol>(k);
     let home = section_or_none(heads, s.section as usize);
     refuse_if(5, k, symbol_bad(s, names, heads.places.len(), home))
 }
@@ -254,7 +245,7 @@ pub fn check_relocs(
 {
     floors.fill(0);
     for i in 0..table.places.len() {
-        let r = reloc_at(table, i);
+        let r = table.record::<Reloc>(i);
         reloc_fault(heads, symbols, floors, i, r)?;
         floors[r.section as usize] = r.address + 1;
     }
@@ -290,18 +281,9 @@ pub fn split_before(table: &Table, k: usize) -> Split
     ensures { result ≡ split_before (splits_in table.now.bytes.now table.now.places.now) k }
 {
     if k != 0 {
-        return split_at(table, k - 1);
+        return table.record::<Split>(k - 1);
     }
-    Split {
-        section: 0,
-        start: 0,
-        end: 0,
-        unit: 0,
-        alignment: 0,
-        flags: 0,
-        rename: 0,
-        origin: 0,
-    }
+    Split::default()
 }
 
 // The fault of split k of a stage table.
@@ -309,7 +291,7 @@ fn split_fault(lengths: &[u8], heads: &Table, table: &Table, k: usize) -> Result
     requires { AllHeld 15 heads.now.bytes.now heads.now.places.now × AllHeld split_width table.now.bytes.now table.now.places.now × (k < length table.now.places.now) }
     ensures { meaning result ≡ record_check (split_fault lengths.now (sections_in heads.now.bytes.now heads.now.places.now) (splits_in table.now.bytes.now table.now.places.now) k) k }
 {
-    let s = split_at(table, k);
+    let s = table.record::<Split>(k);
     let unit_len = length_of(lengths, s.unit as usize);
     let rename_len = length_of(lengths, s.rename as usize);
     let home = section_or_none(heads, s.section as usize);
@@ -341,7 +323,7 @@ fn unit_fault(lengths: &[u8], table: &Table, k: usize) -> Result<(), Refusal>
     requires { AllHeld 8 table.now.bytes.now table.now.places.now × (k < length table.now.places.now) }
     ensures { meaning result ≡ record_check (unit_fault lengths.now (units_in table.now.bytes.now table.now.places.now) k) k }
 {
-    let u = unit_at(table, k);
+    let u = table.record::<Unit>(k);
     refuse_if(8, k, unit_bad(u, length_of(lengths, u.name as usize)))
 }
 

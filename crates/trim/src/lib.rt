@@ -17,7 +17,7 @@ ghost use Rattle.trim.specs.Steps.{asked_meaning, seen, Placed, AllPlaced, Past,
 ghost use Rattle.trim.specs.Lent.{sections_in, PlacedIn};
 
 use align::align_up;
-use obj::{Refusal, Split, Table, refuse, section_at, symbol_at};
+use obj::{Refusal, Section, Split, Symbol, Table, refuse};
 use sections::{Obj, split_alignment};
 use splits::{SplitColumns, SplitEnds, row, set_end};
 use symbols::{Backwards, last_in};
@@ -59,7 +59,7 @@ fn end_of(table: &Table, found: Option<usize>, own: u32) -> u32
 {
     match found {
         Some(i) => {
-            let y = symbol_at(table, i);
+            let y = table.record::<Symbol>(i);
             y.address + y.size
         }
         None => own,
@@ -212,7 +212,7 @@ fn cut_section(tables: &CheckedTables, table: &mut SplitEnds, k: usize) -> Resul
         ≡ cut_section (image_in tables.now.obj) (sections_in tables.now.obj tables.now.image) k (ends_rows table.old) }
     ensures others { OnlyEnds table.old table.new }
 {
-    let head = section_at(&tables.obj.heads, k);
+    let head = tables.obj.heads.record::<Section>(k);
     let end = sections::end_of(&tables.obj, &tables.image, k);
     let low = end.map_err(|_| Refusal {
         number: 10,

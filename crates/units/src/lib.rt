@@ -5,7 +5,7 @@ ghost use Rattle.std.specs.Prelude.{◌≡◌, length, get_or, replicate};
 ghost use Rattle.obj.specs.Records.{unit_at, Held};
 ghost use Rattle.units.specs.Units.{unit_names, Listed, Numbered};
 
-use obj::{Table, unit_at};
+use obj::{Table, Unit};
 
 // The number of the unit of each name: "Of units with one name the last takes the pieces"; how many units there are, for a name that no unit has:
 // a number, since a place is two bytes of a lent column, which an `Option` does not fit.
@@ -15,7 +15,7 @@ pub fn number_units(table: &Table, column: &mut [u16])
 {
     column.fill(table.places.len() as u16);
     for k in 0..table.places.len() {
-        let name = usize::from(unit_at(table, k).name);
+        let name = usize::from(table.record::<Unit>(k).name);
         column[name] = k as u16;
     }
 }

@@ -8,7 +8,7 @@ ghost use Rattle.symbols.specs.Sound.{Sound};
 ghost use Rattle.splits.specs.Table.{rows_of};
 ghost use Rattle.validate.specs.Check.{end_below, validate_one as validateSplit, validate as validateTable};
 
-use obj::{Refusal, Split, Table, refuse, symbol_at};
+use obj::{Refusal, Split, Symbol, Table, refuse};
 use splits::{SplitColumns, row};
 use symbols::last_below;
 
@@ -31,7 +31,7 @@ fn is_inside(symbols: &CheckedSymbols, section: u16, address: u32) -> bool
         address,
     ) {
         Some(i) => {
-            let y = symbol_at(table, i);
+            let y = table.record::<Symbol>(i);
             address < y.address + y.size
         }
         None => false,

@@ -9,10 +9,10 @@ ghost use Rattle.walk.specs.Walk.{alignment_in};
 ghost use Rattle.walk.specs.Steps.{SectionThere, SectionNamed, Asked, between_of, AlignedAt, decide, Sane};
 
 use crate::{Target, refuse_at};
-use obj::{Refusal, Section, Split, Table, section_at};
+use obj::{Refusal, Section, Split, Table};
 use pieces::piece_bytes;
 use sections::{Obj, alignment_of, default_of, is_zero, section_bytes};
-use symbol_order::number;
+use fields::number;
 use symbols::Backwards;
 
 // As `contains_range` of obj/sections.rs.
@@ -31,7 +31,7 @@ fn between(heads: &Table, image: &Table, n: usize, from: u32, to: u32) -> Option
     ensures { result ≡ between_of (sections_of heads.now.bytes.now heads.now.places.now image.now.bytes.now image.now.places.now) n from to }
 {
     if from < to {
-        let head = section_at(heads, n);
+        let head = heads.record::<Section>(n);
         if is_inside(head, from, to) {
             let bytes = section_bytes(image.bytes, image.places, n, head);
             let start = head.address;
@@ -99,7 +99,7 @@ pub fn choose(
     if let Some(fault) = fault {
         return refuse_at(fault, n, current);
     }
-    if s.flags / 4 % 2 == 1 {
+    if s.is_skipped() {
         return Ok(None);
     }
     let unit = number(unit_numbers, s.unit as usize);

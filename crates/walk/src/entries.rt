@@ -12,10 +12,10 @@ ghost use Rattle.walk.specs.Walk.{passed_over, entry_of, add_symbol, add_symbols
 ghost use Rattle.walk.specs.Adding.{Entries, Lying, Adds, Above, AddsRelocs};
 
 use names::{Names, is_linker_generated_label, is_vector_table_end, name_at};
-use obj::{Split, Symbol, Table, reloc_at, symbol_at};
+use obj::{Reloc, Split, Symbol, Table};
 use piece_columns::{has_symbol, push_symbol};
 use pieces::{PieceReloc, PieceSymbol, PieceTables};
-use symbol_order::number;
+use fields::number;
 
 // "one at the end is passed over, `gTRKInterruptVectorTableEnd` at the start instead": where a symbol of this name is passed over.
 fn passed_at(name: &[u8], s: Split) -> u32
@@ -49,7 +49,7 @@ fn entry_of(unit: u16, place: u16, s: Split, i: u16, y: Symbol) -> PieceSymbol
     requires { s.start ≤ y.address }
     ensures { result ≡ entry_of unit place s i y }
 {
-    if s.flags % 2 == 1 {
+    if s.is_common() {
         return PieceSymbol {
             unit: unit,
             piece: 65535,
@@ -91,7 +91,7 @@ fn add_symbol(
         × Entries (length symbols.now.places.now) chains.old tables.old }
     ensures { Adds (add_symbol (image_of symbols.now.bytes.now symbols.now.places.now names.now.bytes.now names.now.places.now names.now.lengths.now) unit tables.old.made.pieces s (symbols_of tables.old) i) chains.new tables.old tables.new result }
 {
-    let y = symbol_at(symbols, i);
+    let y = symbols.record::<Symbol>(i);
     let name = name_at(names, y.name as usize);
     if is_passed_over(name, s, y) | is_entered(chains, tables, unit, i) {
         return Some(());
@@ -133,7 +133,7 @@ pub fn add_relocs(relocs: &Table, part: &[u16], start: u32, tables: &mut PieceTa
     let place = tables.made.pieces as u16;
     for i in 0..part.len() {
         let k = number(part, i);
-        let r = reloc_at(relocs, k);
+        let r = relocs.record::<Reloc>(k);
         tables.add_reloc(PieceReloc {
             piece: place,
             relocation: k as u16,

@@ -14,7 +14,7 @@ ghost use Rattle.walk.specs.Giving.{counts_in, Beside, PieceGives, pieces_with, 
 
 use crate::entries::{add_relocs, add_symbols};
 use crate::refuse_at;
-use obj::{Refusal, Section, Split, Table, section_at};
+use obj::{Refusal, Section, Split, Table};
 use piece_columns::{count_of, push_piece};
 use pieces::{Piece, PieceTables};
 use relocs::range;
@@ -57,7 +57,7 @@ fn is_backwards(symbols: &Table, order: &[u16], part: &[u16], n: usize, s: Split
     if s.start <= s.end {
         return false;
     }
-    ((part.len() != 0) | has_symbols(symbols, order, n as u16)) | (s.flags % 2 != 1)
+    ((part.len() != 0) | has_symbols(symbols, order, n as u16)) | !s.is_common()
 }
 
 // The numbers of the symbols that the split takes: those of its section from its start through its end.
@@ -103,7 +103,7 @@ fn give_piece(
         return None;
     }
     add_relocs(relocs, inside, s.start, tables);
-    let head = section_at(heads, n);
+    let head = heads.record::<Section>(n);
     let number = count_of(counts, unit);
     let p = piece_of(head, n as u16, unit as u16, number, alignment, s);
     push_piece(counts, tables, p);
@@ -150,7 +150,7 @@ pub fn give(
     let Some(()) = added else {
         return refuse_at(76, n, s.start);
     };
-    if s.flags % 2 == 1 {
+    if s.is_common() {
         return Ok(());
     }
     let given = give_piece(

@@ -13,7 +13,7 @@ ghost use Rattle.srecords.specs.Lines.{section_lines, lines_of, share_address, s
 ghost use Rattle.write_srecords.specs.Along.{room_along, all_lines, Ended, Ready, Laying};
 
 use join_pieces::{any_outside, base_of, held_by, lay_over_zeros};
-use obj::{Refusal, Section, read_section, refuse};
+use obj::{Record, Refusal, Section, refuse};
 use piece_sweep::any_differ;
 use srecord_lines::{put_line, share_address};
 use srecord_text::write_section;
@@ -25,7 +25,7 @@ fn head_of(sections: &[u8], k: usize) -> Section
     requires { k < length sections.now / 15 }
     ensures { result ≡ get_or (stage_sections sections.now) k nowhere }
 {
-    read_section(sections, 15 * k)
+    Section::read(sections, 15 * k)
 }
 
 // Section k shares an address with a later one.
@@ -74,7 +74,7 @@ fn write_one(sections: &[u8], out: &mut [u8], k: usize, to: usize, from: usize)
     requires { (k < length sections.now / 15) × Fits out.old to from (held_by (get_or (stage_sections sections.now) k nowhere)) (get_or (stage_sections sections.now) k nowhere).address }
     ensures { out.new ≡ sets out.old to (section_lines (get_or (stage_sections sections.now) k nowhere).address (take (held_by (get_or (stage_sections sections.now) k nowhere)) (drop from out.old))) }
 {
-    let s = read_section(sections, 15 * k);
+    let s = Section::read(sections, 15 * k);
     let size = held_by(sections, k);
     write_section(out, to, from, s.address, size);
 }

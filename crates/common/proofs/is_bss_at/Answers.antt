@@ -11,4 +11,4 @@ unfolding bss_at
 returns c =
     let a = c.args in
     c.is_bss.ensures
-    ∙ ap is_bss (c.name_at.ensures ∙ ap (λ (t : Section). name_at a.sections.now.names.bytes.now a.sections.now.names.places.now a.sections.now.names.lengths.now t.name) c.section_at-head.ensures)
+    ∙ ap is_bss (c.name_at.ensures ∙ ap (λ (t : Section). name_at a.sections.now.names.bytes.now a.sections.now.names.places.now a.sections.now.names.lengths.now t.name) c.record-head.ensures)

@@ -31,7 +31,7 @@ returns-in_default c =
     let count = length a.splits.now.places.now in
     let split = split_of a.splits.now.bytes.now a.splits.now.places.now in
     ap (λ (x : Result ℕ Refusal). meaning x) c.refuse-in_default.ensures
-    ∙ alignment_refused g head count split a.which c.if-splits-k.false c.split_at-s.ensures c.in_default.ensures
+    ∙ alignment_refused g head count split a.which c.if-splits-k.false c.record-s.ensures c.in_default.ensures
 
 pub returns : goal.returns
 returns c =
@@ -41,4 +41,4 @@ returns c =
     let count = length a.splits.now.places.now in
     let split = split_of a.splits.now.bytes.now a.splits.now.places.now in
     ap accepted c.value.ensures
-    ∙ alignment_given g head count split a.which c.if-splits-k.false c.split_at-s.ensures (chosen c.in-Ok.chosen) c.in-Ok.ensures
+    ∙ alignment_given g head count split a.which c.if-splits-k.false c.record-s.ensures (chosen c.in-Ok.chosen) c.in-Ok.ensures

@@ -32,5 +32,5 @@ returns-in_default c =
     let g = image_in a.obj.now in
     let sections = sections_of a.obj.now.heads.bytes.now a.obj.now.heads.places.now a.image.now.bytes.now a.image.now.places.now in
     ap (λ (x : Result ℕ Refusal). meaning x) c.refuse-in_default.ensures
-    ∙ ap (λ (h : Section). refused 10 a.section h.address) c.section_at.ensures
+    ∙ ap (λ (h : Section). refused 10 a.section h.address) c.record.ensures
     ∙ c.in_default.ensures ∙ sym (end_there g sections a.section c.if-obj-n.false)

@@ -21,7 +21,7 @@ returns-in_default-clause-gaps c =
     let a = c.args in
     let g = image_in a.obj.now in
     let s = sections_of a.obj.now.heads.bytes.now a.obj.now.heads.places.now a.image.now.bytes.now a.image.now.places.now in
-    rw (c.refuse.ensures, c.section_at-start.ensures) (section_short g s a.k (rows_of a.splits.now) (found_in a.found.now) 10 a.k (s.head a.k).address c.in_default.ensures)
+    rw (c.refuse.ensures, c.record-start.ensures) (section_short g s a.k (rows_of a.splits.now) (found_in a.found.now) 10 a.k (s.head a.k).address c.in_default.ensures)
 
 pub invariant_of-here : goal.invariant_of-here
 invariant_of-here c =
@@ -36,7 +36,7 @@ section_gaps-requires c =
     let p = c.requires in
     let end = c.in-Ok.end in
     let is : accepted end ≡ splitting_end g a.k (s.head a.k) (s.bytes a.k) = sym (ap (end_meaning a.k (s.head a.k).address) c.in-Ok.is) ∙ c.end_of.ensures in
-    (rw c.section_at-start.ensures (p.5 end), omega (arith, end_within g a.k (s.head a.k) (s.bytes a.k) end (sym is), p.1.below a.k p.4))
+    (rw c.record-start.ensures (p.5 end), omega (arith, end_within g a.k (s.head a.k) (s.bytes a.k) end (sym is), p.1.below a.k p.4))
 
 pub returns-clause-gaps : goal.returns-clause-gaps
 returns-clause-gaps c =
@@ -48,5 +48,5 @@ returns-clause-gaps c =
     let end = c.in-Ok.end in
     let is : accepted end ≡ splitting_end g a.k (s.head a.k) (s.bytes a.k) = sym (ap (end_meaning a.k (s.head a.k).address) c.in-Ok.is) ∙ c.end_of.ensures in
     c.section_gaps.ensures.gaps
-    ∙ ap₂ (λ (m start : ℕ). into before (gaps_from g.symbol g.count a.k m end start (keep_if (below a.k end) l))) c.default_of-least.ensures (ap (λ h. h.address) c.section_at-start.ensures)
+    ∙ ap₂ (λ (m start : ℕ). into before (gaps_from g.symbol g.count a.k m end start (keep_if (below a.k end) l))) c.default_of-least.ensures (ap (λ h. h.address) c.record-start.ensures)
     ∙ section_on g s a.k l before end is

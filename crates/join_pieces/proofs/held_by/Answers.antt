@@ -10,11 +10,11 @@ pub returns-then-s-eq3 : goal.returns-then-s-eq3
 returns-then-s-eq3 c =
     let s = c in
     let h = head_there s.args.sections.now s.args.k s.requires in
-    sym (held_by-none _ (ap (λ (s : Section). s.kind) (h ∙ sym c.read_section-s.ensures) ∙ c.if-s-eq3.true))
+    sym (held_by-none _ (ap (λ (s : Section). s.kind) (h ∙ sym c.read-s.ensures) ∙ c.if-s-eq3.true))
 
 pub returns : goal.returns
 returns c =
     let s = c in
     let h = head_there s.args.sections.now s.args.k s.requires in
-    ap (λ (s : Section). s.size) (c.read_section-s.ensures ∙ sym h)
-    ∙ sym (held_by_is _ (λ e. c.if-s-eq3.false (ap (λ (s : Section). s.kind) (c.read_section-s.ensures ∙ sym h) ∙ e)))
+    ap (λ (s : Section). s.size) (c.read-s.ensures ∙ sym h)
+    ∙ sym (held_by_is _ (λ e. c.if-s-eq3.false (ap (λ (s : Section). s.kind) (c.read-s.ensures ∙ sym h) ∙ e)))

@@ -18,4 +18,4 @@ returns c =
     let a = c.args in
     let h = c.head_at-p.ensures in
     outside_there a.sections.now (part_at a.b.now a.at) (omega (arith, h.section, c.if-sections-n.false))
-    (c.read_section-s.ensures ∙ ap (λ (n : ℕ). section_at a.sections.now (15 * n)) h.section) h.address h.«length»
+    (c.read-s.ensures ∙ ap (λ (n : ℕ). section_at a.sections.now (15 * n)) h.section) h.address h.«length»

@@ -24,7 +24,7 @@ returns-then-reloc_bad c =
     let p = c.args.payload.now in
     let b = p.before in
     ap fault_as
-    (reloc_faulty _ b.file.now p.at p.len b.counts b.places.now b.lengths.now b.index.heads.now b.index.chain.now b.readable c.if-payload-ne23.false c.if-before-n.false c.read_reloc-r.ensures
+    (reloc_faulty _ b.file.now p.at p.len b.counts b.places.now b.lengths.now b.index.heads.now b.index.chain.now b.readable c.if-payload-ne23.false c.if-before-n.false c.read-r.ensures
     c.home_of-home.ensures c.floor_of-floor.ensures c.reloc_bad.ensures c.if-reloc_bad.true)
 
 pub returns : goal.returns
@@ -32,5 +32,5 @@ returns c =
     let p = c.args.payload.now in
     let b = p.before in
     ap fault_as
-    (reloc_passes _ b.file.now p.at p.len b.counts b.places.now b.lengths.now b.index.heads.now b.index.chain.now b.readable c.if-payload-ne23.false c.if-before-n.false c.read_reloc-r.ensures
+    (reloc_passes _ b.file.now p.at p.len b.counts b.places.now b.lengths.now b.index.heads.now b.index.chain.now b.readable c.if-payload-ne23.false c.if-before-n.false c.read-r.ensures
     c.home_of-home.ensures c.floor_of-floor.ensures c.reloc_bad.ensures c.if-reloc_bad.false)

@@ -7,7 +7,7 @@ pub returns-then-payload-lt15 : goal.returns-then-payload-lt15
 returns-then-payload-lt15 c = length_short _ _ _ c.if-payload-lt15.true
 
 pub returns-then-s-eq3 : goal.returns-then-s-eq3
-returns-then-s-eq3 c = length_bare _ _ _ c.if-payload-lt15.false c.read_section-s.ensures c.if-s-eq3.true
+returns-then-s-eq3 c = length_bare _ _ _ c.if-payload-lt15.false c.read-s.ensures c.if-s-eq3.true
 
 pub returns : goal.returns
-returns c = length-full _ _ _ c.if-payload-lt15.false c.read_section-s.ensures c.if-s-eq3.false
+returns c = length-full _ _ _ c.if-payload-lt15.false c.read-s.ensures c.if-s-eq3.false

@@ -22,8 +22,8 @@ returns-then-before c =
     ap fault_as
     (section_over _ b.file.now p.at p.len b.counts b.places.now b.lengths.now b.index.heads.now b.index.chain.now b.readable (sym c.section_length_wrong.ensures ∙ c.if-section_length_wrong.false) c.if-before.true)
 
-pub read_section-s-requires : goal.read_section-s-requires
-read_section-s-requires c =
+pub read-s-requires : goal.read-s-requires
+read-s-requires c =
     let long = section_long _ _ _ (sym c.section_length_wrong.ensures ∙ c.if-section_length_wrong.false) in
     omega (arith, c.args.payload.now.inside)
 
@@ -32,7 +32,7 @@ returns-then-section_bad c =
     let p = c.args.payload.now in
     let b = p.before in
     ap fault_as
-    (section_faulty _ b.file.now p.at p.len b.counts b.places.now b.lengths.now b.index.heads.now b.index.chain.now b.readable (sym c.section_length_wrong.ensures ∙ c.if-section_length_wrong.false) c.if-before.false c.read_section-s.ensures
+    (section_faulty _ b.file.now p.at p.len b.counts b.places.now b.lengths.now b.index.heads.now b.index.chain.now b.readable (sym c.section_length_wrong.ensures ∙ c.if-section_length_wrong.false) c.if-before.false c.read-s.ensures
     c.name_length.ensures c.section_bad.ensures c.if-section_bad.true)
 
 pub returns : goal.returns
@@ -40,5 +40,5 @@ returns c =
     let p = c.args.payload.now in
     let b = p.before in
     ap fault_as
-    (section_passes _ b.file.now p.at p.len b.counts b.places.now b.lengths.now b.index.heads.now b.index.chain.now b.readable (sym c.section_length_wrong.ensures ∙ c.if-section_length_wrong.false) c.if-before.false c.read_section-s.ensures
+    (section_passes _ b.file.now p.at p.len b.counts b.places.now b.lengths.now b.index.heads.now b.index.chain.now b.readable (sym c.section_length_wrong.ensures ∙ c.if-section_length_wrong.false) c.if-before.false c.read-s.ensures
     c.name_length.ensures c.section_bad.ensures c.if-section_bad.false)

@@ -24,7 +24,7 @@ returns-then-symbol_bad c =
     let p = c.args.payload.now in
     let b = p.before in
     ap fault_as
-    (symbol_faulty _ b.file.now p.at p.len b.counts b.places.now b.lengths.now b.index.heads.now b.index.chain.now b.readable c.if-payload-ne20.false c.if-before-n.false c.read_symbol-s.ensures
+    (symbol_faulty _ b.file.now p.at p.len b.counts b.places.now b.lengths.now b.index.heads.now b.index.chain.now b.readable c.if-payload-ne20.false c.if-before-n.false c.read-s.ensures
     c.home_of.ensures c.symbol_bad.ensures c.if-symbol_bad.true)
 
 pub returns : goal.returns
@@ -32,5 +32,5 @@ returns c =
     let p = c.args.payload.now in
     let b = p.before in
     ap fault_as
-    (symbol_passes _ b.file.now p.at p.len b.counts b.places.now b.lengths.now b.index.heads.now b.index.chain.now b.readable c.if-payload-ne20.false c.if-before-n.false c.read_symbol-s.ensures
+    (symbol_passes _ b.file.now p.at p.len b.counts b.places.now b.lengths.now b.index.heads.now b.index.chain.now b.readable c.if-payload-ne20.false c.if-before-n.false c.read-s.ensures
     c.home_of.ensures c.symbol_bad.ensures c.if-symbol_bad.false)

@@ -24,7 +24,7 @@ returns-then-unit_bad c =
     let p = c.args.payload.now in
     let b = p.before in
     ap fault_as
-    (unit_faulty _ b.file.now p.at p.len b.counts b.places.now b.lengths.now b.index.heads.now b.index.chain.now b.readable c.if-payload-ne8.false c.if-before.false c.read_unit-u.ensures
+    (unit_faulty _ b.file.now p.at p.len b.counts b.places.now b.lengths.now b.index.heads.now b.index.chain.now b.readable c.if-payload-ne8.false c.if-before.false c.read-u.ensures
     c.name_length.ensures c.unit_bad.ensures c.if-unit_bad.true)
 
 pub returns : goal.returns
@@ -32,5 +32,5 @@ returns c =
     let p = c.args.payload.now in
     let b = p.before in
     ap fault_as
-    (unit_passes _ b.file.now p.at p.len b.counts b.places.now b.lengths.now b.index.heads.now b.index.chain.now b.readable c.if-payload-ne8.false c.if-before.false c.read_unit-u.ensures
+    (unit_passes _ b.file.now p.at p.len b.counts b.places.now b.lengths.now b.index.heads.now b.index.chain.now b.readable c.if-payload-ne8.false c.if-before.false c.read-u.ensures
     c.name_length.ensures c.unit_bad.ensures c.if-unit_bad.false)

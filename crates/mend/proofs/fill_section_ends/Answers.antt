@@ -7,4 +7,4 @@ pub loop-k-preserved : goal.loop-k-preserved
 loop-k-preserved c =
     let a = c.args in
     let l = c.loop-k in
-    ends_turn a.heads.now.bytes.now a.heads.now.places.now l.k l.section_ends _ c.loop-k-test.true (omega (arith, l.auto.section_ends, c.requires.1)) c.section_at-head.ensures l.invariant
+    ends_turn a.heads.now.bytes.now a.heads.now.places.now l.k l.section_ends _ c.loop-k-test.true (omega (arith, l.auto.section_ends, c.requires.1)) c.record-head.ensures l.invariant

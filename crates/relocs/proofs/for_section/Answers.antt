@@ -23,7 +23,7 @@ loop-i-preserved c =
     let l = c.loop-i in
     let a = c.args in
     let p : ℕ → Bool = λ y. eqb (reloc_of a.table.now.bytes.now a.table.now.places.now y).section a.section in
-    let read = ap (λ r. eqb r.section a.section) (sym c.reloc_at.ensures) in
+    let read = ap (λ r. eqb r.section a.section) (sym c.record.ensures) in
     elim c.if-reloc_at-section.branch [
       | then-reloc_at-section w ↦
           let e : p l.i ≡ true = read ∙ eq-eqb _ _ w.if-reloc_at-section.true in

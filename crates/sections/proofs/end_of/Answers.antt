@@ -5,4 +5,4 @@ use Rattle.sections.proofs.end_of.Goals as goal
 pub end_for_section-requires : goal.end_for_section-requires
 end_for_section-requires c =
     let a = c.args in
-    (c.requires.0, rw (c.section_bytes-bytes.ensures, c.section_at-head.ensures) (kept_whole _ _ _ _ _ c.requires.1 a.n c.requires.2))
+    (c.requires.0, rw (c.section_bytes-bytes.ensures, c.record-head.ensures) (kept_whole _ _ _ _ _ c.requires.1 a.n c.requires.2))

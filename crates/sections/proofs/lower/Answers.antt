@@ -27,8 +27,8 @@ image c = let s = c.args in image_of s.table.now.bytes.now s.table.now.places.no
 abbrev here : After-is_object_below → ℕ
 here c = get_or c.args.part.now (c.loop-j.j - 1) 0
 
-is : (c : After-is_object_below) → c.symbol_at-y.result ≡ (image c).symbol (here c)
-is c = c.symbol_at-y.ensures ∙ ap (image c).symbol c.number.ensures
+is : (c : After-is_object_below) → c.record-y.result ≡ (image c).symbol (here c)
+is c = c.record-y.ensures ∙ ap (image c).symbol c.number.ensures
 
 tested : (c : After-is_object_below) → object_below c.loop-j.low ((image c).symbol (here c)) ≡ c.is_object_below.result
 tested c = sym (c.is_object_below.ensures ∙ ap (object_below c.loop-j.low) (is c))
@@ -42,14 +42,14 @@ named c =
     let a = (goal.at.After-is_linker_generated_object c).After-is_object_below in
     sym (c.is_linker_generated_object.ensures ∙ ap is_linker_object (c.name_at.ensures ∙ ap (image a).name (c.from-k.ensures ∙ ap (λ (y : Symbol). y.name) (is a))))
 
-pub symbol_at-y-requires : goal.symbol_at-y-requires
-symbol_at-y-requires c = held _ _ c.requires.readable.whole _ (inside (goal.at.symbol_at-y-requires c).After-number)
+pub record-y-requires : goal.record-y-requires
+record-y-requires c = held _ _ c.requires.readable.whole _ (inside (goal.at.record-y-requires c).After-number)
 
 pub name_at-requires : goal.name_at-requires
 name_at-requires c =
     let p = c.requires in
     name_held _ _ _ p.names.names _
-    (omega (arith, c.from-k.ensures, ap (λ (y : Symbol). y.name) c.symbol_at-y.ensures, p.names.named _ (inside (goal.at.name_at-requires c).After-number)))
+    (omega (arith, c.from-k.ensures, ap (λ (y : Symbol). y.name) c.record-y.ensures, p.names.named _ (inside (goal.at.name_at-requires c).After-number)))
 
 pub loop-j-preserved-then-is_linker_generated_object : goal.loop-j-preserved-then-is_linker_generated_object
 loop-j-preserved-then-is_linker_generated_object c =

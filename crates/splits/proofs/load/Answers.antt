@@ -13,7 +13,7 @@ use Rattle.splits.proofs.load.Goals as goal
 
 pub rest_of-requires : goal.rest_of-requires
 rest_of-requires c =
-    let s = c.split_at-s in
+    let s = c.record-s in
     let aligned = c.requires.0.aligned c.loop-i.i c.loop-i-test.true in
     good_alignment s.result.alignment (ap (λ (r : Split). bad_align r.alignment) s.ensures ∙ aligned)
 

@@ -25,11 +25,11 @@ loop-j-init c =
     (part-some (key_at a.b.now a.places.now) 0 a.order.now (order_sorted _ _ _ c.requires) (key a.section 0) _ _ _ refl (ends c)
     ∙ below-part _ _ _ c.requires (λ j. (c.type_inv.b j).fits) a.section _ _ a.address (omega arith) c.key_of.ensures.is refl)
 
-pub symbol_at-y-requires : goal.symbol_at-y-requires
-symbol_at-y-requires c = held_at _ _ _ (order_readable _ _ _ c.requires) _ _ (omega (arith, c.first_at-end.ensures.small)) c.number-i.ensures
+pub record-y-requires : goal.record-y-requires
+record-y-requires c = held_at _ _ _ (order_readable _ _ _ c.requires) _ _ (omega (arith, c.first_at-end.ensures.small)) c.number-i.ensures
 
-is_here : (c : After-symbol_at-y) → c.symbol_at-y.result ≡ symbol_of c.args.b.now c.args.places.now (get_or c.args.order.now (c.loop-j.j - 1) 0)
-is_here c = c.symbol_at-y.ensures ∙ ap (symbol_of c.args.b.now c.args.places.now) c.number-i.ensures
+is_here : (c : After-symbol_at-y) → c.record-y.result ≡ symbol_of c.args.b.now c.args.places.now (get_or c.args.order.now (c.loop-j.j - 1) 0)
+is_here c = c.record-y.ensures ∙ ap (symbol_of c.args.b.now c.args.places.now) c.number-i.ensures
 
 pub returns-then-y-section : goal.returns-then-y-section
 returns-then-y-section c =

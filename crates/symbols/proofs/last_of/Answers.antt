@@ -8,8 +8,8 @@ use Rattle.symbols.proofs.Laws.{last_turn}
 use Rattle.symbols.proofs.last_of.Goals as goal
 use Rattle.symbols.proofs.last_of.Goals.{After-is_sized_unstripped}
 
-pub symbol_at-requires : goal.symbol_at-requires
-symbol_at-requires c = held_at _ _ _ c.requires _ _ (omega arith) c.number-i.ensures
+pub record-requires : goal.record-requires
+record-requires c = held_at _ _ _ c.requires _ _ (omega arith) c.number-i.ensures
 
 turn : (c : After-is_sized_unstripped)
     → cond c.is_sized_unstripped.result (Some (get_or c.args.part.now (c.loop-j.j - 1) 0)) (last_or None (keep_if (λ i. sized_unstripped c.args.objects (symbol_of c.args.table.now.bytes.now c.args.table.now.places.now i)) (take (c.loop-j.j - 1) c.args.part.now)))
@@ -17,7 +17,7 @@ turn : (c : After-is_sized_unstripped)
 turn c =
     let s = c.args in
     ap (λ t. cond t (Some (get_or s.part.now (c.loop-j.j - 1) 0)) (last_or None (keep_if (λ i. sized_unstripped s.objects (symbol_of s.table.now.bytes.now s.table.now.places.now i)) (take (c.loop-j.j - 1) s.part.now))))
-    (c.is_sized_unstripped.ensures ∙ ap (sized_unstripped s.objects) (c.symbol_at.ensures ∙ ap (symbol_of s.table.now.bytes.now s.table.now.places.now) c.number-i.ensures))
+    (c.is_sized_unstripped.ensures ∙ ap (sized_unstripped s.objects) (c.record.ensures ∙ ap (symbol_of s.table.now.bytes.now s.table.now.places.now) c.number-i.ensures))
     ∙ sym (last_turn _ _ c.loop-j.j None c.loop-j-test.true c.loop-j.auto.j)
     ∙ c.loop-j.invariant
 

@@ -15,7 +15,7 @@ unfolding split_before
 returns-then-k-ne0 c =
     let s = c in
     by_false _ _ (ne_eqb _ _ c.if-k-ne0.true)
-    (found (split_at s.args.table.now.bytes.now) s.args.table.now.places.now (s.args.k - 1) no_split (omega arith) c.split_at.ensures)
+    (found (split_at s.args.table.now.bytes.now) s.args.table.now.places.now (s.args.k - 1) no_split (omega arith) c.record.ensures)
 
 pub returns : goal.returns
 unfolding split_before

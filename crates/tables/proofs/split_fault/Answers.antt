@@ -10,5 +10,5 @@ returns c =
     c.refuse_if.ensures
     ∙ ap (λ (n : ℕ). record_check n a.k)
     (split_fault_is a.lengths.now a.heads.now.bytes.now a.heads.now.places.now a.table.now.bytes.now a.table.now.places.now _ c.requires.2
-    c.split_at-s.ensures c.length_of-unit_len.ensures c.length_of-rename_len.ensures c.section_or_none-home.ensures
+    c.record-s.ensures c.length_of-unit_len.ensures c.length_of-rename_len.ensures c.section_or_none-home.ensures
     c.split_before-before.ensures c.split_bad-bad.ensures c.split_misplaced.ensures refl)

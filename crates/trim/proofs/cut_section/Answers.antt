@@ -14,8 +14,8 @@ use Rattle.trim.proofs.Cut.{section_short, section_whole, section_cut}
 use Rattle.trim.specs.Lent.{sections_in}
 use Rattle.trim.proofs.cut_section.Goals as goal
 
-pub section_at-head-requires : goal.section_at-head-requires
-section_at-head-requires c = kept-held _ _ _ _ _ c.args.tables.now.kept c.args.k c.requires
+pub record-head-requires : goal.record-head-requires
+record-head-requires c = kept-held _ _ _ _ _ c.args.tables.now.kept c.args.k c.requires
 
 pub returns-in_err-low-clause-rows : goal.returns-in_err-low-clause-rows
 returns-in_err-low-clause-rows c =
@@ -27,13 +27,13 @@ returns-in_err-low-clause-rows c =
 pub returns-then-head-low-clause-rows : goal.returns-then-head-low-clause-rows
 returns-then-head-low-clause-rows c =
     let a = c.args in
-    let whole = ap (λ (h : Section). h.address + h.size) c.section_at-head.ensures in
+    let whole = ap (λ (h : Section). h.address + h.size) c.record-head.ensures in
     let is = sym c.end_of-end.ensures ∙ end_else a.k (head_in a.tables.now.obj a.k).address c.end_of-end.result c.map_err.result c.map_err.ensures.cases (λ e d q. search rules) ∙ ap meaning c.in_ok-low.was in
     ap accepted c.cut_last.ensures.rows ∙ sym (section_cut (image_in a.tables.now.obj) (sections_in a.tables.now.obj a.tables.now.image) a.k _ _ is (λ e. c.if-head-low.true (whole ∙ e)))
 
 pub returns-else-head-low-clause-rows : goal.returns-else-head-low-clause-rows
 returns-else-head-low-clause-rows c =
     let a = c.args in
-    let whole = ap (λ (h : Section). h.address + h.size) c.section_at-head.ensures in
+    let whole = ap (λ (h : Section). h.address + h.size) c.record-head.ensures in
     let is = sym c.end_of-end.ensures ∙ end_else a.k (head_in a.tables.now.obj a.k).address c.end_of-end.result c.map_err.result c.map_err.ensures.cases (λ e d q. search rules) ∙ ap meaning c.in_ok-low.was in
     sym (section_whole (image_in a.tables.now.obj) (sections_in a.tables.now.obj a.tables.now.image) a.k _ _ is (sym whole ∙ c.if-head-low.false))

@@ -20,7 +20,7 @@ loop-k-preserved c =
     let a = c.args in
     let e = length-map a.table.now.places.now (λ (at : ℕ). (unit_at a.table.now.bytes.now at).name) in
     let named = c.requires.named c.loop-k.k c.loop-k-test.true in
-    let read = c.from-name.ensures ∙ ap (λ (u : units.Unit). u.name) c.unit_at.ensures in
+    let read = c.from-name.ensures ∙ ap (λ (u : units.Unit). u.name) c.record.ensures in
     after_more _ _ _ _ c.loop-k.invariant (omega (arith, c.loop-k-test.true, e))
     (read ∙ sym (get_d_map (λ (at : ℕ). (unit_at a.table.now.bytes.now at).name) a.table.now.places.now c.loop-k.k 0 0 c.loop-k-test.true))
     (omega (arith, read, named, c.loop-k.auto.column))

@@ -12,22 +12,22 @@ use Rattle.symbols.proofs.Finds.{below-found}
 use Rattle.validate.proofs.Steps.{end_at, end_none}
 use Rattle.validate.proofs.is_inside.Goals as goal
 
-pub symbol_at-y-requires : goal.symbol_at-y-requires
-symbol_at-y-requires c =
+pub record-y-requires : goal.record-y-requires
+record-y-requires c =
     let a = c.args in
     held _ _ a.symbols.now.ordered.whole _ (below-found (symbol_of a.symbols.now.table.bytes.now a.symbols.now.table.places.now) (length a.symbols.now.table.places.now) a.section false a.address c.in-Some.i (sym c.last_below.ensures ∙ c.in-Some.is))
 
 pub overflow_add-result : goal.overflow_add-result
 overflow_add-result c =
     let a = c.args in
-    let e = ap (λ (y : Symbol). y.address) c.symbol_at-y.ensures in
-    let f = ap (λ (y : Symbol). y.size) c.symbol_at-y.ensures in
+    let e = ap (λ (y : Symbol). y.address) c.record-y.ensures in
+    let f = ap (λ (y : Symbol). y.size) c.record-y.ensures in
     omega (arith, e, f, a.symbols.now.sound.ends _ (below-found (symbol_of a.symbols.now.table.bytes.now a.symbols.now.table.places.now) (length a.symbols.now.table.places.now) a.section false a.address c.in-Some.i (sym c.last_below.ensures ∙ c.in-Some.is)))
 
 pub returns-in-Some : goal.returns-in-Some
 returns-in-Some c =
     let a = c.args in
-    ap (ltb a.address) (end_at (symbol_of a.symbols.now.table.bytes.now a.symbols.now.table.places.now) (length a.symbols.now.table.places.now) a.section a.address _ _ c.symbol_at-y.ensures (sym c.in-Some.is ∙ c.last_below.ensures))
+    ap (ltb a.address) (end_at (symbol_of a.symbols.now.table.bytes.now a.symbols.now.table.places.now) (length a.symbols.now.table.places.now) a.section a.address _ _ c.record-y.ensures (sym c.in-Some.is ∙ c.last_below.ensures))
 
 pub returns-in-None : goal.returns-in-None
 returns-in-None c =

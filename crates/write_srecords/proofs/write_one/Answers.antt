@@ -17,14 +17,14 @@ write_section-requires c =
     let s = c in
     let a = s.args in
     let head = get_or (stage_sections a.sections.now) a.k nowhere in
-    let start = ap (λ (s : Section). s.address) (head_there a.sections.now a.k s.requires.0 ∙ sym c.read_section-s.ensures) in
-    subst (λ (n : ℕ). Fits a.out.now a.to a.from n c.read_section-s.result.address) (sym c.held_by-size.ensures)
+    let start = ap (λ (s : Section). s.address) (head_there a.sections.now a.k s.requires.0 ∙ sym c.read-s.ensures) in
+    subst (λ (n : ℕ). Fits a.out.now a.to a.from n c.read-s.result.address) (sym c.held_by-size.ensures)
     (subst (λ (x : ℕ). Fits a.out.now a.to a.from (held_by head) x) start s.requires.1)
 
 pub returns : goal.returns
 returns c =
     let s = c in
     let a = s.args in
-    let start = ap (λ (s : Section). s.address) (c.read_section-s.ensures ∙ sym (head_there a.sections.now a.k s.requires.0)) in
+    let start = ap (λ (s : Section). s.address) (c.read-s.ensures ∙ sym (head_there a.sections.now a.k s.requires.0)) in
     c.write_section.ensures
     ∙ ap₂ (λ (x n : ℕ). sets a.out.now a.to (section_lines x (take n (drop a.from a.out.now)))) start c.held_by-size.ensures

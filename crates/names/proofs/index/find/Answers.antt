@@ -11,7 +11,7 @@ pub loop-cur-init : goal.loop-cur-init
 loop-cur-init c =
     let names = names_of c.args.names.now.bytes.now c.args.names.now.places.now c.args.names.now.lengths.now c.args.n in
     let at = c.bucket_of.ensures in
-    search_starts names c.args.x.now _ (c.number_at-cur.ensures ∙ c.requires.1.head _ at.small ∙ ap (λ (h : ℕ). last_in h names) at.is)
+    search_starts names c.args.x.now _ (c.number-cur.ensures ∙ c.requires.1.head _ at.small ∙ ap (λ (h : ℕ). last_in h names) at.is)
 
 pub is_name-requires : goal.is_name-requires
 is_name-requires c =
@@ -22,20 +22,20 @@ returns-then-is_name c =
     let l = c.loop-cur in
     left_found c.requires.0 c.requires.1 l.invariant c.loop-cur-test.true c.is_name.ensures c.if-is_name.true
 
-pub number_at-cur-requires-in-loop-cur : goal.number_at-cur-requires-in-loop-cur
-number_at-cur-requires-in-loop-cur c =
+pub number-cur-requires-in-loop-cur : goal.number-cur-requires-in-loop-cur
+number-cur-requires-in-loop-cur c =
     let l = c.loop-cur in
     left_chain c.requires.0 c.requires.1 l.invariant c.loop-cur-test.true
 
 pub loop-cur-smaller : goal.loop-cur-smaller
 loop-cur-smaller c =
     let l = c.loop-cur in
-    left_less c.requires.0 c.requires.1 l.invariant c.loop-cur-test.true c.number_at-cur-in-loop-cur.ensures
+    left_less c.requires.0 c.requires.1 l.invariant c.loop-cur-test.true c.number-cur-in-loop-cur.ensures
 
 pub loop-cur-preserved : goal.loop-cur-preserved
 loop-cur-preserved c =
     let l = c.loop-cur in
-    left_other c.requires.0 c.requires.1 l.invariant c.loop-cur-test.true c.number_at-cur-in-loop-cur.ensures c.is_name.ensures c.if-is_name.false
+    left_other c.requires.0 c.requires.1 l.invariant c.loop-cur-test.true c.number-cur-in-loop-cur.ensures c.is_name.ensures c.if-is_name.false
 
 pub returns : goal.returns
 returns c =

@@ -19,12 +19,12 @@ loop-k-preserved c =
     let low : l.k - 1 < length a.unit_table.now.places.now = omega (arith, c.loop-k-test.true, l.invariant.0) in
     let long = length-map a.unit_table.now.places.now (unit_at a.unit_table.now.bytes.now) in
     let same : l.k ≡ l.k - 1 + 1 = omega (arith, c.loop-k-test.true) in
-    let is = ap (λ (u : units.Unit). u.name) c.unit_at-u.ensures in
+    let is = ap (λ (u : units.Unit). u.name) c.record-u.ensures in
     let at = get_d_map (unit_at a.unit_table.now.bytes.now) a.unit_table.now.places.now (l.k - 1) 0 no_unit low in (
       omega arith,
       simp length-set l.invariant.1,
       marked_more us (l.k - 1) a.column.now l.column (omega arith)
-          (subst (λ (i : ℕ). MarkedFrom us i a.column.now l.column) same l.invariant.2) c.unit_at-u.result.name
+          (subst (λ (i : ℕ). MarkedFrom us i a.column.now l.column) same l.invariant.2) c.record-u.result.name
           (is ∙ sym (ap (λ (u : units.Unit). u.name) at))
           (omega (arith, is, s.requires.named (l.k - 1) low, l.invariant.1)),
     )

@@ -20,6 +20,6 @@ returns c =
     let s = c in
     let a = s.args in
     let low : a.mark < 65534 = omega (arith, s.ranges, c.if-mark-eq-HAND.false, c.if-mark-eq-AUTO.false) in
-    c.unit_at.ensures
+    c.record.ensures
     ∙ sym (get_d_map (unit_at a.unit_table.now.bytes.now) a.unit_table.now.places.now a.mark 0 no_unit (s.requires.1 low))
     ∙ sym (by_record [] _ _ _ c.if-mark-eq-AUTO.false c.if-mark-eq-HAND.false)

@@ -15,11 +15,11 @@ use Rattle.walk.specs.Walk.{reloc_entry, add_relocs}
 use Rattle.walk.proofs.Adding.{relocs_turn, relocs_done}
 use Rattle.walk.proofs.entries.add_relocs.Goals as goal
 
-pub reloc_at-r-requires : goal.reloc_at-r-requires
-reloc_at-r-requires c = held_at _ _ _ c.requires.0.readable c.loop-i.i _ c.loop-i-test.true c.number-k.ensures
+pub record-r-requires : goal.record-r-requires
+record-r-requires c = held_at _ _ _ c.requires.0.readable c.loop-i.i _ c.loop-i-test.true c.number-k.ensures
 
 pub overflow_sub-r : goal.overflow_sub-r
-overflow_sub-r c = omega (arith, all_at c.loop-i.i 0 c.requires.0.above c.loop-i-test.true, ap (λ (r : Reloc). r.address) c.reloc_at-r.ensures, ap (address_of c.args.relocs.now.bytes.now c.args.relocs.now.places.now) c.number-k.ensures)
+overflow_sub-r c = omega (arith, all_at c.loop-i.i 0 c.requires.0.above c.loop-i-test.true, ap (λ (r : Reloc). r.address) c.record-r.ensures, ap (address_of c.args.relocs.now.bytes.now c.args.relocs.now.places.now) c.number-k.ensures)
 
 pub loop-i-preserved : goal.loop-i-preserved
 loop-i-preserved c =
@@ -28,7 +28,7 @@ loop-i-preserved c =
     let f = reloc_of a.relocs.now.bytes.now a.relocs.now.places.now in
     let place = a.tables.now.made.pieces in
     let e = c.add_reloc.ensures in
-    let entry = ap (reloc_entry place a.start c.number-k.result) c.reloc_at-r.ensures ∙ ap (λ (i : ℕ). reloc_entry place a.start i (f i)) c.number-k.ensures in (
+    let entry = ap (reloc_entry place a.start c.number-k.result) c.record-r.ensures ∙ ap (λ (i : ℕ). reloc_entry place a.start i (f i)) c.number-k.ensures in (
       omega arith,
       omega (arith, e.one, l.invariant.1),
       pieces_still l.invariant.2 e.pieces,

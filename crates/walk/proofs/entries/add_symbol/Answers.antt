@@ -17,11 +17,11 @@ use Rattle.walk.proofs.entries.add_symbol.Goals.{Else-is_passed_over-is_entered}
 
 -- a symbol that is not passed over is entered
 entered : (c : Else-is_passed_over-is_entered)
-    → symbols_of c.args.tables.now ++ (entry_of c.args.unit c.args.tables.now.made.pieces c.args.s c.args.i c.symbol_at-y.result ∷ [])
+    → symbols_of c.args.tables.now ++ (entry_of c.args.unit c.args.tables.now.made.pieces c.args.s c.args.i c.record-y.result ∷ [])
     ≡ add_symbol (image_of c.args.symbols.now.bytes.now c.args.symbols.now.places.now c.args.names.now.bytes.now c.args.names.now.places.now c.args.names.now.lengths.now) c.args.unit c.args.tables.now.made.pieces c.args.s (symbols_of c.args.tables.now) c.args.i
 entered c =
     let a = c.args in
-    symbol_entered (image_of a.symbols.now.bytes.now a.symbols.now.places.now a.names.now.bytes.now a.names.now.places.now a.names.now.lengths.now) a.unit a.tables.now.made.pieces a.s (symbols_of a.tables.now) a.i c.symbol_at-y.result c.name_at-name.result.now c.symbol_at-y.ensures c.name_at-name.ensures
+    symbol_entered (image_of a.symbols.now.bytes.now a.symbols.now.places.now a.names.now.bytes.now a.names.now.places.now a.names.now.lengths.now) a.unit a.tables.now.made.pieces a.s (symbols_of a.tables.now) a.i c.record-y.result c.name_at-name.result.now c.record-y.ensures c.name_at-name.ensures
     (ap₂ (λ (p q : Bool). p || q) (sym c.is_passed_over.ensures) (sym c.is_entered.ensures) ∙ c.if-is_passed_over-is_entered.false)
 
 pub is_entered-requires : goal.is_entered-requires
@@ -33,7 +33,7 @@ pub returns-then-is_passed_over-is_entered : goal.returns-then-is_passed_over-is
 returns-then-is_passed_over-is_entered c =
     let a = c.args in
     record {
-      is = symbol_passed (image_of a.symbols.now.bytes.now a.symbols.now.places.now a.names.now.bytes.now a.names.now.places.now a.names.now.lengths.now) a.unit a.tables.now.made.pieces a.s (symbols_of a.tables.now) a.i c.symbol_at-y.result c.name_at-name.result.now c.symbol_at-y.ensures c.name_at-name.ensures
+      is = symbol_passed (image_of a.symbols.now.bytes.now a.symbols.now.places.now a.names.now.bytes.now a.names.now.places.now a.names.now.lengths.now) a.unit a.tables.now.made.pieces a.s (symbols_of a.tables.now) a.i c.record-y.result c.name_at-name.result.now c.record-y.ensures c.name_at-name.ensures
           (ap₂ (λ (p q : Bool). p || q) (sym c.is_passed_over.ensures) (sym c.is_entered.ensures) ∙ c.if-is_passed_over-is_entered.true);
       chained = c.requires.3.chained;
       pieces = record { bytes = refl; made = refl };
@@ -44,7 +44,7 @@ returns-then-is_passed_over-is_entered c =
 pub returns-then-tables : goal.returns-then-tables
 returns-then-tables c =
     let t = c.args.tables.now in (
-      omega (arith, c.if-tables.true, length-symbols_in t.symbols.now t.made.symbols, length-append (symbols_of t) (entry_of c.args.unit t.made.pieces c.args.s c.args.i c.symbol_at-y.result ∷ []), ap length (entered (goal.at.returns-then-tables c).Else-is_passed_over-is_entered)),
+      omega (arith, c.if-tables.true, length-symbols_in t.symbols.now t.made.symbols, length-append (symbols_of t) (entry_of c.args.unit t.made.pieces c.args.s c.args.i c.record-y.result ∷ []), ap length (entered (goal.at.returns-then-tables c).Else-is_passed_over-is_entered)),
       lent_same,
     )
 
@@ -53,7 +53,7 @@ push_symbol-requires c =
     let t = c.args.tables.now in
     let h = c.if-tables.false in
     let e = c.requires.3 in
-    let y = ap (λ (y : PieceSymbol). y.symbol) c.entry_of.ensures ∙ entry_symbol c.args.unit t.made.pieces c.args.s c.args.i c.symbol_at-y.result in (
+    let y = ap (λ (y : PieceSymbol). y.symbol) c.entry_of.ensures ∙ entry_symbol c.args.unit t.made.pieces c.args.s c.args.i c.record-y.result in (
       omega (arith, y, c.requires.0.there, e.most_symbols, length_lasts c.args.chains.now (omega (arith, e.long))),
       e.chained,
       omega (arith, t.fits.few_symbols, h, e.long, length_prevs c.args.chains.now),

@@ -56,7 +56,7 @@ push_piece-requires c =
     let a = c.args in
     let t = a.tables.now in
     let added = c.add_relocs.ensures in
-    let unit = ap (λ (p : Piece). p.unit) c.piece_of-p.ensures ∙ piece_unit c.section_at-head.result a.n a.unit c.count_of-number.result a.alignment a.s in (
+    let unit = ap (λ (p : Piece). p.unit) c.piece_of-p.ensures ∙ piece_unit c.record-head.result a.n a.unit c.count_of-number.result a.alignment a.s in (
       omega (arith, unit, c.requires.3),
       counted_same added.pieces c.requires.0,
       omega (arith, (room_left t.room t.made _ c.if-tables-most.false).1, added.pieces.made, ap (λ (m : Counts). m.pieces) added.lent.room),

@@ -1,7 +1,7 @@
 -- `obj::read_symbol` meets its contract: each field is read at the offset that the definition gives it.
 use Rattle.obj.specs.Records.{symbol_at}
 use borrow.Author.Rules.{rules}
-use Rattle.obj.proofs.read_symbol.Goals as goal
+use Rattle.obj.proofs.SymbolRecord.read.Goals as goal
 
 pub returns : goal.returns
 unfolding symbol_at

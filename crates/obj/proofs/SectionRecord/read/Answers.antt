@@ -1,7 +1,7 @@
 -- `obj::read_section` meets its contract: each field is read at the offset that the definition gives it.
 use Rattle.obj.specs.Records.{section_at}
 use borrow.Author.Rules.{rules}
-use Rattle.obj.proofs.read_section.Goals as goal
+use Rattle.obj.proofs.SectionRecord.read.Goals as goal
 
 pub returns : goal.returns
 unfolding section_at

@@ -4,7 +4,7 @@ use mir.ValLaws.{to_z-of_z}
 use mir.Syntax.{w32}
 use Rattle.obj.proofs.Made.{unit_made}
 use borrow.Author.Rules.{rules}
-use Rattle.obj.proofs.read_unit.Goals as goal
+use Rattle.obj.proofs.UnitRecord.read.Goals as goal
 
 pub returns : goal.returns
 returns c =

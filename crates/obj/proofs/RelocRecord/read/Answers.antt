@@ -4,7 +4,7 @@ use mir.ValLaws.{to_z-of_z}
 use mir.Syntax.{w64}
 use Rattle.obj.proofs.Made.{reloc_made}
 use borrow.Author.Rules.{rules}
-use Rattle.obj.proofs.read_reloc.Goals as goal
+use Rattle.obj.proofs.RelocRecord.read.Goals as goal
 
 pub returns : goal.returns
 returns c =
