@@ -10,7 +10,7 @@ use Rattle.symbols.specs.Ranges.{sized_unstripped, last_or, last_below}
 use Rattle.symbols.proofs.Laws.{last_from, last_none, last_from_lem}
 use Rattle.symbols.proofs.Parts.{below-part, section_later, section_begun}
 use Rattle.symbols.proofs.last_below.Goals as goal
-use Rattle.symbols.proofs.last_below.Goals.{After-first_at-end, After-symbol_at-y, After-is_sized_unstripped}
+use Rattle.symbols.proofs.last_below.Goals.{After-first_at-end, After-record-y, After-is_sized_unstripped}
 
 -- the search ends at the first place of the address
 ends : (c : After-first_at-end)
@@ -28,12 +28,12 @@ loop-j-init c =
 pub record-y-requires : goal.record-y-requires
 record-y-requires c = held_at _ _ _ (order_readable _ _ _ c.requires) _ _ (omega (arith, c.first_at-end.ensures.small)) c.number-i.ensures
 
-is_here : (c : After-symbol_at-y) → c.record-y.result ≡ symbol_of c.args.b.now c.args.places.now (get_or c.args.order.now (c.loop-j.j - 1) 0)
+is_here : (c : After-record-y) → c.record-y.result ≡ symbol_of c.args.b.now c.args.places.now (get_or c.args.order.now (c.loop-j.j - 1) 0)
 is_here c = c.record-y.ensures ∙ ap (symbol_of c.args.b.now c.args.places.now) c.number-i.ensures
 
 pub returns-then-y-section : goal.returns-then-y-section
 returns-then-y-section c =
-    let h = section_later _ _ _ c.requires (λ j. (c.type_inv.b j).fits) c.args.section (c.loop-j.j - 1) _ (omega (arith, c.first_at-end.ensures.small)) (is_here (goal.at.returns-then-y-section c).After-symbol_at-y) c.if-y-section.true in
+    let h = section_later _ _ _ c.requires (λ j. (c.type_inv.b j).fits) c.args.section (c.loop-j.j - 1) _ (omega (arith, c.first_at-end.ensures.small)) (is_here (goal.at.returns-then-y-section c).After-record-y) c.if-y-section.true in
     sym (last_none _ _ _ c.loop-j.j (omega (arith, h))) ∙ c.loop-j.invariant
 
 -- what is kept to before j, if the symbol at j - 1 passes the test or fails it
@@ -46,7 +46,7 @@ turn c =
     let a = c.args in
     let test = λ (i : ℕ). sized_unstripped a.objects (symbol_of a.b.now a.places.now i) in
     let begun = first_in (at_least (key_at a.b.now a.places.now) (key a.section 0)) a.order.now in
-    let r = is_here (goal.at.After-is_sized_unstripped c).After-symbol_at-y in
+    let r = is_here (goal.at.After-is_sized_unstripped c).After-record-y in
     let h = section_begun _ _ _ c.requires (λ j. (c.type_inv.b j).fits) a.section (c.loop-j.j - 1) _ (omega (arith, c.first_at-end.ensures.small)) r c.if-y-section.false in
     ap (λ t. cond t (Some (get_or a.order.now (c.loop-j.j - 1) 0)) (last_from test a.order.now begun (c.loop-j.j - 1))) (c.is_sized_unstripped.ensures ∙ ap (sized_unstripped a.objects) r)
     ∙ sym (last_from_lem test a.order.now begun c.loop-j.j (omega (arith, h)) (omega (arith, c.first_at-end.ensures.small)))
