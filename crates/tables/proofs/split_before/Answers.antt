@@ -1,7 +1,7 @@
 -- `tables::split_before` meets its contract: the record at the place before, or for the first one the empty one.
 -- Assumes nothing.
 use Prim.Native.Nat.{◌-◌}
-use mathlib.Core.Path.{refl}
+use Rattle.std.proofs.Common.{rules}
 use native.Mathlib.Omega.{arith}
 use borrow.Author.Tests.{eq-eqb, ne_eqb}
 use Rattle.lists.proofs.Tests.{by_true, by_false}
@@ -19,4 +19,4 @@ returns-then-k-ne0 c =
 
 pub returns : goal.returns
 unfolding split_before
-returns c = by_true _ _ (eq-eqb _ _ c.if-k-ne0.false) refl
+returns c = by_true _ _ (eq-eqb _ _ c.if-k-ne0.false) (search (rules, c.default.ensures))
