@@ -2,9 +2,9 @@
 -- section's symbols.
 use mathlib.Core.Path.{◌≡◌, sym, ap, ◌∙◌}
 use mathlib.Core.List.{List, reverse}
-use mathlib.Core.Bool.{Bool, ◌&&◌}
+use mathlib.Core.Bool.{Bool, ◌&&◌, ◌||◌}
 use Prim.Native.Nat.{ℕ, ◌+◌}
-use lib.Dec.{ltb}
+use lib.Dec.{eqb, ltb}
 use Rattle.names.specs.Fixed.{is_pointer_list}
 use Rattle.symbols.proofs.Parts.{section_readable}
 use Rattle.sections.specs.Image.{Image, image_of}
@@ -20,13 +20,13 @@ image c = let s = c.args in image_of s.table.now.bytes.now s.table.now.places.no
 listed : (c : After-is_pointer_list-list) → c.is_pointer_list-list.result ≡ is_pointer_list ((image c).name c.args.head.name)
 listed c = c.is_pointer_list-list.ensures ∙ ap is_pointer_list (c.name_at.ensures ∙ ap (image c).name c.from-k.ensures)
 
-pub returns-then-head : goal.returns-then-head
-returns-then-head c = end_whole _ _ _ _ c.if-head.true
+pub returns-then-is_bss-head : goal.returns-then-is_bss-head
+returns-then-is_bss-head c = end_whole _ _ _ _ (ap (λ (t : Bool). t || eqb c.args.head.size 0) (sym c.is_bss.ensures) ∙ c.if-is_bss-head.true)
 
 pub returns-then-list-head : goal.returns-then-list-head
 returns-then-list-head c =
     let a = (goal.at.returns-then-list-head c).After-is_pointer_list-list in
-    end_short (image a) _ _ _ c.if-head.false (ap (λ (t : Bool). t && ltb c.args.head.size 4) (sym (listed a)) ∙ c.if-list-head.true)
+    end_short (image a) _ _ _ (ap (λ (t : Bool). t || eqb c.args.head.size 0) (sym c.is_bss.ensures) ∙ c.if-is_bss-head.false) (ap (λ (t : Bool). t && ltb c.args.head.size 4) (sym (listed a)) ∙ c.if-list-head.true)
 
 pub lower-requires : goal.lower-requires
 lower-requires c =
@@ -39,7 +39,7 @@ returns c =
     let a = (goal.at.returns c).After-is_pointer_list-list in
     let g = image a in
     let h = s.args.head in
-    end_lowered g s.args.section h s.args.bytes.now c.if-head.false
+    end_lowered g s.args.section h s.args.bytes.now (ap (λ (t : Bool). t || eqb c.args.head.size 0) (sym c.is_bss.ensures) ∙ c.if-is_bss-head.false)
     (ap (λ (t : Bool). t && ltb h.size 4) (sym (listed a)) ∙ c.if-list-head.false)
     _
     (c.lower.ensures.is
