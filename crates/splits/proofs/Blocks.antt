@@ -1,7 +1,6 @@
--- The search by blocks, for a unit's row and for a row in a range: a block none of whose numbers passes has no such row, and what is found in a block is what
--- is found in all rows from its first one on. Assumes nothing.
+-- The search by blocks, for a unit's row and for a row in a range: a block none of whose numbers passes has no such row. Assumes nothing.
 use mathlib.Core.Path.{◌≡◌, refl, sym, ap, ap₂, ◌∙◌}
-use mathlib.Core.List.{List, [], ◌∷◌, ◌++◌}
+use mathlib.Core.List.{[]}
 use mathlib.Core.Bool.{Bool, false, ◌&&◌, ◌||◌}
 use mathlib.Core.Logic.{◌⊎◌, inl, inr}
 use Prim.Native.Nat.{ℕ, zero, suc, ◌+◌, ◌-◌, ◌≤◌, ◌<◌}
@@ -13,17 +12,15 @@ use Rattle.std.specs.Prelude.{Option, Some, None}
 use Rattle.lists.specs.Rows.{tabulate, keep_if, some}
 use Rattle.lists.proofs.Compare.{lt_or_ge, and_fails}
 use Rattle.lists.proofs.Rows.{length-tabulate, get_d_tabulate}
-use Rattle.lists.proofs.Parts.{tabulate-append}
 use Rattle.lists.proofs.Some.{some_false}
 use Rattle.lists.proofs.SomeRows.{some_row, some_ended}
-use Rattle.lists.proofs.Filter.{keep_append}
-use Rattle.lists.proofs.FilterRows.{filter_miss, filter_none}
+use Rattle.lists.proofs.FilterRows.{filter_hit, filter_miss, filter_none}
 use Rattle.splits.specs.Columns.{Columns, row_of, row_at}
-use Rattle.splits.specs.Questions.{within, of_unit, from_hit, Hit, NextHit}
+use Rattle.splits.specs.Questions.{within, of_unit, FirstNumber, NonePasses, FirstPlace, NextHit}
 use Rattle.obj.specs.declared.Split.{Split}
 
 -- ---- whether one of a block's numbers passes: `seen` is the answer of the first k
-module _ (p : ℕ → Bool) (f : ℕ → ℕ) (at size : ℕ) where
+module _ {A : Type 0} (p : A → Bool) (f : ℕ → A) (at size : ℕ) where
   abbrev pub Left : Bool → ℕ → Type 0
   Left seen k = (seen || some p (tabulate f (at + k) (size - k))) ≡ some p (tabulate f at size)
 
@@ -51,69 +48,7 @@ none_of p f i size e k h l =
     ap p (ap f (sym z) ∙ sym (get_d_tabulate f i size (k - i) 0 (omega arith)))
     ∙ some_false p (tabulate f i size) (k - i) 0 e (rw (length-tabulate f i size) (omega arith))
 
--- ---- a unit's rows
-
--- none of the rows passes
-hit_none : (p : Split → Bool) (c : Columns) (n d i : ℕ) → i + d ≡ n → ((k : ℕ) → i ≤ k → k < n → p (row_at c k) ≡ false) → keep_if p (tabulate (row_at c) i (n - i)) ≡ []
-hit_none p c n zero i e none = filter_none p (row_at c) n i (omega arith)
-hit_none p c n (suc d) i e none =
-    filter_miss p (row_at c) n i (omega arith) (none i (omega arith) (omega arith))
-    ∙ hit_none p c n d (i + 1) (omega arith) (λ k h l. none k (omega arith) l)
-
--- none of the units of a block is the unit
-pub block_none : (section unit : ℕ) (c : Columns) (i size : ℕ) → some (λ (u : ℕ). eqb u unit) (tabulate (λ (k : ℕ). get_or c.units k 0) i size) ≡ false
-    → Hit (of_unit section unit) c (i + size) i (i + size)
-unfolding row_of
-block_none section unit c i size e = record {
-  is = hit_none (of_unit section unit) c (i + size) size i refl row ∙ sym (rw (le-ltb (i + size) (i + size) (omega arith)) refl);
-  past = omega arith;
-  small = omega arith;
-}
-  where
-    row : (k : ℕ) → i ≤ k → k < i + size → of_unit section unit (row_at c k) ≡ false
-    row k h l = and_fails (eqb (row_at c k).section section) (none_of (λ (u : ℕ). eqb u unit) (λ (j : ℕ). get_or c.units j 0) i size e k h l)
-
--- from the block's rows to all rows
-module _ (p : Split → Bool) (c : Columns) (n to i k : ℕ) (h : i ≤ to) (l : to ≤ n) (hit : Hit p c to i k) where
-  abbrev f : ℕ → Split
-  f = row_at c
-
-  cut : (j : ℕ) → j ≤ to → keep_if p (tabulate f j (n - j)) ≡ keep_if p (tabulate f j (to - j)) ++ keep_if p (tabulate f to (n - to))
-  cut j q = ap (keep_if p) (tabulate-append f j to n q l) ∙ keep_append p (tabulate f j (to - j)) (tabulate f to (n - to))
-
-  hit_here : k < to → keep_if p (tabulate f i (to - i)) ≡ f k ∷ keep_if p (tabulate f (k + 1) (to - (k + 1)))
-  hit_here q = hit.is ∙ rw (lt-ltb k to q) refl
-
-  hit_not : to ≤ k → keep_if p (tabulate f i (to - i)) ≡ []
-  hit_not q = hit.is ∙ rw (le-ltb k to q) refl
-
-  -- the block has one
-  pub block_hit : k < to → keep_if p (tabulate f i (n - i)) ≡ from_hit p c n k
-  block_hit q =
-      cut i h
-      ∙ ap (λ (t : List Split). t ++ keep_if p (tabulate f to (n - to))) (hit_here q)
-      ∙ ap (λ (t : List Split). f k ∷ t) (sym (cut (k + 1) (omega arith)))
-      ∙ sym (rw (lt-ltb k n (omega arith)) refl)
-
-  -- the block has none
-  pub block_miss : to ≤ k → keep_if p (tabulate f i (n - i)) ≡ keep_if p (tabulate f to (n - to))
-  block_miss q = cut i h ∙ ap (λ (t : List Split). t ++ keep_if p (tabulate f to (n - to))) (hit_not q)
-
--- none passes from `at` up to i, so the search may begin there
-pub next_from : (p : Split → Bool) (c : Columns) (n at i : ℕ) → at ≤ i → keep_if p (tabulate (row_at c) at (n - at)) ≡ keep_if p (tabulate (row_at c) i (n - i))
-    → (r : Option ℕ) → NextHit p c n i r → NextHit p c n at r
-next_from p c n at i h e (Some k) s = (record { is = e ∙ s.0.is; past = omega (arith, s.0.past); small = s.0.small }, s.1)
-next_from p c n at i h e None s = record { is = e ∙ s.is; past = omega (arith, s.past); small = s.small }
-
--- ---- rows in a range
-
--- none of the starts of a block lies in the range
-pub starts_none : (section from to : ℕ) (c : Columns) (i size : ℕ) → some (λ (s : ℕ). leb from s && ltb s to) (tabulate (λ (k : ℕ). get_or c.starts k 0) i size) ≡ false
-    → (k : ℕ) → i ≤ k → k < i + size → within section from to (row_at c k) ≡ false
-unfolding row_of
-starts_none section from to c i size e k h l =
-    and_fails (eqb (row_at c k).section section)
-    (none_of (λ (s : ℕ). leb from s && ltb s to) (λ (j : ℕ). get_or c.starts j 0) i size e k h l)
+-- ---- places that do not pass
 
 -- what holds of the places from `at` up to i, and of those from i up to j
 pub each_on : (P : ℕ → Type 0) (at i j : ℕ) → ((k : ℕ) → at ≤ k → k < i → P k) → ((k : ℕ) → i ≤ k → k < j → P k) → (k : ℕ) → at ≤ k → k < j → P k
@@ -125,6 +60,67 @@ each_on P at i j low high k h l = go (lt_or_ge k i)
 
 pub each_more : (P : ℕ → Type 0) (at i : ℕ) → ((k : ℕ) → at ≤ k → k < i → P k) → P i → (k : ℕ) → at ≤ k → k < i + 1 → P k
 each_more P at i low here = each_on P at i (i + 1) low (λ k h l. let q : i ≡ k = omega arith in rw q at here)
+
+-- none passes from `at` up to i, so the search may begin there
+pub first_behind : (p : ℕ → Bool) (at i n : ℕ) (r : Option ℕ) → at ≤ i → ((k : ℕ) → at ≤ k → k < i → p k ≡ false) → FirstNumber p i n r → FirstNumber p at n r
+first_behind p at i n None h low none = each_on (λ k. p k ≡ false) at i n low none
+first_behind p at i n (Some j) h low s =
+    record { past = omega (arith, s.past); small = s.small; none = each_on (λ k. p k ≡ false) at i j low s.none; passes = s.passes }
+
+-- ---- a unit's rows
+
+-- none of the rows passes
+hit_none : (p : Split → Bool) (c : Columns) (n d i : ℕ) → i + d ≡ n → ((k : ℕ) → i ≤ k → k < n → p (row_at c k) ≡ false) → keep_if p (tabulate (row_at c) i (n - i)) ≡ []
+hit_none p c n zero i e none = filter_none p (row_at c) n i (omega arith)
+hit_none p c n (suc d) i e none =
+    filter_miss p (row_at c) n i (omega arith) (none i (omega arith) (omega arith))
+    ∙ hit_none p c n d (i + 1) (omega arith) (λ k h l. none k (omega arith) l)
+
+-- none of the units of a block is the unit
+pub units_none : (section unit : ℕ) (c : Columns) (i size : ℕ) → some (λ (u : ℕ). eqb u unit) (tabulate (λ (k : ℕ). get_or c.units k 0) i size) ≡ false
+    → NonePasses (of_unit section unit) c i (i + size)
+unfolding row_of
+units_none section unit c i size e k h l =
+    and_fails (eqb (row_at c k).section section) (none_of (λ (u : ℕ). eqb u unit) (λ (j : ℕ). get_or c.units j 0) i size e k h l)
+
+-- the rows that do not pass may be left out
+misses : (p : Split → Bool) (c : Columns) (n d i : ℕ) → i + d ≤ n → NonePasses p c i (i + d)
+    → keep_if p (tabulate (row_at c) i (n - i)) ≡ keep_if p (tabulate (row_at c) (i + d) (n - (i + d)))
+misses p c n zero i h none = ap (λ (x : ℕ). keep_if p (tabulate (row_at c) x (n - x))) (let e : i ≡ i + 0 = omega arith in e)
+misses p c n (suc d) i h none =
+    filter_miss p (row_at c) n i (omega arith) (none i (omega arith) (omega arith))
+    ∙ misses p c n d (i + 1) (omega arith) (λ k q l. none k (omega arith) (omega arith))
+    ∙ ap (λ (x : ℕ). keep_if p (tabulate (row_at c) x (n - x))) (let e : i + 1 + d ≡ i + suc d = omega arith in e)
+
+-- the first row that passes begins those that pass
+pub first_hit : (p : Split → Bool) (c : Columns) (n at : ℕ) (r : Option ℕ) → at ≤ n → FirstPlace p c at n r → NextHit p c n at r
+first_hit p c n at None h none = record {
+  is = hit_none p c n (n - at) at (omega arith) none ∙ sym (rw (le-ltb n n (omega arith)) refl);
+  past = h;
+  small = omega arith;
+}
+first_hit p c n at (Some i) h s =
+    let e : at + (i - at) ≡ i = omega (arith, s.past) in (
+      record {
+        is = misses p c n (i - at) at (omega (arith, s.past, s.small)) (λ k q l. s.none k q (omega arith))
+            ∙ ap (λ (x : ℕ). keep_if p (tabulate (row_at c) x (n - x))) e
+            ∙ filter_hit p (row_at c) n i s.small s.passes
+            ∙ sym (rw (lt-ltb i n s.small) refl);
+        past = s.past;
+        small = omega (arith, s.small);
+      },
+      s.small,
+    )
+
+-- ---- rows in a range
+
+-- none of the starts of a block lies in the range
+pub starts_none : (section from to : ℕ) (c : Columns) (i size : ℕ) → some (λ (s : ℕ). leb from s && ltb s to) (tabulate (λ (k : ℕ). get_or c.starts k 0) i size) ≡ false
+    → (k : ℕ) → i ≤ k → k < i + size → within section from to (row_at c k) ≡ false
+unfolding row_of
+starts_none section from to c i size e k h l =
+    and_fails (eqb (row_at c k).section section)
+    (none_of (λ (s : ℕ). leb from s && ltb s to) (λ (j : ℕ). get_or c.starts j 0) i size e k h l)
 
 -- some row from i on passes: the rows up to j do not
 module _ {A : Type 0} (p : A → Bool) (f : ℕ → A) (n : ℕ) where

@@ -47,16 +47,24 @@ pub record Hit (p : Split → Bool) (c : Columns) (n from r : ℕ) : Type 0 wher
 abbrev pub NextHit : (p : Split → Bool) (c : Columns) (n from : ℕ) → Option ℕ → Type 0
 NextHit p c n from r = MatchOption r (Hit p c n from n) (λ i. Hit p c n from i × (i < n))
 
+-- i is the first number that passes, of those from `from` up to `to`
+pub record IsFirst (p : ℕ → Bool) (from to i : ℕ) : Type 0 where
+  pub past : from ≤ i
+  pub small : i < to
+  pub none : (k : ℕ) → from ≤ k → k < i → p k ≡ false
+  pub passes : p i ≡ true
+
+-- r is the first number that passes, of those from `from` up to `to`, if one does
+abbrev pub FirstNumber : (ℕ → Bool) → ℕ → ℕ → Option ℕ → Type 0
+FirstNumber p from to r = MatchOption r ((k : ℕ) → from ≤ k → k < to → p k ≡ false) (IsFirst p from to)
+
 -- none of the rows from place `from` up to `to` passes
 abbrev pub NonePasses : (Split → Bool) → Columns → ℕ → ℕ → Type 0
 NonePasses p c from to = (k : ℕ) → from ≤ k → k < to → p (row_at c k) ≡ false
 
 -- row i is the first that passes, of those from place `from` up to `to`
-pub record FirstAt (p : Split → Bool) (c : Columns) (from to i : ℕ) : Type 0 where
-  pub past : from ≤ i
-  pub small : i < to
-  pub none : NonePasses p c from i
-  pub passes : p (row_at c i) ≡ true
+abbrev pub FirstAt : (Split → Bool) → Columns → ℕ → ℕ → ℕ → Type 0
+FirstAt p c from to i = IsFirst (λ k. p (row_at c k)) from to i
 
 -- r is the place of the first row that passes, of those from place `from` up to `to`, if one does
 abbrev pub FirstPlace : (Split → Bool) → Columns → ℕ → ℕ → Option ℕ → Type 0

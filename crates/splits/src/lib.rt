@@ -17,9 +17,11 @@ use obj::{PARTIAL_BYTES, SPLIT_BYTES, Split, Table};
 
 mod one_column;
 mod one_column_read;
+mod search;
 mod split_table;
 
 pub use one_column::{SplitEnds, SplitRest, SplitUnits};
+pub use search::{any_of_block, first_by_blocks};
 pub use split_table::{SplitColumns, SplitTable};
 
 impl SplitColumns<'_, '_, '_, '_> {
@@ -238,118 +240,50 @@ fn is_hand(yrest: u64) -> bool
     !(yrest / 4294967296 % 256 / 2 % 2 == 1)
 }
 
-// Two searches follow, for a unit in a section and for a range: each by rows, by a block of 32, and to the table's end. So three functions of each have the same
-// parameters, which are what is searched, what for, and from where: section and unit are two fields of a split at each call, and a struct of them would be made there.
-
-// Whether one of the 32 units from `at` on is `unit`. No early exit and a fixed count, so that the compiler compares eight at a time.
+// Whether one of the 32 units from `at` on is `unit`.
 fn holds_unit(units: &[u16], at: usize, unit: u16) -> bool
     requires { at + 32 ≤ length units.now }
     ensures { result ≡ some (λ (u : ℕ). eqb u unit) (tabulate (λ (k : ℕ). get_or units.now k 0) at 32) }
 {
-    let mut any = false;
-    for k in 0..32 {
-        any |= units[at + k] == unit;
-    }
-    any
+    any_of_block(units, at, |u| u == unit)
 }
 
-// The first row from `at` up to `to` that is the unit's in the section: row by row.
-fn next_in_rows(
-    splits: &SplitColumns,
-    section: u16,
-    unit: u16,
-    at: usize,
-    to: usize,
-) -> Option<usize>
-    requires { (to ≤ splits.now.count) × (at ≤ to) }
-    ensures { NextHit (of_unit section unit) (columns_of splits.now) to at result }
+// Whether one of the 32 starts from `at` on lies in a range, of whatever section.
+fn holds_start(starts: &[u32], at: usize, range: SectionRange) -> bool
+    requires { at + 32 ≤ length starts.now }
+    ensures { result ≡ some (λ (s : ℕ). leb range.from s && ltb s range.to) (tabulate (λ (k : ℕ). get_or starts.now k 0) at 32) }
 {
-    for i in at..to {
-        if is_of_unit(section, unit, splits.units[i], splits.rest[i]) {
-            return Some(i);
-        }
-    }
-    None
+    any_of_block(
+        starts,
+        at,
+        |start| (range.from <= start) & (start < range.to),
+    )
 }
 
-// The same of the 32 rows from `at` on: row by row only where one is the unit's in some section.
-fn next_in_block(splits: &SplitColumns, section: u16, unit: u16, at: usize) -> Option<usize>
-    requires { at + 32 ≤ splits.now.count }
-    ensures { NextHit (of_unit section unit) (columns_of splits.now) (at + 32) at result }
-{
-    if holds_unit(splits.units, at, unit) {
-        return next_in_rows(splits, section, unit, at, at + 32);
-    }
-    None
-}
-
-// The first row from `at` on that is the unit's in the section: by blocks of 32 rows, then the rows that are left.
+// The first row from `at` on that is the unit's in the section.
 pub fn next_of_unit(splits: &SplitColumns, section: u16, unit: u16, at: usize) -> Option<usize>
     requires { at ≤ splits.now.count }
     ensures { NextHit (of_unit section unit) (columns_of splits.now) splits.now.count at result }
 {
-    // by blocks, and then what is left: no count of rows
-    let mut i = at;
-    while 32 <= splits.count - i {
-        if let Some(k) = next_in_block(splits, section, unit, i) {
-            return Some(k);
-        }
-        i += 32;
-    }
-    next_in_rows(splits, section, unit, i, splits.count)
+    first_by_blocks(
+        at,
+        splits.count,
+        |i| holds_unit(splits.units, i, unit),
+        |i| is_of_unit(section, unit, splits.units[i], splits.rest[i]),
+    )
 }
 
-// Whether one of the 32 starts from `at` on lies in a range; as `holds_unit`.
-fn holds_start(starts: &[u32], at: usize, from: u32, to: u32) -> bool
-    requires { at + 32 ≤ length starts.now }
-    ensures { result ≡ some (λ (s : ℕ). leb from s && ltb s to) (tabulate (λ (k : ℕ). get_or starts.now k 0) at 32) }
-{
-    let mut any = false;
-    for k in 0..32 {
-        let start = starts[at + k];
-        any |= (from <= start) & (start < to);
-    }
-    any
-}
-
-// The first row from `at` up to `to` in the range: row by row.
-fn within_in_rows(splits: &SplitColumns, range: SectionRange, at: usize, to: usize) -> Option<usize>
-    requires { (to ≤ splits.now.count) × (at ≤ to) }
-    ensures { FirstPlace (in_range range) (columns_of splits.now) at to result }
-{
-    for i in at..to {
-        if is_within(range, splits.starts[i], splits.rest[i]) {
-            return Some(i);
-        }
-    }
-    None
-}
-
-// The same of the 32 rows from `at` on: row by row only where one starts in the range in some section.
-fn within_in_block(splits: &SplitColumns, range: SectionRange, at: usize) -> Option<usize>
-    requires { at + 32 ≤ splits.now.count }
-    ensures { FirstPlace (in_range range) (columns_of splits.now) at (at + 32) result }
-{
-    if holds_start(splits.starts, at, range.from, range.to) {
-        return within_in_rows(splits, range, at, at + 32);
-    }
-    None
-}
-
-// The first row from `at` on in the range: by blocks of 32 rows, then the rows that are left.
+// The first row from `at` on in the range.
 pub fn next_within(splits: &SplitColumns, range: SectionRange, at: usize) -> Option<usize>
     requires { at ≤ splits.now.count }
     ensures { FirstPlace (in_range range) (columns_of splits.now) at splits.now.count result }
 {
-    // by blocks, and then what is left: no count of rows
-    let mut i = at;
-    while 32 <= splits.count - i {
-        if let Some(k) = within_in_block(splits, range, i) {
-            return Some(k);
-        }
-        i += 32;
-    }
-    within_in_rows(splits, range, i, splits.count)
+    first_by_blocks(
+        at,
+        splits.count,
+        |i| holds_start(splits.starts, i, range),
+        |i| is_within(range, splits.starts[i], splits.rest[i]),
+    )
 }
 
 // What the range holds, for a split of `unit`: "an autogenerated one that meets a hand split changes nothing", "25 meets a hand split of another unit",
