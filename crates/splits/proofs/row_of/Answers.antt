@@ -1,6 +1,6 @@
 -- `splits::row_of` meets its contract: each part of `rest` is cut out as the definition does it.
 -- Assumes nothing.
-use Rattle.splits.specs.Columns.{row_of, section_in, flags_in, rename_in, origin_in}
+use Rattle.splits.specs.Columns.{row_of, rename_in, origin_in}
 use Rattle.splits.proofs.row_of.Goals as goal
 
 pub returns : goal.returns
@@ -8,12 +8,12 @@ unfolding row_of
 returns c =
     let a = c.args in
     λ i. record {
-      section = section_in a.rest;
+      section = c.section_of.ensures i;
       start = a.start;
       end = a.end;
       unit = a.unit;
       alignment = c.alignment_of.ensures i;
-      flags = flags_in a.rest;
+      flags = c.flags_of.ensures i;
       rename = rename_in a.rest;
       origin = origin_in a.rest;
     }
