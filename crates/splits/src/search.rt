@@ -48,14 +48,13 @@ pub fn first_by_blocks<H: Fn(usize) -> bool, P: Fn(usize) -> bool>(
         → ((i : ℕ) → i + 32 ≤ count → H.post may_hold i false → (k : ℕ) → i ≤ k → k < i + 32 → p k ≡ false)
         → FirstNumber p at count result }
 {
-    let whole = (count - at) / 32;
-    for block in 0..whole {
-        let i = at + 32 * block;
+    let whole = count - (count - at) % 32;
+    for i in (at..whole).step_by(32) {
         if may_hold(i) {
             if let Some(k) = first_place(i, i + 32, &passes) {
                 return Some(k);
             }
         }
     }
-    first_place(at + 32 * whole, count, &passes)
+    first_place(whole, count, &passes)
 }
