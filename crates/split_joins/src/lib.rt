@@ -59,14 +59,7 @@ fn lies_between(rows: &RowRun, s: Split) -> bool
     if stop == splits.count {
         return true;
     }
-    lies_after(
-        s.section,
-        s.start,
-        s.end,
-        splits.starts[stop],
-        splits.ends[stop],
-        splits.rest[stop],
-    )
+    lies_after(s, splits.starts[stop], splits.ends[stop], splits.rest[stop])
 }
 
 // Whether s may take the place of the rows, which are in its range: no other row is in it or of its unit in the section, or takes
