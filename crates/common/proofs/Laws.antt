@@ -1,8 +1,8 @@
 -- Where the common splits begin: the sections named `.bss` found one after the other, and the cases of the answer. Assumes nothing.
 use mathlib.Core.Path.{◌≡◌, refl, sym, ap, subst, ◌∙◌}
 use mathlib.Core.List.{List, [], ◌∷◌, map}
-use mathlib.Core.Bool.{Bool}
-use Prim.Native.Nat.{ℕ, suc, ◌+◌, ◌-◌, ◌<◌}
+use mathlib.Core.Bool.{Bool, true, false}
+use Prim.Native.Nat.{ℕ, suc, ◌+◌, ◌-◌, ◌≤◌, ◌<◌}
 use native.Mathlib.Omega.{arith}
 use borrow.Author.Tests.{lt-ltb}
 use lib.ListN.{length}
@@ -11,9 +11,10 @@ use Rattle.lists.specs.Outcome.{accepted, refused, refuse, ◌>>◌, ◌>>=◌}
 use Rattle.lists.proofs.Parts.{tabulate_all}
 use Rattle.obj.specs.declared.Split.{Split}
 use Rattle.splits.specs.Columns.{Columns, row_at, rows}
+use Rattle.splits.proofs.Blocks.{none_kept, first_kept}
 use Rattle.common.specs.declared.Bss.TheVariants as the_bss
 use Rattle.common.specs.declared.Bss.TheVariants.{One, Many}
-use Rattle.std.specs.Prelude.{Option, None, Some}
+use Rattle.std.specs.Prelude.{Option, None, Some, MatchOption}
 use Rattle.common.specs.Common.{nowhere, on, bss_sections, given_start, first_common, start_of, common_in, common_start, marked_from, marked, common_of, start_meaning, First}
 use Rattle.common.specs.Sections.{bss_of, first_of, given_of}
 
@@ -29,6 +30,13 @@ module _ {A : Type 0} (p : A → Bool) (f : ℕ → A) (n from : ℕ) where
 
   pub first_none : keep_if p (tabulate f from (n - from)) ≡ [] → First p f n from None
   first_none e = record { there = λ j z. absurd (cc); none = λ z. e }
+
+  -- what std's search found is the first that passes
+  pub first_found : (r : Option ℕ) → from ≤ n
+      → MatchOption r ((k : ℕ) → from ≤ k → k < n → p (f k) ≡ false) (λ i. (from ≤ i) × (i < n) × (p (f i) ≡ true) × ((k : ℕ) → from ≤ k → k < i → p (f k) ≡ false))
+      → First p f n from r
+  first_found None h none = first_none (none_kept p f n from h none)
+  first_found (Some i) h s = first_hit i s.1 (first_kept p f n from i s.0 s.1 s.2 s.3)
 
 -- ---- the sections named `.bss`
 module _ (p : ℕ → Bool) (n : ℕ) where

@@ -13,7 +13,7 @@ ghost use Rattle.common.specs.Sections.{has_bss_name, bss_numbers, bss_of, first
 
 use names::{Names, is_bss, name_at};
 use obj::{Refusal, Section, Split, Table, refuse};
-use splits::{SplitColumns, SplitRest, rest_of, row};
+use splits::{SplitColumns, SplitRest, flags_of, rest_of, row, section_of};
 
 mod named_sections;
 
@@ -44,12 +44,7 @@ fn next_bss(sections: &NamedSections, from: usize) -> Option<usize>
     requires { from ≤ length sections.now.heads.places.now }
     ensures { First (has_bss_name sections.now.names sections.now.heads) (λ k. k) (length sections.now.heads.places.now) from result }
 {
-    for k in from..sections.heads.places.len() {
-        if is_bss_at(sections, k) {
-            return Some(k);
-        }
-    }
-    None
+    (from..sections.heads.places.len()).find(|k| is_bss_at(sections, *k))
 }
 
 // `by_name(".bss")`: at most one section may have the name.
@@ -72,19 +67,14 @@ fn by_name(sections: &NamedSections) -> Bss
 fn is_common_in(section: u16, yrest: u64) -> bool
     ensures { result ≡ (eqb (yrest % 65536) section && eqb (yrest / 4294967296 % 256 % 2) 1) }
 {
-    (yrest % 65536 == section as u64) & (yrest / 4294967296 % 256 % 2 == 1)
+    (section_of(yrest) == section) & (flags_of(yrest) % 2 == 1)
 }
 
 // The first common row of a section.
 fn first_common(splits: &SplitColumns, section: u16) -> Option<usize>
     ensures { First (common_in section) (row_at (columns_of splits.now)) splits.now.count 0 result }
 {
-    for i in 0..splits.count {
-        if is_common_in(section, splits.rest[i]) {
-            return Some(i);
-        }
-    }
-    None
+    (0..splits.count).find(|i| is_common_in(section, splits.rest[*i]))
 }
 
 // "else from the first common one on": of the one `.bss`.
@@ -147,7 +137,7 @@ pub fn common_start(
 fn marked_rest(start: u32, rest: u64, section: u16, address: u32) -> u64
     ensures { (end unit : ℕ) → row_of start end unit result ≡ marked section address (row_of start end unit rest) }
 {
-    if (rest % 65536 == section as u64) & (address <= start) {
+    if (section_of(rest) == section) & (address <= start) {
         return rest - rest / 4294967296 % 2 * 4294967296 + 4294967296;
     }
     rest
@@ -181,8 +171,8 @@ pub fn marked_split(s: Split, section: u16, address: u32) -> Split
 pub fn mark_common_splits(splits: &mut [Split], section: u16, address: u32)
     ensures { splits.new ≡ map (marked section address) splits.old }
 {
-    for i in 0..splits.len() {
-        splits[i] = marked_split(splits[i], section, address);
+    for s in splits.iter_mut() {
+        *s = marked_split(*s, section, address);
     }
 }
 
@@ -250,7 +240,8 @@ pub fn update_common_splits(
     Ok(())
 }
 
-// The same on split records: the other form has a call of `mark_columns` here, and of this one `mark_records` asks that the rows fit 1,024 records.
+// The same on split records: the other form has a call of `mark_columns` here, and of this one `mark_records` asks that the rows fit 1,024 records. One function for both would take
+// the marking as a closure, with a clause for what it asks and one for what it does, and would be longer than these four lines.
 pub fn update_common_records(
     names: &Names,
     heads: &Table,

@@ -1,7 +1,7 @@
 -- The search by blocks, for a unit's row and for a row in a range: a block none of whose numbers passes has no such row. Assumes nothing.
 use mathlib.Core.Path.{◌≡◌, refl, sym, ap, ap₂, ◌∙◌}
-use mathlib.Core.List.{[]}
-use mathlib.Core.Bool.{Bool, false, ◌&&◌, ◌||◌}
+use mathlib.Core.List.{[], ◌∷◌}
+use mathlib.Core.Bool.{Bool, true, false, ◌&&◌, ◌||◌}
 use mathlib.Core.Logic.{◌⊎◌, inl, inr}
 use Prim.Native.Nat.{ℕ, zero, suc, ◌+◌, ◌-◌, ◌≤◌, ◌<◌}
 use native.Mathlib.Omega.{arith}
@@ -69,12 +69,26 @@ first_behind p at i n (Some j) h low s =
 
 -- ---- a unit's rows
 
--- none of the rows passes
-hit_none : (p : Split → Bool) (c : Columns) (n d i : ℕ) → i + d ≡ n → ((k : ℕ) → i ≤ k → k < n → p (row_at c k) ≡ false) → keep_if p (tabulate (row_at c) i (n - i)) ≡ []
-hit_none p c n zero i e none = filter_none p (row_at c) n i (omega arith)
-hit_none p c n (suc d) i e none =
-    filter_miss p (row_at c) n i (omega arith) (none i (omega arith) (omega arith))
-    ∙ hit_none p c n d (i + 1) (omega arith) (λ k h l. none k (omega arith) l)
+module _ {A : Type 0} (p : A → Bool) (f : ℕ → A) (n : ℕ) where
+  -- the elements that do not pass may be left out
+  pub misses : (d i : ℕ) → i + d ≤ n → ((k : ℕ) → i ≤ k → k < i + d → p (f k) ≡ false) → keep_if p (tabulate f i (n - i)) ≡ keep_if p (tabulate f (i + d) (n - (i + d)))
+  misses zero i h none = ap (λ (x : ℕ). keep_if p (tabulate f x (n - x))) (let e : i ≡ i + 0 = omega arith in e)
+  misses (suc d) i h none =
+      filter_miss p f n i (omega arith) (none i (omega arith) (omega arith))
+      ∙ misses d (i + 1) (omega arith) (λ k q l. none k (omega arith) (omega arith))
+      ∙ ap (λ (x : ℕ). keep_if p (tabulate f x (n - x))) (let e : i + 1 + d ≡ i + suc d = omega arith in e)
+
+  -- those from `at` on that pass: there are none, or element i is the first
+  pub none_kept : (at : ℕ) → at ≤ n → ((k : ℕ) → at ≤ k → k < n → p (f k) ≡ false) → keep_if p (tabulate f at (n - at)) ≡ []
+  none_kept at h none =
+      let e : at + (n - at) ≡ n = omega arith in
+      misses (n - at) at (omega arith) (λ k q l. none k q (omega arith)) ∙ filter_none p f n (at + (n - at)) (omega arith)
+
+  pub first_kept : (at i : ℕ) → at ≤ i → i < n → p (f i) ≡ true → ((k : ℕ) → at ≤ k → k < i → p (f k) ≡ false)
+      → keep_if p (tabulate f at (n - at)) ≡ f i ∷ keep_if p (tabulate f (i + 1) (n - (i + 1)))
+  first_kept at i h l here none =
+      let e : at + (i - at) ≡ i = omega arith in
+      misses (i - at) at (omega arith) (λ k q m. none k q (omega arith)) ∙ ap (λ (x : ℕ). keep_if p (tabulate f x (n - x))) e ∙ filter_hit p f n i l here
 
 -- none of the units of a block is the unit
 pub units_none : (section unit : ℕ) (c : Columns) (i size : ℕ) → some (λ (u : ℕ). eqb u unit) (tabulate (λ (k : ℕ). get_or c.units k 0) i size) ≡ false
@@ -83,34 +97,11 @@ unfolding row_of
 units_none section unit c i size e k h l =
     and_fails (eqb (row_at c k).section section) (none_of (λ (u : ℕ). eqb u unit) (λ (j : ℕ). get_or c.units j 0) i size e k h l)
 
--- the rows that do not pass may be left out
-misses : (p : Split → Bool) (c : Columns) (n d i : ℕ) → i + d ≤ n → NonePasses p c i (i + d)
-    → keep_if p (tabulate (row_at c) i (n - i)) ≡ keep_if p (tabulate (row_at c) (i + d) (n - (i + d)))
-misses p c n zero i h none = ap (λ (x : ℕ). keep_if p (tabulate (row_at c) x (n - x))) (let e : i ≡ i + 0 = omega arith in e)
-misses p c n (suc d) i h none =
-    filter_miss p (row_at c) n i (omega arith) (none i (omega arith) (omega arith))
-    ∙ misses p c n d (i + 1) (omega arith) (λ k q l. none k (omega arith) (omega arith))
-    ∙ ap (λ (x : ℕ). keep_if p (tabulate (row_at c) x (n - x))) (let e : i + 1 + d ≡ i + suc d = omega arith in e)
-
 -- the first row that passes begins those that pass
 pub first_hit : (p : Split → Bool) (c : Columns) (n at : ℕ) (r : Option ℕ) → at ≤ n → FirstPlace p c at n r → NextHit p c n at r
-first_hit p c n at None h none = record {
-  is = hit_none p c n (n - at) at (omega arith) none ∙ sym (rw (le-ltb n n (omega arith)) refl);
-  past = h;
-  small = omega arith;
-}
+first_hit p c n at None h none = record { is = none_kept p (row_at c) n at h none ∙ sym (rw (le-ltb n n (omega arith)) refl); past = h; small = omega arith }
 first_hit p c n at (Some i) h s =
-    let e : at + (i - at) ≡ i = omega (arith, s.past) in (
-      record {
-        is = misses p c n (i - at) at (omega (arith, s.past, s.small)) (λ k q l. s.none k q (omega arith))
-            ∙ ap (λ (x : ℕ). keep_if p (tabulate (row_at c) x (n - x))) e
-            ∙ filter_hit p (row_at c) n i s.small s.passes
-            ∙ sym (rw (lt-ltb i n s.small) refl);
-        past = s.past;
-        small = omega (arith, s.small);
-      },
-      s.small,
-    )
+    (record { is = first_kept p (row_at c) n at i s.past s.small s.passes s.none ∙ sym (rw (lt-ltb i n s.small) refl); past = s.past; small = omega (arith, s.small) }, s.small)
 
 -- ---- rows in a range
 

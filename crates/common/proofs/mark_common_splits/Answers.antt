@@ -5,5 +5,5 @@ use Rattle.std.proofs.lemmas.List.Edits.{map_over_more}
 use Rattle.common.specs.Common.{marked}
 use Rattle.common.proofs.mark_common_splits.Goals as goal
 
-pub loop-i-preserved : goal.loop-i-preserved
-loop-i-preserved c = grind (arith, common_steps, map_over_more (marked c.args.section c.args.address))
+pub loop-s-preserved : goal.loop-s-preserved
+loop-s-preserved c = grind (arith, common_steps, map_over_more (marked c.args.section c.args.address))

@@ -2,12 +2,12 @@
 use Rattle.common.proofs.Marking.{mark_hit, mark_miss}
 use Rattle.common.proofs.marked_rest.Goals as goal
 
-pub returns-then-rest-section : goal.returns-then-rest-section
-returns-then-rest-section c =
+pub returns-then-section_of-section : goal.returns-then-section_of-section
+returns-then-section_of-section c =
     let a = c.args in
-    λ end unit. mark_hit a.section a.address a.start end unit a.rest c.if-rest-section.true
+    λ end unit. mark_hit a.section a.address a.start end unit a.rest (rw c.section_of.ensures at c.if-section_of-section.true)
 
 pub returns : goal.returns
 returns c =
     let a = c.args in
-    λ end unit. mark_miss a.section a.address a.start end unit a.rest c.if-rest-section.false
+    λ end unit. mark_miss a.section a.address a.start end unit a.rest (rw c.section_of.ensures at c.if-section_of-section.false)
