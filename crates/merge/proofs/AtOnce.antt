@@ -6,10 +6,11 @@ use mathlib.Core.Bool.{false}
 use Prim.Native.Nat.{ℕ, ◌≤◌, ◌<◌}
 use native.Mathlib.Omega.{arith}
 use lib.ListN.{length}
-use Rattle.std.specs.Prelude.{Option, Some, None, is_some}
+use Rattle.std.specs.Prelude.{Ok, Err, is_err}
 use Rattle.lists.specs.Rows.{keep_if}
 use Rattle.lists.specs.Outcome.{accepted}
 use Rattle.lists.proofs.Compare.{never}
+use Rattle.obj.specs.Answers.{Answer}
 use Rattle.obj.specs.declared.Split.{Split}
 use Rattle.obj.specs.declared.Section.{Section}
 use Rattle.splits.specs.Columns.{Columns, rows}
@@ -21,12 +22,12 @@ use Rattle.merge.specs.Answers.{Begins}
 use Rattle.merge.proofs.Rounds.{round_push}
 use Rattle.merge.proofs.Decisions.{none-pushed}
 
-pub neither : (sections : List Section) (s : Split) (r : Option ℕ) → is_some r ≡ false → Begins sections s r → Begins sections s None
-neither sections s None e begins = begins
-neither sections s (Some number) e begins = absurd (never (sym e))
+pub neither : (sections : List Section) (s : Split) (r : Answer) → is_err r ≡ false → Begins sections s r → Begins sections s (Ok tt)
+neither sections s (Ok _) e begins = begins
+neither sections s (Err r) e begins = absurd (never (sym e))
 
 -- neither 20 nor 21 comes of s
-module _ (sections : List Section) (s : Split) (inside : Begins sections s None) where
+module _ (sections : List Section) (s : Split) (inside : Begins sections s (Ok tt)) where
   -- no row is of its unit in the section, and a place is free: all that is left to do is a push
   only_push : (cap : ℕ) (l : List Split) → keep_if (of_unit s.section s.unit) l ≡ [] → length l < cap
       → merge_one (given sections cap) l s ≡ accepted (pushed s l)

@@ -1,5 +1,5 @@
 -- What the answers of the merge mean: a round's step is an outcome of `decide`, and what is merged is the rows that the columns then hold.
-use Rattle.std.specs.Prelude.{ℕ, ◌≡◌, List, Option, MatchOption, Result, Ok, Err}
+use Rattle.std.specs.Prelude.{ℕ, ◌≡◌, List, MatchResult, Result, Ok, Err}
 use Rattle.lists.specs.Rows.{keep_if}
 use Rattle.lists.specs.Outcome.{Outcome, accepted, refused}
 use Rattle.obj.specs.declared.Refusal.{Refusal}
@@ -25,12 +25,12 @@ HandsGood (Ok Push) = Unit {0}
 HandsGood (Ok (Join joint)) = Good joint.alignment
 HandsGood (Err r) = Unit {0}
 
--- where a round of s with these sections ends by 20 or 21, the number r; where it doesn't, the splits of its unit decide, whatever the table
-abbrev pub Begins : List Section → Split → Option ℕ → Type 0
+-- where a round of s with these sections ends by 20 or 21, the refusal; where it doesn't, the splits of its unit decide, whatever the table
+abbrev pub Begins : List Section → Split → Answer → Type 0
 Begins sections s r =
-    (room : ℕ) (rows : List Split) → MatchOption r
-    (decide (given sections room) rows s ≡ on_own room rows s (keep_if (of_unit s.section s.unit) rows))
-    (λ number. decide (given sections room) rows s ≡ refused number s.section s.start)
+    (room : ℕ) (rows : List Split) → MatchResult r
+    (λ _. decide (given sections room) rows s ≡ on_own room rows s (keep_if (of_unit s.section s.unit) rows))
+    (λ e. decide (given sections room) rows s ≡ refused e.number e.section e.address)
 
 -- the rows that an answer leaves in the table, or its refusal
 abbrev pub merged : Answer → List Split → Outcome (List Split)

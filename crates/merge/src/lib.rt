@@ -64,7 +64,7 @@ fn joint_of(new: Split, old: Split) -> Split
 // ---- a round's decision
 
 // A refusal at a split: "Merge (section, start of the round's new split)".
-fn refuse_at(number: u16, s: Split) -> Result<Step, Refusal>
+fn refuse_at<T>(number: u16, s: Split) -> Result<T, Refusal>
     ensures { result ≡ Err (record { number = number; section = s.section; address = s.start }) }
 {
     refuse(number, s.section, s.start)
@@ -140,19 +140,19 @@ fn section_end(heads: &Table, i: usize) -> u64
     (head.address as u64) + (head.size as u64)
 }
 
-// 20 or 21 of a round with the split s, by its number, if its section is not there or it ends outside.
-fn outside(heads: &HeldHeads, s: Split) -> Option<u16>
+// 20 or 21 of a round with the split s: its section is not there, or it ends outside.
+fn check_place(heads: &HeldHeads, s: Split) -> Result<(), Refusal>
     ensures { Begins (sections_in heads.now.table.bytes.now heads.now.table.places.now) s result }
 {
     let section = s.section as usize;
     if heads.table.places.len() <= section {
-        return Some(20);
+        return refuse_at(20, s);
     }
     let limit = section_end(&heads.table, section);
     if (s.end != 0) & (limit < s.end as u64) {
-        return Some(21);
+        return refuse_at(21, s);
     }
-    None
+    Ok(())
 }
 
 // What a round does: 20, 21, then by the splits of its unit in the section.
@@ -165,9 +165,7 @@ fn decide_round(
     requires { Good new.alignment }
     ensures { (decided result ≡ decide (given (sections_in heads.now.table.bytes.now heads.now.table.places.now) room) (rows_of splits.now) new) × HandsGood result }
 {
-    if let Some(number) = outside(heads, new) {
-        return refuse_at(number, new);
-    }
+    check_place(heads, new)?;
     decide_own(splits, room, new)
 }
 
@@ -184,7 +182,7 @@ fn join_at_once(table: &mut SplitTable, heads: &HeldHeads, joint: Split) -> bool
     ensures none { result ≡ false → Unchanged table.old table.new }
     ensures lent { SameLent table.old table.new }
 {
-    if outside(heads, joint).is_some() {
+    if check_place(heads, joint).is_err() {
         return false;
     }
     join_and_push(table, joint)

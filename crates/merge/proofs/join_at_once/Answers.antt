@@ -8,4 +8,4 @@ pub returns-clause-made : goal.returns-clause-made
 returns-clause-made c made =
     let t = c.args.heads.now.table in
     let sections = sections_in t.bytes.now t.places.now in
-    at_once sections c.args.joint (neither sections c.args.joint _ (sym c.is_some.ensures ∙ c.if-is_some.false) c.outside.ensures) _ _ _ _ (c.join_and_push.ensures.made made)
+    at_once sections c.args.joint (neither sections c.args.joint _ (sym c.is_err.ensures.value ∙ c.if-is_err.false) c.check_place.ensures) _ _ _ _ (c.join_and_push.ensures.made made)
