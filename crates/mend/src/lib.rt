@@ -15,7 +15,7 @@ ghost use Rattle.mend.specs.Steps.{Joins, Turned, Fills, Mends, LowHeads};
 use lines::{put_decimal, put_hex8};
 use names::put_bytes;
 use obj::{Refusal, Section, Table, refuse};
-use splits::{SplitColumns, SplitEnds, row};
+use splits::{SplitColumns, SplitEnds, row, section_of};
 
 const SPACE: u8 = 32;
 
@@ -52,7 +52,7 @@ fn next_of(splits: &SplitColumns, i: usize) -> Option<u32>
     if splits.count <= k {
         return None;
     }
-    if splits.rest[k] % 65536 != splits.rest[i] % 65536 {
+    if section_of(splits.rest[k]) != section_of(splits.rest[i]) {
         return None;
     }
     Some(splits.starts[k])
@@ -169,11 +169,7 @@ pub fn mend_table(
     ensures others { OnlyEnds table.old table.new }
 {
     check_ends(&table.columns(), section_ends)?;
-    mend_rows(table, section_ends, lines).ok_or(Refusal {
-        number: 80,
-        section: 0,
-        address: 0,
-    })
+    mend_rows(table, section_ends, lines).ok_or(Refusal::new(80, 0, 0))
 }
 
 // ---- the sections

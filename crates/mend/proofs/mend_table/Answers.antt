@@ -13,4 +13,4 @@ returns-in_err-check_ends-clause-mended c =
 pub returns-clause-mended : goal.returns-clause-mended
 returns-clause-mended c =
     let checked = rw (c.columns.ensures.columns, c.columns.ensures.count) at c.check_ends.ensures in
-    rw c.ok_or.ensures.value (mends_told _ _ c.mend_rows.result (sym (ap meaning c.in_ok-check_ends.was) ∙ checked) c.mend_rows.ensures.filled)
+    rw (c.ok_or.ensures.value, c.new.ensures) (mends_told _ _ c.mend_rows.result (sym (ap meaning c.in_ok-check_ends.was) ∙ checked) c.mend_rows.ensures.filled)

@@ -10,16 +10,16 @@ returns-then-splits-k c =
     let f = row_at (columns_of a.splits.now) in
     next_none f (f a.i) a.i a.splits.now.count c.if-splits-k.true
 
-pub returns-then-splits-k-2 : goal.returns-then-splits-k-2
+pub returns-then-section_of : goal.returns-then-section_of
 unfolding row_of
-returns-then-splits-k-2 c =
+returns-then-section_of c =
     let a = c.args in
     let f = row_at (columns_of a.splits.now) in
-    next_other f (f a.i) a.i a.splits.now.count c.if-splits-k.false c.if-splits-k-2.true
+    next_other f (f a.i) a.i a.splits.now.count c.if-splits-k.false (rw (c.section_of.ensures, c.section_of-2.ensures) at c.if-section_of.true)
 
 pub returns : goal.returns
 unfolding row_of
 returns c =
     let a = c.args in
     let f = row_at (columns_of a.splits.now) in
-    next_same f (f a.i) a.i a.splits.now.count c.if-splits-k.false c.if-splits-k-2.false
+    next_same f (f a.i) a.i a.splits.now.count c.if-splits-k.false (rw (c.section_of.ensures, c.section_of-2.ensures) at c.if-section_of.false)
