@@ -10,7 +10,7 @@ ghost use Rattle.split_joins.specs.Joins.{Apart, Between, TakesPlace, AtOnce};
 
 use obj::Split;
 use split_edits::{first_from, lies_after, next_outside, shift_rows_down};
-use splits::{SectionRange, SplitTable, next_of_unit, next_within, rest_of};
+use splits::{SectionRange, SplitTable, next_of_unit, next_within};
 
 mod row_run;
 
@@ -105,12 +105,8 @@ pub fn join_and_push(table: &mut SplitTable, s: Split) -> bool
     if !takes_place(&rows, s) {
         return false;
     }
-    let packed = rest_of(s);
     shift_rows_down(table, first + 1, stop, n - stop);
-    table.starts[first] = s.start;
-    table.ends[first] = s.end;
-    table.units[first] = s.unit;
-    table.rest[first] = packed;
+    table.put_row(first, s);
     table.count = n - stop + (first + 1);
     true
 }

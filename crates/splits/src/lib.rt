@@ -7,7 +7,7 @@ ghost use Rattle.std.proofs.lemmas.List.Edits.{sets};
 ghost use Rattle.lists.specs.Rows.{tabulate, some};
 ghost use Rattle.obj.specs.Records.{split_at, partial_width, split_width};
 ghost use Rattle.splits.specs.Columns.{alignment_of, Good, section_in, flags_in, row_of, row_at};
-ghost use Rattle.splits.specs.Table.{columns_of, rows_of, columns_in, rows_in, Shows, SameColumns, SameLent, ends_columns, ends_rows, OnlyEnds};
+ghost use Rattle.splits.specs.Table.{columns_of, rows_of, columns_in, rows_in, Shows, SameColumns, SameLent, SameSize, ends_columns, ends_rows, OnlyEnds};
 ghost use Rattle.splits.specs.Updates.{with_end};
 ghost use Rattle.splits.specs.Questions.{in_range, of_unit, NextHit, FirstPlace, Meets};
 ghost use Rattle.splits.specs.Bytes.{partial_bytes, split_bytes, table_bytes, Loadable};
@@ -54,6 +54,35 @@ impl SplitTable<'_, '_, '_, '_> {
             rest: &*self.rest,
             count: self.count,
         }
+    }
+
+    // Row i becomes s, be it one of the table's or the room behind them.
+    #[inline(always)]
+    pub fn put_row(&mut self, i: usize, s: Split)
+        requires { (i < self.old.room) × Good s.alignment }
+        ensures row { row_at (columns_in self.new) i ≡ s }
+        ensures others { (k : ℕ) → (k ≡ i → ⊥) → row_at (columns_in self.new) k ≡ row_at (columns_in self.old) k }
+        ensures size { SameSize self.old self.new }
+    {
+        let packed = rest_of(s);
+        self.starts[i] = s.start;
+        self.ends[i] = s.end;
+        self.units[i] = s.unit;
+        self.rest[i] = packed;
+    }
+
+    // Row `to` becomes what row `from` is, packed as it is.
+    #[inline(always)]
+    pub fn copy_row(&mut self, from: usize, to: usize)
+        requires { (from < self.old.room) × (to < self.old.room) }
+        ensures row { row_at (columns_in self.new) to ≡ row_at (columns_in self.old) from }
+        ensures others { (k : ℕ) → (k ≡ to → ⊥) → row_at (columns_in self.new) k ≡ row_at (columns_in self.old) k }
+        ensures size { SameSize self.old self.new }
+    {
+        self.starts[to] = self.starts[from];
+        self.ends[to] = self.ends[from];
+        self.units[to] = self.units[from];
+        self.rest[to] = self.rest[from];
     }
 }
 
@@ -189,11 +218,7 @@ pub fn load(lent: &Table, table: &mut SplitTable)
     ensures lent { SameLent table.old table.new }
 {
     for i in 0..lent.places.len() {
-        let s = lent.record::<Split>(i);
-        table.starts[i] = s.start;
-        table.ends[i] = s.end;
-        table.units[i] = s.unit;
-        table.rest[i] = rest_of(s);
+        table.put_row(i, lent.record::<Split>(i));
     }
     table.count = lent.places.len();
 }

@@ -2,7 +2,8 @@
 ghost use Rattle.std.specs.Prelude.{◌≡◌, ℕ, ◌≤◌, length};
 ghost use Rattle.splits.specs.Columns.{columns, Long};
 
-// The columns of the split table; its rows are the first `count` of them.
+// The columns of the split table; its rows are the first `count` of them. A count, and not columns cut to the rows: those would have four lengths, with a clause that each is
+// the table's, where one count is enough.
 #[derive(Clone, Copy)]
 pub struct SplitColumns<'s, 'e, 'u, 'r> {
     pub starts: &'s [u32],

@@ -11,11 +11,13 @@ use Rattle.splits.specs.Table.{columns_in}
 use Rattle.splits.proofs.Alignment.{good_alignment}
 use Rattle.splits.proofs.load.Goals as goal
 
-pub rest_of-requires : goal.rest_of-requires
-rest_of-requires c =
-    let s = c.record-s in
-    let aligned = c.requires.0.aligned c.loop-i.i c.loop-i-test.true in
-    good_alignment s.result.alignment (ap (λ (r : Split). bad_align r.alignment) s.ensures ∙ aligned)
+pub put_row-requires : goal.put_row-requires
+put_row-requires c =
+    let s = c.record in
+    let aligned = c.requires.0.aligned c.loop-i.i c.loop-i-test.true in (
+      omega (arith, c.requires.1, c.loop-i.invariant.1.room),
+      good_alignment s.result.alignment (ap (λ (r : Split). bad_align r.alignment) s.ensures ∙ aligned),
+    )
 
 pub returns-clause-rows : goal.returns-clause-rows
 returns-clause-rows c =
