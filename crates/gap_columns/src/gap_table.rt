@@ -2,7 +2,7 @@
 ghost use Rattle.std.specs.Prelude.{◌≤◌};
 ghost use Rattle.gap_columns.specs.Columns.{Long};
 
-// The columns of gaps to read; the gaps are their first `count` rows.
+// The columns of gaps to read; the gaps are their first `count` rows. As for splits::SplitColumns, one count and not columns cut to it, whose lengths would each have a clause.
 #[derive(Clone, Copy)]
 pub struct GapColumns<'k, 'e> {
     pub keys: &'k [u64],
