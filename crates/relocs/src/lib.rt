@@ -7,8 +7,9 @@ ghost use Rattle.lists.specs.Sort.{between};
 ghost use Rattle.obj.specs.Records.{Held};
 ghost use Rattle.relocs.specs.Relocs.{reloc_of, relocs_of, address_of, Whole, Room, Readable, Ordered, Leads};
 
-use obj::{Reloc, Table};
 use fields::number;
+use obj::{Reloc, Table};
+use symbol_order::numbered;
 
 // The address of the relocation whose number stands at place i.
 pub fn address_in(table: &Table, part: &[u16], i: usize) -> u32
@@ -19,19 +20,15 @@ pub fn address_in(table: &Table, part: &[u16], i: usize) -> u32
 }
 
 // The section's relocations, in the order of the table, and how many they are: they are `part[..r]`.
-// k is where the next goes and, at the end, how many there are: with `filter` and `enumerate` the count would have to be kept beside them.
 pub fn for_section(table: &Table, section: u16, part: &mut [u16]) -> usize
     requires { Room table.now.places.now part.old × Whole table.now.bytes.now table.now.places.now }
     ensures { Leads part.new (relocs_of (reloc_of table.now.bytes.now table.now.places.now) (length table.now.places.now) section) table.now.places.now result }
 {
-    let mut k = 0;
-    for i in 0..table.places.len() {
-        if table.record::<Reloc>(i).section == section {
-            part[k] = i as u16;
-            k += 1;
-        }
-    }
-    k
+    numbered(
+        table.places.len(),
+        part,
+        &|i| table.record::<Reloc>(i).section == section,
+    )
 }
 
 // Those of the section's relocations that lie in start..end.
