@@ -1,5 +1,6 @@
 -- A number that stands twice in a list, `twice`: sorting does not change it, and in a sorted list two that are equal are neighbours. Assumes nothing.
-use Prim.Native.Nat.{ℕ, suc, ◌+◌, ◌-◌, ◌≤◌, ◌<◌}
+use Rattle.std.specs.List.{list_any, range_with_len}
+use Prim.Native.Nat.{ℕ, zero, suc, ◌+◌, ◌-◌, ◌≤◌, ◌<◌}
 use mathlib.Core.Path.{◌≡◌, refl, sym, ap, ap₂, subst, ◌∙◌}
 use mathlib.Core.List.{List, [], ◌∷◌, map}
 use mathlib.Core.Bool.{Bool, true, false, cond, ◌||◌}
@@ -122,3 +123,20 @@ module _ (f : ℕ → ℕ) (s : List ℕ) where
       let z : i - 1 + 1 ≡ i = omega (arith, low) in
       subst (λ (k : ℕ). next_same (drop (i - 1) (map f s)) ≡ (eqb (f (get_or s (i - 1) 0)) (f (get_or s k 0)) || next_same (drop k (map f s)))) z
       (turn (i - 1) (omega (arith, low, h)))
+
+  -- some number is that of the one before it, of those from place i on
+  any_from : (i n : ℕ) → 0 < i → i + n ≡ length s
+      → list_any (λ j. eqb (f (get_or s (j - 1) 0)) (f (get_or s j 0))) (range_with_len i n) ≡ next_same (drop (i - 1) (map f s))
+  any_from i zero low h = sym (next_none (map f s) (i - 1) (omega (arith, length-map s f, low, h)))
+  any_from i (suc n) low h =
+      let z : i + 1 - 1 ≡ i = omega arith in
+      ap (λ (b : Bool). eqb (f (get_or s (i - 1) 0)) (f (get_or s i 0)) || b)
+      (any_from (i + 1) n (omega arith) (omega (arith, h)) ∙ ap (λ (k : ℕ). next_same (drop k (map f s))) z)
+      ∙ sym (map_turn i low (omega (arith, h)))
+
+  pub any_repeated : (n : ℕ) → length s ≡ n → list_any (λ j. eqb (f (get_or s (j - 1) 0)) (f (get_or s j 0))) (range_with_len 1 (n - 1)) ≡ next_same (map f s)
+  any_repeated zero e = sym (next_none (map f s) 0 (omega (arith, length-map s f, e)))
+  any_repeated (suc n) e =
+      let z : suc n - 1 ≡ n = omega arith in
+      ap (λ (k : ℕ). list_any (λ j. eqb (f (get_or s (j - 1) 0)) (f (get_or s j 0))) (range_with_len 1 k)) z
+      ∙ any_from 1 n (omega arith) (omega (arith, e))
