@@ -4,14 +4,15 @@ use Prim.Native.Nat.{ℕ, zero, suc, ◌+◌, ◌-◌, ◌≤◌, ◌<◌}
 use mathlib.Core.Path.{◌≡◌, refl, sym, ap, ◌∙◌}
 use mathlib.Core.List.{List, [], ◌∷◌}
 use mathlib.Core.Logic.{inl, inr}
-use mathlib.Core.Bool.{Bool, true, false, cond}
+use mathlib.Core.Bool.{Bool, true, false, cond, ◌||◌}
 use native.Mathlib.Omega.{arith}
 use native.Mathlib.Numerals.{add-one}
 use lib.ListN.{length, get_or, drop, drop_of_length-le, length-drop}
 use lib.Seq.{drop-cons, get_or-drop}
 use lib.Dec.{eqb, leb}
 use borrow.Author.Tests.{eq-eqb, ne_eqb, eqb-true, eqb-false, le-leb, lt-leb, leb-true, leb-false}
-use Rattle.toposort.specs.Search.{first, next_edge, bad_edge}
+use Rattle.lists.proofs.Tests.{or_false}
+use Rattle.toposort.specs.Search.{first, next_edge, bad_edge, is_bad}
 use Rattle.toposort.specs.Sorting.{After}
 
 -- the next edge of v, from the edge i on
@@ -104,6 +105,24 @@ module _ (n : ℕ) (from to : List ℕ) (i : ℕ) (h : i < length from) (k : i <
 pub bad_end : (n : ℕ) (from to : List ℕ) (i : ℕ) → length from ≤ i → bad_from n from to i ≡ i
 unfolding bad_edge
 bad_end n from to i h = rw (drop_of_length-le from h) (omega arith)
+
+-- the scan comes to a place before which no edge is bad
+pub bad_past : (n : ℕ) (from to : List ℕ) (e : ℕ) → e ≤ length from → length to ≡ length from
+    → ((k : ℕ) → k < e → is_bad n from to k ≡ false) → bad_edge n from to ≡ bad_from n from to e
+bad_past n from to zero h p good = omega arith
+bad_past n from to (suc e) h p good =
+    let here = or_false _ _ (good e (omega arith)) in
+    bad_past n from to e (omega arith) p (λ k q. good k (omega arith))
+    ∙ bad_on n from to e (omega arith) (omega arith) (leb-false _ _ here.0) (leb-false _ _ here.1)
+    ∙ ap (bad_from n from to) (add-one e)
+
+-- .. and stops there if the edge is bad
+pub bad_here : (n : ℕ) (from to : List ℕ) (e : ℕ) → e < length from → length to ≡ length from → is_bad n from to e ≡ true → bad_from n from to e ≡ e
+bad_here n from to e h p bad = go (leb n (get_or from e 0)) refl bad
+  where
+    go : (b : Bool) → leb n (get_or from e 0) ≡ b → b || leb n (get_or to e 0) ≡ true → bad_from n from to e ≡ e
+    go true q r = bad_from_lem n from to e h (omega arith) (leb-true _ _ q)
+    go false q r = bad_to n from to e h (omega arith) (leb-false _ _ q) (leb-true _ _ r)
 
 -- both ends of each edge before the bad one are nodes
 pub good_before : (n : ℕ) (from to : List ℕ) (e : ℕ) → e < bad_edge n from to → (get_or from e 0 < n) × (get_or to e 0 < n)

@@ -3,7 +3,7 @@
 -- The root stands above all nodes and opens each in turn, as in the Rust, where it is node n; here it is always the last of 1,025 records
 -- ("All 1,025 node records start from one value").
 -- What a right answer is, without the search: Answers.antt. The theorems that join the two: proofs/Theorems.antt.
-use Rattle.std.specs.Prelude.{ℕ, zero, suc, ◌+◌, ◌*◌, ◌<◌, ◌≡◌, List, [], ◌∷◌, cond, length, get_or, set, drop, replicate, leb, eqb}
+use Rattle.std.specs.Prelude.{ℕ, zero, suc, ◌+◌, ◌*◌, ◌<◌, ◌≡◌, List, [], ◌∷◌, Bool, ◌||◌, cond, length, get_or, set, drop, replicate, leb, eqb}
 use Rattle.toposort.specs.declared.State.{State}
 use Rattle.toposort.specs.declared.State.TheVariants.{Unseen, Open, Closed}
 use Rattle.toposort.specs.declared.Node.{Node}
@@ -36,6 +36,10 @@ unfoldable pub bad_edge : ℕ → List ℕ → List ℕ → ℕ
 bad_edge n [] to = 0
 bad_edge n (x ∷ from) [] = 0
 bad_edge n (x ∷ from) (y ∷ to) = cond (leb n x) 0 (cond (leb n y) 0 (suc (bad_edge n from to)))
+
+-- whether edge e comes from or goes to no node
+abbrev pub is_bad : ℕ → List ℕ → List ℕ → ℕ → Bool
+is_bad n from to e = leb n (get_or from e 0) || leb n (get_or to e 0)
 
 -- what an open node does: the root goes through the nodes, and a node through its edges
 unfoldable pub move_of : Graph → ℕ → ℕ → Move

@@ -3,7 +3,7 @@
 
 ghost use Rattle.std.specs.Prelude.{◌≡◌, [], ◌++◌, ℕ, suc, ◌≤◌, ◌<◌, length, drop, MatchOption};
 ghost use Rattle.lists.specs.Outcome.{accepted};
-ghost use Rattle.toposort.specs.Search.{next_edge, bad_edge, move_of, node, parent_of, hops, climb, state_at, Reaches, searched, start};
+ghost use Rattle.toposort.specs.Search.{next_edge, bad_edge, is_bad, move_of, node, parent_of, hops, climb, state_at, Reaches, searched, start};
 ghost use Rattle.toposort.specs.Sorting.{Sorts, Within, Chainable, Chained, Follows, Moves, Ready, sort_of, carried, kept as kept_by, answer_of};
 ghost use Rattle.toposort.specs.Lent.{graph_in};
 ghost use Rattle.toposort.specs.declared.State.TheVariants.{Open, Closed};
@@ -46,20 +46,20 @@ pub enum Move {
     Take(usize, usize),
 }
 
+// Whether edge e comes from or goes to no node.
+fn is_bad(graph: &EdgeTable, e: usize) -> bool
+    requires { e < length graph.now.from.now }
+    ensures { result ≡ is_bad graph.now.count graph.now.from.now graph.now.to.now e }
+{
+    graph.count <= usize::from(graph.from[e]) || graph.count <= usize::from(graph.to[e])
+}
+
 // The first edge from or to no node.
 pub fn bad_edge(graph: &EdgeTable) -> Option<usize>
     ensures { MatchOption result (bad_edge graph.now.count graph.now.from.now graph.now.to.now ≡ length graph.now.from.now)
         (λ e. (e ≡ bad_edge graph.now.count graph.now.from.now graph.now.to.now) × (e < length graph.now.from.now)) }
 {
-    for e in 0..graph.from.len() {
-        if graph.count <= graph.from[e] as usize {
-            return Some(e);
-        }
-        if graph.count <= graph.to[e] as usize {
-            return Some(e);
-        }
-    }
-    None
+    (0..graph.from.len()).find(|e| is_bad(graph, *e))
 }
 
 // Chains the edges by the node that they leave, so that a node's next edge is found without a search: from the last edge to the first,

@@ -1,17 +1,23 @@
--- `toposort::bad_edge`: each way out gives the edge that the whole scan finds, or that it finds none.
-use mathlib.Core.Path.{sym, ◌∙◌}
-use native.Mathlib.Omega.{arith}
-use Rattle.toposort.proofs.Edges.{bad_from_lem, bad_to, bad_on, bad_end}
+-- `toposort::bad_edge`: the edge that `find` stops at is the one that the whole scan finds, since none before it is bad.
+use Rattle.std.proofs.Common.{rules, arith, ◌≡◌, ℕ, ◌<◌, ◌≤◌, true, false, length, sym, ◌∙◌, MatchOption, None, Some, Option, List}
+use borrow.Author.Tests.{tests}
+use Rattle.std.proofs.lemmas.Iterator.{first_from_Range}
+use Rattle.toposort.specs.Search.{bad_edge, is_bad}
+use Rattle.toposort.proofs.Edges.{bad_past, bad_here, bad_end}
 use Rattle.toposort.proofs.bad_edge.Goals as goal
 
-pub returns-then-graph-e : goal.returns-then-graph-e
-returns-then-graph-e c = (sym (c.loop-e.invariant ∙ bad_from_lem _ _ _ _ (omega arith) (omega arith) (omega arith)), omega arith)
-
-pub returns-then-graph-e-2 : goal.returns-then-graph-e-2
-returns-then-graph-e-2 c = (sym (c.loop-e.invariant ∙ bad_to _ _ _ _ (omega arith) (omega arith) (omega arith) (omega arith)), omega arith)
-
-pub loop-e-preserved : goal.loop-e-preserved
-loop-e-preserved c = c.loop-e.invariant ∙ bad_on _ _ _ _ (omega arith) (omega arith) (omega arith) (omega arith)
+-- what the search over the places says, as the scan has it
+stops : (n : ℕ) (from to : List ℕ) (r : Option ℕ) → length to ≡ length from
+    → MatchOption r ((k : ℕ) → 0 ≤ k → k < length from → is_bad n from to k ≡ false)
+      (λ e. (0 ≤ e) × (e < length from) × (is_bad n from to e ≡ true) × ((k : ℕ) → 0 ≤ k → k < e → is_bad n from to k ≡ false))
+    → MatchOption r (bad_edge n from to ≡ length from) (λ e. (e ≡ bad_edge n from to) × (e < length from))
+stops n from to None p h = bad_past n from to (length from) (omega arith) p (λ k q. h k (omega arith) q) ∙ bad_end n from to (length from) (omega arith)
+stops n from to (Some e) p h =
+    (sym (bad_past n from to e (omega arith) p (λ k q. h.3 k (omega arith) q) ∙ bad_here n from to e h.1 p h.2), h.1)
 
 pub returns : goal.returns
-returns c = omega (arith, c.loop-e.invariant, bad_end c.args.graph.now.count c.args.graph.now.from.now c.args.graph.now.to.now c.loop-e.e (omega arith))
+returns c =
+    let g = c.args.graph.now in
+    stops g.count g.from.now g.to.now c.find.result (omega arith)
+    (first_from_Range _ _ _ c.find.result (λ e. is_bad g.count g.from.now g.to.now e ≡ true) (λ e. is_bad g.count g.from.now g.to.now e ≡ false)
+    c.find.ensures.ran (λ x q k. search (rules, tests)) (λ x q k. search (rules, tests)))
