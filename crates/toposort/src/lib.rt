@@ -51,7 +51,7 @@ fn is_bad(graph: &EdgeTable, e: usize) -> bool
     requires { e < length graph.now.from.now }
     ensures { result ≡ is_bad graph.now.count graph.now.from.now graph.now.to.now e }
 {
-    graph.count <= usize::from(graph.from[e]) || graph.count <= usize::from(graph.to[e])
+    graph.count <= graph.from[e] as usize || graph.count <= graph.to[e] as usize
 }
 
 // The first edge from or to no node.
@@ -88,10 +88,8 @@ pub struct EdgeChains<'h, 'c> {
 fn edge_of(place: u16, edges: usize) -> Option<usize>
     ensures { MatchOption result (edges ≤ place) (λ e. (e ≡ place) × (e < edges)) }
 {
-    if (place as usize) < edges {
-        return Some(place as usize);
-    }
-    None
+    let e = place as usize;
+    (e < edges).then_some(e)
 }
 
 // The first edge at or after `start` that leaves `v`. `start` is 0 or comes right after an edge that leaves `v`.
@@ -130,15 +128,14 @@ fn parent_of(s: State) -> usize
 {
     match s {
         State::Open { next: _, parent } => parent as usize,
-        State::Unseen => ROOT,
-        State::Closed => ROOT,
+        State::Unseen | State::Closed => ROOT,
     }
 }
 
 // How many open nodes lie on the way from `from` up to `top`, both counted.
-pub fn cycle_length(nodes: [Node; 1025], top: usize, from: usize) -> usize
-    requires { Reaches nodes top from }
-    ensures { result ≡ suc (hops 1025 nodes top from) }
+pub fn cycle_length(nodes: &[Node; 1025], top: usize, from: usize) -> usize
+    requires { Reaches nodes.now top from }
+    ensures { result ≡ suc (hops 1025 nodes.now top from) }
 {
     // no count: a way up along the parents
     let mut cur = from;
@@ -151,9 +148,9 @@ pub fn cycle_length(nodes: [Node; 1025], top: usize, from: usize) -> usize
 }
 
 // The k nodes from `from` upwards, the uppermost first, at the front of the table.
-pub fn write_cycle(nodes: [Node; 1025], from: usize, k: usize, table: &mut [u16])
-    requires { (k ≤ length table.old) × ((v : ℕ) → parent_of (state_at nodes v) < 1025) × (from < 1025) }
-    ensures { table.new ≡ climb k nodes from [] ++ drop k table.old }
+pub fn write_cycle(nodes: &[Node; 1025], from: usize, k: usize, table: &mut [u16])
+    requires { (k ≤ length table.old) × ((v : ℕ) → parent_of (state_at nodes.now v) < 1025) × (from < 1025) }
+    ensures { table.new ≡ climb k nodes.now from [] ++ drop k table.old }
 {
     let mut cur = from;
     for left in (0..k).rev() {
@@ -221,8 +218,8 @@ pub fn search(graph: &EdgeTable, chains: &EdgeChains, table: &mut [u16]) -> Resu
                         cur = adj;
                     }
                     State::Open { next: _, parent: _ } => {
-                        let k = cycle_length(nodes, adj, cur);
-                        write_cycle(nodes, cur, k, table);
+                        let k = cycle_length(&nodes, adj, cur);
+                        write_cycle(&nodes, cur, k, table);
                         return Err(Unsorted::Cycle(k));
                     }
                     State::Closed => {}
@@ -262,8 +259,7 @@ pub fn kept(r: Result<usize, Unsorted>) -> usize
     match r {
         Ok(n) => n,
         Err(Unsorted::Cycle(k)) => k,
-        Err(Unsorted::NoNode(_)) => 0,
-        Err(Unsorted::Short) => 0,
+        Err(Unsorted::NoNode(_) | Unsorted::Short) => 0,
     }
 }
 

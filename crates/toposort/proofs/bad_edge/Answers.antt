@@ -9,7 +9,7 @@ use Rattle.toposort.proofs.bad_edge.Goals as goal
 -- what the search over the places says, as the scan has it
 stops : (n : ℕ) (from to : List ℕ) (r : Option ℕ) → length to ≡ length from
     → MatchOption r ((k : ℕ) → 0 ≤ k → k < length from → is_bad n from to k ≡ false)
-      (λ e. (0 ≤ e) × (e < length from) × (is_bad n from to e ≡ true) × ((k : ℕ) → 0 ≤ k → k < e → is_bad n from to k ≡ false))
+    (λ e. (0 ≤ e) × (e < length from) × (is_bad n from to e ≡ true) × ((k : ℕ) → 0 ≤ k → k < e → is_bad n from to k ≡ false))
     → MatchOption r (bad_edge n from to ≡ length from) (λ e. (e ≡ bad_edge n from to) × (e < length from))
 stops n from to None p h = bad_past n from to (length from) (omega arith) p (λ k q. h k (omega arith) q) ∙ bad_end n from to (length from) (omega arith)
 stops n from to (Some e) p h =
