@@ -31,3 +31,4 @@ pub mod Binds
 pub mod DropRows
 pub mod Among
 pub mod Ranks
+pub mod Backwards

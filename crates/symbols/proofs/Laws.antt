@@ -1,13 +1,13 @@
 -- A turn of each pass over a part of the symbol order: the last that passes, from behind, and the highest alignment, from the front.
 -- Assumes nothing.
-use mathlib.Core.Path.{◌≡◌, refl, ap, ap₂, ◌∙◌}
+use mathlib.Core.Path.{◌≡◌, refl, sym, ap, ap₂, ◌∙◌}
 use mathlib.Core.List.{List, [], ◌∷◌, ◌++◌}
 use mathlib.Core.Bool.{Bool, true, false, cond}
-use Prim.Native.Nat.{ℕ, suc, ◌+◌, ◌-◌, ◌≤◌, ◌<◌, max}
+use Prim.Native.Nat.{ℕ, zero, suc, ◌+◌, ◌-◌, ◌≤◌, ◌<◌, max}
 use native.Mathlib.Numerals.{add-one}
 use native.Mathlib.Omega.{arith}
 use lib.ListN.{length, get_or, take, drop, drop_of_length-le, length-drop}
-use lib.Seq.{take-suc, drop-cons, get_or-drop}
+use lib.Seq.{take-suc, take_all, drop-cons, get_or-drop}
 use Rattle.lists.specs.Rows.{keep_if}
 use Rattle.lists.proofs.Filter.{keep_append}
 use Rattle.obj.specs.declared.Symbol.{Symbol}
@@ -35,6 +35,32 @@ last_turn p l j best h q =
     go : (t : Bool) → last_or (last_or best (keep_if p (take (j - 1) l))) (cond t (get_or l (j - 1) 0 ∷ []) []) ≡ cond t (Some (get_or l (j - 1) 0)) (last_or best (keep_if p (take (j - 1) l)))
     go true = refl
     go false = refl
+
+-- those from place j on do not pass
+last_past : (p : ℕ → Bool) (l : List ℕ) (m j : ℕ) (best : Option ℕ) → j + m ≡ length l → ((k : ℕ) → j ≤ k → k < length l → p (get_or l k 0) ≡ false)
+    → last_or best (keep_if p l) ≡ last_or best (keep_if p (take j l))
+last_past p l zero j best e h = ap (λ (s : List ℕ). last_or best (keep_if p s)) (sym (take_all j l (omega arith)))
+last_past p l (suc m) j best e h =
+    let z : j + 1 - 1 ≡ j = omega arith in
+    last_past p l m (j + 1) best (omega arith) (λ k a b. h k (omega arith) b)
+    ∙ last_turn p l (j + 1) best (omega arith) (omega arith)
+    ∙ ap (λ (i : ℕ). cond (p (get_or l i 0)) (Some (get_or l i 0)) (last_or best (keep_if p (take i l)))) z
+    ∙ ap (λ (t : Bool). cond t (Some (get_or l j 0)) (last_or best (keep_if p (take j l)))) (h j (omega arith) (omega arith))
+
+-- the last that passes is that at place j
+pub last_is : (p : ℕ → Bool) (l : List ℕ) (j : ℕ) (best : Option ℕ) → j < length l → p (get_or l j 0) ≡ true
+    → ((k : ℕ) → j < k → k < length l → p (get_or l k 0) ≡ false) → last_or best (keep_if p l) ≡ Some (get_or l j 0)
+last_is p l j best h e after =
+    let z : j + 1 - 1 ≡ j = omega arith in
+    last_past p l (length l - (j + 1)) (j + 1) best (omega arith) (λ k a b. after k (omega arith) b)
+    ∙ last_turn p l (j + 1) best (omega arith) (omega arith)
+    ∙ ap (λ (i : ℕ). cond (p (get_or l i 0)) (Some (get_or l i 0)) (last_or best (keep_if p (take i l)))) z
+    ∙ ap (λ (t : Bool). cond t (Some (get_or l j 0)) (last_or best (keep_if p (take j l)))) e
+
+-- none passes
+pub last_nowhere : (p : ℕ → Bool) (l : List ℕ) (best : Option ℕ) → ((k : ℕ) → k < length l → p (get_or l k 0) ≡ false) → last_or best (keep_if p l) ≡ best
+unfolding last_or keep_if
+last_nowhere p l best h = last_past p l (length l) 0 best (omega arith) (λ k a b. h k b)
 
 -- .. of the places from `from` to before j
 module _ (p : ℕ → Bool) (l : List ℕ) (from : ℕ) where

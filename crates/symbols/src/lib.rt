@@ -2,7 +2,7 @@
 // "Its first" and "its next" symbol are the first and the next number of such a part.
 #![tactic(auto)]
 
-ghost use Rattle.std.specs.Prelude.{◌≡◌, length, None};
+ghost use Rattle.std.specs.Prelude.{◌≡◌, ◌<◌, length, get_or, None};
 ghost use Rattle.lists.specs.Rows.{keep_if};
 ghost use Rattle.lists.specs.Sort.{between};
 ghost use Rattle.symbol_order.specs.Order.{symbol_of, key_at, symbols_of, Readable, Order};
@@ -109,22 +109,28 @@ pub fn is_sized_unstripped(y: Symbol, objects: bool) -> bool
     (!objects | (y.kind == 2)) & ((y.size_known == 1) & (y.size != 0) & !y.is_stripped())
 }
 
+// Whether the symbol whose number stands at place j is sized and unstripped.
+fn is_sized_at(table: &Table, part: &[u16], j: usize, objects: bool) -> bool
+    requires { (j < length part.now) × Readable table.now.bytes.now table.now.places.now part.now }
+    ensures { result ≡ sized_unstripped objects (symbol_of table.now.bytes.now table.now.places.now (get_or part.now j 0)) }
+{
+    let i = number(part, j);
+    is_sized_unstripped(table.record::<Symbol>(i), objects)
+}
+
 // The last sized unstripped symbol of a part. Here and in `last_below` `objects` stays, though all callers ask for every kind: the definition has both cases, and so has what is promised.
 pub fn last_of(table: &Table, part: &[u16], objects: bool) -> Option<usize>
     requires { Readable table.now.bytes.now table.now.places.now part.now }
     ensures { result ≡ last_or None (keep_if (λ i. sized_unstripped objects (symbol_of table.now.bytes.now table.now.places.now i)) part.now) }
 {
-    for j in (0..part.len()).rev() {
-        let i = number(part, j);
-        if is_sized_unstripped(table.record::<Symbol>(i), objects) {
-            return Some(i);
-        }
-    }
-    None
+    let last = (0..part.len())
+        .rev()
+        .find(|j| is_sized_at(table, part, *j, objects));
+    last.map(|j| number(part, j))
 }
 
 // "the last sized unstripped symbol below" an address of a section, or only of its Objects.
-// It goes down from the address's place and ends at a symbol of an earlier section, so the section's first place is not searched for.
+// It goes down from the address's place and ends at a symbol of an earlier section, so the section's first place is not searched for. `take_while` and `find` would read each record twice.
 #[tactic(auto, using(symbol_order::proofs::Parts::order_readable))]
 pub fn last_below(
     b: &[u8],

@@ -1,36 +1,36 @@
--- `symbols::last_of`: what is kept to before j is the symbol at j - 1, if it passes, and else what is kept to before that.
-use Rattle.std.proofs.Common.{◌≡◌, ◌-◌, cond, None, Some, take, get_or, sym, ap, ◌∙◌, arith}
+-- `symbols::last_of`: the place that `find` stops at from behind has the last symbol that passes.
+use native.Mathlib.Omega.{arith}
+use Rattle.std.proofs.Common.{rules}
+use mathlib.Core.Path.{◌≡◌, sym, ◌∙◌}
+use mathlib.Core.List.{List}
+use mathlib.Core.Bool.{Bool, true, false}
+use Prim.Native.Nat.{ℕ, ◌≤◌, ◌<◌}
+use lib.ListN.{length, get_or}
+use borrow.Author.Tests.{tests}
+use Rattle.std.specs.Prelude.{Option, None, Some, MatchOption}
+use Rattle.std.specs.Option.{option_map}
 use Rattle.lists.specs.Rows.{keep_if}
+use Rattle.lists.proofs.Backwards.{last_from_Range}
 use Rattle.symbol_order.specs.Order.{symbol_of}
-use Rattle.symbol_order.proofs.Parts.{held_at}
 use Rattle.symbols.specs.Ranges.{sized_unstripped, last_or}
-use Rattle.symbols.proofs.Laws.{last_turn}
+use Rattle.symbols.proofs.Laws.{last_is, last_nowhere}
 use Rattle.symbols.proofs.last_of.Goals as goal
-use Rattle.symbols.proofs.last_of.Goals.{After-is_sized_unstripped}
 
-pub record-requires : goal.record-requires
-record-requires c = held_at _ _ _ c.requires _ _ (omega arith) c.number-i.ensures
-
-turn : (c : After-is_sized_unstripped)
-    → cond c.is_sized_unstripped.result (Some (get_or c.args.part.now (c.loop-j.j - 1) 0)) (last_or None (keep_if (λ i. sized_unstripped c.args.objects (symbol_of c.args.table.now.bytes.now c.args.table.now.places.now i)) (take (c.loop-j.j - 1) c.args.part.now)))
-    ≡ last_or None (keep_if (λ i. sized_unstripped c.args.objects (symbol_of c.args.table.now.bytes.now c.args.table.now.places.now i)) c.args.part.now)
-turn c =
-    let s = c.args in
-    ap (λ t. cond t (Some (get_or s.part.now (c.loop-j.j - 1) 0)) (last_or None (keep_if (λ i. sized_unstripped s.objects (symbol_of s.table.now.bytes.now s.table.now.places.now i)) (take (c.loop-j.j - 1) s.part.now))))
-    (c.is_sized_unstripped.ensures ∙ ap (sized_unstripped s.objects) (c.record.ensures ∙ ap (symbol_of s.table.now.bytes.now s.table.now.places.now) c.number-i.ensures))
-    ∙ sym (last_turn _ _ c.loop-j.j None c.loop-j-test.true c.loop-j.auto.j)
-    ∙ c.loop-j.invariant
-
-pub returns-then-is_sized_unstripped : goal.returns-then-is_sized_unstripped
-returns-then-is_sized_unstripped c =
-    let h = turn (goal.at.returns-then-is_sized_unstripped c).After-is_sized_unstripped in
-    ap Some c.number-i.ensures ∙ (rw c.if-is_sized_unstripped.true at h)
-
-pub loop-j-preserved : goal.loop-j-preserved
-loop-j-preserved c =
-    let h = turn (goal.at.loop-j-preserved c).After-is_sized_unstripped in
-    rw c.if-is_sized_unstripped.false at h
+-- what the search from behind says, as the contract has it
+last : (p : ℕ → Bool) (l : List ℕ) (r : Option ℕ)
+    → MatchOption r ((k : ℕ) → 0 ≤ k → k < length l → p (get_or l k 0) ≡ false)
+    (λ j. (0 ≤ j) × (j < length l) × (p (get_or l j 0) ≡ true) × ((k : ℕ) → j < k → k < length l → p (get_or l k 0) ≡ false))
+    → option_map (λ j. get_or l j 0) r ≡ last_or None (keep_if p l)
+last p l None h = sym (last_nowhere p l None (λ k a. h k (omega arith) a))
+last p l (Some j) h = sym (last_is p l j None h.1 h.2 h.3)
 
 pub returns : goal.returns
-unfolding last_or keep_if
-returns c = let z : c.loop-j.j ≡ 0 = omega arith in let h = c.loop-j.invariant in let k = rw z at h in k
+returns c =
+    let t = c.args.table.now in
+    let l = c.args.part.now in
+    let p = λ (i : ℕ). sized_unstripped c.args.objects (symbol_of t.bytes.now t.places.now i) in
+    let is : c.map.result ≡ option_map (λ j. get_or l j 0) c.find-last.result = search rules in
+    is ∙ last p l c.find-last.result
+    (rw c.rev.ensures.source at
+    (last_from_Range c.rev.result _ _ c.find-last.result (λ j. p (get_or l j 0) ≡ true) (λ j. p (get_or l j 0) ≡ false)
+    c.find-last.ensures.ran (λ x q k. search (rules, tests)) (λ x q k. search (rules, tests))))
