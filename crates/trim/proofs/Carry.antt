@@ -45,6 +45,16 @@ module _ (s : Split) (row : ℕ → Split) (n j : ℕ) where
   unfolding alongside
   along_none h = let q = ap (alongside s) (rest-none row j n h) in omega (arith, q)
 
+-- the rows from `from` to before `from` + k start where s does
+pub along_past : (s : Split) (row : ℕ → Split) (n from k : ℕ) → from + k ≤ n → ((j : ℕ) → from ≤ j → j < from + k → (eqb (row j).section s.section && eqb (row j).start s.start) ≡ true)
+    → from + alongside s (tabulate row from (n - from)) ≡ from + k + alongside s (tabulate row (from + k) (n - (from + k)))
+along_past s row n from zero h all = let z : from + 0 ≡ from = omega arith in rw z
+along_past s row n from (suc k) h all =
+    let z : from + k + 1 ≡ from + suc k = omega arith in
+    along_past s row n from k (omega arith) (λ j a b. all j a (omega arith))
+    ∙ along_on s row n (from + k) (row (from + k)) refl (omega arith) (all (from + k) (omega arith) (omega arith))
+    ∙ ap (λ (m : ℕ). m + alongside s (tabulate row m (n - m))) z
+
 -- ---- rows of a table
 module _ (row : ℕ → Split) (n k : ℕ) (there : k < n) where
   abbrev table : List Split

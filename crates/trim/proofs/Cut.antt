@@ -1,5 +1,5 @@
 -- The cut: the section's last row, found from behind, and what cutting it is. Assumes nothing.
-use mathlib.Core.Path.{◌≡◌, refl, sym, ap, ap₂, ◌∙◌}
+use mathlib.Core.Path.{◌≡◌, refl, sym, ap, ◌∙◌}
 use mathlib.Core.List.{List, [], ◌∷◌}
 use mathlib.Core.Bool.{Bool, true, false, cond, not, ◌&&◌, ◌||◌}
 use Prim.Native.Nat.{ℕ, zero, suc, ◌+◌, ◌-◌, ◌≤◌, ◌<◌}
@@ -11,7 +11,7 @@ use lib.Dec.{eqb}
 use lib.ListN.{length, get_or, set, drop}
 use Rattle.lists.specs.Outcome.{Outcome, accepted, refused, ◌>>=◌}
 use Rattle.lists.specs.Rows.{tabulate, some}
-use Rattle.lists.proofs.Rows.{rest-cons, rest-none, get_d_tabulate, length-tabulate}
+use Rattle.lists.proofs.Rows.{get_d_tabulate, length-tabulate}
 use Rattle.lists.proofs.DropRows.{drop-rows, set_itself, some_at}
 use Rattle.lists.proofs.Binds.{bind_goes, bind_stops}
 use Rattle.tables.specs.Records.{no_split}
@@ -54,19 +54,11 @@ module _ (section end : ℕ) where
       go false = refl
 
   module _ (row : ℕ → Split) (n : ℕ) where
-    -- one row further down
-    pub none_down : (j : ℕ) (y : Split) → 0 < j → j ≤ n → y ≡ row (j - 1) → (y.section ≡ section → ⊥) → some of_section (tabulate row j (n - j)) ≡ false
-        → some of_section (tabulate row (j - 1) (n - (j - 1))) ≡ false
-    unfolding some
-    none_down j y h q is e f =
-        let down : tabulate row (j - 1) (n - (j - 1)) ≡ row (j - 1) ∷ tabulate row j (n - j) =
-        rest-cons row (j - 1) n (omega arith) ∙ ap (λ (m : ℕ). row (j - 1) ∷ tabulate row m (n - m)) (let z : j - 1 + 1 ≡ j = omega arith in z) in
-        ap (some of_section) down
-        ∙ ap₂ (λ (t u : Bool). t || u) (ap of_section (sym is) ∙ ne_eqb _ _ e) f
-
-    pub none_end : some of_section (tabulate row n (n - n)) ≡ false
-    unfolding some
-    none_end = ap (some of_section) (rest-none row n n (omega arith))
+    -- the m rows from place i on are of other sections
+    pub none_rows : (m i : ℕ) → ((k : ℕ) → i ≤ k → k < i + m → of_section (row k) ≡ false) → some of_section (tabulate row i m) ≡ false
+    unfolding some tabulate
+    none_rows zero i h = refl
+    none_rows (suc m) i h = rw (h i (omega arith) (omega arith)) (none_rows m (suc i) (λ k a b. h k (omega arith) (omega arith)))
 
     -- the rows as they are left
     pub cut_none : some of_section (tabulate row 0 n) ≡ false → tabulate row 0 n ≡ cut_last section end (tabulate row 0 n)

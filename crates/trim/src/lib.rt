@@ -2,7 +2,7 @@
 // last splits are cut. Only ends change; starts, units and the rest stay as they are.
 #![tactic(auto)]
 
-ghost use Rattle.std.specs.Prelude.{◌≡◌, true, false, ℕ, ◌+◌, ◌-◌, ◌<◌, ◌≤◌, length, take, eqb, MatchOption};
+ghost use Rattle.std.specs.Prelude.{◌≡◌, true, false, ℕ, ◌+◌, ◌-◌, ◌<◌, ◌≤◌, ◌&&◌, length, take, eqb, MatchOption};
 ghost use Rattle.lists.specs.Rows.{tabulate, some};
 ghost use Rattle.align.specs.Align.{bad_align};
 ghost use Rattle.symbol_order.specs.Order.{symbol_of, Whole};
@@ -117,29 +117,30 @@ fn find_falls(
     for i in 0..splits.count {
         let s = row(splits, i);
         let fall = fall_of(tables, splits, s, i + 1);
-        falls[i] = fall.map_err(|_| Refusal {
-            number: 11,
-            section: s.section,
-            address: s.start,
-        })?;
+        falls[i] = fall.map_err(|_| Refusal::new(11, s.section, s.start))?;
     }
     Ok(())
 }
 
 // ---- trim_split_alignment: the falls carried out
 
-// The first place from `from` on whose row does not start where s does.
+// Whether row j starts where s does.
+fn starts_with(splits: &SplitColumns, j: usize, s: Split) -> bool
+    requires { j < splits.now.count }
+    ensures { result ≡ (eqb (row_at (columns_of splits.now) j).section s.section && eqb (row_at (columns_of splits.now) j).start s.start) }
+{
+    let y = row(splits, j);
+    (y.section == s.section) & (y.start == s.start)
+}
+
+// The first place from `from` on whose row does not start where s does; the table's end where there is none.
 fn past_start(splits: &SplitColumns, s: Split, from: usize) -> usize
     requires { from ≤ splits.now.count }
     ensures { Past s (columns_of splits.now) splits.now.count from result }
 {
-    for j in from..splits.count {
-        let y = row(splits, j);
-        if !((y.section == s.section) & (y.start == s.start)) {
-            return j;
-        }
-    }
-    splits.count
+    (from..splits.count)
+        .find(|j| !starts_with(splits, *j, s))
+        .unwrap_or(splits.count)
 }
 
 // The fall of row k, 0 if it does not fall: "It falls in the last split at that start".
@@ -182,13 +183,9 @@ fn last_of(splits: &SplitColumns, section: u16) -> Option<usize>
         (some (λ (y : Split). eqb y.section section) (rows_of splits.now) ≡ false)
         (LastOf section (columns_of splits.now) splits.now.count) }
 {
-    for j in (0..splits.count).rev() {
-        let y = row(splits, j);
-        if y.section == section {
-            return Some(j);
-        }
-    }
-    None
+    (0..splits.count)
+        .rev()
+        .find(|j| row(splits, *j).section == section)
 }
 
 // "a last split that ends above it is cut to it"
@@ -214,11 +211,7 @@ fn cut_section(tables: &CheckedTables, table: &mut SplitEnds, k: usize) -> Resul
 {
     let head = tables.obj.heads.record::<Section>(k);
     let end = sections::end_of(&tables.obj, &tables.image, k);
-    let low = end.map_err(|_| Refusal {
-        number: 10,
-        section: k as u16,
-        address: head.address,
-    })?;
+    let low = end.map_err(|_| Refusal::new(10, k as u16, head.address))?;
     if head.address + head.size != low {
         cut_last(table, k as u16, low);
     }
