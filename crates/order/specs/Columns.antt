@@ -5,6 +5,7 @@ use Rattle.lists.specs.Rows.{some}
 use Rattle.lists.specs.Sort.{All}
 use Rattle.lists.specs.Outcome.{Outcome, accepted, refused}
 use Rattle.obj.specs.Answers.{Answer, meaning}
+use Rattle.obj.specs.declared.Refusal.{Refusal}
 use Rattle.obj.specs.declared.Split.{Split}
 use Rattle.obj.specs.declared.Unit as units
 use Rattle.tables.specs.Records.{no_unit}
@@ -38,11 +39,15 @@ kept (Ok n) = n
 kept (Err (Cycle k)) = k
 kept (Err (Refused r)) = 0
 
--- document 01's number, section and address for each case of the answer
+-- document 01's number, section and address where there is no order
+abbrev pub refusal_of : Unlinked → Refusal
+refusal_of (Cycle k) = record { number = 61; section = 0; address = 0 }
+refusal_of (Refused r) = r
+
+-- .. and for each case of the answer
 abbrev pub answer_of : Result ℕ Unlinked → Answer
 answer_of (Ok n) = Ok tt
-answer_of (Err (Cycle k)) = Err (record { number = 61; section = 0; address = 0 })
-answer_of (Err (Refused r)) = Err r
+answer_of (Err why) = Err (refusal_of why)
 
 -- 61 is the cycle's number alone
 abbrev pub NotCycle : Result ℕ Unlinked → Type 0

@@ -11,10 +11,10 @@ ghost use Rattle.link_graph.specs.Graph.{graph_of};
 ghost use Rattle.link_graph.specs.Tables.{given_of, NamesBelow, SameLent};
 ghost use Rattle.order.specs.LinkOrder.{link_order};
 ghost use Rattle.order.specs.declared.Unlinked.TheVariants.{Refused};
-ghost use Rattle.order.specs.Columns.{kept as kept_by, answer_of, Says, Room, Resolves, Sortable, Lent};
+ghost use Rattle.order.specs.Columns.{kept as kept_by, refusal_of, answer_of, Says, Room, Resolves, Sortable, Lent};
 
 use link_graph::{LinkGraph, LinkTables, make_graph};
-use obj::{Refusal, refuse};
+use obj::Refusal;
 use order_numbers::{order_twice, order_units};
 pub use records::put_unit;
 use records::write_records;
@@ -35,6 +35,18 @@ impl From<Refusal> for Unlinked {
     }
 }
 
+// Document 01's number, section and address for each of them.
+impl From<Unlinked> for Refusal {
+    ghost from_gives = { λ why r. r ≡ refusal_of why };
+
+    fn from(why: Unlinked) -> Refusal {
+        match why {
+            Unlinked::Cycle(_) => Refusal::new(61, 0, 0),
+            Unlinked::Refused(refusal) => refusal,
+        }
+    }
+}
+
 // How many unit records stand at the front of the unit table.
 pub fn kept(r: Result<usize, Unlinked>) -> usize
     ensures { result ≡ kept_by r }
@@ -46,26 +58,12 @@ pub fn kept(r: Result<usize, Unlinked>) -> usize
     }
 }
 
-// Document 01's number, section and address for each case of the answer.
+// The answer as a check's: a refusal, or nothing.
 pub fn answer_of(r: Result<usize, Unlinked>) -> Result<(), Refusal>
     ensures { result ≡ answer_of r }
 {
-    match r {
-        Ok(_) => Ok(()),
-        Err(Unlinked::Cycle(_)) => refuse(61, 0, 0),
-        Err(Unlinked::Refused(refusal)) => Err(refusal),
-    }
-}
-
-// The refusal of a stage that names no section.
-fn refusal(number: u16, address: u32) -> Unlinked
-    ensures { result ≡ Refused (record { number = number; section = 0; address = address }) }
-{
-    Unlinked::Refused(Refusal {
-        number,
-        section: 0,
-        address,
-    })
+    r?;
+    Ok(())
 }
 
 // Why the sort gives no order, said of the unit records.
@@ -75,8 +73,8 @@ fn why_unlinked(why: Unsorted) -> Unlinked
 {
     match why {
         Unsorted::Cycle(k) => Unlinked::Cycle(k),
-        Unsorted::NoNode(e) => refusal(62, e as u32),
-        Unsorted::Short => refusal(76, 0),
+        Unsorted::NoNode(e) => Unlinked::from(Refusal::new(62, 0, e as u32)),
+        Unsorted::Short => Unlinked::from(Refusal::new(76, 0, 0)),
     }
 }
 
@@ -130,7 +128,7 @@ pub fn resolve_link_order(
 {
     let k = order_units(&tables.units, numbers, scratch);
     if order_twice(&tables.units, &numbers[..k]) {
-        return Err(refusal(60, 0));
+        return Err(Unlinked::from(Refusal::new(60, 0, 0)));
     }
     make_graph(tables, &mut numbers[..k], graph);
     sort_graph(tables, graph, scratch, out)

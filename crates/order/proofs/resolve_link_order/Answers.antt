@@ -19,7 +19,7 @@ returns-clause-resolves c =
 pub returns-then-order_twice-clause-resolves : goal.returns-then-order_twice-clause-resolves
 returns-then-order_twice-clause-resolves c =
     let a = c.args in
-    rw c.refusal.ensures (order_twice_resolves (given_of a.tables.now) (length a.out.now / 8) a.out.now (sym c.order_twice.ensures ∙ c.if-order_twice.true))
+    rw (c.from.ensures, c.new.ensures) (order_twice_resolves (given_of a.tables.now) (length a.out.now / 8) a.out.now (sym c.order_twice.ensures ∙ c.if-order_twice.true))
 
 pub returns-clause-lent : goal.returns-clause-lent
 returns-clause-lent c = lent_still c.make_graph.ensures.lent c.sort_graph.ensures.lent
