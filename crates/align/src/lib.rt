@@ -8,7 +8,7 @@ ghost use Rattle.align.specs.Align.{good_align, bad_align, Aligned};
 pub fn good(a: u32) -> bool
     ensures { result ≡ good_align a }
 {
-    a.count_ones() == 1 && a <= 65536
+    a.is_power_of_two() && a <= 65536
 }
 
 // Given, and not good: 0 means none.

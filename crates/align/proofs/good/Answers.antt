@@ -1,11 +1,11 @@
-use Rattle.std.proofs.Common.{eq-eqb, ne_eqb}
+use Rattle.std.proofs.Common.{sym, ◌∙◌}
 use Rattle.align.specs.Align.{good_align}
 use Rattle.align.proofs.good.Goals as goal
 
-pub returns-then-a-eq1 : goal.returns-then-a-eq1
+pub returns-then-is_power_of_two : goal.returns-then-is_power_of_two
 unfolding good_align
-returns-then-a-eq1 c = rw (eq-eqb _ 1 c.if-a-eq1.true)
+returns-then-is_power_of_two c = rw (sym c.is_power_of_two.ensures ∙ c.if-is_power_of_two.true)
 
-pub returns-else-a-eq1 : goal.returns-else-a-eq1
+pub returns-else-is_power_of_two : goal.returns-else-is_power_of_two
 unfolding good_align
-returns-else-a-eq1 c = rw (ne_eqb _ 1 c.if-a-eq1.false)
+returns-else-is_power_of_two c = rw (sym c.is_power_of_two.ensures ∙ c.if-is_power_of_two.false) c.if-is_power_of_two.false
