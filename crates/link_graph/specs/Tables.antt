@@ -1,5 +1,6 @@
 -- The tables and columns that are lent together: what the link order is given in them, and the graph that they then hold.
 use Rattle.std.specs.Prelude.{ℕ, ◌<◌, ◌≡◌, List, length, take}
+use Rattle.lists.specs.Slices.{SameSlice}
 use Rattle.tables.specs.Records.{units_in}
 use Rattle.splits.specs.Table.{columns_of, rows_of}
 use Rattle.order_numbers.specs.Numbers.{ordered_numbers}
@@ -46,14 +47,10 @@ pub record Graphed (given : Given) (g : LinkGraph) : Type 0 where
 
 -- the columns are still those that were lent, of the same lengths
 pub record SameLent (before after : LinkGraph) : Type 0 where
-  pub column : after.column.ghost_name ≡ before.column.ghost_name
-  pub nodes : after.nodes.ghost_name ≡ before.nodes.ghost_name
-  pub from : after.from.ghost_name ≡ before.from.ghost_name
-  pub to : after.to.ghost_name ≡ before.to.ghost_name
-  pub column_size : length after.column.now ≡ length before.column.now
-  pub nodes_size : length after.nodes.now ≡ length before.nodes.now
-  pub from_size : length after.from.now ≡ length before.from.now
-  pub to_size : length after.to.now ≡ length before.to.now
+  pub column : SameSlice before.column after.column
+  pub nodes : SameSlice before.nodes after.nodes
+  pub from : SameSlice before.from after.from
+  pub to : SameSlice before.to after.to
 
 -- from g to h only the edges changed
 pub record OnlyEdges (g h : LinkGraph) : Type 0 where

@@ -32,3 +32,4 @@ pub mod DropRows
 pub mod Among
 pub mod Ranks
 pub mod Backwards
+pub mod Slices

@@ -5,3 +5,4 @@ pub mod Tables
 pub mod Sort
 pub mod InsertBy
 pub mod Bounds
+pub mod Slices

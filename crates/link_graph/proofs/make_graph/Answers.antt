@@ -23,7 +23,7 @@ pub make_edges-requires : goal.make_edges-requires
 make_edges-requires c =
     let t = c.args.tables.now in
     let u = c.count_units in
-    let same : length u.new.graph.column.now ≡ length c.args.graph.now.column.now = u.ensures.lent.column_size ∙ c.blank.auto.column in
+    let same : length u.new.graph.column.now ≡ length c.args.graph.now.column.now = u.ensures.lent.column.size ∙ c.blank.auto.column in
     record {
       lent = record {
         named = record { splits = λ i h. omega (arith, same, c.requires.named.splits i h); records = λ k h. omega (arith, same, c.requires.named.records k h) };
