@@ -13,9 +13,9 @@ use lib.ListN.{length, get_or, take, drop, set, replicate, length-append, length
 use lib.Seq.{take-suc, take_all, drop-cons, take-append-le, take-append_seam, get_or-append_seam, get_or-set_same, get_or-set_other}
 use Rattle.std.specs.Prelude.{Option, Some, None, is_some, unwrap_or}
 use Rattle.lists.proofs.FirstIn.{first_in_is}
-use Rattle.names.specs.Names.{name_at, names_of, Named, same_name, number_of}
-use Rattle.names.specs.Index.{mix, hash_from, bucket_of, InBucket, last_from, last_in, Different, Indexed, Found, Sought}
-use Rattle.names.proofs.Laws.{length-names, name_asked, same_equal, other_sym, number_le, number_none, none_number}
+use Rattle.names.specs.Names.{same_name, number_of}
+use Rattle.names.specs.Index.{mix, hash_from, bucket_of, InBucket, last_from, last_in, Different, Indexed, AskedBy, Found, Sought}
+use Rattle.names.proofs.Laws.{same_equal, other_sym, number_le, number_none, none_number}
 
 -- ---- the hash
 
@@ -188,26 +188,27 @@ pub sought_or : (names : List (List ℕ)) (x : List ℕ) (r : Option ℕ) → So
 sought_or names x (Some k) s = s.0.is
 sought_or names x None s = s.is
 
--- ---- a turn of `find`: name cur - 1 is the last that is left in the bucket
+-- what the index has at a name's bucket
+pub search_head : {names : List (List ℕ)} {heads chain x : List ℕ} {bucket first : ℕ} → Indexed names heads chain → InBucket x bucket → first ≡ get_or heads bucket 0 → first ≡ last_in (bucket_of x) names
+search_head {names} i b e = e ∙ i.head _ b.small ∙ ap (λ (h : ℕ). last_in h names) b.is
 
-module _ {bytes places lengths heads chain x : List ℕ} {n cur : ℕ} (named : Named bytes places lengths n) (ix : Indexed (names_of bytes places lengths n) heads chain) (s : Search (names_of bytes places lengths n) x cur) (some : cur ≡ 0 → ⊥) where
-  left_count : cur - 1 < n
-  left_count = omega (arith, search_bound (names_of bytes places lengths n) x cur s, length-names bytes places lengths n)
+-- ---- a turn of `find_by`: name cur - 1 is the last that is left in the bucket
 
-  left_number : cur - 1 < length (names_of bytes places lengths n)
-  left_number = rw length-names left_count
+module _ {pre : ℕ → Type 0} {post : ℕ → Bool → Type 0} {names : List (List ℕ)} {heads chain x : List ℕ} {cur : ℕ} (a : AskedBy pre post names heads chain x) (s : Search names x cur) (some : cur ≡ 0 → ⊥) where
+  left_number : cur - 1 < length names
+  left_number = omega (arith, search_bound names x cur s)
 
-  pub left_name : (cur - 1 < length places) × (cur - 1 < length lengths) × (get_or places (cur - 1) 0 + get_or lengths (cur - 1) 0 ≤ length bytes)
-  left_name = (omega (arith, left_count, named.placed), omega (arith, left_count, named.measured), named.inside (cur - 1) left_count)
+  pub left_asked : pre (cur - 1)
+  left_asked = a.asked (cur - 1) left_number
 
   pub left_chain : cur - 1 < length chain
-  left_chain = omega (arith, left_number, ix.few, ix.room)
+  left_chain = omega (arith, left_number, a.index.few, a.index.room)
 
   -- the name is x: its number
-  pub left_found : {r : Bool} → r ≡ same_name x (name_at bytes places lengths (cur - 1)) → r ≡ true → Sought (names_of bytes places lengths n) x (Some (cur - 1))
-  left_found e t = (
+  pub left_found : {r : Bool} → post (cur - 1) r → r ≡ true → Sought names x (Some (cur - 1))
+  left_found {r} p t = (
     record {
-      is = sym (search_finds (names_of bytes places lengths n) x ix.different (cur - 1) left_number (name_asked bytes places lengths n (cur - 1) x true left_count e t));
+      is = sym (search_finds names x a.index.different (cur - 1) left_number (sym (a.tells (cur - 1) r left_number p) ∙ t));
       few = omega (arith, left_number);
     },
     left_number,
@@ -216,15 +217,12 @@ module _ {bytes places lengths heads chain x : List ℕ} {n cur : ℕ} (named : 
   module _ {next : ℕ} (q : next ≡ get_or chain (cur - 1) 0) where
     -- the chain goes down
     pub left_less : next < cur
-    left_less =
-        omega
-        (arith, q, ix.next (cur - 1) left_number, last_below (bucket_of (get_or (names_of bytes places lengths n) (cur - 1) [])) (names_of bytes places lengths n) (cur - 1) (omega (arith, left_number)))
+    left_less = omega (arith, q, a.index.next (cur - 1) left_number, last_below (bucket_of (get_or names (cur - 1) [])) names (cur - 1) (omega (arith, left_number)))
 
     -- the name is another one
-    pub left_other : {r : Bool} → r ≡ same_name x (name_at bytes places lengths (cur - 1)) → r ≡ false → Search (names_of bytes places lengths n) x next
-    left_other e t =
-        search_turn (names_of bytes places lengths n) x cur s (cur - 1) next (omega arith) (name_asked bytes places lengths n (cur - 1) x false left_count e t)
-        (q ∙ ix.next (cur - 1) left_number)
+    pub left_other : {r : Bool} → post (cur - 1) r → r ≡ false → Search names x next
+    left_other {r} p t =
+        search_turn names x cur s (cur - 1) next (omega arith) (sym (a.tells (cur - 1) r left_number p) ∙ t) (q ∙ a.index.next (cur - 1) left_number)
 
 -- ---- entering a name
 

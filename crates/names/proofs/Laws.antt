@@ -16,7 +16,7 @@ use Rattle.std.specs.List.{list_any}
 use Rattle.std.specs.Cmp.Lexicographic.{pointwise}
 use Rattle.lists.proofs.Rows.{length-tabulate, get_d_tabulate}
 use Rattle.lists.proofs.FirstIn.{first_in_le, first_in_passes, first_in-first, first_in_before, first_in-none}
-use Rattle.names.specs.Names.{name_at, names_of, same_name, number_of}
+use Rattle.names.specs.Names.{name_at, names_of, Named, same_name, number_of}
 
 -- ---- the same bytes
 
@@ -100,10 +100,13 @@ module _ (bytes places lengths : List ℕ) (n : ℕ) where
   unfolding names_of
   name_there k h = get_d_tabulate (name_at bytes places lengths) 0 n k [] h ∙ ap (name_at bytes places lengths) (zero-add k)
 
-  -- what a comparison with name k answered
-  pub name_asked : (k : ℕ) (x : List ℕ) {r : Bool} (t : Bool) → k < n → r ≡ same_name x (name_at bytes places lengths k) → r ≡ t
-      → same_name x (get_or (names_of bytes places lengths n) k []) ≡ t
-  name_asked k x t h e q = ap (same_name x) (name_there k h) ∙ sym e ∙ q
+-- each of the names lies within the bytes
+module _ {bytes places lengths : List ℕ} {n : ℕ} (named : Named bytes places lengths n) (k : ℕ) (h : k < length (names_of bytes places lengths n)) where
+  pub named_number : k < n
+  named_number = omega (arith, h, length-names bytes places lengths n)
+
+  pub named_lies : (k < length places) × (k < length lengths) × (get_or places k 0 + get_or lengths k 0 ≤ length bytes)
+  named_lies = (omega (arith, named_number, named.placed), omega (arith, named_number, named.measured), named.inside k named_number)
 
 -- ---- the number of a name
 

@@ -1,6 +1,6 @@
 -- The index of the names: each name's number is chained behind the later names of the same hash, so that a name is found without
 -- looking at all names. What is found does not depend on the hash (`number_of`); only the time does.
-use Rattle.std.specs.Prelude.{ℕ, suc, ◌+◌, ◌*◌, ◌/◌, ◌%◌, ◌≤◌, ◌<◌, ◌≡◌, List, [], ◌∷◌, false, cond, length, get_or, take, eqb, Option, MatchOption}
+use Rattle.std.specs.Prelude.{ℕ, suc, ◌+◌, ◌*◌, ◌/◌, ◌%◌, ◌≤◌, ◌<◌, ◌≡◌, List, [], ◌∷◌, Bool, false, cond, length, get_or, take, eqb, Option, MatchOption}
 use Rattle.names.specs.Names.{same_name, number_of}
 
 -- one byte more
@@ -49,3 +49,9 @@ pub record Found (names : List (List ℕ)) (x : List ℕ) (r : ℕ) : Type 0 whe
 -- what a search for x gives: its number among the names, None if it is none of them
 abbrev pub Sought : (names : List (List ℕ)) → (x : List ℕ) → Option ℕ → Type 0
 Sought names x r = MatchOption r (Found names x (length names)) (λ k. Found names x k × (k < length names))
+
+-- an index of names, and calls that say whether name k is x: each number of a name may be asked, and what a call answers is whether that name is the same
+pub record AskedBy (pre : ℕ → Type 0) (post : ℕ → Bool → Type 0) (names : List (List ℕ)) (heads chain : List ℕ) (x : List ℕ) : Type 0 where
+  pub index : Indexed names heads chain
+  pub asked : (k : ℕ) → k < length names → pre k
+  pub tells : (k : ℕ) (r : Bool) → k < length names → post k r → r ≡ same_name x (get_or names k [])

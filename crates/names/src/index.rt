@@ -1,7 +1,7 @@
 // The index of the names: "Names number from 0 in file order; a repeated name adds none", so each name is looked up before it is added.
-ghost use Rattle.std.specs.Prelude.{◌≡◌, ◌+◌, ◌≤◌, ◌<◌, length, get_or, set, replicate};
+ghost use Rattle.std.specs.Prelude.{◌≡◌, List, ℕ, ◌+◌, ◌≤◌, ◌<◌, length, get_or, set, replicate};
 ghost use Rattle.names.specs.Names.{name_at, names_of, Named, same_name};
-ghost use Rattle.names.specs.Index.{InBucket, Indexed, Sought};
+ghost use Rattle.names.specs.Index.{InBucket, Indexed, AskedBy, Sought};
 
 use fields::number;
 use crate::{NameIndex, Names, name_at, same};
@@ -25,23 +25,33 @@ fn is_name(names: &Names, k: usize, x: &[u8]) -> bool
     same(x, name_at(names, k))
 }
 
-// The number of the name x among the n names, if it is one of them: along the chain of its bucket, from the last name to the first. While a table is read, its columns
-// are longer than n. Inlined: handed to a call by reference, the structs of slices would have to lie in memory at each caller.
+// The number of the name x, if it is one of the names that the index has: along the chain of its bucket, from the last name to the first. Names lie in columns or in a stage's
+// table, so `is_name` says whether name k is x. Inlined, as `find` is.
 #[inline(always)]
-pub fn find(names: &Names, n: usize, index: &NameIndex, x: &[u8]) -> Option<usize>
-    requires { Named names.now.bytes.now names.now.places.now names.now.lengths.now n × Indexed (names_of names.now.bytes.now names.now.places.now names.now.lengths.now n) index.now.heads.now index.now.chain.now }
-    ensures { Sought (names_of names.now.bytes.now names.now.places.now names.now.lengths.now n) x.now result }
+pub fn find_by<F: Fn(usize) -> bool>(index: &NameIndex, x: &[u8], is_name: &F) -> Option<usize>
+    requires { (names : List (List ℕ)) × AskedBy (F.pre is_name.now) (F.post is_name.now) names index.now.heads.now index.now.chain.now x.now }
+    ensures { (names : List (List ℕ)) → AskedBy (F.pre is_name.now) (F.post is_name.now) names index.now.heads.now index.now.chain.now x.now → Sought names x.now result }
 {
     let mut cur = number(index.heads, bucket_of(x));
     // A walk along a chain, which is no count.
     while cur != 0 {
         let k = cur - 1;
-        if is_name(names, k, x) {
+        if is_name(k) {
             return Some(k);
         }
         cur = number(index.chain, k);
     }
     None
+}
+
+// The number of the name x among the n names, if it is one of them. While a table is read, its columns are longer than n. Inlined: handed to a call by reference, the structs of
+// slices would have to lie in memory at each caller.
+#[inline(always)]
+pub fn find(names: &Names, n: usize, index: &NameIndex, x: &[u8]) -> Option<usize>
+    requires { Named names.now.bytes.now names.now.places.now names.now.lengths.now n × Indexed (names_of names.now.bytes.now names.now.places.now names.now.lengths.now n) index.now.heads.now index.now.chain.now }
+    ensures { Sought (names_of names.now.bytes.now names.now.places.now names.now.lengths.now n) x.now result }
+{
+    find_by(index, x, &|k| is_name(names, k, x))
 }
 
 // Enters name k into its bucket, before the last name that was entered there. Read, an index is one `NameIndex`; here its two columns stand apart: each caller has them as two

@@ -16,7 +16,7 @@ pub use fixed::{
 };
 pub use gap_name::write_gap_name;
 pub use hex::{digit_of, put_hexes};
-pub use index::{bucket_of, clear_heads, enter, find};
+pub use index::{bucket_of, clear_heads, enter, find, find_by};
 pub use table::{append, put_bytes};
 
 // Names: name k has `lengths[k]` bytes from `places[k]` on.

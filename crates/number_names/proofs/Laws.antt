@@ -2,7 +2,7 @@
 use mathlib.Core.Path.{◌≡◌, refl, sym, ap, ap₂, subst, ◌∙◌}
 use mathlib.Core.List.{List, [], ◌∷◌, ◌++◌, append-nil}
 use mathlib.Core.Bool.{Bool, true, false}
-use Prim.Native.Nat.{ℕ, ◌+◌, ◌*◌, ◌-◌, ◌/◌, ◌≤◌, ◌<◌}
+use Prim.Native.Nat.{ℕ, ◌+◌, ◌*◌, ◌/◌, ◌≤◌, ◌<◌}
 use native.Mathlib.Omega.{arith}
 use borrow.Author.Tests.{lt-ltb, le-ltb, leb-false, ltb-true, ltb-false}
 use lib.ListN.{length, get_or, take, drop, set, length-append, take-append-drop}
@@ -17,56 +17,31 @@ use Rattle.fields.specs.Fields.{enc16}
 use Rattle.outputs.specs.Outputs.{halves}
 use Rattle.stage_names.specs.StageNames.{ends_from, flat}
 use Rattle.stage_names.proofs.Fits.{flat_append}
-use Rattle.names.specs.Names.{same_name, number_of}
-use Rattle.names.specs.Index.{bucket_of, Sought, InBucket}
+use Rattle.names.specs.Names.{number_of}
+use Rattle.names.specs.Index.{Sought, InBucket}
 use Rattle.names.proofs.Laws.{number_le}
-use Rattle.names.proofs.Indexes.{Search, search_bound, search_turn, search_finds, sought_asked, last_below, indexed_entered}
+use Rattle.names.proofs.Indexes.{sought_asked, indexed_entered}
 use Rattle.name_table.specs.NameTable.{name_in}
 use Rattle.number_names.specs.Numbers.{Room, no_place, enter_name, enter_names, name_ends, Laid, Known, Held, Within, Whole, Short, Entered, Going, InTable, Fits, Standing, names_in}
-use Rattle.std.specs.Prelude.{Result, Ok, Err, Option, Some, is_some}
+use Rattle.std.specs.Prelude.{Result, Ok, Err, Option, is_some}
 use Rattle.obj.specs.declared.Refusal.{Refusal}
 use Rattle.number_names.specs.Tables.{SameTable}
 use Rattle.number_names.specs.declared.Count.{Count}
 use Rattle.number_names.specs.declared.table.NumberedNames.{NumberedNames}
 use Rattle.number_names.proofs.Laid.{name_back, start_back, end_back, names_back, count_back, length-name_ends}
 
--- ---- a turn of the search: name cur - 1 is the last that is left in the bucket
+-- ---- the names that are known, asked one by one
 
-module _ {names : List (List ℕ)} {ends bytes heads chain x : List ℕ} {cur : ℕ} (k : Known names ends bytes heads chain) (s : Search names x cur) (some : cur ≡ 0 → ⊥) where
-  left_number : cur - 1 < length names
-  left_number = omega (arith, search_bound names x cur s)
-
-  pub left_name : InTable ends bytes (cur - 1)
-  left_name = record {
-    there = omega (arith, left_number, ap length k.laid.ends_are, length-name_ends names);
-    rising = start_back k.laid (cur - 1) left_number;
-    within = end_back k.laid (cur - 1) left_number;
+module _ {names : List (List ℕ)} {ends bytes heads chain : List ℕ} (known : Known names ends bytes heads chain) (k : ℕ) (h : k < length names) where
+  pub known_lies : InTable ends bytes k
+  known_lies = record {
+    there = omega (arith, h, ap length known.laid.ends_are, length-name_ends names);
+    rising = start_back known.laid k h;
+    within = end_back known.laid k h;
   }
 
-  pub left_chain : cur - 1 < length chain
-  left_chain = omega (arith, left_number, k.index.few, k.index.room)
-
-  asked : {r : Bool} (t : Bool) → r ≡ same_name x (name_in ends bytes (cur - 1)) → r ≡ t → same_name x (get_or names (cur - 1) []) ≡ t
-  asked t e q = ap (same_name x) (sym (name_back k.laid (cur - 1) left_number)) ∙ sym e ∙ q
-
-  -- the name is x: its number
-  pub left_found : {r : Bool} → r ≡ same_name x (name_in ends bytes (cur - 1)) → r ≡ true → Sought names x (Some (cur - 1))
-  left_found e t = (
-    record {
-      is = sym (search_finds names x k.index.different (cur - 1) left_number (asked true e t));
-      few = omega (arith, left_number);
-    },
-    left_number,
-  )
-
-  module _ {next : ℕ} (q : next ≡ get_or chain (cur - 1) 0) where
-    -- the chain goes down
-    pub left_less : next < cur
-    left_less = omega (arith, q, k.index.next (cur - 1) left_number, last_below (bucket_of (get_or names (cur - 1) [])) names (cur - 1) (omega (arith, left_number)))
-
-    -- the name is another one
-    pub left_other : {r : Bool} → r ≡ same_name x (name_in ends bytes (cur - 1)) → r ≡ false → Search names x next
-    left_other e t = search_turn names x cur s (cur - 1) next (omega arith) (asked false e t) (q ∙ k.index.next (cur - 1) left_number)
+  pub known_there : get_or names k [] ≡ name_in ends bytes k
+  known_there = sym (name_back known.laid k h)
 
 -- ---- one name more, as bytes
 

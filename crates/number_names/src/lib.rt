@@ -10,9 +10,9 @@ ghost use Rattle.name_table.specs.NameTable.{name_in};
 ghost use Rattle.number_names.specs.Numbers.{enter_name, InTable};
 ghost use Rattle.number_names.specs.Tables.{listed, room_of, SameTable, HeldBy, EnteredBy};
 
-use fields::{number, put16};
+use fields::put16;
 use name_table::{end_of, start_of};
-use names::{bucket_of, enter, put_bytes, same};
+use names::{bucket_of, enter, find_by, put_bytes, same};
 use obj::{Refusal, refuse};
 pub use table::{KnownNames, NumberedNames};
 
@@ -35,20 +35,11 @@ fn is_name(ends: &[u8], bytes: &[u8], k: usize, x: &[u8]) -> bool
     same(x, &bytes[start..end])
 }
 
-// The number of the name x, if it is one of the names: along the chain of its bucket, from the last name to the first.
+// The number of the name x, if it is one of the names.
 pub fn find_name(names: &KnownNames, x: &[u8]) -> Option<usize>
     ensures { Sought (listed names.now) x.now result }
 {
-    let mut cur = number(names.index.heads, bucket_of(x));
-    // no count: the chain says which name is next
-    while cur != 0 {
-        let k = cur - 1;
-        if is_name(names.ends, names.bytes, k, x) {
-            return Some(k);
-        }
-        cur = number(names.index.chain, k);
-    }
-    None
+    find_by(&names.index, x, &|k| is_name(names.ends, names.bytes, k, x))
 }
 
 // ---- a name more
