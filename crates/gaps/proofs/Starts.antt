@@ -99,12 +99,12 @@ module _ (g : Image) (sections : Sections) (rows : List Split) where
 
 -- ---- the gaps before a split
 module _ (symbol : ℕ → Symbol) (count n least current : ℕ) (s : Split) where
-  pub before_backwards : refused 11 n s.start ≡ alignment_of_next symbol count n least s → gaps_before symbol count n least current s ≡ refused 11 n s.start
+  pub before_backwards : {number section address : ℕ} → refused number section address ≡ alignment_of_next symbol count n least s → gaps_before symbol count n least current s ≡ refused number section address
   unfolding gaps_before ◌>>=◌
-  before_backwards e = go (alignment_of symbol count n least s.alignment s.start s.end) e
+  before_backwards {number} {section} {address} e = go (alignment_of symbol count n least s.alignment s.start s.end) e
     where
-      go : (o : Outcome Chosen) → refused 11 n s.start ≡ (o >>= λ chosen. accepted chosen.value)
-          → (o >>= λ chosen. refuse 40 n current (ltb s.start current) >> gaps_to symbol count n current s.start chosen.value) ≡ refused 11 n s.start
+      go : (o : Outcome Chosen) → refused number section address ≡ (o >>= λ chosen. accepted chosen.value)
+          → (o >>= λ chosen. refuse 40 n current (ltb s.start current) >> gaps_to symbol count n current s.start chosen.value) ≡ refused number section address
       go (accepted chosen) q = absurd (not_both q)
       go (refused x y z) q = cc
 

@@ -7,7 +7,6 @@ ghost use Rattle.lists.specs.Rows.{keep_if};
 ghost use Rattle.align.specs.Align.{good_align, bad_align};
 ghost use Rattle.obj.specs.Answers.{meaning};
 ghost use Rattle.symbol_order.specs.Order.{symbol_of, Readable, Order};
-ghost use Rattle.symbols.specs.Ranges.{stripped};
 ghost use Rattle.symbols.specs.Sound.{Sound};
 ghost use Rattle.sections.specs.Image.{image_in, TablesIn};
 ghost use Rattle.sections.specs.Sections.{sections_of, head_in, KeptIn};
@@ -19,12 +18,12 @@ ghost use Rattle.gaps.specs.Search.{symbol_in, count_in, SameSearch};
 ghost use Rattle.gaps.specs.Found.{alignment_of_next, next_meaning, searched, Clean, Markable, Lent, Space, SectionSpace, Stopped, Unmarked, end_in, start_of};
 
 use align::align_up;
-use gap_columns::{GapTable, place_gap};
 use fields::number;
+use gap_columns::{GapTable, place_gap};
 use obj::{Refusal, Section, Split, Symbol, Table, refuse};
 use sections::{Obj, alignment_of, default_of};
 use splits::{SplitColumns, row};
-use symbol_order::{key_of};
+use symbol_order::key_of;
 use symbols::{Backwards, for_section_range};
 
 mod gap_search;
@@ -32,13 +31,6 @@ mod gap_search;
 use gap_search::{GapSearch, GapSection};
 
 // ---- where a gap ends
-
-// "bit 0 Local, 1 Common, 2 Stripped"
-fn is_stripped(y: Symbol) -> bool
-    ensures { result ≡ stripped y }
-{
-    y.flags / 4 % 2 == 1
-}
 
 // "whose alignment the *current address* misses"; 0 is none.
 fn misses(current: u32, alignment: u32) -> bool
@@ -57,7 +49,7 @@ fn stop_of(table: &Table, part: &[u16], current: u32, marks: &mut [u8]) -> usize
 {
     for j in 0..part.len() {
         let y = table.record::<Symbol>(number(part, j));
-        if is_stripped(y) {
+        if y.is_stripped() {
             continue;
         }
         let k = y.name as usize;
@@ -194,9 +186,7 @@ fn gaps_before(
     ensures lent { SameLent found.old found.new }
 {
     let here = search.here;
-    let Ok(alignment) = next_alignment(&here, s) else {
-        return refuse(11, here.section, s.start);
-    };
+    let alignment = next_alignment(&here, s).map_err(|_| Refusal::new(11, here.section, s.start))?;
     if s.start < current {
         return refuse(40, here.section, current);
     }
@@ -208,12 +198,8 @@ fn next_below(splits: &SplitColumns, section: u16, end: u32, at: usize) -> Optio
     requires { at ≤ splits.now.count }
     ensures { NextHit (below section end) (columns_of splits.now) splits.now.count at result }
 {
-    for i in at..splits.count {
-        if (splits.rest[i] % 65536 == section as u64) & (splits.starts[i] < end) {
-            return Some(i);
-        }
-    }
-    None
+    (at..splits.count).find(|i| (splits.rest[*i] % 65536 == u64::from(section))
+        & (splits.starts[*i] < end))
 }
 
 // The address after a split: "An open split runs to the next start or the splitting end".
@@ -293,9 +279,7 @@ fn gaps_of(
 {
     let section = k as u16;
     let start = obj.heads.record::<Section>(k).address;
-    let Ok(end) = sections::end_of(obj, image, k) else {
-        return refuse(10, section, start);
-    };
+    let end = sections::end_of(obj, image, k).map_err(|_| Refusal::new(10, section, start))?;
     let least = default_of(&obj.names, &obj.heads, k);
     let here = GapSection {
         symbols: obj.symbols,

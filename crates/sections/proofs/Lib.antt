@@ -6,3 +6,4 @@ pub mod Cases
 pub mod Larger
 pub mod Kept
 pub mod Good
+pub mod Refused

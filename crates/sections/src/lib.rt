@@ -12,9 +12,9 @@ ghost use Rattle.sections.specs.Ends.{object_below, lowered, less_four, splittin
 ghost use Rattle.sections.specs.Sections.{head_of, Heads, head_in, KeptIn};
 ghost use Rattle.sections.specs.Alignment.{default_alignment, larger, alignment_of, alignment_from, alignment_meaning, chosen};
 
+use fields::number;
 use names::{Names, is_four_aligned, is_linker_generated_object, is_pointer_list, name_at};
 use obj::{Section, Split, Symbol, Table};
-use fields::number;
 use symbols::{Backwards, for_section, highest_in, is_sized_unstripped};
 
 // What the stages ask a guest: its symbols with their order by address, its names and the heads of its sections. A lifetime for each slice, as they have

@@ -1,5 +1,9 @@
 -- 10, or the gaps up to the splitting end, with the section's default alignment.
-use mathlib.Core.Path.{◌≡◌, sym, ap, ap₂, ◌∙◌}
+use mathlib.Core.Path.{◌≡◌, refl, sym, ap, ap₂, ◌∙◌}
+use Rattle.std.proofs.Common.{rules}
+use Rattle.obj.specs.Answers.{meaning}
+use Rattle.obj.proofs.Errors.{is_err}
+use Rattle.sections.proofs.Refused.{refused_else}
 use Prim.Native.Nat.{ℕ}
 use native.Mathlib.Omega.{arith}
 use Rattle.lists.specs.Rows.{keep_if}
@@ -16,12 +20,13 @@ use Rattle.gaps.specs.Gaps.{gaps_from, below, into}
 use Rattle.gaps.proofs.Sections.{section_short, section_on}
 use Rattle.gaps.proofs.gaps_of.Goals as goal
 
-pub returns-in_default-clause-gaps : goal.returns-in_default-clause-gaps
-returns-in_default-clause-gaps c =
+pub returns-in_err-end-clause-gaps : goal.returns-in_err-end-clause-gaps
+returns-in_err-end-clause-gaps c =
     let a = c.args in
     let g = image_in a.obj.now in
     let s = sections_of a.obj.now.heads.bytes.now a.obj.now.heads.places.now a.image.now.bytes.now a.image.now.places.now in
-    rw (c.refuse.ensures, c.record-start.ensures) (section_short g s a.k (rows_of a.splits.now) (found_in a.found.now) 10 a.k (s.head a.k).address c.in_default.ensures)
+    let is = sym (refused_else (end_meaning a.k (s.head a.k).address) c.end_of.result c.map_err.result c.map_err.ensures.cases (λ e d q. search (rules, c.record-start.ensures)) (λ x. refl) (λ e. refl) ∙ ap meaning c.in_err-end.was) ∙ c.end_of.ensures in
+    rw (is_err _ c.from_residual.ensures.1) (section_short g s a.k (rows_of a.splits.now) (found_in a.found.now) _ _ _ is)
 
 pub invariant_of-here : goal.invariant_of-here
 invariant_of-here c =
@@ -34,8 +39,9 @@ section_gaps-requires c =
     let g = image_in a.obj.now in
     let s = sections_of a.obj.now.heads.bytes.now a.obj.now.heads.places.now a.image.now.bytes.now a.image.now.places.now in
     let p = c.requires in
-    let end = c.in-Ok.end in
-    let is : accepted end ≡ splitting_end g a.k (s.head a.k) (s.bytes a.k) = sym (ap (end_meaning a.k (s.head a.k).address) c.in-Ok.is) ∙ c.end_of.ensures in
+    let end = c.in_ok-end.end in
+    let is : accepted end ≡ splitting_end g a.k (s.head a.k) (s.bytes a.k) =
+    sym (refused_else (end_meaning a.k (s.head a.k).address) c.end_of.result c.map_err.result c.map_err.ensures.cases (λ e d q. search (rules, c.record-start.ensures)) (λ x. refl) (λ e. refl) ∙ ap meaning c.in_ok-end.was) ∙ c.end_of.ensures in
     (rw c.record-start.ensures (p.5 end), omega (arith, end_within g a.k (s.head a.k) (s.bytes a.k) end (sym is), p.1.below a.k p.4))
 
 pub returns-clause-gaps : goal.returns-clause-gaps
@@ -45,8 +51,9 @@ returns-clause-gaps c =
     let s = sections_of a.obj.now.heads.bytes.now a.obj.now.heads.places.now a.image.now.bytes.now a.image.now.places.now in
     let l = rows_of a.splits.now in
     let before = found_in a.found.now in
-    let end = c.in-Ok.end in
-    let is : accepted end ≡ splitting_end g a.k (s.head a.k) (s.bytes a.k) = sym (ap (end_meaning a.k (s.head a.k).address) c.in-Ok.is) ∙ c.end_of.ensures in
+    let end = c.in_ok-end.end in
+    let is : accepted end ≡ splitting_end g a.k (s.head a.k) (s.bytes a.k) =
+    sym (refused_else (end_meaning a.k (s.head a.k).address) c.end_of.result c.map_err.result c.map_err.ensures.cases (λ e d q. search (rules, c.record-start.ensures)) (λ x. refl) (λ e. refl) ∙ ap meaning c.in_ok-end.was) ∙ c.end_of.ensures in
     c.section_gaps.ensures.gaps
     ∙ ap₂ (λ (m start : ℕ). into before (gaps_from g.symbol g.count a.k m end start (keep_if (below a.k end) l))) c.default_of-least.ensures (ap (λ h. h.address) c.record-start.ensures)
     ∙ section_on g s a.k l before end is
