@@ -1,14 +1,16 @@
 -- Parts of the file, whether a name is ended by the last NUL of its table, the checks in their order, and what a file that passed is.
 -- Assumes nothing.
-use mathlib.Core.Path.{◌≡◌, refl, sym, ap, ap₂, ◌∙◌}
+use mathlib.Core.Path.{◌≡◌, refl, sym, ap, ap₂, subst, ◌∙◌}
 use mathlib.Core.List.{List, []}
 use mathlib.Core.Bool.{Bool, true, false, not, ◌||◌}
-use Prim.Native.Nat.{ℕ, zero, suc, ◌+◌, ◌-◌, ◌≤◌, ◌<◌}
+use Prim.Native.Nat.{ℕ, zero, suc, ◌+◌, ◌-◌, ◌≤◌, ◌<◌, zero-le}
 use native.Mathlib.Numerals.{add-one}
 use native.Mathlib.Omega.{arith}
 use borrow.Author.Tests.{eq-eqb, ne_eqb, ltb-true, ltb-false, le-leb, lt-leb, le-ltb, lt-ltb}
 use lib.Dec.{eqb, ltb, leb}
 use lib.ListN.{length, take, drop}
+use Rattle.std.specs.Prelude.{Option, None, Some, MatchOption, ◌≢◌}
+use Rattle.std.specs.Option.{IsSomeAnd}
 use Rattle.std.specs.List.{list_any, range_with_len}
 use Rattle.lists.specs.Outcome.{accepted, refused, refuse}
 use Rattle.lists.proofs.Outcomes.{fails, passes, refuses, allows, then_inv, refuse_inv}
@@ -17,7 +19,7 @@ use Rattle.lists.specs.Rows.{some, tabulate, first_from}
 use Rattle.lists.proofs.First.{first_here, first_on, first_end}
 use Rattle.elf.specs.Elf.{header_at, no_section_header}
 use Rattle.elf.specs.declared.SectionHeader.{SectionHeader}
-use Rattle.elf_file.specs.File.{outside, bytes_in, section_bytes, count, header_of, section_of, header_table, section_strings, symbol_table, symbol_strings, header_wrong, headers_cut, sections_cut, names_cut, symbol_table_cut, file_check}
+use Rattle.elf_file.specs.File.{outside, bytes_in, section_bytes, count, header_of, or_none, section_of, header_table, section_strings, symbol_table, symbol_strings, header_wrong, headers_cut, sections_cut, names_cut, symbol_table_cut, file_check}
 
 -- ---- what a test answered, said of what its argument is
 
@@ -70,31 +72,49 @@ not_ended strings limit at h = go (ltb at limit) refl ∙ ap not (sym (h.ended a
 
 -- ---- the first SHT_SYMTAB section
 
-abbrev pub is_symbols : (headers : List ℕ) → ℕ → Bool
+abbrev is_symbols : (headers : List ℕ) → ℕ → Bool
 is_symbols headers k = eqb (header_of headers k).kind 2
 
 -- the first from k on is the first of all
-abbrev pub FirstFrom : (headers : List ℕ) → ℕ → Type 0
+abbrev FirstFrom : (headers : List ℕ) → ℕ → Type 0
 FirstFrom headers k = first_from (is_symbols headers) k (count headers - k) ≡ first_from (is_symbols headers) 0 (count headers)
 
 module _ (headers : List ℕ) (k : ℕ) where
-  pub symbols_here : {h : SectionHeader} → FirstFrom headers k → k < count headers → h ≡ header_of headers k → h.kind ≡ 2 → h ≡ symbol_table headers
+  symbols_here : {h : SectionHeader} → FirstFrom headers k → k < count headers → h ≡ header_of headers k → h.kind ≡ 2 → h ≡ symbol_table headers
   unfolding symbol_table section_of
   symbols_here {h} f l e q =
       let here : is_symbols headers k ≡ true = eq-eqb (header_of headers k).kind 2 (ap (λ (x : SectionHeader). x.kind) (sym e) ∙ q) in
       let at : first_from (is_symbols headers) 0 (count headers) ≡ k = sym f ∙ first_here (is_symbols headers) k (count headers) l here in
       rw (at, lt-ltb k (count headers) l) e
 
-  pub symbols_on : {h : SectionHeader} → FirstFrom headers k → k < count headers → h ≡ header_of headers k → (h.kind ≡ 2 → ⊥) → FirstFrom headers (k + 1)
+  symbols_on : {h : SectionHeader} → FirstFrom headers k → k < count headers → h ≡ header_of headers k → (h.kind ≡ 2 → ⊥) → FirstFrom headers (k + 1)
   symbols_on {h} f l e q =
       let here : is_symbols headers k ≡ false = ne_eqb (header_of headers k).kind 2 (λ z. q (ap (λ (x : SectionHeader). x.kind) e ∙ z)) in
       sym (first_on (is_symbols headers) k (count headers) l here) ∙ f
 
-  pub symbols_none : FirstFrom headers k → count headers ≤ k → no_section_header ≡ symbol_table headers
+  symbols_none : FirstFrom headers k → count headers ≤ k → no_section_header ≡ symbol_table headers
   unfolding symbol_table section_of
   symbols_none f l =
       let at : first_from (is_symbols headers) 0 (count headers) ≡ k = sym f ∙ first_end (is_symbols headers) k (count headers) l in
       rw (at, le-ltb k (count headers) l)
+
+-- none before place k is one
+symbols_past : (headers : List ℕ) (k : ℕ) → k ≤ count headers → ((j : ℕ) → j < k → (header_of headers j).kind ≢ 2) → FirstFrom headers k
+symbols_past headers zero h miss = ap (first_from (is_symbols headers) 0) (let e : count headers - 0 ≡ count headers = omega arith in e)
+symbols_past headers (suc k) h miss =
+    subst (FirstFrom headers) (add-one k) (symbols_on headers k (symbols_past headers k (omega arith) (λ j q. miss j (omega arith))) (omega arith) refl (miss k (omega arith)))
+
+-- where a search ended, and the header there
+pub symbols_found : {P : ℕ → SectionHeader → Type 0} (headers : List ℕ) (found : Option ℕ) (r : Option SectionHeader)
+    → MatchOption found ((k : ℕ) → 0 ≤ k → k < count headers → (header_of headers k).kind ≢ 2) (λ k. (0 ≤ k) × (k < count headers) × ((header_of headers k).kind ≡ 2) × ((j : ℕ) → 0 ≤ j → j < k → (header_of headers j).kind ≢ 2))
+    → MatchOption found (r ≡ None) (λ k. IsSomeAnd r (P k))
+    → ((k : ℕ) (h : SectionHeader) → P k h → h ≡ header_of headers k)
+    → (or_none r ≡ symbol_table headers) × MatchOption r ((k : ℕ) → k < count headers → (header_of headers k).kind ≢ 2) (λ h. h.kind ≡ 2)
+symbols_found headers None r m e is = rw e (symbols_none headers (count headers) (symbols_past headers (count headers) (omega arith) (λ j q. m j zero-le q)) (omega arith), λ k q. m k zero-le q)
+symbols_found headers (Some k) (Some g) m e is =
+    let h = is k g e in
+    (symbols_here headers k (symbols_past headers k (omega (arith, m.1)) (λ j q. m.3 j zero-le q)) m.1 h (ap (λ (x : SectionHeader). x.kind) h ∙ m.2), ap (λ (x : SectionHeader). x.kind) h ∙ m.2)
+symbols_found headers (Some k) None m e is = absurd e
 
 -- ---- the checks of a file, in their order
 

@@ -2,27 +2,27 @@
 use mathlib.Core.Path.{◌≡◌, refl, sym, ap, ap₂, ◌∙◌}
 use mathlib.Core.List.{List, [], ◌∷◌, ◌++◌, map, append-nil}
 use mathlib.Core.Bool.{Bool, true, false, cond}
-use Prim.Native.Nat.{ℕ, ◌+◌, ◌*◌, ◌-◌, ◌≤◌, ◌<◌}
+use Prim.Native.Nat.{ℕ, zero, suc, ◌+◌, ◌*◌, ◌-◌, ◌≤◌, ◌<◌}
 use native.Mathlib.Nat.{mul-suc, mul-zero}
 use native.Mathlib.Numerals.{add-one}
 use native.Mathlib.Omega.{arith}
-use borrow.Author.Tests.{lt-ltb, le-ltb, ltb-true, ltb-false}
-use lib.Dec.{eqb, ltb}
+use borrow.Author.Tests.{lt-ltb, le-ltb}
+use lib.Dec.{eqb}
 use lib.ListN.{length, get_or, take, drop, set, length-append, drop_of_length-le}
 use lib.Seq.{sets, length-sets, drop-cons}
+use Rattle.std.specs.List.{filter, range_with_len}
+use Rattle.std.proofs.lemmas.List.{map-id}
 use Rattle.lists.specs.Rows.{tabulate, keep_if, first_in}
 use Rattle.lists.proofs.Rows.{rest-cons, rest-none}
 use Rattle.lists.proofs.Stores.{sets-sets}
-use Rattle.lists.proofs.FilterRows.{filter_hit, filter_miss, filter_none}
 use Rattle.lists.proofs.Keep.{keep_more}
-use Rattle.lists.proofs.Parts.{tabulate_all}
 use Rattle.fields.specs.Fields.{enc32}
 use Rattle.obj.specs.declared.Section.{Section}
 use Rattle.obj.specs.declared.Symbol.{Symbol}
 use Rattle.stage_names.specs.StageNames.{flat}
 use Rattle.elf_file.specs.File.{count, header_of, allocated, taken}
 use Rattle.import_rows.specs.Rows.{reserved, home_of, section_record, symbol_record, sections_table, places_table, symbols_table}
-use Rattle.import_rows.specs.Taken.{Taken, TakenOne}
+use Rattle.import_rows.specs.Taken.{Taken}
 
 -- ---- a table written record by record
 
@@ -92,81 +92,52 @@ long_symbols l = flat-width symbol_record 20 length_symbol l
 
 -- ---- the sections taken over
 
-module _ (headers : List ℕ) where
-  -- the allocated sections from section i on
-  unfoldable pub taken_from : ℕ → List ℕ
-  taken_from i = keep_if (λ k. allocated (header_of headers k)) (tabulate (λ k. k) i (count headers - i))
+-- the allocated sections of a range are those of a table's numbers
+filter_is : (test : ℕ → Bool) (i n : ℕ) → filter test (range_with_len i n) ≡ keep_if test (tabulate (λ k. k) i n)
+unfolding keep_if tabulate
+filter_is test i zero = refl
+filter_is test i (suc n) = ap (λ (l : List ℕ). cond (test i) (i ∷ l) l) (filter_is test (i + 1) n ∙ ap (λ (m : ℕ). keep_if test (tabulate (λ k. k) m n)) (add-one i))
 
-  taken_all : taken_from 0 ≡ taken headers
-  unfolding taken_from taken
-  taken_all = ap (keep_if (λ k. allocated (header_of headers k))) (tabulate_all (λ k. k) (count headers))
+pub taken_is : (headers : List ℕ) → filter (λ k. allocated (header_of headers k)) (range_with_len 0 (count headers)) ≡ taken headers
+unfolding taken
+taken_is headers = filter_is (λ k. allocated (header_of headers k)) 0 (count headers)
 
-  from_hit : (i : ℕ) → i < count headers → allocated (header_of headers i) ≡ true → taken_from i ≡ i ∷ taken_from (i + 1)
-  unfolding taken_from
-  from_hit i h e = filter_hit (λ k. allocated (header_of headers k)) (λ k. k) (count headers) i h e
+pub few_taken : (headers : List ℕ) → length (filter (λ k. allocated (header_of headers k)) (range_with_len 0 (count headers))) ≤ count headers
+few_taken headers = few 0 (count headers)
+  where
+    few : (i n : ℕ) → length (filter (λ k. allocated (header_of headers k)) (range_with_len i n)) ≤ n
+    few i zero = omega arith
+    few i (suc n) = by_test (allocated (header_of headers i)) _ (few (i + 1) n)
+      where
+        by_test : (t : Bool) (l : List ℕ) → length l ≤ n → length (cond t (i ∷ l) l) ≤ suc n
+        by_test true l h = omega arith
+        by_test false l h = omega arith
 
-  from_miss : (i : ℕ) → i < count headers → allocated (header_of headers i) ≡ false → taken_from i ≡ taken_from (i + 1)
-  unfolding taken_from
-  from_miss i h e = filter_miss (λ k. allocated (header_of headers k)) (λ k. k) (count headers) i h e
+-- so many numbers were stored, as many as the column has places for
+pub record Stored (column numbers : List ℕ) (j : ℕ) : Type 0 where
+  pub sum : j ≡ length numbers
+  pub front : j ≤ length column → take j column ≡ numbers
 
-  from_none : (i : ℕ) → count headers ≤ i → taken_from i ≡ []
-  unfolding taken_from
-  from_none i h = filter_none (λ k. allocated (header_of headers k)) (λ k. k) (count headers) i h
+pub stored_more : {column column' numbers : List ℕ} {j : ℕ} (k : ℕ) → Stored column numbers j → j < length column → column' ≡ set column j k → Stored column' (numbers ++ (k ∷ [])) (j + 1)
+stored_more {column} {column'} {numbers} {j} k s h e = record {
+  sum = omega (arith, s.sum, length-append numbers (k ∷ []));
+  front = λ q.
+      ap (take (j + 1)) e
+      ∙ sym (append-nil (take (j + 1) (set column j k)))
+      ∙ keep_more j column k [] h
+      ∙ ap (λ (l : List ℕ). l ++ (k ∷ [])) (s.front (omega arith));
+}
 
-  -- j sections before section i are taken over
-  pub record Taking (column : List ℕ) (i j : ℕ) : Type 0 where
-    pub low : j ≤ i
-    pub sum : j + length (taken_from i) ≡ length (taken headers)
-    pub front : j ≤ length column → take j column ++ taken_from i ≡ taken headers
+pub stored_full : {column column' numbers : List ℕ} {j : ℕ} (k : ℕ) → Stored column numbers j → length column ≤ j → column' ≡ column → Stored column' (numbers ++ (k ∷ [])) (j + 1)
+stored_full {column} {column'} {numbers} {j} k s h e = record {
+  sum = omega (arith, s.sum, length-append numbers (k ∷ []));
+  front = λ q. absurd (omega (arith, ap length e));
+}
 
-  pub taking_start : (column : List ℕ) → Taking column 0 0
-  taking_start column = record { low = omega arith; sum = omega (arith, ap length taken_all); front = λ h. taken_all }
-
-  pub taking_turn : {column column' : List ℕ} {i j r : ℕ} → i < count headers → Taking column i j → TakenOne headers i j column column' r → Taking column' (i + 1) r
-  taking_turn {column} {column'} {i} {j} {r} h t o = go (allocated (header_of headers i)) refl
-    where
-      go : (b : Bool) → allocated (header_of headers i) ≡ b → Taking column' (i + 1) r
-      go true e =
-          let counted : r ≡ j + 1 = o.counted ∙ rw e in
-          let stored : column' ≡ cond (ltb j (length column)) (set column j i) column = o.stored ∙ rw e in
-          let next = from_hit i h e in
-          record {
-            low = omega (arith, t.low);
-            sum = omega (arith, counted, t.sum, ap length next);
-            front = λ q. fill (ltb j (length column)) refl counted stored next q;
-          }
-        where
-          fill : (b : Bool) → ltb j (length column) ≡ b → r ≡ j + 1 → column' ≡ cond (ltb j (length column)) (set column j i) column → taken_from i ≡ i ∷ taken_from (i + 1)
-              → r ≤ length column' → take r column' ++ taken_from (i + 1) ≡ taken headers
-          fill true s counted stored next q =
-              let below = ltb-true j (length column) s in
-              ap₂ (λ (k : ℕ) (l : List ℕ). take k l ++ taken_from (i + 1)) counted (stored ∙ rw s)
-              ∙ keep_more j column i (taken_from (i + 1)) below
-              ∙ ap (λ (l : List ℕ). take j column ++ l) (sym next)
-              ∙ t.front (omega arith)
-          fill false s counted stored next q =
-              let above = ltb-false j (length column) s in
-              let same : column' ≡ column = stored ∙ rw s in
-              absurd (omega (arith, counted, ap length same))
-      go false e =
-          let counted : r ≡ j = o.counted ∙ rw e in
-          let same : column' ≡ column = o.stored ∙ rw e in
-          let next = from_miss i h e in
-          record {
-            low = omega (arith, t.low);
-            sum = omega (arith, counted, t.sum, ap length next);
-            front = λ q.
-                ap₂ (λ (k : ℕ) (l : List ℕ). take k l ++ taken_from (i + 1)) counted same
-                ∙ ap (λ (l : List ℕ). take j column ++ l) (sym next)
-                ∙ t.front (omega (arith, counted, ap length same));
-          }
-
-  pub taking_done : {column : List ℕ} {i j : ℕ} → count headers ≤ i → Taking column i j → Taken headers column j
-  taking_done {column} {i} {j} h t =
-      let none = from_none i h in record {
-        is = omega (arith, t.sum, ap length none);
-        front = λ q. sym (append-nil (take j column)) ∙ ap (λ (l : List ℕ). take j column ++ l) (sym none) ∙ t.front q;
-      }
+pub taken_stored : {headers column numbers : List ℕ} {j : ℕ} → Stored column numbers j → map (λ k. k) numbers ≡ taken headers → Taken headers column j
+taken_stored {headers} {column} {numbers} {j} s e =
+    let same : numbers ≡ taken headers = sym (map-id numbers) ∙ e in
+    record { is = s.sum ∙ ap length same; front = λ h. s.front h ∙ same }
 
 -- ---- the section that a link leads to
 

@@ -36,7 +36,7 @@ returns-then-sections_cut c =
 pub returns-then-symbol_table_cut : goal.returns-then-symbol_table_cut
 returns-then-symbol_table_cut c =
     let f = c.args.file.now in
-    let table = c.symbol_table-t.ensures ∙ ap symbol_table c.header_table-headers.ensures in
+    let table = c.symbol_table-t.ensures.header ∙ ap symbol_table c.header_table-headers.ensures in
     ap meaning c.refuse-then-symbol_table_cut.ensures
     ∙ file_symbols _ c.if-file-lt52.false
     (asked header_wrong c.header_wrong.ensures c.read_header-h.ensures c.if-header_wrong.false)
@@ -47,7 +47,7 @@ returns-then-symbol_table_cut c =
 pub returns-then-names_cut : goal.returns-then-names_cut
 returns-then-names_cut c =
     let f = c.args.file.now in
-    let table = c.symbol_table-t.ensures ∙ ap symbol_table c.header_table-headers.ensures in
+    let table = c.symbol_table-t.ensures.header ∙ ap symbol_table c.header_table-headers.ensures in
     ap meaning c.refuse-then-names_cut.ensures
     ∙ file_names _ c.if-file-lt52.false
     (asked header_wrong c.header_wrong.ensures c.read_header-h.ensures c.if-header_wrong.false)
@@ -59,7 +59,7 @@ returns-then-names_cut c =
 pub returns : goal.returns
 returns c =
     let f = c.args.file.now in
-    let table = c.symbol_table-t.ensures ∙ ap symbol_table c.header_table-headers.ensures in
+    let table = c.symbol_table-t.ensures.header ∙ ap symbol_table c.header_table-headers.ensures in
     file_good _ c.if-file-lt52.false
     (asked header_wrong c.header_wrong.ensures c.read_header-h.ensures c.if-header_wrong.false)
     (asked (headers_cut (length f)) c.headers_cut.ensures c.read_header-h.ensures c.if-headers_cut.false)

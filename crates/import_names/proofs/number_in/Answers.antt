@@ -29,7 +29,7 @@ returns c =
           let file = a.file.now.bytes.now in
           let e = s.1 [] ends₀ bytes₀ h in
           let said = read_sections file (room_of a.names.now) c.header_table-headers.ensures c.section_strings.ensures in
-          let t = c.symbol_table.ensures ∙ ap symbol_table c.header_table-headers.ensures in
+          let t = c.symbol_table.ensures.header ∙ ap symbol_table c.header_table-headers.ensures in
           let table = c.section_bytes-table.ensures ∙ ap (λ (h : SectionHeader). section_bytes file h) t in
           let l = c.enter_symbols.new.names in
           entered_as ends₀ bytes₀ l.ends.now l.bytes.now l.heads.now l.chain.now l.count c.enter_symbols.result
