@@ -2,7 +2,7 @@
 // any split (document 01, Gap and Merge; specs/Entering.antt). The names of the tables stay where they lie, those that are added stand beside.
 #![tactic(auto)]
 
-ghost use Rattle.std.specs.Prelude.{◌≡◌, ◌++◌, ◌/◌, ◌%◌, ◌≤◌, ◌<◌, length, get_or};
+ghost use Rattle.std.specs.Prelude.{◌≡◌, ◌++◌, ◌≤◌, ◌<◌, length};
 ghost use Rattle.names.specs.Names.{Named as NamedColumns};
 ghost use Rattle.names.specs.Index.{Indexed};
 ghost use Rattle.names.specs.GapName.{gap_name};
@@ -21,6 +21,7 @@ use merge::add_split;
 use names::{NameIndex, Names, append, find, name_at, write_gap_name};
 use obj::{Refusal, Section, Split, Table, refuse};
 use splits::SplitTable;
+use symbol_order::{address_of_key, section_of_key};
 
 mod added_names;
 mod named_tables;
@@ -158,21 +159,6 @@ fn enter_gap(
     add_split(table, &tables.heads, gap_split(section, start, end, unit))
 }
 
-// The section and the start of gap i: its key is section * 2 ^ 32 + start.
-fn section_of(keys: &[u64], i: usize) -> u16
-    requires { (i < length keys.now) × (get_or keys.now i 0 / 4294967296 < 65536) }
-    ensures { result ≡ get_or keys.now i 0 / 4294967296 }
-{
-    (keys[i] / 4294967296) as u16
-}
-
-fn start_of(keys: &[u64], i: usize) -> u32
-    requires { i < length keys.now }
-    ensures { result ≡ get_or keys.now i 0 % 4294967296 }
-{
-    (keys[i] % 4294967296) as u32
-}
-
 // All gaps, "by section and address" as they lie in the columns, up to the first refusal. No name is added before.
 pub fn enter_gaps(
     table: &mut SplitTable,
@@ -201,10 +187,10 @@ pub fn enter_gaps(
     added.count = 0;
     added.used = 0;
     for i in 0..gaps.count {
-        let section = section_of(gaps.keys, i);
-        let start = start_of(gaps.keys, i);
-        let end = gaps.ends[i];
-        enter_gap(table, &tables, added, section, start, end)?;
+        let key = gaps.keys[i];
+        let section = section_of_key(key);
+        let start = address_of_key(key);
+        enter_gap(table, &tables, added, section, start, gaps.ends[i])?;
     }
     Ok(())
 }

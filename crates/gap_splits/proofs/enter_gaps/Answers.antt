@@ -22,12 +22,11 @@ loop-i-init c =
       table_same,
     )
 
-pub section_of-section-requires : goal.section_of-section-requires
-section_of-section-requires c =
+pub section_of_key-section-requires : goal.section_of_key-section-requires
+section_of_key-section-requires c =
     let q = c.requires in
-    let t = c.loop-i-test.true in
-    let s = section_here _ _ _ _ q.2 _ t in
-    (omega (arith, c.args.gaps.now.long.long_keys, t), omega (arith, s, q.1.few))
+    let s = section_here _ _ _ _ q.2 _ c.loop-i-test.true in
+    omega (arith, s, q.1.few)
 
 pub enter_gap-requires : goal.enter_gap-requires
 enter_gap-requires c =
@@ -36,8 +35,8 @@ enter_gap-requires c =
     let l = c.loop-i in
     let t = c.loop-i-test.true in
     let g = a.gaps.now in
-    let es = c.section_of-section.ensures in
-    let ef = c.start_of-start.ensures in (
+    let es = c.section_of_key-section.ensures in
+    let ef = c.address_of_key-start.ensures in (
       rw es (section_here _ _ _ _ q.2 _ t),
       absent_here (sections_named a.heads.now a.table_names.now) (given (sections_in a.heads.now.bytes.now a.heads.now.places.now) a.table.now.room) (ceilings_in a.table_names.now a.added.now) g.keys.now g.ends.now _ l.i es ef
           (l.invariant.0.fresh l.i (omega arith) t),
@@ -49,7 +48,7 @@ returns-in_err-enter_gap-clause-tables c =
     let l = c.loop-i in
     let o = c.enter_gap in
     let g = a.gaps.now in
-    let here = gap_here g.keys.now g.ends.now l.i c.section_of-section.ensures c.start_of-start.ensures in
+    let here = gap_here g.keys.now g.ends.now l.i c.section_of_key-section.ensures c.address_of_key-start.ensures in
     let e = rw (l.invariant.1.most, l.invariant.1.most_bytes, l.invariant.2.room) at o.ensures.tables in
     rw (is_err _ c.from_residual.ensures.1) (refused_here _ _ _ _ _ _ _ _ _ _ l.i l.invariant.0 c.loop-i-test.true _ _ _ here e.is c.in_err-enter_gap.was)
 
@@ -61,7 +60,7 @@ loop-i-preserved c =
     let o = c.enter_gap in
     let g = a.gaps.now in
     let same = l.invariant.1 in
-    let here = gap_here g.keys.now g.ends.now l.i c.section_of-section.ensures c.start_of-start.ensures in
+    let here = gap_here g.keys.now g.ends.now l.i c.section_of_key-section.ensures c.address_of_key-start.ensures in
     let e = rw (same.most, same.most_bytes, l.invariant.2.room) at o.ensures.tables in (
       goes_on _ _ _ _ _ _ _ _ _ _ l.i l.invariant.0 c.loop-i-test.true (length a.heads.now.places.now) q.2 q.1.few _ _ here e c.in_ok-enter_gap.was,
       lent_still same o.ensures.added,
