@@ -1,9 +1,11 @@
 -- The steps of the entry. Assumes nothing.
 use mathlib.Core.Path.{◌≡◌, refl, sym, ap, ap₂, subst, ◌∙◌}
 use mathlib.Core.List.{List, [], ◌∷◌, map}
-use Prim.Native.Nat.{ℕ, ◌*◌, ◌-◌, ◌/◌, ◌≤◌, ◌<◌}
+use mathlib.Core.Bool.{Bool, true, false, cond}
+use Prim.Native.Nat.{ℕ, ◌*◌, ◌-◌, ◌/◌, ◌≤◌, ◌<◌, min}
 use native.Mathlib.Omega.{arith}
-use borrow.Author.Tests.{lt-ltb, le-ltb}
+use borrow.Author.Tests.{lt-ltb, le-ltb, ltb-true, ltb-false}
+use lib.Dec.{ltb}
 use lib.ListN.{length, replicate, get_or, take}
 use lib.Seq.{sets, length-sets}
 use Rattle.lists.specs.Outcome.{Outcome, accepted, refused, ◌>>◌}
@@ -29,10 +31,19 @@ use Rattle.number_names.specs.declared.Count.{Count}
 use Rattle.import.proofs.Sections.{taken-below, symbol_bytes, sections_count, places_count}
 use Rattle.import_rows.specs.Taken.{Numbers}
 use Rattle.import_rows.specs.Rows.{head_of, place_of, symbol_of, sections_table, places_table, symbols_table}
-use Rattle.entry_import_elf.specs.Entry.{Leaves}
+use Rattle.entry_import_elf.specs.Entry.{least, Leaves}
 use Rattle.entry_import_elf.specs.Stages.{symbols_stage, image_stage, sections_stage, SymbolsGiven, RowsWritten, RowsGiven, Written, TablesWritten}
 use Rattle.entry_import_elf.specs.declared.Imported.{Imported}
 use Rattle.entry_import_elf.specs.declared.Rows.{Rows}
+
+-- ---- the smaller of two numbers, as `min` gives it
+pub least_is : (a b : ℕ) → min b a ≡ least a b
+unfolding least
+least_is a b = go (ltb a b) refl
+  where
+    go : (t : Bool) → ltb a b ≡ t → min b a ≡ cond t a b
+    go true e = let h = ltb-true a b e in omega arith
+    go false e = let h = ltb-false a b e in omega arith
 
 -- ---- outputs and counts
 

@@ -292,6 +292,8 @@ fn gaps_of(
 }
 
 // All gaps of all sections, in the order in which they enter, or the first refusal: 10, 11, 40, 41, 42.
+// `obj` and `image` stay two here and in the stages above: most questions that take an `Obj` ask no image, and the callers keep both in structs of their own (`Loaded`,
+// `PassedTables`), so that a struct of the two would be made for this one call.
 pub fn find_gaps(
     obj: &Obj,
     image: &Table,
