@@ -10,6 +10,7 @@ use elf_file::{
     ElfFile, header_table, section_bytes, section_strings, symbol_strings, symbol_table,
 };
 use elf_names::{enter_sections, enter_symbols};
+use names::Room;
 use number_names::{Count, NumberedNames};
 use obj::Refusal;
 use stage_names::{bytes_room, names_room};
@@ -37,8 +38,10 @@ pub fn number_all(
 {
     let mut heads = [0u16; 8192];
     let mut chain = [0u16; 4096];
-    let most = names_room(name_ends.len());
-    let most_bytes = bytes_room(name_bytes.len());
+    let most = Room {
+        names: names_room(name_ends.len()),
+        bytes: bytes_room(name_bytes.len()),
+    };
     let mut names = NumberedNames {
         ends: name_ends,
         bytes: name_bytes,
@@ -46,7 +49,6 @@ pub fn number_all(
         chain: &mut chain,
         count: Count { names: 0, used: 0 },
         most,
-        most_bytes,
     };
     number_in(file, &mut names)?;
     Ok(names.count)

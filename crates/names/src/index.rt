@@ -3,8 +3,8 @@ ghost use Rattle.std.specs.Prelude.{◌≡◌, List, ℕ, ◌+◌, ◌≤◌, �
 ghost use Rattle.names.specs.Names.{name_at, names_of, Named, same_name};
 ghost use Rattle.names.specs.Index.{InBucket, Indexed, AskedBy, Sought};
 
-use fields::number;
 use crate::{NameIndex, Names, name_at, same};
+use fields::number;
 
 // The bucket of a name: its bytes mixed into 32 bits, of which the upper 13 are taken.
 pub fn bucket_of(name: &[u8]) -> usize

@@ -34,6 +34,13 @@ pub struct NameIndex<'h, 'c> {
     pub chain: &'c [u16],
 }
 
+// How many names, of how many bytes in all, have a place.
+#[derive(Clone, Copy)]
+pub struct Room {
+    pub names: usize,
+    pub bytes: usize,
+}
+
 // The same bytes.
 pub fn same(x: &[u8], y: &[u8]) -> bool
     ensures { result ≡ same_name x.now y.now }

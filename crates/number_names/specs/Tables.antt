@@ -12,7 +12,7 @@ listed k = names_in k.ends.now k.bytes.now
 
 -- how much place the table has
 abbrev pub room_of : NumberedNames → Room
-room_of t = record { names = t.most; bytes = t.most_bytes }
+room_of t = record { names = t.most.names; bytes = t.most.bytes }
 
 -- the same columns are lent, of the same lengths, and there is as much place
 pub record SameTable (before after : NumberedNames) : Type 0 where

@@ -57,7 +57,7 @@ pub fn enter_name(x: &[u8], names: &mut NumberedNames) -> Result<(), Refusal>
     let n = names.count.names;
     let used = names.count.used;
     let end = used + x.len();
-    if (names.most <= n) | (names.most_bytes < end) {
+    if (names.most.names <= n) | (names.most.bytes < end) {
         return refuse(2, 0, n as u32);
     }
     put_bytes(names.bytes, used, x);

@@ -3,7 +3,7 @@ ghost use Rattle.std.specs.Prelude.{◌≡◌, ◌*◌, length, take};
 ghost use Rattle.number_names.specs.Numbers.{Known, Standing, Within, names_in};
 
 use crate::Count;
-use names::NameIndex;
+use names::{NameIndex, Room};
 
 // A name table that holds just its names, with their index.
 #[derive(Clone, Copy)]
@@ -22,10 +22,9 @@ pub struct NumberedNames<'e, 'b, 'h, 'c> {
     pub heads: &'h mut [u16],
     pub chain: &'c mut [u16],
     pub count: Count,
-    pub most: usize,
-    pub most_bytes: usize,
+    pub most: Room,
     pub ghost standing: { Standing ends.now bytes.now heads.now chain.now count.names count.used },
-    pub ghost room: { Within most most_bytes (length ends.now) (length bytes.now) },
+    pub ghost room: { Within most.names most.bytes (length ends.now) (length bytes.now) },
 }
 
 impl NumberedNames<'_, '_, '_, '_> {

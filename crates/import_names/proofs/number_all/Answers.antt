@@ -10,7 +10,7 @@ use Rattle.import_names.proofs.number_all.Goals as goal
 pub invariant_of-names : goal.invariant_of-names
 invariant_of-names c = record {
   standing = held_standing (held_none (indexed_cleared _ _ _ refl refl (omega arith)));
-  room = names-within c.names_room-most.ensures c.bytes_room-most_bytes.ensures;
+  room = names-within c.names_room.ensures c.bytes_room.ensures;
 }
 
 pub returns-in_err-number_in : goal.returns-in_err-number_in
@@ -18,7 +18,7 @@ returns-in_err-number_in c =
     let a = c.args in
     let s = c.in_err-number_in.ensures.0 in
     let e = c.in_err-number_in.ensures.1 a.name_ends.now a.name_bytes.now (held_none (indexed_cleared _ _ _ refl refl (omega arith))) in
-    let room = ap (names_of a.file.now.bytes.now) (room_as (length a.name_ends.now) (length a.name_bytes.now) c.names_room-most.ensures c.bytes_room-most_bytes.ensures) in
+    let room = ap (names_of a.file.now.bytes.now) (room_as (length a.name_ends.now) (length a.name_bytes.now) c.names_room.ensures c.bytes_room.ensures) in
     rw (is_err _ c.from_residual.ensures.1) (numbered_short room (search (rules, sym s.ends)) (search (rules, sym s.bytes)) e)
 
 pub returns : goal.returns
@@ -26,5 +26,5 @@ returns c =
     let a = c.args in
     let s = c.number_in.ensures.0 in
     let e = c.in_ok-number_in.ensures.1 a.name_ends.now a.name_bytes.now (held_none (indexed_cleared _ _ _ refl refl (omega arith))) in
-    let room = ap (names_of a.file.now.bytes.now) (room_as (length a.name_ends.now) (length a.name_bytes.now) c.names_room-most.ensures c.bytes_room-most_bytes.ensures) in
+    let room = ap (names_of a.file.now.bytes.now) (room_as (length a.name_ends.now) (length a.name_bytes.now) c.names_room.ensures c.bytes_room.ensures) in
     numbered_all room (search (rules, sym s.ends)) (search (rules, sym s.bytes)) e

@@ -29,7 +29,7 @@ pub invariant_of-names : goal.invariant_of-names
 unfolding any_of
 invariant_of-names c =
     let t = c.args.names.now in
-    let fits = place_free c.args.x.now t.ends.now t.bytes.now t.count.names t.count.used t.most t.most_bytes t.room c.if-names-n.false in
+    let fits = place_free c.args.x.now t.ends.now t.bytes.now t.count.names t.count.used t.most.names t.most.bytes t.room c.if-names-n.false in
     record {
       standing = rw c.put_bytes.ensures (standing_bytes t.standing c.args.x.now fits.bytes_fit);
       room = within_as refl c.put_bytes.auto.out t.room;
@@ -39,7 +39,7 @@ pub invariant_of-names-3 : goal.invariant_of-names-3
 unfolding any_of
 invariant_of-names-3 c =
     let t = c.args.names.now in
-    let fits = place_free c.args.x.now t.ends.now t.bytes.now t.count.names t.count.used t.most t.most_bytes t.room c.if-names-n.false in
+    let fits = place_free c.args.x.now t.ends.now t.bytes.now t.count.names t.count.used t.most.names t.most.bytes t.room c.if-names-n.false in
     let h = standing_held t.standing in
     record {
       standing = held_standing (held_more h fits (ltb-false _ _ (held_asked h c.args.x.now c.find_name.result c.known.ensures.0 c.known.ensures.1 c.find_name.ensures c.is_some.ensures false c.if-is_some.false)) c.put_bytes.ensures c.put16.ensures c.bucket_of.ensures c.enter.ensures.0 c.enter.ensures.1);
@@ -62,7 +62,7 @@ returns c = (
   },
   λ names ends₀ bytes₀ h.
       let t = c.args.names.now in
-      let fits = place_free c.args.x.now t.ends.now t.bytes.now t.count.names t.count.used t.most t.most_bytes t.room c.if-names-n.false in
+      let fits = place_free c.args.x.now t.ends.now t.bytes.now t.count.names t.count.used t.most.names t.most.bytes t.room c.if-names-n.false in
       let new : length names ≤ number_of names c.args.x.now = ltb-false _ _ (held_asked h c.args.x.now c.find_name.result c.known.ensures.0 c.known.ensures.1 c.find_name.ensures c.is_some.ensures false c.if-is_some.false) in
       record {
         names = names ++ (c.args.x.now ∷ []);
