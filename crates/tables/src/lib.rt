@@ -67,17 +67,15 @@ pub fn fill_places(places: &mut [u32], width: usize)
 
 // ---- what a record refers to
 
-// The length of name k, 0 of an unknown one.
+// The length of name k, 0 of an unknown one: "name unknown or empty" is one test of the length.
 pub fn length_of(lengths: &[u8], k: usize) -> usize
     ensures { result ≡ get_or lengths.now k 0 }
 {
-    if k < lengths.len() {
-        return lengths[k] as usize;
-    }
-    0
+    usize::from(lengths.get(k).copied().unwrap_or(0))
 }
 
-// Section k, or an empty one.
+// Section k, or an empty one: each fault that looks at a section also asks whether there is one of that number, so what the bounds of an empty one say is of no matter,
+// and no Option is taken apart.
 pub fn section_or_none(table: &Table, k: usize) -> Section
     requires { AllHeld 15 table.now.bytes.now table.now.places.now }
     ensures { result ≡ get_or (sections_in table.now.bytes.now table.now.places.now) k no_section }
@@ -88,18 +86,11 @@ pub fn section_or_none(table: &Table, k: usize) -> Section
     Section::default()
 }
 
-// The number at place k of a column, 0 past its end.
-fn number_at(column: &[u32], k: usize) -> u32
-    ensures { result ≡ get_or column.now k 0 }
-{
-    if k < column.len() {
-        return column[k];
-    }
-    0
-}
-
 // The faults below are asked of a table and a number k, as their definitions are, and each says that the records are held and that there is a k: `Table` is every table of
 // records, of any width, so it has no such fact of its own, and a struct of a table and a number would be made anew for each record.
+
+// A fault and a check for each kind of record, with `check_records` in common. One check over every `Record`, its test a closure, would serve symbols, splits and units alone:
+// a section with bytes in an image can be refused by two numbers, a partial split is no `Record`, and the floors of a relocation change from one to the next.
 
 // Record k is refused with this number if the test holds.
 // The test is the answer of a rule, and no step to run.
@@ -144,7 +135,8 @@ pub fn check_sections(lengths: &[u8], table: &Table) -> Result<(), Refusal>
     check_records(table.places.len(), |k| section_fault(lengths, table, k))
 }
 
-// The place of section k's bytes in the image, 0 of one that has none.
+// The place of section k's bytes in the image, 0 of one that has none. Who reads the bytes has asked `bytes_cut`, which refuses a section without a place: an Option would
+// leave him a branch that is never taken.
 pub fn image_place(places: &[u8], k: usize) -> u32
     ensures { result ≡ get_or (image_places_of places.now) k 0 }
 {
@@ -229,7 +221,7 @@ fn reloc_fault(
     ensures { meaning result ≡ record_check (reloc_fault_above (sections_in heads.now.bytes.now heads.now.places.now) symbols (get_or floors.now r.section 0) r) k }
 {
     let home = section_or_none(heads, r.section as usize);
-    let floor = number_at(floors, r.section as usize);
+    let floor = floors.get(r.section as usize).copied().unwrap_or(0);
     refuse_if(6, k, reloc_bad(r, heads.places.len(), symbols, home, floor))
 }
 
@@ -275,7 +267,7 @@ pub fn check_partials(lengths: &[u8], table: &Table) -> Result<(), Refusal>
     check_records(table.places.len(), |k| partial_fault(lengths, table, k))
 }
 
-// The split before split k; before the first one that nothing falls below.
+// The split before split k; before the first one a split of zeros, which nothing falls below, so the first one needs no test of its own.
 pub fn split_before(table: &Table, k: usize) -> Split
     requires { AllHeld split_width table.now.bytes.now table.now.places.now × (k < length table.now.places.now) }
     ensures { result ≡ split_before (splits_in table.now.bytes.now table.now.places.now) k }
@@ -317,7 +309,6 @@ pub fn check_splits(lengths: &[u8], heads: &Table, table: &Table) -> Result<(), 
 
 // ---- units
 
-// A fault and a check for each kind of record: they differ in what is read and in the tables that are looked up, and have `check_records` in common.
 // The fault of unit k.
 fn unit_fault(lengths: &[u8], table: &Table, k: usize) -> Result<(), Refusal>
     requires { AllHeld 8 table.now.bytes.now table.now.places.now × (k < length table.now.places.now) }
