@@ -273,37 +273,6 @@ module _ (c : Ceilings) (file : List ℕ) (at len : ℕ) (t : Loaded) (kind : �
   unfolding kind_number
   kind_name h = rw (eq-eqb kind 1 h)
 
-  module _ (not_name : kind ≡ 1 → ⊥) where
-    pub kind_section : kind ≡ 2 → section_number c file at len t ≡ kind_number c file at len t kind
-    unfolding kind_number
-    kind_section h = rw (ne_eqb kind 1 not_name, eq-eqb kind 2 h)
-
-    module _ (not-section : kind ≡ 2 → ⊥) where
-      pub kind_symbol : kind ≡ 3 → symbol_number c file at len t ≡ kind_number c file at len t kind
-      unfolding kind_number
-      kind_symbol h = rw (ne_eqb kind 1 not_name, ne_eqb kind 2 not-section, eq-eqb kind 3 h)
-
-      module _ (not-symbol : kind ≡ 3 → ⊥) where
-        pub kind_reloc : kind ≡ 4 → reloc_number c file at len t ≡ kind_number c file at len t kind
-        unfolding kind_number
-        kind_reloc h = rw (ne_eqb kind 1 not_name, ne_eqb kind 2 not-section, ne_eqb kind 3 not-symbol, eq-eqb kind 4 h)
-
-        module _ (not-reloc : kind ≡ 4 → ⊥) where
-          pub kind_split : kind ≡ 5 → split_number c file at len t ≡ kind_number c file at len t kind
-          unfolding kind_number
-          kind_split h = rw (ne_eqb kind 1 not_name, ne_eqb kind 2 not-section, ne_eqb kind 3 not-symbol, ne_eqb kind 4 not-reloc, eq-eqb kind 5 h)
-
-          module _ (not-split : kind ≡ 5 → ⊥) where
-            pub kind_unit : kind ≡ 6 → unit_number c file at len t ≡ kind_number c file at len t kind
-            unfolding kind_number
-            kind_unit h =
-                rw (ne_eqb kind 1 not_name, ne_eqb kind 2 not-section, ne_eqb kind 3 not-symbol, ne_eqb kind 4 not-reloc, ne_eqb kind 5 not-split, eq-eqb kind 6 h)
-
-            pub kind_unknown : (kind ≡ 6 → ⊥) → 1 ≡ kind_number c file at len t kind
-            unfolding kind_number
-            kind_unknown h =
-                rw (ne_eqb kind 1 not_name, ne_eqb kind 2 not-section, ne_eqb kind 3 not-symbol, ne_eqb kind 4 not-reloc, ne_eqb kind 5 not-split, ne_eqb kind 6 h)
-
 -- ---- the record
 module _ (c : Ceilings) (file : List ℕ) (at : ℕ) (t : Loaded) where
   pub head_cut : length file < at + 6 → 1 ≡ record_number c file at t

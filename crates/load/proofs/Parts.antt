@@ -4,8 +4,8 @@ use mathlib.Core.Path.{◌≡◌, ap, ◌∙◌}
 use mathlib.Core.List.{List, [], ◌∷◌, ◌++◌}
 use native.Mathlib.Numerals.{add-one}
 use native.Mathlib.Omega.{arith}
-use lib.ListN.{length, get_or, take, drop, set, length-drop}
-use lib.Seq.{length-take-le, take-set-le, drop-set-lt, take-set-lt, drop-set-add, take-suc-set, get_or-take, get_or-drop}
+use lib.ListN.{length, take, drop, set, length-drop}
+use lib.Seq.{length-take-le, take-set-le, drop-set-lt, take-set-lt, drop-set-add, take-suc-set}
 use Rattle.load.specs.Columns.{part}
 
 module _ (base n : ℕ) (column : List ℕ) where
@@ -17,10 +17,6 @@ module _ (base n : ℕ) (column : List ℕ) where
   pub part-lent : take (base + n - base) (drop base column) ≡ part base n column
   unfolding part
   part-lent = ap (λ (k : ℕ). take k (drop base column)) (let e : base + n - base ≡ n = omega arith in e)
-
-  pub get_d_part : (k : ℕ) → k < n → get_or (part base n column) k 0 ≡ get_or column (base + k) 0
-  unfolding part
-  get_d_part k h = get_or-take n (drop base column) k 0 h ∙ get_or-drop base column k 0
 
   module _ (i x : ℕ) where
     -- a store above or below the part; `more` is the count afterwards, which is the same

@@ -14,6 +14,8 @@ use Rattle.lists.specs.Outcome.{Outcome, accepted, refused}
 use Rattle.lists.proofs.Outcomes.{fails, passes}
 use Rattle.fields.specs.Fields.{le32}
 use Rattle.std.specs.Prelude.{Result, Ok, Err}
+use Rattle.std.specs.Result.{MatchResult, IsErrAnd}
+use Rattle.std.proofs.lemmas.Result.{err_from_is_err_and}
 use Rattle.lists.specs.Rows.{tabulate, clear_from}
 use Rattle.lists.proofs.Clear.{clear_is}
 use Rattle.names.specs.Names.{names_of}
@@ -200,6 +202,17 @@ none_is {m} e = decide (ltb 0 m) refl e
     decide : (b : Bool) → ltb 0 m ≡ b → ◌≡◌ {A = Result (Unit {0}) ℕ} (Ok tt) (cond b (Err m) (Ok tt)) → m ≡ 0
     decide true t e = absurd (not_ok (sym e))
     decide false t e = omega (arith, ltb-false 0 m t)
+
+-- a record's number, handed on as the refusal of record k
+pub fault_of : {m k : ℕ} {d : Refusal} (r : Result (Unit {0}) ℕ) (a : Result (Unit {0}) Refusal) {P : ℕ → Refusal → Type 0} → MatchResult r (λ x. a ≡ Ok x) (λ e. IsErrAnd a (P e))
+    → ((e : ℕ) (d : Refusal) → P e d → d ≡ record { number = e; section = 0; address = k }) → r ≡ fault_as m → a ≡ Err d
+    → (0 < m) × (d ≡ record { number = m; section = 0; address = k })
+fault_of (Ok x) a h is e given = absurd (not_ok (sym given ∙ h))
+fault_of {m} {k} {d} (Err n) a h is e given =
+    let p = err_from_is_err_and a h in
+    let f = fault_is e in
+    let same : d ≡ p.0 = err_same (sym given ∙ p.1) in
+    (omega (arith, f.0, f.1), rw (same, is n p.0 p.2, f.0))
 
 module _ (c : Ceilings) (file places lengths heads chain : List ℕ) where
   -- a refusal

@@ -18,13 +18,16 @@ ghost use Rattle.load.specs.Columns.{part, tables_in, floors_in, no_counts, faul
 use faults::{reloc_bad, section_bad, split_bad, symbol_bad, unit_bad};
 use fields::{get16, get32};
 use names::{Names, bad_name, bucket_of, clear_heads, enter, find};
-use obj::{PARTIAL_BYTES, Record, Refusal, Reloc, Section, Symbol, Table, Unit, read_partial, refuse};
+use obj::{
+    PARTIAL_BYTES, Record, Refusal, Reloc, Section, Symbol, Table, Unit, read_partial, refuse,
+};
 use reading::{Columns, Payload, SoFar};
 pub use tables::Counts;
 use tables::{Ceilings, length_of, section_or_none};
 
 // Where the parts of the column of places start: 64 sections, 4,096 symbols, 4,096 relocations, 1,024 splits, 1,024 units, 4,096 names, and
-// for each section one more than the address of its last relocation.
+// for each section one more than the address of its last relocation. One column with parts, and not seven: there is no heap, so each column that is written is one more slice
+// that every caller makes, lends and says is the same afterwards; and where a record goes is one place in one column (`slot_of`), whatever its kind.
 pub const SECTIONS: usize = 0;
 
 pub const SYMBOLS: usize = 64;
@@ -50,7 +53,7 @@ fn no_counts() -> Counts
 
 // ---- what a record refers to
 
-// The length of name k, 0 of one that is not among the names so far.
+// The length of name k, 0 of one that is not among the names so far, as `tables::length_of` gives it.
 fn name_length(before: &SoFar, k: u16) -> usize
     ensures { result ≡ get_or (take before.now.counts.names before.now.lengths.now) k 0 }
 {
@@ -58,7 +61,7 @@ fn name_length(before: &SoFar, k: u16) -> usize
     length_of(&before.lengths[..n], k as usize)
 }
 
-// Section k of those so far, or an empty one.
+// Section k of those so far, or an empty one, as `tables::section_or_none` gives it.
 fn home_of(before: &SoFar, k: u16) -> Section
     ensures { result ≡ get_or (sections_in before.now.file.now (part 0 before.now.counts.sections before.now.places.now)) k no_section }
 {
@@ -76,11 +79,10 @@ fn home_of(before: &SoFar, k: u16) -> Section
 fn floor_of(before: &SoFar, k: u16) -> u32
     ensures { result ≡ get_or (floors_in before.now.places.now) k 0 }
 {
-    let i = FLOORS + (k as usize);
-    if i < PLACES {
-        return before.places[i];
-    }
-    0
+    before.places[FLOORS..PLACES]
+        .get(usize::from(k))
+        .copied()
+        .unwrap_or(0)
 }
 
 // The number of the name that the payload is, if it is one of the names so far. Inlined: a reference into what is loaded so far, handed to a call, keeps all
@@ -238,28 +240,19 @@ fn unit_number(payload: &Payload) -> Result<(), u16>
 }
 
 // By kind; "1 .. unknown kind".
+#[tactic(auto, unfolding(crate::specs::Load::kind_number))]
 fn kind_number(kind: u16, payload: &Payload) -> Result<(), u16>
     ensures { result ≡ fault_in (λ c file at len t. kind_number c file at len t kind) payload.now }
 {
-    if kind == 1 {
-        return name_number(payload);
+    match kind {
+        1 => name_number(payload),
+        2 => section_number(payload),
+        3 => symbol_number(payload),
+        4 => reloc_number(payload),
+        5 => split_number(payload),
+        6 => unit_number(payload),
+        _ => Err(1),
     }
-    if kind == 2 {
-        return section_number(payload);
-    }
-    if kind == 3 {
-        return symbol_number(payload);
-    }
-    if kind == 4 {
-        return reloc_number(payload);
-    }
-    if kind == 5 {
-        return split_number(payload);
-    }
-    if kind == 6 {
-        return unit_number(payload);
-    }
-    Err(1)
 }
 
 // The record at `at`: "a four-byte length of its payload, a two-byte kind, the payload"; "1 file cut" within its head or its payload.
@@ -302,26 +295,19 @@ fn one_more(kind: u16, n: Counts) -> Counts
 }
 
 // Where the place of the next record of a kind goes.
+#[tactic(auto, unfolding(crate::specs::Columns::slot_of))]
 fn slot_of(kind: u16, n: Counts) -> usize
     requires { Counted n }
     ensures { result ≡ slot_of kind n }
 {
-    if kind == 1 {
-        return NAMES + n.names;
+    match kind {
+        1 => NAMES + n.names,
+        2 => SECTIONS + n.sections,
+        3 => SYMBOLS + n.symbols,
+        4 => RELOCATIONS + n.relocations,
+        5 => SPLITS + n.splits,
+        _ => UNITS + n.units,
     }
-    if kind == 2 {
-        return SECTIONS + n.sections;
-    }
-    if kind == 3 {
-        return SYMBOLS + n.symbols;
-    }
-    if kind == 4 {
-        return RELOCATIONS + n.relocations;
-    }
-    if kind == 5 {
-        return SPLITS + n.splits;
-    }
-    UNITS + n.units
 }
 
 // The place of a record's payload.
@@ -387,13 +373,11 @@ fn keep_kind(
         × (kind_number c file.now at len (loaded_in n columns.old) kind ≡ 0) }
     ensures { SameColumns columns.old columns.new × KeptIn c file.now at len kind (loaded_in n columns.old) result columns.new }
 {
-    if kind == 1 {
-        return keep_name(file, at, len, c, n, columns);
+    match kind {
+        1 => keep_name(file, at, len, c, n, columns),
+        4 => keep_reloc(file, at, n, columns.places),
+        _ => keep_place(kind, at, n, columns.places),
     }
-    if kind == 4 {
-        return keep_reloc(file, at, n, columns.places);
-    }
-    keep_place(kind, at, n, columns.places)
 }
 
 // The record at `at`.
@@ -429,9 +413,9 @@ fn load_records(file: &[u8], c: Ceilings, columns: &mut Columns) -> Result<Count
     let mut r = 0;
     // no count: each record says where the next one starts
     while at < file.len() {
-        if let Err(number) = record_number(&columns.so_far(file, c, n), at) {
-            return refuse(number, 0, r);
-        }
+        record_number(&columns.so_far(file, c, n), at).map_err(|number| Refusal::new(
+            number, 0, r,
+        ))?;
         n = keep_record(file, at, c, n, columns);
         at = next_record(file, at);
         r += 1;
