@@ -2,14 +2,14 @@
 // in a lent column, which the readers of `obj` then take; what the column holds at first is of no matter.
 #![tactic(auto)]
 
-ghost use Rattle.std.specs.Prelude.{◌*◌, ◌<◌, ◌≤◌, length};
+ghost use Rattle.std.specs.Prelude.{List, ℕ, ◌≡◌, ◌*◌, ◌/◌, ◌<◌, ◌≤◌, length};
 ghost use Rattle.obj.specs.Answers.{meaning};
-ghost use Rattle.tables.specs.Tables.{size_check, AllHeld};
+ghost use Rattle.tables.specs.Tables.{size_check, records_check, AllHeld};
 ghost use Rattle.tables.specs.Records.{sections_in};
-ghost use Rattle.obj.specs.Records.{split_width, partial_width};
-ghost use Rattle.stage_tables.specs.StageTables.{sections_check, image_check, symbols_check, relocs_check, partials_check, splits_check, units_check, Room, Filled};
+ghost use Rattle.obj.specs.Records.{stage_places, split_width, partial_width};
+ghost use Rattle.stage_tables.specs.StageTables.{table_check, sections_check, image_check, symbols_check, relocs_check, partials_check, splits_check, units_check, Room, Filled};
 
-use obj::{PARTIAL_BYTES, Refusal, SPLIT_BYTES, Table};
+use obj::{PARTIAL_BYTES, Record, Refusal, Reloc, Section, Split, Symbol, Table, Unit};
 use tables::{fill_places, table_size};
 
 // What each function below asks stays a clause. `Room` is of a ceiling and a lent column, which come apart. `AllHeld` is of sections at their places, and `obj::Table` is every
@@ -26,6 +26,28 @@ fn fill_table(size: usize, width: usize, ceiling: usize, places: &mut [u32]) -> 
     Ok(())
 }
 
+// A table of records of `width` bytes: 1 and 2, and then the check of its records, which is asked once they have their places.
+fn take_table<F: Fn(&Table) -> Result<(), Refusal>>(
+    width: usize,
+    b: &[u8],
+    ceiling: usize,
+    places: &mut [u32],
+    check: F,
+) -> Result<(), Refusal>
+    requires room { (0 < width) × (width ≤ 64) × Room ceiling places.old }
+    requires asked { (t : _) → AllHeld width t.now.bytes.now t.now.places.now → F.pre check t }
+    ensures { (fault : List ℕ → ℕ → ℕ)
+        → ((t : _) (r : _) → t.now.bytes.now ≡ b.now → F.post check t r → meaning r ≡ records_check (fault t.now.places.now) (length t.now.places.now))
+        → Filled (meaning result) (table_check width ceiling b.now (fault (stage_places width (length b.now / width)))) width (length b.now) places.new }
+{
+    fill_table(b.len(), width, ceiling, places)?;
+    let n = b.len() / width;
+    check(&Table {
+        bytes: b,
+        places: &places[..n],
+    })
+}
+
 // The sections of a stage that does not look at their bytes: "4 section: ..".
 pub fn take_sections(
     lengths: &[u8],
@@ -36,14 +58,12 @@ pub fn take_sections(
     requires { Room ceiling places.old }
     ensures { Filled (meaning result) (sections_check ceiling lengths.now b.now) 15 (length b.now) places.new }
 {
-    fill_table(b.len(), 15, ceiling, places)?;
-    let n = b.len() / 15;
-    tables::check_sections(
-        lengths,
-        &Table {
-            bytes: b,
-            places: &places[..n],
-        },
+    take_table(
+        Section::WIDTH,
+        b,
+        ceiling,
+        places,
+        |table| tables::check_sections(lengths, table),
     )
 }
 
@@ -59,16 +79,12 @@ pub fn take_image(
     requires { Room ceiling places.old }
     ensures { Filled (meaning result) (image_check ceiling lengths.now image_places.now image b.now) 15 (length b.now) places.new }
 {
-    fill_table(b.len(), 15, ceiling, places)?;
-    let n = b.len() / 15;
-    tables::check_image(
-        lengths,
-        image_places,
-        image,
-        &Table {
-            bytes: b,
-            places: &places[..n],
-        },
+    take_table(
+        Section::WIDTH,
+        b,
+        ceiling,
+        places,
+        |table| tables::check_image(lengths, image_places, image, table),
     )
 }
 
@@ -83,19 +99,18 @@ pub fn take_symbols(
     requires { AllHeld 15 heads.now.bytes.now heads.now.places.now × Room ceiling places.old }
     ensures { Filled (meaning result) (symbols_check ceiling names (sections_in heads.now.bytes.now heads.now.places.now) b.now) 20 (length b.now) places.new }
 {
-    fill_table(b.len(), 20, ceiling, places)?;
-    let n = b.len() / 20;
-    tables::check_symbols(
-        names,
-        heads,
-        &Table {
-            bytes: b,
-            places: &places[..n],
-        },
+    take_table(
+        Symbol::WIDTH,
+        b,
+        ceiling,
+        places,
+        |table| tables::check_symbols(names, heads, table),
     )
 }
 
 // Relocations: "6 relocation: ..". `symbols` is a count; `floors` is room for a number of each section, and `places` has one of each relocation: no columns of one table.
+// Not by `take_table`: the check writes the floors, so it is no `Fn`. With `FnOnce` there, take_symbols and take_splits did not prove: what a closure answered that holds a lent
+// table was not known.
 pub fn take_relocs(
     heads: &Table,
     symbols: usize,
@@ -107,17 +122,13 @@ pub fn take_relocs(
     requires { AllHeld 15 heads.now.bytes.now heads.now.places.now × Room ceiling places.old × (length heads.now.places.now ≤ length floors.old) }
     ensures { Filled (meaning result) (relocs_check ceiling (sections_in heads.now.bytes.now heads.now.places.now) symbols b.now) 23 (length b.now) places.new }
 {
-    fill_table(b.len(), 23, ceiling, places)?;
-    let n = b.len() / 23;
-    tables::check_relocs(
-        heads,
-        symbols,
-        &Table {
-            bytes: b,
-            places: &places[..n],
-        },
-        floors,
-    )
+    fill_table(b.len(), Reloc::WIDTH, ceiling, places)?;
+    let n = b.len() / Reloc::WIDTH;
+    let table = Table {
+        bytes: b,
+        places: &places[..n],
+    };
+    tables::check_relocs(heads, symbols, &table, floors)
 }
 
 // A partial list, "checked as records": "7 split: ..".
@@ -130,14 +141,12 @@ pub fn take_partials(
     requires { Room ceiling places.old }
     ensures { Filled (meaning result) (partials_check ceiling lengths.now b.now) partial_width (length b.now) places.new }
 {
-    fill_table(b.len(), PARTIAL_BYTES, ceiling, places)?;
-    let n = b.len() / PARTIAL_BYTES;
-    tables::check_partials(
-        lengths,
-        &Table {
-            bytes: b,
-            places: &places[..n],
-        },
+    take_table(
+        PARTIAL_BYTES,
+        b,
+        ceiling,
+        places,
+        |table| tables::check_partials(lengths, table),
     )
 }
 
@@ -152,19 +161,15 @@ pub fn take_splits(
     requires { AllHeld 15 heads.now.bytes.now heads.now.places.now × Room ceiling places.old }
     ensures { Filled (meaning result) (splits_check ceiling lengths.now (sections_in heads.now.bytes.now heads.now.places.now) b.now) split_width (length b.now) places.new }
 {
-    fill_table(b.len(), SPLIT_BYTES, ceiling, places)?;
-    let n = b.len() / SPLIT_BYTES;
-    tables::check_splits(
-        lengths,
-        heads,
-        &Table {
-            bytes: b,
-            places: &places[..n],
-        },
+    take_table(
+        Split::WIDTH,
+        b,
+        ceiling,
+        places,
+        |table| tables::check_splits(lengths, heads, table),
     )
 }
 
-// As `take_sections`, of units: what they have in common is `fill_table`.
 // Units: "8 unit: ..".
 pub fn take_units(
     lengths: &[u8],
@@ -175,13 +180,11 @@ pub fn take_units(
     requires { Room ceiling places.old }
     ensures { Filled (meaning result) (units_check ceiling lengths.now b.now) 8 (length b.now) places.new }
 {
-    fill_table(b.len(), 8, ceiling, places)?;
-    let n = b.len() / 8;
-    tables::check_units(
-        lengths,
-        &Table {
-            bytes: b,
-            places: &places[..n],
-        },
+    take_table(
+        Unit::WIDTH,
+        b,
+        ceiling,
+        places,
+        |table| tables::check_units(lengths, table),
     )
 }

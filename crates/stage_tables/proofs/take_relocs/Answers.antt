@@ -19,13 +19,13 @@ returns-in_err-fill_table c =
     rw (same_err c.from_residual.result c.fill_table.result c.from_residual.ensures.1 c.in_err-fill_table.was)
     (size_refused 23 _ c.args.b.now _ c.fill_table.ensures (fault (stage_places 23 (length c.args.b.now / 23))) (ap meaning c.in_err-fill_table.was))
 
-pub slice_bounds-check_relocs-end : goal.slice_bounds-check_relocs-end
-slice_bounds-check_relocs-end c =
+pub slice_bounds-table-end : goal.slice_bounds-table-end
+slice_bounds-table-end c =
     let t = c.fill_table in
     omega (arith, size_few 23 c.args.ceiling c.args.b.now t.new.places t.ensures (ap meaning c.in_ok-fill_table.was), t.auto.places, c.requires.1.long)
 
-pub slice_bounds-check_relocs-end-2 : goal.slice_bounds-check_relocs-end-2
-slice_bounds-check_relocs-end-2 c = sym (size_places 23 _ c.args.b.now _ c.fill_table.ensures (ap meaning c.in_ok-fill_table.was))
+pub slice_bounds-table-end-2 : goal.slice_bounds-table-end-2
+slice_bounds-table-end-2 c = sym (size_places 23 _ c.args.b.now _ c.fill_table.ensures (ap meaning c.in_ok-fill_table.was))
 
 pub check_relocs-requires : goal.check_relocs-requires
 check_relocs-requires c =
