@@ -52,19 +52,19 @@ module _ (b : List ℕ) where
   unfolding outside any_of any_from
   outside_past p h = ap (test p.address (length p.bytes)) (sym (head_past p.section h))
 
-  pub outside_there : (p : Part) {s : Section} {start size : ℕ} → p.section < length b / 15 → s ≡ section_at b (15 * p.section) → start ≡ p.address
+  pub outside_there : (p : Part) {s : Section} {start size n : ℕ} → n ≡ p.section → s ≡ get_or (stage_sections b) n nowhere → start ≡ p.address
       → size ≡ length p.bytes → test start size s ≡ outside (stage_sections b) p
   unfolding outside any_of any_from
   outside_there p {start = start} {size} h e f g =
-      ap (test start size) (e ∙ sym (head_there p.section h)) ∙ ap₂ (λ (a l : ℕ). test a l (home_of (stage_sections b) p)) f g
+      ap (test start size) (e ∙ ap (λ (k : ℕ). get_or (stage_sections b) k nowhere) h) ∙ ap₂ (λ (a l : ℕ). test a l (home_of (stage_sections b) p)) f g
 
   -- a piece that isn't 82 names a section that is there
   pub section_there : (p : Part) → outside (stage_sections b) p ≡ false → p.section < length b / 15
   section_there p e = let l = listed (stage_sections b) p.section (inside (stage_sections b) p e).holds in let z = length_sections b in omega arith
 
-  -- .. whose record is read there
-  pub home_there : (p : Part) {s : Section} {n : ℕ} → outside (stage_sections b) p ≡ false → n ≡ p.section → s ≡ section_at b (15 * n) → s ≡ home_of (stage_sections b) p
-  home_there p e i r = r ∙ ap (λ (k : ℕ). section_at b (15 * k)) i ∙ sym (head_there p.section (section_there p e))
+  -- .. and the section of its number is its own
+  pub home_there : (p : Part) {s : Section} {n : ℕ} → n ≡ p.section → s ≡ get_or (stage_sections b) n nowhere → s ≡ home_of (stage_sections b) p
+  home_there p i r = r ∙ ap (λ (k : ℕ). get_or (stage_sections b) k nowhere) i
 
 -- the sections' bytes, summed
 pub base_all : {sections : List ℕ} {r : ℕ} → Base sections (length sections / 15) r → r ≡ held (stage_sections sections)

@@ -22,12 +22,20 @@ use whole_pieces::WholePieces;
 
 // ---- the sections
 
+// Section k's head. That there is a section k is asked wherever one is named, as an index's bound is.
+pub fn head_of(sections: &[u8], k: usize) -> Section
+    requires { k < length sections.now / 15 }
+    ensures { result ≡ get_or (stage_sections sections.now) k nowhere }
+{
+    Section::read(sections, Section::WIDTH * k)
+}
+
 // How many bytes section k holds.
 pub fn held_by(sections: &[u8], k: usize) -> u32
     requires { k < length sections.now / 15 }
     ensures { result ≡ held_by (get_or (stage_sections sections.now) k nowhere) }
 {
-    let s = Section::read(sections, 15 * k);
+    let s = head_of(sections, k);
     if s.is_bss() {
         return 0;
     }
@@ -75,10 +83,9 @@ fn is_outside(sections: &[u8], b: &[u8], at: usize) -> bool
     if sections.len() / 15 <= n {
         return true;
     }
-    let s = Section::read(sections, 15 * n);
+    let s = head_of(sections, n);
     let end = (s.address as usize) + (s.size as usize);
-    let past = (p.address as usize) + (p.length as usize);
-    s.is_bss() | (p.address < s.address) | (end < past)
+    s.is_bss() | (p.address < s.address) | (end < p.end())
 }
 
 // Some of the n pieces is.
@@ -98,7 +105,7 @@ fn spot_of(pieces: &WholePieces, at: usize) -> usize
 {
     let p = head_at(pieces.bytes, at);
     let n = p.section as usize;
-    let s = Section::read(pieces.sections, 15 * n);
+    let s = head_of(pieces.sections, n);
     base_of(pieces.sections, n) + ((p.address - s.address) as usize)
 }
 

@@ -40,7 +40,8 @@ fn key_of_piece(b: &[u8], starts: &[usize], i: usize) -> u64
     key_of(p.section, p.address)
 }
 
-// The pieces' numbers by section and address.
+// The pieces' numbers by section and address. std's `sort_unstable_by_key`, with the number in the key so that no two are equal, asks that the key may be asked of every number,
+// and this one is asked only of those that are pieces.
 pub fn order_pieces(b: &[u8], starts: &[usize], order: &mut [u16])
     requires { Placed b.now starts.now × (length starts.now ≤ 1024) × (length order.old ≡ length starts.now) }
     ensures { order.new ≡ order_in b.now starts.now }

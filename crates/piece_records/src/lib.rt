@@ -17,6 +17,15 @@ pub struct PieceHead {
     pub length: u32,
 }
 
+impl PieceHead {
+    // The address after its last byte.
+    pub fn end(&self) -> usize
+        ensures { result ≡ self.now.address + self.now.«length» }
+    {
+        (self.address as usize) + (self.length as usize)
+    }
+}
+
 // "up to 1,024 pieces"
 pub const MOST_PIECES: u32 = 1024;
 

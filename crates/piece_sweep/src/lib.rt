@@ -35,9 +35,7 @@ pub fn is_unequal(b: &[u8], far: usize, at: usize) -> bool
     let f = head_at(b, far);
     let p = head_at(b, at);
     let low = (f.address as usize).max(p.address as usize);
-    let f_end = (f.address as usize) + (f.length as usize);
-    let p_end = (p.address as usize) + (p.length as usize);
-    let high = f_end.min(p_end);
+    let high = f.end().min(p.end());
     if f.section != p.section {
         return false;
     }
@@ -60,7 +58,7 @@ fn farther(b: &[u8], far: usize, at: usize) -> usize
     if f.section != p.section {
         return at;
     }
-    if (f.address as u64) + (f.length as u64) < (p.address as u64) + (p.length as u64) {
+    if f.end() < p.end() {
         return at;
     }
     far

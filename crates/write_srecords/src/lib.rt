@@ -12,21 +12,13 @@ ghost use Rattle.lists.specs.Rows.{some};
 ghost use Rattle.srecords.specs.Lines.{section_lines, lines_of, share_address, some_share, write_of};
 ghost use Rattle.write_srecords.specs.Along.{room_along, all_lines, Ended, Ready, Laying};
 
-use join_pieces::{any_outside, base_of, held_by, lay_over_zeros};
-use obj::{Record, Refusal, Section, refuse};
+use join_pieces::{any_outside, base_of, head_of, held_by, lay_over_zeros};
+use obj::{Refusal, refuse};
 use piece_sweep::any_differ;
 use srecord_lines::{put_line, share_address};
 use srecord_text::write_section;
 
 // ---- 87
-
-// Section k's head. That there is a section k is asked wherever one is named, as an index's bound is.
-fn head_of(sections: &[u8], k: usize) -> Section
-    requires { k < length sections.now / 15 }
-    ensures { result ≡ get_or (stage_sections sections.now) k nowhere }
-{
-    Section::read(sections, 15 * k)
-}
 
 // Section k shares an address with a later one.
 fn shares_later(sections: &[u8], k: usize) -> bool
@@ -74,9 +66,8 @@ fn write_one(sections: &[u8], out: &mut [u8], k: usize, to: usize, from: usize)
     requires { (k < length sections.now / 15) × Fits out.old to from (held_by (get_or (stage_sections sections.now) k nowhere)) (get_or (stage_sections sections.now) k nowhere).address }
     ensures { out.new ≡ sets out.old to (section_lines (get_or (stage_sections sections.now) k nowhere).address (take (held_by (get_or (stage_sections sections.now) k nowhere)) (drop from out.old))) }
 {
-    let s = Section::read(sections, 15 * k);
-    let size = held_by(sections, k);
-    write_section(out, to, from, s.address, size);
+    let s = head_of(sections, k);
+    write_section(out, to, from, s.address, held_by(sections, k));
 }
 
 // The lines of all sections, and the S7 line.

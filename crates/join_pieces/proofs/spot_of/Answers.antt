@@ -12,8 +12,8 @@ use Rattle.stage_tables.specs.StageTables.{stage_sections}
 use Rattle.piece_records.specs.Records.{part_at}
 use Rattle.join_pieces.proofs.spot_of.Goals as goal
 
-pub read-s-requires : goal.read-s-requires
-read-s-requires c =
+pub head_of-s-requires : goal.head_of-s-requires
+head_of-s-requires c =
     let a = c.args in
     let p = part_at a.pieces.now.bytes.now a.at in
     let there = section_there a.pieces.now.sections.now p (c.requires.one _ c.args.pieces.now.inside) in
@@ -35,7 +35,7 @@ overflow_sub-result c =
     let a = s.args in
     let p = part_at a.pieces.now.bytes.now a.at in
     let h = c.head_at-p.ensures in
-    let start = ap (λ (s : Section). s.address) (home_there a.pieces.now.sections.now p (s.requires.one _ s.args.pieces.now.inside) h.section c.read-s.ensures) in
+    let start = ap (λ (s : Section). s.address) (home_there a.pieces.now.sections.now p h.section c.head_of-s.ensures) in
     let i = inside (stage_sections a.pieces.now.sections.now) p (s.requires.one _ s.args.pieces.now.inside) in
     omega (arith, h.address, start, i.low)
 
@@ -45,7 +45,7 @@ returns c =
     let a = s.args in
     let p = part_at a.pieces.now.bytes.now a.at in
     let h = c.head_at-p.ensures in
-    let start = ap (λ (s : Section). s.address) (home_there a.pieces.now.sections.now p (s.requires.one _ s.args.pieces.now.inside) h.section c.read-s.ensures) in
+    let start = ap (λ (s : Section). s.address) (home_there a.pieces.now.sections.now p h.section c.head_of-s.ensures) in
     ap₂ (λ (x y : ℕ). x + y)
     (c.base_of.ensures.is ∙ ap (λ (k : ℕ). held (take k (stage_sections a.pieces.now.sections.now))) h.section)
     (ap₂ (λ (x y : ℕ). x - y) h.address start)

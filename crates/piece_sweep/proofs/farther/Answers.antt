@@ -16,13 +16,13 @@ returns-then-f-p c =
     let q = part_at c.args.b.now c.args.at in
     record { is = sym (farther_another p q (λ e. c.if-f-p.true (f.section ∙ e ∙ sym g.section))); lies = c.requires.1 }
 
-pub returns-then-f-p-2 : goal.returns-then-f-p-2
-returns-then-f-p-2 c =
+pub returns-then-end : goal.returns-then-end
+returns-then-end c =
     let f = c.head_at-f.ensures in
     let g = c.head_at-p.ensures in
     let p = part_at c.args.b.now c.args.far in
     let q = part_at c.args.b.now c.args.at in
-    let later : end_of p < end_of q = omega (arith, c.if-f-p-2.true, f.address, f.«length», g.address, g.«length») in
+    let later : end_of p < end_of q = omega (arith, c.if-end.true, c.end.ensures, c.end-2.ensures, f.address, f.«length», g.address, g.«length») in
     record { is = sym (farther-beyond p q later); lies = c.requires.1 }
 
 pub returns : goal.returns
@@ -31,5 +31,5 @@ returns c =
     let g = c.head_at-p.ensures in
     let p = part_at c.args.b.now c.args.far in
     let q = part_at c.args.b.now c.args.at in
-    let before : end_of q ≤ end_of p = omega (arith, c.if-f-p-2.false, f.address, f.«length», g.address, g.«length») in
+    let before : end_of q ≤ end_of p = omega (arith, c.if-end.false, c.end.ensures, c.end-2.ensures, f.address, f.«length», g.address, g.«length») in
     record { is = sym (farther_stays p q (sym f.section ∙ c.if-f-p.false ∙ g.section) before); lies = c.requires.0 }

@@ -28,7 +28,7 @@ returns-then-high-low c =
     let f = c.head_at-f.ensures in
     let g = c.head_at-p.ensures in
     let low = c.max-low.ensures ∙ ap₂ (λ (x y : ℕ). max x y) f.address g.address in
-    let high = c.min-high.ensures ∙ ap₂ (λ (x y : ℕ). min x y) (ap₂ (λ (x y : ℕ). x + y) f.address f.«length») (ap₂ (λ (x y : ℕ). x + y) g.address g.«length») in
+    let high = c.min-high.ensures ∙ ap₂ (λ (x y : ℕ). min x y) (c.end.ensures ∙ ap₂ (λ (x y : ℕ). x + y) f.address f.«length») (c.end-2.ensures ∙ ap₂ (λ (x y : ℕ). x + y) g.address g.«length») in
     let t = c.if-high-low.true in
     sym (apart_places p q (let z : high_of p q ≤ low_of p q = omega (arith, low, high, t) in z))
 
@@ -40,7 +40,7 @@ returns c =
     let f = c.head_at-f.ensures in
     let g = c.head_at-p.ensures in
     let low = c.max-low.ensures ∙ ap₂ (λ (x y : ℕ). max x y) f.address g.address in
-    let high = c.min-high.ensures ∙ ap₂ (λ (x y : ℕ). min x y) (ap₂ (λ (x y : ℕ). x + y) f.address f.«length») (ap₂ (λ (x y : ℕ). x + y) g.address g.«length») in
+    let high = c.min-high.ensures ∙ ap₂ (λ (x y : ℕ). min x y) (c.end.ensures ∙ ap₂ (λ (x y : ℕ). x + y) f.address f.«length») (c.end-2.ensures ∙ ap₂ (λ (x y : ℕ). x + y) g.address g.«length») in
     ap not c.same.ensures
     ∙ ap₂ (λ (x y : List ℕ). not (same_name x y)) c.bytes_between.ensures c.bytes_between-2.ensures
     ∙ ap₂ (λ (x y : ℕ). not (same_name (bytes_in p x y) (bytes_in q x y))) low high

@@ -9,7 +9,6 @@ use lib.ListN.{get_or, take, drop}
 use lib.Seq.{sets}
 use Rattle.srecords.specs.Lines.{section_lines}
 use Rattle.srecord_text.specs.Room.{Fits}
-use Rattle.join_pieces.proofs.Laws.{head_there}
 use Rattle.write_srecords.proofs.write_one.Goals as goal
 
 pub write_section-requires : goal.write_section-requires
@@ -17,14 +16,14 @@ write_section-requires c =
     let s = c in
     let a = s.args in
     let head = get_or (stage_sections a.sections.now) a.k nowhere in
-    let start = ap (λ (s : Section). s.address) (head_there a.sections.now a.k s.requires.0 ∙ sym c.read-s.ensures) in
-    subst (λ (n : ℕ). Fits a.out.now a.to a.from n c.read-s.result.address) (sym c.held_by-size.ensures)
+    let start = ap (λ (s : Section). s.address) (sym c.head_of-s.ensures) in
+    subst (λ (n : ℕ). Fits a.out.now a.to a.from n c.head_of-s.result.address) (sym c.held_by.ensures)
     (subst (λ (x : ℕ). Fits a.out.now a.to a.from (held_by head) x) start s.requires.1)
 
 pub returns : goal.returns
 returns c =
     let s = c in
     let a = s.args in
-    let start = ap (λ (s : Section). s.address) (c.read-s.ensures ∙ sym (head_there a.sections.now a.k s.requires.0)) in
+    let start = ap (λ (s : Section). s.address) c.head_of-s.ensures in
     c.write_section.ensures
-    ∙ ap₂ (λ (x n : ℕ). sets a.out.now a.to (section_lines x (take n (drop a.from a.out.now)))) start c.held_by-size.ensures
+    ∙ ap₂ (λ (x n : ℕ). sets a.out.now a.to (section_lines x (take n (drop a.from a.out.now)))) start c.held_by.ensures
