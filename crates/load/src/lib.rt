@@ -44,6 +44,15 @@ pub const FLOORS: usize = 14400;
 
 pub const PLACES: usize = 14464;
 
+// So many places of the column, from a base on: the part of a kind, where the base is its own.
+pub fn part(places: &[u32], base: usize, n: usize) -> &[u32]
+    requires { base + n ≤ length places.now }
+    ensures { result.now ≡ part base n places.now }
+{
+    let end = base + n;
+    &places[base..end]
+}
+
 // As `tables::main_ceilings`, other numbers of one struct, which the definitions have under this name.
 fn no_counts() -> Counts
     ensures { result ≡ no_counts }
@@ -65,11 +74,10 @@ fn name_length(before: &SoFar, k: u16) -> usize
 fn home_of(before: &SoFar, k: u16) -> Section
     ensures { result ≡ get_or (sections_in before.now.file.now (part 0 before.now.counts.sections before.now.places.now)) k no_section }
 {
-    let end = SECTIONS + before.counts.sections;
     section_or_none(
         &Table {
             bytes: before.file,
-            places: &before.places[SECTIONS..end],
+            places: part(before.places, SECTIONS, before.counts.sections),
         },
         k as usize,
     )

@@ -24,6 +24,8 @@ pub struct Loaded<'a> {
     pub units: &'a [u32],
 }
 
+// The file is held once, and what a stage takes of it is made where it is asked: as fields, `Names`, `Table` and `Obj` would each hold the bytes, and that these are the same bytes
+// would be one more fact of each function that takes a `Loaded`.
 impl Loaded<'_> {
     pub fn names(&self) -> Names<'_, '_, '_>
         ensures { result ≡ names_in self.now }

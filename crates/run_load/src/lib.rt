@@ -4,10 +4,9 @@
 ghost use Rattle.std.specs.Prelude.{◌≡◌, ◌+◌, ◌≤◌, length};
 ghost use Rattle.tables.specs.Tables.{main_ceilings};
 ghost use Rattle.load.specs.Load.{load_of};
-ghost use Rattle.load.specs.Columns.{part};
 ghost use Rattle.run_load.specs.Lent.{PreparesIn, ShowsIndex, SameColumns};
 
-use load::{Counts, SECTIONS, SYMBOLS, load_file};
+use load::{Counts, SECTIONS, SYMBOLS, load_file, part};
 use loaded::image_places;
 use names::NameIndex;
 use obj::{Refusal, Table};
@@ -35,15 +34,6 @@ impl FileColumns<'_, '_, '_, '_, '_, '_> {
             chain: &*self.chain,
         }
     }
-}
-
-// So many places of the column, from a base on.
-fn part(places: &[u32], base: usize, n: usize) -> &[u32]
-    requires { base + n ≤ length places.now }
-    ensures { result.now ≡ part base n places.now }
-{
-    let end = base + n;
-    &places[base..end]
 }
 
 // The file loaded, the places of its sections' bytes at the front of `images`, and its symbol order.
