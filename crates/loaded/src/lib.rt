@@ -78,7 +78,7 @@ pub fn image_places(sections: &[u32], column: &mut [u32])
     requires { (length sections.now ≤ length column.old) × ((k : ℕ) → k < length sections.now → get_or sections.now k 0 + 15 ≤ 65536) }
     ensures { take (length sections.now) column.new ≡ byte_places sections.now }
 {
-    for i in 0..sections.len() {
-        column[i] = sections[i] + 15;
+    for (i, section) in sections.iter().enumerate() {
+        column[i] = *section + 15;
     }
 }
