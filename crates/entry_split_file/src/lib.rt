@@ -71,7 +71,7 @@ fn with_tables(file: &[u8], columns: &mut FileColumns, outputs: &mut RunOutputs)
     in_columns(file, columns, &mut table, &mut added, outputs)
 }
 
-// The same, with columns of its own for the file.
+// The same, with columns of its own for the file, as `run_load::FileColumns` says.
 fn with_columns(file: &[u8], outputs: &mut RunOutputs) -> u64
     ensures leaves { LeavesIn (split_file_of file.now (sizes_in outputs.old)) result outputs.old outputs.new }
     ensures lent { SameOutputs outputs.old outputs.new }

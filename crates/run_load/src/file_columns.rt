@@ -2,6 +2,8 @@
 ghost use Rattle.run_load.specs.Room.{Long};
 
 // What is loaded of a file: the places of its records, the lengths of its names and their index, the places of the sections' bytes, and the symbols' order by address.
+// The six arrays behind them stand in the two functions that lend them, entry_split_file::with_columns and print_run::print_run: there is no heap, so a function that made both
+// the arrays and this could not hand it out.
 #[derive(Drop)]
 pub struct FileColumns<'p, 'l, 'h, 'c, 'i, 'o> {
     pub places: &'p mut [u32],
