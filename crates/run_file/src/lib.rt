@@ -111,6 +111,7 @@ pub fn run_file(
     ensures added { SameNames added.old added.new }
     ensures lent { SameLent out.old out.new }
 {
+    // no `?`: the answer is a struct, as the counts are promised with every answer
     let prepared = match prepare(file, columns) {
         Ok(prepared) => prepared,
         Err(refusal) => {
