@@ -10,7 +10,7 @@ ghost use Rattle.entry_piece_bytes.specs.Lent.{of_lent, in_lent, within_lent};
 use fields::put32;
 use obj::{Record, Refusal, Section, refuse, word_of};
 use outputs::clear_from;
-use pieces::{PIECE_BYTES, Piece, piece_at};
+use pieces::{PIECE_BYTES, Piece, record_in};
 use tables::{bytes_cut, image_place, table_size};
 
 // Where a piece's bytes lie in the image.
@@ -101,7 +101,7 @@ fn find_piece(lent: &LentSections, pieces: &[u8], which: u32) -> Result<Place, R
     if pieces.len() / PIECE_BYTES <= k {
         return refuse(20, 0, which);
     }
-    find_in_section(lent, piece_at(pieces, k))
+    find_in_section(lent, record_in(pieces, k))
 }
 
 // The same, after the sizes of the two tables of records.

@@ -9,7 +9,7 @@ use crate::PieceLists;
 use crate::lent::RunTables;
 use names::name_at;
 use obj::{Symbol};
-use pieces::{Piece, piece_at, piece_symbol_at};
+use pieces::{Piece, PieceSymbol, record_in};
 
 // A number below the base's count is a base name, else an added one.
 pub fn name_of<'a>(tables: &RunTables<'a>, k: usize) -> &'a [u8]
@@ -27,7 +27,7 @@ pub fn piece_of(lists: &PieceLists, k: usize) -> Piece
     ensures { result ≡ piece_of (listed_pieces lists.now) k }
 {
     if k < lists.made.pieces {
-        return piece_at(lists.pieces, k);
+        return record_in(lists.pieces, k);
     }
     Piece::default()
 }
@@ -48,7 +48,7 @@ fn size_in(lists: &PieceLists, k: usize, unit: u16) -> u64
     requires { k < lists.now.made.pieces }
     ensures { Adds unit (piece_on lists.now k).unit (piece_on lists.now k).size result }
 {
-    let p = piece_at(lists.pieces, k);
+    let p: Piece = record_in(lists.pieces, k);
     if p.unit == unit {
         return p.size as u64;
     }
@@ -71,7 +71,7 @@ fn common_in(tables: &RunTables, k: usize, unit: u16) -> u64
     requires { k < tables.now.lists.now.made.symbols }
     ensures { Adds unit (symbol_on tables.now.lists.now k).unit (common_size (symbol_of tables.now.symbols.now) (symbol_on tables.now.lists.now k)) result }
 {
-    let y = piece_symbol_at(tables.lists.symbols, k);
+    let y: PieceSymbol = record_in(tables.lists.symbols, k);
     if y.unit != unit {
         return 0;
     }

@@ -7,14 +7,14 @@ ghost use Rattle.listing.specs.Lent.{listed_pieces, listed_symbols, listed_reloc
 use crate::lent::UnitHere;
 use crate::reading::piece_of;
 use crate::{Cursor, PieceLists};
-use pieces::{piece_at, piece_reloc_at, piece_symbol_at};
+use pieces::{Piece, PieceReloc, PieceSymbol, record_in};
 
 // A relocation is its piece's unit's.
 fn reloc_is(here: &UnitHere, k: usize) -> bool
     requires { k < here.now.lists.now.made.relocs }
     ensures { result ≡ reloc_is (listed_pieces here.now.lists.now) here.now.unit (reloc_on here.now.lists.now k) }
 {
-    let r = piece_reloc_at(here.lists.relocs, k);
+    let r: PieceReloc = record_in(here.lists.relocs, k);
     let p = piece_of(here.lists, r.piece as usize);
     p.unit == here.unit
 }
@@ -59,7 +59,7 @@ fn seek_symbol(here: &UnitHere, at: usize) -> Cursor
     ensures { Sought here.now.units (listed_pieces here.now.lists.now) (listed_symbols here.now.lists.now) (listed_relocs here.now.lists.now) (Symbols here.now.unit at here.now.bytes) result }
 {
     let (unit, bytes) = (here.unit, here.bytes);
-    let in_unit = |k: usize| piece_symbol_at(here.lists.symbols, k).unit == here.unit;
+    let in_unit = |k: usize| record_in::<PieceSymbol>(here.lists.symbols, k).unit == here.unit;
     if let Some(at) = first_from(at, here.lists.made.symbols, in_unit) {
         return Cursor::Symbols { unit, at, bytes };
     }
@@ -71,7 +71,7 @@ fn seek_piece(here: &UnitHere, at: usize) -> Cursor
     ensures { Sought here.now.units (listed_pieces here.now.lists.now) (listed_symbols here.now.lists.now) (listed_relocs here.now.lists.now) (Pieces here.now.unit at here.now.bytes) result }
 {
     let (unit, bytes) = (here.unit, here.bytes);
-    let in_unit = |k: usize| piece_at(here.lists.pieces, k).unit == here.unit;
+    let in_unit = |k: usize| record_in::<Piece>(here.lists.pieces, k).unit == here.unit;
     if let Some(at) = first_from(at, here.lists.made.pieces, in_unit) {
         return Cursor::Pieces { unit, at, bytes };
     }

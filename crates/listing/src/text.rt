@@ -11,7 +11,7 @@ use crate::lent::RunTables;
 use crate::reading::{name_of, owner_of, piece_of};
 use lines::{write_piece, write_reloc, write_symbol, write_unit};
 use obj::{Reloc, Symbol, Unit};
-use pieces::{piece_at, piece_reloc_at, piece_symbol_at};
+use pieces::{Piece, PieceReloc, PieceSymbol, record_in};
 
 // "Unit: number, name", and its figure.
 pub fn unit_line(tables: &RunTables, unit: u16, size: u64, out: &mut [u8]) -> usize
@@ -30,7 +30,7 @@ pub fn piece_line(tables: &RunTables, at: usize, out: &mut [u8]) -> usize
     ensures { Written out.old out.new
         (piece_text (name_in (columns_of tables.now.base.now) (columns_of tables.now.added.now)) (piece_on tables.now.lists.now at)) result }
 {
-    let p = piece_at(tables.lists.pieces, at);
+    let p: Piece = record_in(tables.lists.pieces, at);
     let name = name_of(tables, p.name as usize);
     write_piece(
         out,
@@ -49,7 +49,7 @@ pub fn symbol_line(tables: &RunTables, at: usize, out: &mut [u8]) -> usize
     ensures { Written out.old out.new
         (symbol_text (name_in (columns_of tables.now.base.now) (columns_of tables.now.added.now)) (symbol_of tables.now.symbols.now) (listed_pieces tables.now.lists.now) (symbol_on tables.now.lists.now at)) result }
 {
-    let y = piece_symbol_at(tables.lists.symbols, at);
+    let y: PieceSymbol = record_in(tables.lists.symbols, at);
     let s = tables.symbols.record::<Symbol>(y.symbol as usize);
     let owner = owner_of(tables.lists, y.piece);
     let name = name_of(tables, s.name as usize);
@@ -62,7 +62,7 @@ pub fn reloc_line(tables: &RunTables, at: usize, out: &mut [u8]) -> usize
     ensures { Written out.old out.new
         (reloc_text (reloc_of tables.now.relocs.now) (listed_pieces tables.now.lists.now) (reloc_on tables.now.lists.now at)) result }
 {
-    let r = piece_reloc_at(tables.lists.relocs, at);
+    let r: PieceReloc = record_in(tables.lists.relocs, at);
     let p = piece_of(tables.lists, r.piece as usize);
     let i = tables.relocs.record::<Reloc>(r.relocation as usize);
     write_reloc(out, p.number, r.offset, i.kind, i.target, i.addend)

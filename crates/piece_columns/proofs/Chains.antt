@@ -1,5 +1,5 @@
 -- Following a symbol's chain gives what looking through all entries gives. Stated of entries as a function of their places. Assumes nothing.
-use mathlib.Core.Path.{◌≡◌, refl, sym, ap, ap₂, subst, ◌∙◌}
+use mathlib.Core.Path.{◌≡◌, refl, sym, ap, ap₂, ◌∙◌}
 use mathlib.Core.List.{List, [], ◌∷◌, ◌++◌}
 use mathlib.Core.Bool.{Bool, true, false, cond, ◌&&◌, ◌||◌}
 use mathlib.Core.Logic.{◌≢◌}
@@ -18,12 +18,7 @@ use Rattle.lists.proofs.Rows.{tabulate_more, get_d_tabulate, length-tabulate, ge
 use Rattle.pieces.specs.declared.PieceSymbol.{PieceSymbol}
 use Rattle.pieces.specs.Pieces.{symbols_in}
 use Rattle.pieces.specs.Questions.{has}
-use Rattle.piece_columns.specs.Columns.{entry_at, last_of, Chained}
-
--- a piece symbol was put behind the first k, and chained
-pub record PushedEntry (heads prevs before after : List ℕ) (k : ℕ) (y : PieceSymbol) : Type 0 where
-  pub more : symbols_in after (k + 1) ≡ symbols_in before k ++ (y ∷ [])
-  pub chained : Chained heads prevs after (k + 1)
+use Rattle.piece_columns.specs.Columns.{entry_at, last_of, Chained, PutSymbol}
 
 has_snoc : (unit symbol : ℕ) (l : List PieceSymbol) (y : PieceSymbol) → has unit symbol (l ++ (y ∷ [])) ≡ (has unit symbol l || (eqb y.unit unit && eqb y.symbol symbol))
 unfolding has
@@ -179,7 +174,7 @@ module _ (out after : List ℕ) (k : ℕ) (y : PieceSymbol) (e : symbols_in afte
             ∙ sym (ap (λ (x : PieceSymbol). last_of (entry_at after) x.symbol i) (entry_old i h)
             ∙ last_same (entry_at after) (entry_at out) (entry_at out i).symbol i (λ j q. entry_old j (omega arith)))
 
-    pub pushed_symbol : PushedEntry (set heads y.symbol (k + 1)) (set prevs k (get_or heads y.symbol 0)) out after k y
+    pub pushed_symbol : PutSymbol (set heads y.symbol (k + 1)) (set prevs k (get_or heads y.symbol 0)) out after k y
     pushed_symbol = record {
       more = e;
       chained = record { head = head_more; prev = prev_more; room = simp length-set (omega arith); held = omega arith };
@@ -194,7 +189,3 @@ chained-none n prevs out e = record {
   room = omega arith;
   held = omega arith;
 }
-
--- of a number of entries, said otherwise
-pub chained_at : {heads prevs out : List ℕ} {k n : ℕ} → n ≡ k → Chained heads prevs out k → Chained heads prevs out n
-chained_at {heads} {prevs} {out} e c = subst (Chained heads prevs out) (sym e) c

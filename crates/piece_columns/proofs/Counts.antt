@@ -1,5 +1,5 @@
 -- How many pieces a unit has, by a column: no more than there are, one more after a piece of the unit, and none at first. Assumes nothing.
-use mathlib.Core.Path.{◌≡◌, refl, sym, ap, subst, ◌∙◌}
+use mathlib.Core.Path.{◌≡◌, refl, sym, ap, ◌∙◌}
 use mathlib.Core.List.{List, [], ◌∷◌, ◌++◌}
 use mathlib.Core.Bool.{Bool, true, false, cond}
 use Prim.Native.Nat.{ℕ, suc, ◌+◌, ◌≤◌, ◌<◌}
@@ -69,7 +69,3 @@ module _ (counts out : List ℕ) (k : ℕ) (c : Counted counts out k) where
 pub counted_none : (n : ℕ) (out : List ℕ) {counts : List ℕ} → counts ≡ replicate n 0 → Counted counts out 0
 unfolding pieces_in tabulate count_of
 counted_none n out e = record { each = λ unit h. ap (λ (l : List ℕ). get_or l unit 0) e ∙ get_or_same n unit 0 }
-
--- of a number of pieces, said otherwise
-pub counted_at : {counts out : List ℕ} {k n : ℕ} → n ≡ k → Counted counts out k → Counted counts out n
-counted_at {counts} {out} e c = subst (Counted counts out) (sym e) c

@@ -7,8 +7,7 @@ use native.Mathlib.Omega.{arith}
 use lib.ListN.{length, get_or, set, length-take, length-drop}
 use lib.Seq.{length-take-le, get_or-take, get_or-drop, take-set-le, take-set-lt, drop-set-lt, drop-set-add}
 use Rattle.pieces.specs.declared.PieceSymbol.{PieceSymbol}
-use Rattle.piece_columns.specs.Columns.{lasts_in, prevs_in}
-use Rattle.piece_columns.proofs.Chains.{PushedEntry}
+use Rattle.piece_columns.specs.Columns.{lasts_in, prevs_in, PutSymbol}
 
 module _ (s : List ℕ) where
   pub length_lasts : 4096 ≤ length s → length (lasts_in s) ≡ 4096
@@ -46,12 +45,12 @@ module _ (s : List ℕ) where
 
 -- an entry that was pushed in both columns was pushed in the whole
 pub pushed_both : (s before after : List ℕ) (k : ℕ) (y : PieceSymbol) → y.symbol < 4096
-    → PushedEntry (set (lasts_in s) y.symbol (k + 1)) (set (prevs_in s) k (get_or (lasts_in s) y.symbol 0)) before after k y
-    → PushedEntry (lasts_in (set (set s (4096 + k) (get_or s y.symbol 0)) y.symbol (k + 1))) (prevs_in (set (set s (4096 + k) (get_or s y.symbol 0)) y.symbol (k + 1))) before after k y
+    → PutSymbol (set (lasts_in s) y.symbol (k + 1)) (set (prevs_in s) k (get_or (lasts_in s) y.symbol 0)) before after k y
+    → PutSymbol (lasts_in (set (set s (4096 + k) (get_or s y.symbol 0)) y.symbol (k + 1))) (prevs_in (set (set s (4096 + k) (get_or s y.symbol 0)) y.symbol (k + 1))) before after k y
 pushed_both s before after k y h p =
     let v = get_or s y.symbol 0 in
     let w = k + 1 in
     let e : set (prevs_in s) k (get_or (lasts_in s) y.symbol 0) ≡ prevs_in (set (set s (4096 + k) v) y.symbol w) =
     ap (set (prevs_in s) k) (sym (last_at s y.symbol h)) ∙ prevs_stored s k v y.symbol w h in
-    subst (λ (l : List ℕ). PushedEntry l (prevs_in (set (set s (4096 + k) v) y.symbol w)) before after k y) (lasts_stored s k v y.symbol w h)
-    (subst (λ (l : List ℕ). PushedEntry (set (lasts_in s) y.symbol w) l before after k y) e p)
+    subst (λ (l : List ℕ). PutSymbol l (prevs_in (set (set s (4096 + k) v) y.symbol w)) before after k y) (lasts_stored s k v y.symbol w h)
+    (subst (λ (l : List ℕ). PutSymbol (set (lasts_in s) y.symbol w) l before after k y) e p)

@@ -1,11 +1,11 @@
 -- The columns beside the walk's output. `counts` has, for each unit, how many pieces it has. `heads` has, for each symbol, one more than the place of its
 -- last entry among the piece symbols, and `prevs`, for each entry, the same of the entry before it of the same symbol; 0 ends a chain. What they answer
 -- is what looking through the output answers: `count_of` and `has` of pieces.
-use Rattle.std.specs.Prelude.{ℕ, zero, suc, ◌*◌, ◌≤◌, ◌<◌, ◌≡◌, List, cond, eqb, length, get_or, take, drop}
+use Rattle.std.specs.Prelude.{ℕ, zero, suc, ◌+◌, ◌*◌, ◌≤◌, ◌<◌, ◌≡◌, List, [], ◌∷◌, ◌++◌, cond, eqb, length, get_or, take, drop}
 use Rattle.pieces.specs.declared.Piece.{Piece}
 use Rattle.pieces.specs.declared.PieceSymbol.{PieceSymbol}
 use Rattle.pieces.specs.declared.lent.PieceTables.{PieceTables}
-use Rattle.pieces.specs.Pieces.{pieces_in, symbol_at}
+use Rattle.pieces.specs.Pieces.{pieces_in, symbols_in, symbol_at}
 use Rattle.pieces.specs.Tables.{AddedPiece, AddedSymbol}
 use Rattle.pieces.specs.Questions.{count_of}
 
@@ -47,7 +47,17 @@ CountedIn counts t = Counted counts t.pieces.now t.made.pieces
 abbrev pub ChainedIn : (chains : List ℕ) → PieceTables → Type 0
 ChainedIn chains t = ChainedOf chains t.symbols.now t.made.symbols
 
--- a piece was put behind the others, and counted
+-- a piece was put behind the first k, and counted
+pub record PutPiece (counts before after : List ℕ) (k : ℕ) (p : Piece) : Type 0 where
+  pub more : pieces_in after (k + 1) ≡ pieces_in before k ++ (p ∷ [])
+  pub counted : Counted counts after (k + 1)
+
+-- a piece symbol was put behind the first k, and chained
+pub record PutSymbol (heads prevs before after : List ℕ) (k : ℕ) (y : PieceSymbol) : Type 0 where
+  pub more : symbols_in after (k + 1) ≡ symbols_in before k ++ (y ∷ [])
+  pub chained : Chained heads prevs after (k + 1)
+
+-- .. in the tables: a piece was put behind the others, and counted
 pub record PushedPiece (counts : List ℕ) (before after : PieceTables) (p : Piece) : Type 0 where
   pub added : AddedPiece before after p
   pub counted : CountedIn counts after

@@ -3,13 +3,13 @@
 // then for each entry the one before it.
 #![tactic(auto)]
 
-ghost use Rattle.std.specs.Prelude.{◌≡◌, ◌<◌, ℕ, List, length};
-ghost use Rattle.pieces.specs.Pieces.{pieces_in, symbols_in};
+ghost use Rattle.std.specs.Prelude.{◌≡◌, ◌+◌, ◌*◌, ◌<◌, ◌≤◌, ℕ, List, length};
+ghost use Rattle.pieces.specs.Pieces.{pieces_in, symbols_in, piece_width};
 ghost use Rattle.pieces.specs.Questions.{count_of, has};
-ghost use Rattle.piece_columns.specs.Columns.{Counted, ChainedOf, CountedIn, ChainedIn, lasts_in, prevs_in, PushedPiece, PushedSymbol};
+ghost use Rattle.piece_columns.specs.Columns.{Counted, ChainedOf, CountedIn, ChainedIn, lasts_in, prevs_in, PutPiece, PutSymbol, PushedPiece, PushedSymbol};
 
-use pieces::{Piece, PieceSymbol, PieceTables, piece_symbol_at};
 use fields::number;
+use pieces::{Piece, PieceSymbol, PieceTables, put_piece, put_piece_symbol, record_in};
 
 // How many of the pieces are the unit's, whichever are counted: the number in its unit of the next one.
 pub fn count_of(counts: &[u16], unit: usize) -> u16
@@ -19,13 +19,22 @@ pub fn count_of(counts: &[u16], unit: usize) -> u16
     counts[unit]
 }
 
-// One piece more, behind those that are there.
+// One piece more, behind the k that are there.
+pub fn put_counted(counts: &mut [u16], out: &mut [u8], k: usize, p: Piece)
+    requires { (p.unit < length counts.old) × Counted counts.old out.old k × (piece_width * k + piece_width ≤ length out.old) × (k < 65535) }
+    ensures { PutPiece counts.new out.old out.new k p }
+{
+    counts[usize::from(p.unit)] += 1;
+    put_piece(out, k, p);
+}
+
+// .. in the lent tables.
 pub fn push_piece(counts: &mut [u16], tables: &mut PieceTables, p: Piece)
     requires { (p.unit < length counts.old) × CountedIn counts.old tables.old × (tables.old.made.pieces < tables.old.room.pieces) × (tables.old.made.pieces < 65535) }
     ensures { PushedPiece counts.new tables.old tables.new p }
 {
-    counts[usize::from(p.unit)] += 1;
-    tables.add_piece(p);
+    put_counted(counts, tables.pieces, tables.made.pieces, p);
+    tables.made.pieces += 1;
 }
 
 // Whether one of the piece symbols, as many as are chained, is this symbol of the unit: along the chain of its entries, from the last to the first.
@@ -36,7 +45,7 @@ pub fn has_symbol(chains: &[u16], entries: &[u8], unit: u16, symbol: usize) -> b
     // along a chain: no count
     let mut j = number(chains, symbol);
     while j != 0 {
-        let y = piece_symbol_at(entries, j - 1);
+        let y: PieceSymbol = record_in(entries, j - 1);
         if y.unit == unit {
             return true;
         }
@@ -45,7 +54,18 @@ pub fn has_symbol(chains: &[u16], entries: &[u8], unit: u16, symbol: usize) -> b
     false
 }
 
-// One piece symbol more, behind those that are there, and at the front of its chain.
+// One piece symbol more, behind the k that are there, and at the front of its chain.
+pub fn put_chained(chains: &mut [u16], out: &mut [u8], k: usize, y: PieceSymbol)
+    requires { (y.symbol < length (lasts_in chains.old)) × ChainedOf chains.old out.old k × (k < length (prevs_in chains.old)) × (12 * k + 12 ≤ length out.old) × (k < 65535) }
+    ensures { PutSymbol (lasts_in chains.new) (prevs_in chains.new) out.old out.new k y }
+{
+    let i = usize::from(y.symbol);
+    chains[4096 + k] = chains[i];
+    chains[i] = k as u16 + 1;
+    put_piece_symbol(out, k, y);
+}
+
+// .. in the lent tables.
 pub fn push_symbol(chains: &mut [u16], tables: &mut PieceTables, y: PieceSymbol)
     requires { (y.symbol < length (lasts_in chains.old))
         × ChainedIn chains.old tables.old
@@ -54,9 +74,6 @@ pub fn push_symbol(chains: &mut [u16], tables: &mut PieceTables, y: PieceSymbol)
         × (tables.old.made.symbols < 65535) }
     ensures { PushedSymbol chains.new tables.old tables.new y }
 {
-    let i = usize::from(y.symbol);
-    let k = tables.made.symbols;
-    chains[4096 + k] = chains[i];
-    chains[i] = k as u16 + 1;
-    tables.add_symbol(y);
+    put_chained(chains, tables.symbols, tables.made.symbols, y);
+    tables.made.symbols += 1;
 }

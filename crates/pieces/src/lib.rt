@@ -6,10 +6,11 @@ mod lent;
 
 ghost use Rattle.std.specs.Prelude.{◌≡◌, [], ◌∷◌, ◌++◌, ◌+◌, ◌*◌, ◌-◌, ◌≤◌, ◌<◌, length, take, drop};
 ghost use Rattle.std.proofs.lemmas.List.Edits.{sets};
-ghost use Rattle.pieces.specs.Pieces.{piece_width, piece_head, piece_bytes, symbol_bytes, reloc_bytes, piece_at, symbol_at, reloc_at, pieces_in, symbols_in, relocs_in};
+ghost use Rattle.pieces.specs.Pieces.{piece_width, piece_head, piece_at, symbol_at, reloc_at, pieces_in, symbols_in, relocs_in};
 
 use fields::{get16, get32, get64, put16, put32, put64};
 pub use lent::PieceTables;
+use obj::Record;
 
 #[derive(Clone, Copy, Default)]
 pub struct Piece {
@@ -53,55 +54,75 @@ pub const PIECE_BYTES: usize = 30;
 
 // ---- records read
 
-#[tactic(auto, unfolding(crate::specs::Pieces::piece_at))]
-pub fn piece_at(b: &[u8], k: usize) -> Piece
-    requires { piece_width * k + piece_width ≤ length b.now }
-    ensures { result ≡ piece_at b.now (piece_width * k) }
-{
-    let at = PIECE_BYTES * k;
-    Piece {
-        unit: get16(b, at),
-        number: get16(b, at + 2),
-        section: get16(b, at + 4),
-        name: get16(b, at + 6),
-        address: get32(b, at + 8),
-        size: get32(b, at + 12),
-        alignment: get32(b, at + 16),
-        offset: get64(b, at + 20),
-        origin: get16(b, at + 28),
+// A table of the output is packed: record k stands k widths from its start.
+impl Record for Piece {
+    ghost WIDTH = { piece_width };
+
+    const WIDTH: usize = PIECE_BYTES;
+
+    ghost stored = { piece_at };
+
+    #[tactic(auto, unfolding(crate::specs::Pieces::piece_at))]
+    fn read(b: &[u8], at: usize) -> Piece {
+        Piece {
+            unit: get16(b, at),
+            number: get16(b, at + 2),
+            section: get16(b, at + 4),
+            name: get16(b, at + 6),
+            address: get32(b, at + 8),
+            size: get32(b, at + 12),
+            alignment: get32(b, at + 16),
+            offset: get64(b, at + 20),
+            origin: get16(b, at + 28),
+        }
     }
 }
 
-#[tactic(auto, unfolding(crate::specs::Pieces::symbol_at))]
-pub fn piece_symbol_at(b: &[u8], k: usize) -> PieceSymbol
-    requires { 12 * k + 12 ≤ length b.now }
-    ensures { result ≡ symbol_at b.now (12 * k) }
-{
-    let at = 12 * k;
-    PieceSymbol {
-        unit: get16(b, at),
-        piece: get16(b, at + 2),
-        symbol: get16(b, at + 4),
-        flags: get16(b, at + 6),
-        address: get32(b, at + 8),
+impl Record for PieceSymbol {
+    ghost WIDTH = { 12 };
+
+    const WIDTH: usize = 12;
+
+    ghost stored = { symbol_at };
+
+    #[tactic(auto, unfolding(crate::specs::Pieces::symbol_at))]
+    fn read(b: &[u8], at: usize) -> PieceSymbol {
+        PieceSymbol {
+            unit: get16(b, at),
+            piece: get16(b, at + 2),
+            symbol: get16(b, at + 4),
+            flags: get16(b, at + 6),
+            address: get32(b, at + 8),
+        }
     }
 }
 
-#[tactic(auto, unfolding(crate::specs::Pieces::reloc_at))]
-pub fn piece_reloc_at(b: &[u8], k: usize) -> PieceReloc
-    requires { 8 * k + 8 ≤ length b.now }
-    ensures { result ≡ reloc_at b.now (8 * k) }
-{
-    let at = 8 * k;
-    PieceReloc {
-        piece: get16(b, at),
-        relocation: get16(b, at + 2),
-        offset: get32(b, at + 4),
+impl Record for PieceReloc {
+    ghost WIDTH = { 8 };
+
+    const WIDTH: usize = 8;
+
+    ghost stored = { reloc_at };
+
+    #[tactic(auto, unfolding(crate::specs::Pieces::reloc_at))]
+    fn read(b: &[u8], at: usize) -> PieceReloc {
+        PieceReloc {
+            piece: get16(b, at),
+            relocation: get16(b, at + 2),
+            offset: get32(b, at + 4),
+        }
     }
+}
+
+// Record k of a packed table.
+pub fn record_in<R: Record>(b: &[u8], k: usize) -> R
+    requires { R.WIDTH * k + R.WIDTH ≤ length b.now }
+    ensures { result ≡ R.stored b.now (R.WIDTH * k) }
+{
+    R::read(b, R::WIDTH * k)
 }
 
 // ---- records written: each field by field at its place, as document 01 lists them; what two kinds have in common is that they have five or seven fields
-// ---- records written
 
 // What document 01 gives a piece: all but its origin.
 fn put_head(out: &mut [u8], at: usize, p: Piece)
@@ -118,18 +139,21 @@ fn put_head(out: &mut [u8], at: usize, p: Piece)
     put64(out, at + 20, p.offset);
 }
 
-fn put_piece(out: &mut [u8], at: usize, p: Piece)
-    requires { at + piece_width ≤ length out.old }
-    ensures { out.new ≡ sets out.old at (piece_bytes p) }
+// One piece more, behind the k that are there.
+pub fn put_piece(out: &mut [u8], k: usize, p: Piece)
+    requires { piece_width * k + piece_width ≤ length out.old }
+    ensures { pieces_in out.new (k + 1) ≡ pieces_in out.old k ++ (p ∷ []) }
 {
+    let at = PIECE_BYTES * k;
     put_head(out, at, p);
     put16(out, at + 28, p.origin);
 }
 
-fn put_piece_symbol(out: &mut [u8], at: usize, y: PieceSymbol)
-    requires { at + 12 ≤ length out.old }
-    ensures { out.new ≡ sets out.old at (symbol_bytes y) }
+pub fn put_piece_symbol(out: &mut [u8], k: usize, y: PieceSymbol)
+    requires { 12 * k + 12 ≤ length out.old }
+    ensures { symbols_in out.new (k + 1) ≡ symbols_in out.old k ++ (y ∷ []) }
 {
+    let at = 12 * k;
     put16(out, at, y.unit);
     put16(out, at + 2, y.piece);
     put16(out, at + 4, y.symbol);
@@ -137,41 +161,25 @@ fn put_piece_symbol(out: &mut [u8], at: usize, y: PieceSymbol)
     put32(out, at + 8, y.address);
 }
 
-fn put_piece_reloc(out: &mut [u8], at: usize, r: PieceReloc)
-    requires { at + 8 ≤ length out.old }
-    ensures { out.new ≡ sets out.old at (reloc_bytes r) }
+pub fn put_piece_reloc(out: &mut [u8], k: usize, r: PieceReloc)
+    requires { 8 * k + 8 ≤ length out.old }
+    ensures { relocs_in out.new (k + 1) ≡ relocs_in out.old k ++ (r ∷ []) }
 {
+    let at = 8 * k;
     put16(out, at, r.piece);
     put16(out, at + 2, r.relocation);
     put32(out, at + 4, r.offset);
 }
 
 impl PieceTables<'_, '_, '_> {
-    ghost use Rattle.pieces.specs.Tables.{AddedPiece, AddedSymbol, AddedReloc};
+    ghost use Rattle.pieces.specs.Tables.{AddedReloc};
 
-    // One piece more, behind those that are there.
-    pub fn add_piece(&mut self, p: Piece)
-        requires { self.old.made.pieces < self.old.room.pieces }
-        ensures { AddedPiece self.old self.new p }
-    {
-        put_piece(self.pieces, PIECE_BYTES * self.made.pieces, p);
-        self.made.pieces += 1;
-    }
-
-    pub fn add_symbol(&mut self, y: PieceSymbol)
-        requires { self.old.made.symbols < self.old.room.symbols }
-        ensures { AddedSymbol self.old self.new y }
-    {
-        put_piece_symbol(self.symbols, 12 * self.made.symbols, y);
-        self.made.symbols += 1;
-    }
-
-    // As `add_symbol`, a record of another kind in another column: one function would be lent both.
+    // One piece relocation more, behind those that are there. Pieces and piece symbols have columns beside them: `piece_columns` puts these.
     pub fn add_reloc(&mut self, r: PieceReloc)
         requires { self.old.made.relocs < self.old.room.relocs }
         ensures { AddedReloc self.old self.new r }
     {
-        put_piece_reloc(self.relocs, 8 * self.made.relocs, r);
+        put_piece_reloc(self.relocs, self.made.relocs, r);
         self.made.relocs += 1;
     }
 }

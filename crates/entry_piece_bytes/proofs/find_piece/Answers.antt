@@ -19,5 +19,5 @@ pub returns : goal.returns
 returns c =
     let a = c.args in
     c.find_in_section.ensures
-    ∙ ap (in_section a.lent.now.heads.now (image_places_of a.lent.now.places.now) (length a.lent.now.image.now)) c.piece_at.ensures
+    ∙ ap (in_section a.lent.now.heads.now (image_places_of a.lent.now.places.now) (length a.lent.now.image.now)) c.record_in.ensures
     ∙ sym (piece_there a.lent.now.heads.now (image_places_of a.lent.now.places.now) (length a.lent.now.image.now) a.pieces.now a.which c.if-pieces-k.false)

@@ -27,7 +27,7 @@ onward c k chained =
     let on = c.loop-j.invariant k chained in
     let le = on_le (entry_at a.entries.now) a.unit a.symbol k c.loop-j.j on in
     on_next (entry_at a.entries.now) a.unit a.symbol k c.loop-j.j on c.loop-j-test.true c.number-j-in-loop-j.result
-    (λ e. c.if-y-unit.false (ap (λ (y : PieceSymbol). y.unit) c.piece_symbol_at-y.ensures ∙ e))
+    (λ e. c.if-y-unit.false (ap (λ (y : PieceSymbol). y.unit) c.record_in-y.ensures ∙ e))
     (c.number-j-in-loop-j.ensures ∙ prev_at a.chains.now (c.loop-j.j - 1) ∙ chained.prev (c.loop-j.j - 1) (omega (arith, le, c.loop-j-test.true)))
 
 pub number-j-requires : goal.number-j-requires
@@ -39,8 +39,8 @@ loop-j-init c = λ k chained.
     on_start (entry_at a.entries.now) a.unit a.symbol k _
     (c.number-j.ensures ∙ last_at a.chains.now a.symbol (in_lasts a.chains.now a.symbol c.requires.0).0 ∙ chained.head a.symbol c.requires.0)
 
-pub piece_symbol_at-y-requires : goal.piece_symbol_at-y-requires
-piece_symbol_at-y-requires c =
+pub record_in-y-requires : goal.record_in-y-requires
+record_in-y-requires c =
     let a = c.args in
     let k = c.requires.1.0 in
     let chained = c.requires.1.1 in
@@ -50,7 +50,7 @@ pub returns-then-y-unit : goal.returns-then-y-unit
 unfolding symbols_in
 returns-then-y-unit c = λ k chained.
     let a = c.args in
-    on_hit (entry_at a.entries.now) a.unit a.symbol k c.loop-j.j (c.loop-j.invariant k chained) c.loop-j-test.true (ap (λ (y : PieceSymbol). y.unit) (sym c.piece_symbol_at-y.ensures) ∙ c.if-y-unit.true)
+    on_hit (entry_at a.entries.now) a.unit a.symbol k c.loop-j.j (c.loop-j.invariant k chained) c.loop-j-test.true (ap (λ (y : PieceSymbol). y.unit) (sym c.record_in-y.ensures) ∙ c.if-y-unit.true)
 
 pub overflow_add-j : goal.overflow_add-j
 overflow_add-j c = omega (arith, behind (goal.at.overflow_add-j c).Else-y-unit)

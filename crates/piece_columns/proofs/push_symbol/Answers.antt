@@ -1,33 +1,21 @@
--- `piece_columns::push_symbol` meets its contract: the entry is put behind the others, and at the front of its symbol's chain.
-use mathlib.Core.Path.{sym, ap, ◌∙◌}
+-- `piece_columns::push_symbol` meets its contract: the entry is put behind the others in its table, and one more is made.
+use mathlib.Core.Path.{refl}
 use native.Mathlib.Omega.{arith}
-use lib.ListN.{length-set}
-use Rattle.pieces.specs.Pieces.{symbols_in}
-use Rattle.piece_columns.proofs.Chains.{pushed_symbol, chained_at}
-use Rattle.piece_columns.proofs.Regions.{in_lasts, length_prevs, pushed_both}
 use Rattle.piece_columns.proofs.push_symbol.Goals as goal
 
-pub bounds-chains-i : goal.bounds-chains-i
-bounds-chains-i c = rw c.from-i.ensures (in_lasts c.args.chains.now c.args.y.symbol c.requires.0).1
-
-pub bounds-chains-k : goal.bounds-chains-k
-bounds-chains-k c = omega (arith, c.requires.2, length_prevs c.args.chains.now)
-
-pub bounds-chains-i-2 : goal.bounds-chains-i-2
-bounds-chains-i-2 c = simp (length-set, c.from-i.ensures) (in_lasts c.args.chains.now c.args.y.symbol c.requires.0).1
+pub put_chained-requires : goal.put_chained-requires
+put_chained-requires c =
+    let r = c.requires in (r.0, r.1, r.2, omega (arith, r.3, c.args.tables.now.fits.symbols_long), r.4)
 
 pub returns : goal.returns
 returns c =
-    let a = c.args in
-    let k = a.tables.now.made.symbols in
-    let added = c.add_symbol.ensures in
-    let after = c.add_symbol.new.self in
-    let one = added.one in
-    rw c.from-i.ensures
-    (record {
-      added = added;
-      chained =
-          chained_at one
-          (pushed_both a.chains.now _ _ k a.y (in_lasts a.chains.now a.y.symbol c.requires.0).0
-          (pushed_symbol _ _ _ a.y (ap (symbols_in after.symbols.now) (sym one) ∙ added.more) _ _ c.requires.1 c.requires.0 c.requires.2 (omega (arith, one, after.fits.few_symbols, after.fits.symbols_long)))).chained;
-    })
+    record {
+      added = record {
+        more = c.put_chained.ensures.more;
+        one = refl;
+        pieces = record { bytes = refl; made = refl };
+        relocs = record { bytes = refl; made = refl };
+        lent = record { room = refl; pieces = refl; symbols = refl; relocs = refl; pieces_size = refl; symbols_size = c.put_chained.auto.out; relocs_size = refl };
+      };
+      chained = c.put_chained.ensures.chained;
+    }

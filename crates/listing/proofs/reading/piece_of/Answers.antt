@@ -12,7 +12,7 @@ use Rattle.listing.proofs.reading.piece_of.Goals as goal
 
 pub returns-then-k-lists : goal.returns-then-k-lists
 unfolding pieces_in
-returns-then-k-lists c = let a = c.args in c.piece_at.ensures ∙ sym (get_d_tabulate (piece_on a.lists.now) 0 a.lists.now.made.pieces a.k no_piece c.if-k-lists.true ∙ ap (piece_on a.lists.now) (zero-add a.k))
+returns-then-k-lists c = let a = c.args in c.record_in.ensures ∙ sym (get_d_tabulate (piece_on a.lists.now) 0 a.lists.now.made.pieces a.k no_piece c.if-k-lists.true ∙ ap (piece_on a.lists.now) (zero-add a.k))
 
 pub returns : goal.returns
 unfolding pieces_in
