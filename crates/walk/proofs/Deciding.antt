@@ -42,26 +42,26 @@ module _ (sections : Sections) (n from to : ℕ) where
       let high = ltb-true h.address to (both (ltb h.address to) (leb to (h.address + h.size)) p.1).0 in
       (low, omega arith)
 
-  pub between_none : to ≤ from → None ≡ between_of sections n from to
-  unfolding between_of
-  between_none h = rw (le-ltb from to h)
+  pub between_none : (current : ℕ) → to ≤ from → accepted tt ≡ between_of sections n current from to
+  unfolding between_of refuse ◌>>◌
+  between_none current h = rw (le-ltb from to h) refl
 
-  module _ (some : from < to) (head : Section) (e : head ≡ sections.head n) where
-    pub between-outside : inside head ≡ false → Some 72 ≡ between_of sections n from to
-    unfolding between_of
-    between-outside q = rw (lt-ltb from to some, ap inside (sym e) ∙ q)
+  module _ (current : ℕ) (some : from < to) (head : Section) (e : head ≡ sections.head n) where
+    pub between-outside : inside head ≡ false → refused 72 n current ≡ between_of sections n current from to
+    unfolding between_of refuse ◌>>◌
+    between-outside q = rw (lt-ltb from to some, ap inside (sym e) ∙ q) refl
 
-    pub between_inside : inside head ≡ true → (bytes : List ℕ) → bytes ≡ sections.bytes n
-        → between_of sections n from to ≡ cond (zero_between bytes (from - head.address) (to - head.address)) None (Some 73)
-    unfolding between_of
-    between_inside q bytes f =
-        rw (lt-ltb from to some, ap inside (sym e) ∙ q)
-        (flip (zero_between (sections.bytes n) (from - (sections.head n).address) (to - (sections.head n).address))
-        ∙ (λ d. cond (zero_between (sym f d) (from - (sym e d).address) (to - (sym e d).address)) None (Some 73)))
-      where
-        flip : (t : Bool) → ◌≡◌ {A = Option ℕ} (cond (not t) (Some 73) None) (cond t None (Some 73))
-        flip true = refl
-        flip false = refl
+    module _ (q : inside head ≡ true) (bytes : List ℕ) (f : bytes ≡ sections.bytes n) where
+      there : zero_between (sections.bytes n) (from - (sections.head n).address) (to - (sections.head n).address) ≡ zero_between bytes (from - head.address) (to - head.address)
+      there = λ d. zero_between (sym f d) (from - (sym e d).address) (to - (sym e d).address)
+
+      pub between_zero : zero_between bytes (from - head.address) (to - head.address) ≡ true → accepted tt ≡ between_of sections n current from to
+      unfolding between_of refuse ◌>>◌
+      between_zero z = rw (lt-ltb from to some, ap inside (sym e) ∙ q, there ∙ z) refl
+
+      pub between_nonzero : zero_between bytes (from - head.address) (to - head.address) ≡ false → refused 73 n current ≡ between_of sections n current from to
+      unfolding between_of refuse ◌>>◌
+      between_nonzero z = rw (lt-ltb from to some, ap inside (sym e) ∙ q, there ∙ z) refl
 
 -- ---- the alignment
 good_above : (a : ℕ) → good_align a ≡ true → 0 < a
@@ -73,18 +73,11 @@ module _ (wanted : Outcome Chosen) (n start : ℕ) (good : (c : Chosen) → want
       let g = good (chosen a) (sym e) in
       record { chosen = (chosen a, sym e, refl); least = good_above (chosen a).value g; most = (good_parts (chosen a).value g).1 }
 
--- ---- 72 and 73 as one number
-abbrev told : {A : Type 0} → (n current : ℕ) → Outcome A → Option ℕ → Outcome A
-told n current m None = m
-told n current m (Some f) = refused f n current
-
-two_tests : {A : Type 0} (n current : ℕ) (a o z : Bool) (m : Outcome A) →
-    (refuse 72 n current (a && o) >> (refuse 73 n current (a && z) >> m)) ≡ told n current m (cond a (cond o (Some 72) (cond z (Some 73) None)) None)
-unfolding refuse ◌>>◌
-two_tests n current true true z m = refl
-two_tests n current true false true m = refl
-two_tests n current true false false m = refl
-two_tests n current false o z m = refl
+-- ---- two lines, and those after them
+two_lines : {A : Type 0} (a b : Outcome (Unit {0})) (m : Outcome A) → (a >> (b >> m)) ≡ ((a >> b) >> m)
+unfolding ◌>>◌
+two_lines (accepted u) b m = refl
+two_lines (refused number section address) b m = refl
 
 -- ---- deciding, test by test
 module _ (image : Image) (sections : Sections) (units : List ℕ) (n current next : ℕ) (s : Split) where
@@ -102,18 +95,18 @@ module _ (image : Image) (sections : Sections) (units : List ℕ) (n current nex
   decide-start e = sym (fails 71 n current _ _ (ap not (ne_eqb s.start current e)))
 
   module _ (e : s.start ≡ current) where
-    decide_number : whole ≡ told n current (cond (is_skipped s) (accepted None) kept) (between_of sections n s.end next)
+    decide_lines : whole ≡ (between_of sections n current s.end next >> cond (is_skipped s) (accepted None) kept)
     unfolding decide between_of
-    decide_number =
-        passes 71 n current _ _ (ap not (eq-eqb s.start current e))
-        ∙ two_tests n current (ltb s.end next) (outside sections n s.end next) (nonzero sections n s.end next) (cond (is_skipped s) (accepted None) kept)
+    decide_lines = passes 71 n current _ _ (ap not (eq-eqb s.start current e)) ∙ two_lines _ _ _
 
-    pub decide-between : (f : ℕ) → Some f ≡ between_of sections n s.end next → refused f n current ≡ whole
-    decide-between f q = sym (decide_number ∙ ap (told n current (cond (is_skipped s) (accepted None) kept)) (sym q))
+    pub decide-between : (number section address : ℕ) → refused number section address ≡ between_of sections n current s.end next → refused number section address ≡ whole
+    unfolding ◌>>◌
+    decide-between number section address q = sym (decide_lines ∙ ap (λ (m : Outcome (Unit {0})). m >> cond (is_skipped s) (accepted None) kept) (sym q))
 
-    module _ (q : None ≡ between_of sections n s.end next) where
+    module _ (q : accepted tt ≡ between_of sections n current s.end next) where
       decide_on : whole ≡ cond (is_skipped s) (accepted None) kept
-      decide_on = decide_number ∙ ap (told n current (cond (is_skipped s) (accepted None) kept)) (sym q)
+      unfolding ◌>>◌
+      decide_on = decide_lines ∙ ap (λ (m : Outcome (Unit {0})). m >> cond (is_skipped s) (accepted None) kept) (sym q)
 
       pub decide_skip : is_skipped s ≡ true → accepted None ≡ whole
       decide_skip k = sym (decide_on ∙ ap (λ (t : Bool). cond t (accepted None) kept) k)
@@ -129,9 +122,10 @@ module _ (image : Image) (sections : Sections) (units : List ℕ) (n current nex
           listed : whole ≡ (alignment_in image (sections.head n) n current s >>= λ (c : Chosen). accepted (Some (record { unit = unit_of units s.unit; alignment = c.value })))
           listed = decide-kept ∙ passes 74 n current _ _ (ne_eqb (unit_of units s.unit) (length units) u)
 
-          pub decide_backwards : alignment_in image (sections.head n) n current s ≡ refused 11 n current → refused 11 n current ≡ whole
+          pub decide_backwards : (number section address : ℕ) → alignment_in image (sections.head n) n current s ≡ refused number section address
+              → refused number section address ≡ whole
           unfolding ◌>>=◌
-          decide_backwards h = sym (listed ∙ ap (λ (m : Outcome Chosen). m >>= λ (c : Chosen). accepted (Some (record { unit = unit_of units s.unit; alignment = c.value }))) h)
+          decide_backwards number section address h = sym (listed ∙ ap (λ (m : Outcome Chosen). m >>= λ (c : Chosen). accepted (Some (record { unit = unit_of units s.unit; alignment = c.value }))) h)
 
           pub decide_gives : (r : ℕ) → Valued (alignment_in image (sections.head n) n current s) r → accepted (Some (record { unit = unit_of units s.unit; alignment = r })) ≡ whole
           unfolding ◌>>=◌

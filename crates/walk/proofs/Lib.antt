@@ -4,3 +4,4 @@ pub mod Adding
 pub mod Giving
 pub mod Added
 pub mod Regions
+pub mod Refused

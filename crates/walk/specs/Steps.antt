@@ -43,9 +43,11 @@ Sane units current s (Err r) = Unit {0}
 
 -- ---- its parts
 
--- 72 or 73 for the bytes of section n in from..to, if there is a fault
-unfoldable pub between_of : Sections → (n from to : ℕ) → Option ℕ
-between_of sections n from to = cond (ltb from to) (cond (outside sections n from to) (Some 72) (cond (nonzero sections n from to) (Some 73) None)) None
+-- its two lines on the bytes of section n in from..to
+unfoldable pub between_of : Sections → (n current from to : ℕ) → Outcome (Unit {0})
+between_of sections n current from to = do
+  refuse 72 n current (ltb from to && outside sections n from to)
+  refuse 73 n current (ltb from to && nonzero sections n from to)
 
 -- a is the value of the alignment that is wanted
 pub record Valued (wanted : Outcome Chosen) (a : ℕ) : Type 0 where

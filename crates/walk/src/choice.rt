@@ -9,10 +9,10 @@ ghost use Rattle.walk.specs.Walk.{alignment_in};
 ghost use Rattle.walk.specs.Steps.{SectionThere, SectionNamed, Asked, between_of, AlignedAt, decide, Sane};
 
 use crate::{Target, refuse_at};
+use fields::number;
 use obj::{Refusal, Section, Split, Table};
 use pieces::piece_bytes;
 use sections::{Obj, alignment_of, default_of, is_zero, section_bytes};
-use fields::number;
 use symbols::Backwards;
 
 // As `contains_range` of obj/sections.rs.
@@ -26,24 +26,31 @@ fn is_inside(head: Section, from: u32, to: u32) -> bool
 }
 
 // "bytes between two, or from the last to the splitting end, must be zero": 72, 73, or nothing where they are or where there are none.
-fn between(heads: &Table, image: &Table, n: usize, from: u32, to: u32) -> Option<u16>
-    requires { SectionThere heads.now.bytes.now heads.now.places.now image.now.bytes.now image.now.places.now n }
-    ensures { result ≡ between_of (sections_of heads.now.bytes.now heads.now.places.now image.now.bytes.now image.now.places.now) n from to }
+fn between(
+    heads: &Table,
+    image: &Table,
+    n: usize,
+    from: u32,
+    to: u32,
+    current: u32,
+) -> Result<(), Refusal>
+    requires { SectionThere heads.now.bytes.now heads.now.places.now image.now.bytes.now image.now.places.now n × (n < 65535) }
+    ensures { meaning result ≡ between_of (sections_of heads.now.bytes.now heads.now.places.now image.now.bytes.now image.now.places.now) n current from to }
 {
-    if from < to {
-        let head = heads.record::<Section>(n);
-        if is_inside(head, from, to) {
-            let bytes = section_bytes(image.bytes, image.places, n, head);
-            let start = head.address;
-            let part = piece_bytes(bytes, (from - start) as usize, (to - start) as usize);
-            if is_zero(part) {
-                return None;
-            }
-            return Some(73);
-        }
-        return Some(72);
+    if to <= from {
+        return Ok(());
     }
-    None
+    let head = heads.record::<Section>(n);
+    if !is_inside(head, from, to) {
+        return refuse_at(72, n, current);
+    }
+    let bytes = section_bytes(image.bytes, image.places, n, head);
+    let start = head.address;
+    let part = piece_bytes(bytes, (from - start) as usize, (to - start) as usize);
+    if is_zero(part) {
+        return Ok(());
+    }
+    refuse_at(73, n, current)
 }
 
 // "Alignment of a split" in section n, asked from `start` on; its range may be asked backwards (11).
@@ -95,10 +102,7 @@ pub fn choose(
     if s.start != current {
         return refuse_at(71, n, current);
     }
-    let fault = between(&obj.heads, image, n, s.end, next);
-    if let Some(fault) = fault {
-        return refuse_at(fault, n, current);
-    }
+    between(&obj.heads, image, n, s.end, next, current)?;
     if s.is_skipped() {
         return Ok(None);
     }
@@ -107,8 +111,6 @@ pub fn choose(
         return refuse_at(74, n, current);
     }
     let asked = alignment_at(obj, n, s, current);
-    let Ok(alignment) = asked else {
-        return refuse_at(11, n, current);
-    };
+    let alignment = asked.map_err(|_| Refusal::new(11, n as u16, current))?;
     Ok(Some(Target { unit, alignment }))
 }

@@ -11,11 +11,11 @@ ghost use Rattle.relocs.specs.Relocs.{reloc_of, Readable};
 ghost use Rattle.walk.specs.Walk.{passed_over, entry_of, add_symbol, add_symbols, reloc_entry, add_relocs};
 ghost use Rattle.walk.specs.Adding.{Entries, Lying, Adds, Above, AddsRelocs};
 
+use fields::number;
 use names::{Names, is_linker_generated_label, is_vector_table_end, name_at};
 use obj::{Reloc, Split, Symbol, Table};
 use piece_columns::{has_symbol, push_symbol};
 use pieces::{PieceReloc, PieceSymbol, PieceTables};
-use fields::number;
 
 // "one at the end is passed over, `gTRKInterruptVectorTableEnd` at the start instead": where a symbol of this name is passed over.
 fn passed_at(name: &[u8], s: Split) -> u32

@@ -138,7 +138,8 @@ pub fn give(
         return refuse_at(11, n, s.start);
     }
     let inside = symbols_inside(obj, n, s);
-    let added = add_symbols(
+    let full = Refusal::new(76, n as u16, s.start);
+    add_symbols(
         &obj.symbols,
         &obj.names,
         inside,
@@ -146,14 +147,12 @@ pub fn give(
         unit as u16,
         &mut scratch[..8192],
         tables,
-    );
-    let Some(()) = added else {
-        return refuse_at(76, n, s.start);
-    };
+    )
+    .ok_or(full)?;
     if s.is_common() {
         return Ok(());
     }
-    let given = give_piece(
+    give_piece(
         &mut scratch[8192..],
         tables,
         &obj.heads,
@@ -163,9 +162,7 @@ pub fn give(
         s,
         unit,
         alignment,
-    );
-    let Some(()) = given else {
-        return refuse_at(76, n, s.start);
-    };
+    )
+    .ok_or(full)?;
     Ok(())
 }

@@ -16,4 +16,4 @@ returns-then-k-lists c = let a = c.args in c.record_in.ensures ∙ sym (get_d_ta
 
 pub returns : goal.returns
 unfolding pieces_in
-returns c = let a = c.args in sym (get_or-eq_default (tabulate (piece_on a.lists.now) 0 a.lists.now.made.pieces) no_piece (rw (length-tabulate (piece_on a.lists.now) 0 a.lists.now.made.pieces) c.if-k-lists.false))
+returns c = let a = c.args in c.default.ensures ∙ sym (get_or-eq_default (tabulate (piece_on a.lists.now) 0 a.lists.now.made.pieces) no_piece (rw (length-tabulate (piece_on a.lists.now) 0 a.lists.now.made.pieces) c.if-k-lists.false))

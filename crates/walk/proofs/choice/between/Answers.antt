@@ -1,22 +1,29 @@
 -- `walk::choice::between` meets its contract: the tests are the definition's, in its order, over the section's head and bytes.
 use mathlib.Core.Path.{sym, ap, ◌∙◌}
-use mathlib.Core.Bool.{Bool, cond}
-use Rattle.std.specs.Prelude.{Some, None}
+use native.Mathlib.Omega.{arith}
+use Rattle.obj.specs.Answers.{meaning}
 use Rattle.sections.specs.Bytes.{bytes_of, all_zero}
-use Rattle.sections.specs.Sections.{sections_of}
-use Rattle.walk.proofs.Deciding.{between_none, between-outside, between_inside}
+use Rattle.walk.proofs.Deciding.{between_none, between-outside, between_zero, between_nonzero}
 use Rattle.walk.proofs.choice.between.Goals as goal
 
+pub returns-then-to-from : goal.returns-then-to-from
+returns-then-to-from c = between_none _ _ _ _ _ c.if-to-from.true
+
+pub returns-then-not-is_inside : goal.returns-then-not-is_inside
+returns-then-not-is_inside c =
+    ap meaning c.refuse_at.ensures ∙ between-outside _ _ _ _ _ (let h = c.if-to-from.false in omega arith) _ c.record-head.ensures (sym c.is_inside.ensures ∙ c.if-not-is_inside.true)
+
 pub returns-then-is_zero : goal.returns-then-is_zero
-returns-then-is_zero c = (let s = c in sym (between_inside (sections_of s.args.heads.now.bytes.now s.args.heads.now.places.now s.args.image.now.bytes.now s.args.image.now.places.now) s.args.n s.args.from s.args.to c.if-from-to.true c.record-head.result c.record-head.ensures (sym c.is_inside.ensures ∙ c.if-is_inside.true) c.section_bytes-bytes.result.now (let s = c in c.section_bytes-bytes.ensures ∙ ap (bytes_of s.args.image.now.bytes.now s.args.image.now.places.now s.args.n) c.record-head.ensures) ∙ ap (λ (u : Bool). cond u None (Some 73)) (ap all_zero (sym c.piece_bytes-part.ensures) ∙ sym c.is_zero.ensures ∙ c.if-is_zero.true)))
-
-pub returns-then-is_inside : goal.returns-then-is_inside
-returns-then-is_inside c = (let s = c in sym (between_inside (sections_of s.args.heads.now.bytes.now s.args.heads.now.places.now s.args.image.now.bytes.now s.args.image.now.places.now) s.args.n s.args.from s.args.to c.if-from-to.true c.record-head.result c.record-head.ensures (sym c.is_inside.ensures ∙ c.if-is_inside.true) c.section_bytes-bytes.result.now (let s = c in c.section_bytes-bytes.ensures ∙ ap (bytes_of s.args.image.now.bytes.now s.args.image.now.places.now s.args.n) c.record-head.ensures) ∙ ap (λ (u : Bool). cond u None (Some 73)) (ap all_zero (sym c.piece_bytes-part.ensures) ∙ sym c.is_zero.ensures ∙ c.if-is_zero.false)))
-
-pub returns-then-from-to : goal.returns-then-from-to
-returns-then-from-to c =
-    between-outside (sections_of c.args.heads.now.bytes.now c.args.heads.now.places.now c.args.image.now.bytes.now c.args.image.now.places.now) c.args.n c.args.from c.args.to c.if-from-to.true c.record-head.result c.record-head.ensures (sym c.is_inside.ensures ∙ c.if-is_inside.false)
+returns-then-is_zero c =
+    let a = c.args in
+    between_zero _ _ _ _ _ (let h = c.if-to-from.false in omega arith) _ c.record-head.ensures (sym c.is_inside.ensures ∙ c.if-not-is_inside.false) _
+    (c.section_bytes-bytes.ensures ∙ ap (bytes_of a.image.now.bytes.now a.image.now.places.now a.n) c.record-head.ensures)
+    (ap all_zero (sym c.piece_bytes-part.ensures) ∙ sym c.is_zero.ensures ∙ c.if-is_zero.true)
 
 pub returns : goal.returns
 returns c =
-    between_none (sections_of c.args.heads.now.bytes.now c.args.heads.now.places.now c.args.image.now.bytes.now c.args.image.now.places.now) c.args.n c.args.from c.args.to c.if-from-to.false
+    let a = c.args in
+    ap meaning c.refuse_at-2.ensures
+    ∙ between_nonzero _ _ _ _ _ (let h = c.if-to-from.false in omega arith) _ c.record-head.ensures (sym c.is_inside.ensures ∙ c.if-not-is_inside.false) _
+    (c.section_bytes-bytes.ensures ∙ ap (bytes_of a.image.now.bytes.now a.image.now.places.now a.n) c.record-head.ensures)
+    (ap all_zero (sym c.piece_bytes-part.ensures) ∙ sym c.is_zero.ensures ∙ c.if-is_zero.false)

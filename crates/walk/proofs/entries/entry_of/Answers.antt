@@ -1,12 +1,12 @@
 -- `walk::entries::entry_of` meets its contract: the fields of a common split's symbol, or of a piece's.
-use borrow.Author.Tests.{eq-eqb, ne_eqb}
+use mathlib.Core.Path.{sym, ◌∙◌}
 use Rattle.walk.specs.Walk.{entry_of}
 use Rattle.walk.proofs.entries.entry_of.Goals as goal
 
-pub returns-then-s-eq1 : goal.returns-then-s-eq1
+pub returns-then-is_common : goal.returns-then-is_common
 unfolding entry_of
-returns-then-s-eq1 c = rw (eq-eqb _ _ c.if-s-eq1.true, c.common_address.ensures)
+returns-then-is_common c = rw (sym c.is_common.ensures ∙ c.if-is_common.true, c.common_address.ensures)
 
 pub returns : goal.returns
 unfolding entry_of
-returns c = rw (ne_eqb _ _ c.if-s-eq1.false)
+returns c = rw (sym c.is_common.ensures ∙ c.if-is_common.false)

@@ -2,9 +2,8 @@
 use mathlib.Core.Path.{◌≡◌, sym, ap, subst, ◌∙◌}
 use mathlib.Core.List.{List, ◌++◌}
 use mathlib.Core.Bool.{not, ◌||◌}
-use Prim.Native.Nat.{ℕ, ◌-◌, ◌%◌, ◌≤◌, ◌<◌}
+use Prim.Native.Nat.{ℕ, ◌-◌, ◌≤◌, ◌<◌}
 use native.Mathlib.Omega.{arith}
-use borrow.Author.Tests.{eq-eqb, ne_eqb}
 use borrow.Rule.Slice.PartMut.{same_len_mid}
 use lib.Dec.{eqb, leb, ltb}
 use lib.ListN.{length, take, drop}
@@ -18,14 +17,18 @@ use Rattle.pieces.specs.declared.Counts.{Counts}
 use Rattle.pieces.specs.declared.Piece.{Piece}
 use Rattle.pieces.specs.declared.PieceSymbol.{PieceSymbol}
 use Rattle.pieces.specs.declared.PieceReloc.{PieceReloc}
-use Rattle.pieces.specs.Tables.{pieces_of, relocs_of}
+use Rattle.pieces.specs.Tables.{pieces_of, symbols_of, relocs_of}
 use Rattle.pieces.proofs.Laws.{length-pieces_in, length-relocs_in}
 use Rattle.pieces.proofs.Same.{pieces_same, symbols_same, relocs_same, lent_same, lent_still}
 use Rattle.relocs.specs.Relocs.{reloc_of}
 use Rattle.piece_columns.proofs.Same.{counted_same, chained_same}
 use Rattle.piece_columns.specs.Columns.{CountedIn}
-use Rattle.walk.specs.Adding.{Entries}
-use Rattle.walk.specs.Giving.{input_of, output_of, chains_in, counts_in, pieces_with, relocs_with}
+use Rattle.std.specs.Prelude.{Err}
+use Rattle.obj.proofs.Errors.{is_err}
+use Rattle.walk.specs.Walk.{add_symbols}
+use Rattle.walk.specs.Adding.{Entries, Adds}
+use Rattle.walk.proofs.Refused.{Left, left}
+use Rattle.walk.specs.Giving.{input_of, output_of, chains_in, counts_in, PieceGives, pieces_with, relocs_with}
 use Rattle.walk.proofs.Giving.{piece_out, aligned_backwards, symbols_full, common_made, piece_made, piece_full, kept_above, backwards_is, forwards_ends}
 use Rattle.walk.proofs.Added.{forwards_is, wanted_is, entries_are, few_entries}
 use Rattle.walk.proofs.Regions.{chains_front, counts_front, counts_whole, chains_behind, counts_behind}
@@ -48,9 +51,9 @@ returns-then-is_backwards c =
       lent = lent_same;
     })
 
-pub add_symbols-added-requires : goal.add_symbols-added-requires
+pub add_symbols-requires : goal.add_symbols-requires
 unfolding chains_in
-add_symbols-added-requires c =
+add_symbols-requires c =
     let a = c.args in
     let g = image_in a.obj.now in
     let part = c.symbols_inside-inside.ensures in (
@@ -62,8 +65,8 @@ add_symbols-added-requires c =
       c.requires.0.entered,
     )
 
-pub returns-in_default : goal.returns-in_default
-returns-in_default c =
+pub returns-in_err-ok_or : goal.returns-in_err-ok_or
+returns-in_err-ok_or c =
     let a = c.args in
     let t = a.tables.now in
     let g = image_in a.obj.now in
@@ -72,17 +75,19 @@ returns-in_default c =
     let relocs = length a.relocs.now.places.now in
     let forwards = forwards_is g head reloc relocs a.n a.unit a.alignment a.s t c.requires.6 c.requires.2.is c.is_backwards.ensures c.if-is_backwards.false in
     let wanted = wanted_is g head reloc relocs a.n a.unit a.alignment a.s t c.symbols_inside-inside.ensures in
-    let full = c.in_default.ensures in
-    rw c.refuse_at-in_default.ensures
+    let more = c.add_symbols in
+    let asked = Adds (add_symbols g a.unit t.made.pieces a.s (symbols_of t) c.symbols_inside-inside.result.now) more.new.chains t more.new.tables in
+    let full = subst (Left asked c.new-full.result) (sym c.ok_or.ensures.value ∙ c.in_err-ok_or.was) (left asked c.new-full.result more.result more.ensures) in
+    rw (is_err _ c.from_residual.ensures.1 ∙ ap Err (full.1 ∙ c.new-full.ensures))
     (record {
       is = λ count bytes splits units. symbols_full g head reloc relocs a.n a.unit a.alignment a.s t.room (output_of t) count bytes splits units c.requires.6
-          (forwards count bytes splits units) (subst (λ (l : List PieceSymbol). t.room.symbols < length l) wanted full.0);
+          (forwards count bytes splits units) (subst (λ (l : List PieceSymbol). t.room.symbols < length l) wanted full.0.0);
       beside = tt;
-      lent = full.1;
+      lent = full.0.1;
     })
 
-pub returns-then-s-eq1 : goal.returns-then-s-eq1
-returns-then-s-eq1 c =
+pub returns-then-is_common : goal.returns-then-is_common
+returns-then-is_common c =
     let a = c.args in
     let t = a.tables.now in
     let g = image_in a.obj.now in
@@ -90,9 +95,10 @@ returns-then-s-eq1 c =
     let reloc = reloc_of a.relocs.now.bytes.now a.relocs.now.places.now in
     let relocs = length a.relocs.now.places.now in
     let forwards = forwards_is g head reloc relocs a.n a.unit a.alignment a.s t c.requires.6 c.requires.2.is c.is_backwards.ensures c.if-is_backwards.false in
-    let more = c.add_symbols-added in
+    let more = c.add_symbols in
     let mid = more.new.tables in
-    let now = c.in-Some.ensures in
+    let asked = Adds (add_symbols g a.unit t.made.pieces a.s (symbols_of t) c.symbols_inside-inside.result.now) more.new.chains t more.new.tables in
+    let now = subst (Left asked c.new-full.result) (sym c.ok_or.ensures.value ∙ c.in_ok-ok_or.was) (left asked c.new-full.result more.result more.ensures) in
     let entries = entries_are g head reloc relocs a.n a.unit a.alignment a.s t c.symbols_inside-inside.ensures now in
     let few = few_entries g head reloc relocs a.n a.unit a.alignment a.s t c.symbols_inside-inside.ensures now in
     let front : length more.new.chains ≡ 8192 = more.auto.chains ∙ length-take-le 8192 a.scratch.now c.requires.0.long in
@@ -110,7 +116,7 @@ returns-then-s-eq1 c =
     record {
       is = λ count bytes splits units.
           common_made g head reloc relocs a.n a.unit a.alignment a.s t.room (output_of t) count bytes splits units c.requires.6
-          (forwards count bytes splits units) few (eq-eqb (a.s.flags % 2) 1 c.if-s-eq1.true)
+          (forwards count bytes splits units) few (sym c.is_common.ensures ∙ c.if-is_common.true)
           (omega (arith, length-pieces_in t.pieces.now t.made.pieces, t.fits.few_pieces)) (omega (arith, length-relocs_in t.relocs.now t.made.relocs, t.fits.few_relocs))
           ∙ (λ d. accepted (record { pieces = sym (pieces_same now.pieces) d; symbols = sym entries d; relocs = sym (relocs_same now.relocs) d }));
       beside = record {
@@ -123,27 +129,30 @@ returns-then-s-eq1 c =
       lent = now.lent;
     }
 
-pub give_piece-given-requires : goal.give_piece-given-requires
-give_piece-given-requires c =
+pub give_piece-requires : goal.give_piece-requires
+give_piece-requires c =
     let a = c.args in
     let g = image_in a.obj.now in
-    let more = c.add_symbols-added in
+    let t = a.tables.now in
+    let more = c.add_symbols in
+    let asked = Adds (add_symbols g a.unit t.made.pieces a.s (symbols_of t) c.symbols_inside-inside.result.now) more.new.chains t more.new.tables in
+    let now = subst (Left asked c.new-full.result) (sym c.ok_or.ensures.value ∙ c.in_ok-ok_or.was) (left asked c.new-full.result more.result more.ensures) in
     let front : length more.new.chains ≡ 8192 = more.auto.chains ∙ length-take-le 8192 a.scratch.now c.requires.0.long in
     let between : List ℕ = more.new.chains ++ drop 8192 a.scratch.now in
     let long : length between ≡ length a.scratch.now = length_front a.scratch.now more.new.chains 8192 more.auto.chains in
     let far : 8192 ≤ length between = omega (arith, c.requires.0.long, long) in
     let lent : take (length between - 8192) (drop 8192 between) ≡ counts_in a.scratch.now = counts_whole between ∙ counts_front more.new.chains a.scratch.now front in (
-      subst (λ (l : List ℕ). CountedIn l more.new.tables) (sym lent) (counted_same c.in-Some.ensures.pieces c.requires.0.counted),
+      subst (λ (l : List ℕ). CountedIn l more.new.tables) (sym lent) (counted_same now.pieces c.requires.0.counted),
       c.requires.2,
       c.requires.3,
       subst (λ (l : List ℕ). a.unit < length l) (sym lent) c.requires.4,
       c.requires.5,
-      forwards_ends (not (eqb (length a.part.now) 0) || has_symbols g.symbol g.count a.n) a.s (sym c.is_backwards.ensures ∙ c.if-is_backwards.false) (ne_eqb (a.s.flags % 2) 1 c.if-s-eq1.false),
-      omega (arith, c.requires.0.most_pieces, ap (λ (m : Counts). m.pieces) c.in-Some.ensures.lent.room),
+      forwards_ends (not (eqb (length a.part.now) 0) || has_symbols g.symbol g.count a.n) a.s (sym c.is_backwards.ensures ∙ c.if-is_backwards.false) (sym c.is_common.ensures ∙ c.if-is_common.false),
+      omega (arith, c.requires.0.most_pieces, ap (λ (m : Counts). m.pieces) now.lent.room),
     )
 
-pub returns-in_default-given : goal.returns-in_default-given
-returns-in_default-given c =
+pub returns-in_err-ok_or-2 : goal.returns-in_err-ok_or-2
+returns-in_err-ok_or-2 c =
     let a = c.args in
     let t = a.tables.now in
     let g = image_in a.obj.now in
@@ -151,25 +160,27 @@ returns-in_default-given c =
     let reloc = reloc_of a.relocs.now.bytes.now a.relocs.now.places.now in
     let relocs = length a.relocs.now.places.now in
     let forwards = forwards_is g head reloc relocs a.n a.unit a.alignment a.s t c.requires.6 c.requires.2.is c.is_backwards.ensures c.if-is_backwards.false in
-    let more = c.add_symbols-added in
+    let more = c.add_symbols in
     let mid = more.new.tables in
-    let now = c.in-Some.ensures in
+    let asked = Adds (add_symbols g a.unit t.made.pieces a.s (symbols_of t) c.symbols_inside-inside.result.now) more.new.chains t more.new.tables in
+    let now = subst (Left asked c.new-full.result) (sym c.ok_or.ensures.value ∙ c.in_ok-ok_or.was) (left asked c.new-full.result more.result more.ensures) in
     let entries = entries_are g head reloc relocs a.n a.unit a.alignment a.s t c.symbols_inside-inside.ensures now in
     let pieces : pieces_with (head a.n) a.n a.unit a.alignment a.s (pieces_of mid) ≡ pieces_with (head a.n) a.n a.unit a.alignment a.s (pieces_of t) =
     ap (pieces_with (head a.n) a.n a.unit a.alignment a.s) (pieces_same now.pieces) in
     let place = now.pieces.made ∙ sym (length-pieces_in t.pieces.now t.made.pieces) in
     let offsets : relocs_with reloc relocs a.n a.s mid.made.pieces (relocs_of mid) ≡ relocs_with reloc relocs a.n a.s (length (pieces_of t)) (relocs_of t) =
     λ d. relocs_with reloc relocs a.n a.s (place d) (relocs_same now.relocs d) in
-    let gp = c.give_piece-given in
-    let full = c.in_default-given.ensures in
-    rw c.refuse_at-in_default-given.ensures
+    let gp = c.give_piece in
+    let put = PieceGives (pieces_with (head a.n) a.n a.unit a.alignment a.s (pieces_of mid)) (relocs_with reloc relocs a.n a.s mid.made.pieces (relocs_of mid)) gp.new.counts mid gp.new.tables in
+    let full = subst (Left put c.new-full.result) (sym c.ok_or-2.ensures.value ∙ c.in_err-ok_or-2.was) (left put c.new-full.result gp.result gp.ensures) in
+    rw (is_err _ c.from_residual-in_err-ok_or-2.ensures.1 ∙ ap Err (full.1 ∙ c.new-full.ensures))
     (record {
       is = λ count bytes splits units.
           piece_full g head reloc relocs a.n a.unit a.alignment a.s t.room (output_of t) count bytes splits units c.requires.6
-          (forwards count bytes splits units) (ne_eqb (a.s.flags % 2) 1 c.if-s-eq1.false)
-          ((λ d. ltb (sym now.lent.room d).relocs (length (sym offsets d)) || ltb (sym now.lent.room d).pieces (length (sym pieces d))) ∙ full.0);
+          (forwards count bytes splits units) (sym c.is_common.ensures ∙ c.if-is_common.false)
+          ((λ d. ltb (sym now.lent.room d).relocs (length (sym offsets d)) || ltb (sym now.lent.room d).pieces (length (sym pieces d))) ∙ full.0.0);
       beside = tt;
-      lent = lent_still now.lent full.1;
+      lent = lent_still now.lent full.0.1;
     })
 
 pub returns : goal.returns
@@ -181,9 +192,10 @@ returns c =
     let reloc = reloc_of a.relocs.now.bytes.now a.relocs.now.places.now in
     let relocs = length a.relocs.now.places.now in
     let forwards = forwards_is g head reloc relocs a.n a.unit a.alignment a.s t c.requires.6 c.requires.2.is c.is_backwards.ensures c.if-is_backwards.false in
-    let more = c.add_symbols-added in
+    let more = c.add_symbols in
     let mid = more.new.tables in
-    let now = c.in-Some.ensures in
+    let asked = Adds (add_symbols g a.unit t.made.pieces a.s (symbols_of t) c.symbols_inside-inside.result.now) more.new.chains t more.new.tables in
+    let now = subst (Left asked c.new-full.result) (sym c.ok_or.ensures.value ∙ c.in_ok-ok_or.was) (left asked c.new-full.result more.result more.ensures) in
     let entries = entries_are g head reloc relocs a.n a.unit a.alignment a.s t c.symbols_inside-inside.ensures now in
     let few = few_entries g head reloc relocs a.n a.unit a.alignment a.s t c.symbols_inside-inside.ensures now in
     let pieces : pieces_with (head a.n) a.n a.unit a.alignment a.s (pieces_of mid) ≡ pieces_with (head a.n) a.n a.unit a.alignment a.s (pieces_of t) =
@@ -191,12 +203,13 @@ returns c =
     let place = now.pieces.made ∙ sym (length-pieces_in t.pieces.now t.made.pieces) in
     let offsets : relocs_with reloc relocs a.n a.s mid.made.pieces (relocs_of mid) ≡ relocs_with reloc relocs a.n a.s (length (pieces_of t)) (relocs_of t) =
     λ d. relocs_with reloc relocs a.n a.s (place d) (relocs_same now.relocs d) in
-    let gp = c.give_piece-given in
+    let gp = c.give_piece in
     let front : length more.new.chains ≡ 8192 = more.auto.chains ∙ length-take-le 8192 a.scratch.now c.requires.0.long in
     let between : List ℕ = more.new.chains ++ drop 8192 a.scratch.now in
     let long : length between ≡ length a.scratch.now = length_front a.scratch.now more.new.chains 8192 more.auto.chains in
     let far : 8192 ≤ length between = omega (arith, c.requires.0.long, long) in
-    let made = c.in-Some-given.ensures in
+    let put = PieceGives (pieces_with (head a.n) a.n a.unit a.alignment a.s (pieces_of mid)) (relocs_with reloc relocs a.n a.s mid.made.pieces (relocs_of mid)) gp.new.counts mid gp.new.tables in
+    let made = subst (Left put c.new-full.result) (sym c.ok_or-2.ensures.value ∙ c.in_ok-ok_or-2.was) (left put c.new-full.result gp.result gp.ensures) in
     let after = gp.new.tables in
     let lent = lent_still now.lent made.lent in
     let behind = same_len_mid 8192 (length between - 8192) between gp.new.counts gp.auto.counts ∙ long in
@@ -207,7 +220,7 @@ returns c =
     record {
       is = λ count bytes splits units.
           piece_made g head reloc relocs a.n a.unit a.alignment a.s t.room (output_of t) count bytes splits units c.requires.6
-          (forwards count bytes splits units) few (ne_eqb (a.s.flags % 2) 1 c.if-s-eq1.false)
+          (forwards count bytes splits units) few (sym c.is_common.ensures ∙ c.if-is_common.false)
           (omega (arith, ap (λ (l : List Piece). length l) written, length-pieces_in after.pieces.now after.made.pieces, after.fits.few_pieces, ap (λ (m : Counts). m.pieces) lent.room))
           (omega (arith, ap (λ (l : List PieceReloc). length l) moved, length-relocs_in after.relocs.now after.made.relocs, after.fits.few_relocs, ap (λ (m : Counts). m.relocs) lent.room))
           ∙ (λ d. accepted (record { pieces = sym written d; symbols = sym (symbols_same made.symbols ∙ entries) d; relocs = sym moved d }));
