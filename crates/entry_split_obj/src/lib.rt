@@ -5,11 +5,10 @@
 ghost use Rattle.std.specs.Prelude.{◌≡◌, ◌≤◌, length};
 ghost use Rattle.name_table.specs.Columns.{ReadableIn};
 ghost use Rattle.walk.specs.Giving.{output_in};
-ghost use Rattle.stage_walk.specs.Room.{room_in};
+ghost use Rattle.stage_walk.specs.Room.{room_in, within_ceilings};
 ghost use Rattle.stage_walk.specs.Lines.{Gives, HeadedIn};
 ghost use Rattle.entry_split_obj.specs.Entry.{split_obj_of, Laid, Leaves};
 ghost use Rattle.entry_split_obj.specs.Lines.{from_symbols_in, split_obj_in, made_by, Fits, sizes_of};
-ghost use Rattle.pieces.specs.Room.{Ceilings};
 
 use lent_tables::StageTables;
 use name_table::NameArrays;
@@ -32,9 +31,8 @@ fn with_symbols(
 ) -> Result<(), Refusal>
     requires { ReadableIn names.now
         × HeadedIn heads.now image.now names.now.places.now
-        × (length names.now.lengths.now ≤ 4096)
-        × Ceilings tables.old.room }
-    ensures { Gives (from_symbols_in names.now heads.now image.now lent.now tables.old.room) tables.old tables.new result }
+        × (length names.now.lengths.now ≤ 4096) }
+    ensures { Gives (from_symbols_in names.now heads.now image.now lent.now (within_ceilings tables.old.room)) tables.old tables.new result }
 {
     let mut symbols = SymbolArrays::new();
     symbols.check(names.lengths.len(), heads, lent.symbols)?;
@@ -58,8 +56,7 @@ fn with_symbols(
 // All tables: the names, the sections with the places of their bytes, and the tables after them.
 // The first two as in `entry_questions::answered`, by the same two structs; what is asked after them differs.
 fn checked(lent: &StageTables, tables: &mut PieceTables) -> Result<(), Refusal>
-    requires { Ceilings tables.old.room }
-    ensures { Gives (split_obj_in lent.now tables.old.room) tables.old tables.new result }
+    ensures { Gives (split_obj_in lent.now (within_ceilings tables.old.room)) tables.old tables.new result }
 {
     let mut columns = NameArrays::new();
     columns.check(lent.name_ends, lent.name_bytes, 4096)?;

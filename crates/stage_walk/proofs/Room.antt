@@ -3,7 +3,8 @@ use Prim.Native.Nat.{ℕ, ◌*◌, ◌-◌, ◌/◌, ◌≤◌}
 use mathlib.Core.Path.{◌≡◌, refl, sym, ap, ◌∙◌}
 use mathlib.Core.List.{List, ◌++◌}
 use mathlib.Core.Bool.{Bool, true, false, cond}
-use native.Mathlib.Nat.{mul-div-le}
+use native.Mathlib.Nat.{mul-div-le, min-le_right}
+use Rattle.std.proofs.Math.Nat.{min-eq_left}
 use native.Mathlib.Omega.{arith}
 use borrow.Author.Tests.{ltb-true, ltb-false}
 use lib.Dec.{ltb}
@@ -14,7 +15,7 @@ use Rattle.lists.specs.Tables.{laid}
 use Rattle.lists.proofs.Clear.{clear_is}
 use Rattle.pieces.specs.declared.Counts.{Counts}
 use Rattle.pieces.specs.Room.{Fits, Ceilings}
-use Rattle.stage_walk.specs.Room.{room_for, room_in}
+use Rattle.stage_walk.specs.Room.{room_for, room_in, within_ceilings}
 use Rattle.stage_walk.specs.Lines.{none}
 use Rattle.pieces.specs.Pieces.{piece_width}
 
@@ -80,3 +81,10 @@ room_low_all pieces symbols relocs room e = record {
   symbols = omega (arith, ap (λ (m : Counts). m.symbols) e, room_low 4096 (length symbols) 12);
   relocs = omega (arith, ap (λ (m : Counts). m.relocs) e, room_low 4096 (length relocs) 8);
 }
+
+-- a room within the ceilings is all taken, and what is taken is always within them
+pub within_same : {room : Counts} → Ceilings room → within_ceilings room ≡ room
+within_same c = λ z. record { pieces = min-eq_left c.pieces z; symbols = min-eq_left c.symbols z; relocs = min-eq_left c.relocs z }
+
+pub within_low : (room : Counts) → Ceilings (within_ceilings room)
+within_low room = record { pieces = min-le_right room.pieces 1024; symbols = min-le_right room.symbols 4096; relocs = min-le_right room.relocs 4096 }

@@ -79,13 +79,13 @@ unfolding pieces_in symbols_in relocs_in tabulate
 none_read pieces entries offsets = refl
 
 -- the walk of all sections, from nothing
-pub walked_all : (g : Image) (sections : Sections) (reloc : ℕ → Reloc) (relocs : ℕ) (splits : List Split) (units : List ℕ) (before after : PieceTables)
+pub walked_all : (g : Image) (sections : Sections) (reloc : ℕ → Reloc) (relocs : ℕ) (splits : List Split) (units : List ℕ) (room : Counts) (before after : PieceTables)
     (pieces entries offsets : List ℕ) (r : Result (Unit {0}) Refusal)
-    → gave_meaning after r ≡ walk_sections (input_of g sections reloc relocs splits units before.room) 0 (sections.count - 0) (output_in pieces entries offsets none)
-    → SameLent before after → Gives (walk_of g sections reloc relocs splits units before.room) before after r
+    → gave_meaning after r ≡ walk_sections (input_of g sections reloc relocs splits units room) 0 (sections.count - 0) (output_in pieces entries offsets none)
+    → SameLent before after → Gives (walk_of g sections reloc relocs splits units room) before after r
 unfolding walk
-walked_all g sections reloc relocs splits units before after pieces entries offsets r e lent =
+walked_all g sections reloc relocs splits units room before after pieces entries offsets r e lent =
     record {
-      is = e ∙ (λ d. walk_sections (input_of g sections reloc relocs splits units before.room) 0 (sub-zero sections.count d) (none_read pieces entries offsets d));
+      is = e ∙ (λ d. walk_sections (input_of g sections reloc relocs splits units room) 0 (sub-zero sections.count d) (none_read pieces entries offsets d));
       lent = lent;
     }

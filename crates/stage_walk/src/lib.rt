@@ -8,9 +8,8 @@ ghost use Rattle.splits.specs.Table.{columns_of, rows_of};
 ghost use Rattle.relocs.specs.Relocs.{reloc_of};
 ghost use Rattle.units.specs.Units.{unit_names};
 ghost use Rattle.split_obj.specs.Loop.{Ready};
-ghost use Rattle.stage_walk.specs.Room.{room_for, room_in};
+ghost use Rattle.stage_walk.specs.Room.{room_for, room_in, within_ceilings};
 ghost use Rattle.stage_walk.specs.Lines.{walk_of, from_units, from_splits, Gives, Passed, heads_in, sections_lent, Rowed};
-ghost use Rattle.pieces.specs.Room.{Ceilings};
 
 use obj::{Refusal, Table};
 use pieces::{Counts, PIECE_BYTES, PieceTables};
@@ -40,10 +39,20 @@ pub fn room_of(pieces: usize, symbols: usize, relocs: usize) -> Counts
     }
 }
 
-// That the room is within the ceilings is a clause of the next three: as a ghost field of `PieceTables` it would be asked of all who make one. The tables stay apart,
-// since each comes from a check of its own, and the splits and the units are still bytes in the last of the three.
+// A room of which no more is taken than document 01's ceilings: "1,024 pieces, 4,096 piece symbols, 4,096 piece relocations".
+fn within_ceilings(room: Counts) -> Counts
+    ensures { result ≡ within_ceilings room }
+{
+    Counts {
+        pieces: room.pieces.min(1024),
+        symbols: room.symbols.min(4096),
+        relocs: room.relocs.min(4096),
+    }
+}
 
-// The walk of all sections from nothing, with columns of its own beside the outputs.
+// The tables of the next three stay apart, since each comes from a check of its own, and the splits and the units are still bytes in the last of the three.
+
+// The walk of all sections from nothing, with columns of its own beside the outputs. However much room is lent, no more than the ceilings is taken.
 pub fn walk_columns(
     obj: &Obj,
     image: &Table,
@@ -54,16 +63,17 @@ pub fn walk_columns(
     tables: &mut PieceTables,
 ) -> Result<(), Refusal>
     requires { Ready obj.now.symbols.bytes.now obj.now.symbols.places.now obj.now.order.now obj.now.names.bytes.now obj.now.names.places.now obj.now.names.lengths.now obj.now.heads.bytes.now obj.now.heads.places.now image.now.bytes.now image.now.places.now relocs.now.bytes.now relocs.now.places.now unit_table.now.bytes.now unit_table.now.places.now unit_numbers.now (columns_of splits.now) splits.now.count (length obj.now.heads.places.now)
-        × (length obj.now.symbols.places.now ≤ 4096)
-        × Ceilings tables.old.room }
+        × (length obj.now.symbols.places.now ≤ 4096) }
     ensures { Gives
-        (walk_of (image_in obj.now) (sections_lent obj.now.heads image.now) (reloc_of relocs.now.bytes.now relocs.now.places.now) (length relocs.now.places.now) (rows_of splits.now) (unit_names unit_table.now.bytes.now unit_table.now.places.now) tables.old.room)
+        (walk_of (image_in obj.now) (sections_lent obj.now.heads image.now) (reloc_of relocs.now.bytes.now relocs.now.places.now) (length relocs.now.places.now) (rows_of splits.now) (unit_names unit_table.now.bytes.now unit_table.now.places.now) (within_ceilings tables.old.room))
         tables.old tables.new result }
 {
     let mut scratch = [0u16; 9216];
     let mut part = [0u16; 4096];
+    let room = tables.room;
+    tables.room = within_ceilings(room);
     tables.made = Counts::default();
-    walk_sections(
+    let walked = walk_sections(
         &mut scratch,
         &mut part,
         tables,
@@ -75,7 +85,9 @@ pub fn walk_columns(
         unit_numbers,
         0,
         obj.heads.places.len(),
-    )
+    );
+    tables.room = room;
+    walked
 }
 
 // The units, with the number of each name's unit, and the walk.
@@ -88,10 +100,9 @@ fn with_units(
     tables: &mut PieceTables,
 ) -> Result<(), Refusal>
     requires { Passed obj.now image.now relocs.now
-        × Rowed (columns_of splits.now) splits.now.count (length obj.now.names.lengths.now)
-        × Ceilings tables.old.room }
+        × Rowed (columns_of splits.now) splits.now.count (length obj.now.names.lengths.now) }
     ensures { Gives
-        (from_units obj.now.names.lengths.now (image_in obj.now) (sections_lent obj.now.heads image.now) (reloc_of relocs.now.bytes.now relocs.now.places.now) (length relocs.now.places.now) (rows_of splits.now) unit_table.now tables.old.room)
+        (from_units obj.now.names.lengths.now (image_in obj.now) (sections_lent obj.now.heads image.now) (reloc_of relocs.now.bytes.now relocs.now.places.now) (length relocs.now.places.now) (rows_of splits.now) unit_table.now (within_ceilings tables.old.room))
         tables.old tables.new result }
 {
     let mut places = [0u32; 1024];
@@ -123,9 +134,9 @@ pub fn with_splits(
     unit_table: &[u8],
     tables: &mut PieceTables,
 ) -> Result<(), Refusal>
-    requires { Passed obj.now image.now relocs.now × Ceilings tables.old.room }
+    requires { Passed obj.now image.now relocs.now }
     ensures { Gives
-        (from_splits obj.now.names.lengths.now (heads_in obj.now.heads) (image_in obj.now) (sections_lent obj.now.heads image.now) (reloc_of relocs.now.bytes.now relocs.now.places.now) (length relocs.now.places.now) splits.now unit_table.now tables.old.room)
+        (from_splits obj.now.names.lengths.now (heads_in obj.now.heads) (image_in obj.now) (sections_lent obj.now.heads image.now) (reloc_of relocs.now.bytes.now relocs.now.places.now) (length relocs.now.places.now) splits.now unit_table.now (within_ceilings tables.old.room))
         tables.old tables.new result }
 {
     let mut places = [0u32; 1024];

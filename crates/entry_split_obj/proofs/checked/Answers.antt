@@ -12,6 +12,7 @@ use Rattle.stage_tables.specs.StageTables.{image_check}
 use Rattle.stage_sections.proofs.Laws.{heads_held, sections_kept, place_same}
 use Rattle.stage_walk.proofs.Lines.{gives_as, gives_stops, gives_goes}
 use Rattle.obj.proofs.Errors.{is_err}
+use Rattle.stage_walk.specs.Room.{within_ceilings}
 use Rattle.entry_split_obj.specs.Entry.{split_obj_of}
 use Rattle.entry_split_obj.proofs.Lines.{symbols_as}
 use Rattle.entry_split_obj.proofs.checked.Goals as goal
@@ -43,7 +44,6 @@ with_symbols-requires c =
         kept = sections_kept lengths t.section_places.now t.image.now t.sections.now passed _ names.ensures.readable.paired;
       }),
       rw (names.ensures.lengths, length-stage_lengths) (names_passed 4096 t.name_ends.now t.name_bytes.now (sym c.check.ensures.said ∙ ap meaning c.in_ok-check.was)).few,
-      c.requires,
     )
 
 pub returns : goal.returns
@@ -57,7 +57,7 @@ returns c =
     gives_goes (sym c.check.ensures.said ∙ ap meaning c.in_ok-check.was)
     (gives_goes (ap (λ (l : List ℕ). image_check 64 l t.section_places.now (length t.image.now) t.sections.now) (sym names.lengths) ∙ passed)
     (gives_as
-    (symbols_as t.name_ends.now t.name_bytes.now t.sections.now t.image.now t.section_places.now t.symbols.now t.relocs.now t.splits.now t.units.now c.args.tables.now.room
+    (symbols_as t.name_ends.now t.name_bytes.now t.sections.now t.image.now t.section_places.now t.symbols.now t.relocs.now t.splits.now t.units.now (within_ceilings c.args.tables.now.room)
     _ _ _ _ _ names.bytes names.places names.lengths heads.places
     (λ n h. rw image.places (place_same c.names-names.result.lengths.now t.section_places.now t.image.now t.sections.now passed n h)))
     (rw (heads.bytes, image.bytes) at c.with_symbols.ensures)))

@@ -10,6 +10,7 @@ use Rattle.stage_tables.proofs.Laws.{taken_few, taken_places, taken-count}
 use Rattle.sections.specs.Sections.{sections_of}
 use Rattle.tables.specs.Records.{sections_in}
 use Rattle.obj.proofs.Errors.{is_err}
+use Rattle.stage_walk.specs.Room.{within_ceilings}
 use Rattle.entry_split_obj.specs.Lines.{from_symbols}
 use Rattle.pieces.proofs.Same.{lent_same}
 use Rattle.stage_walk.proofs.Lines.{gives_as, gives_stops, gives_goes}
@@ -44,19 +45,17 @@ with_splits-requires c =
     let names = length a.names.now.lengths.now in
     let passed = sym c.check.ensures.said ∙ ap meaning c.in_ok-check.was in
     let held = c.check.ensures.stored passed in
-    let taken = ap meaning c.in_ok-take_relocs.was in (
-      rw (s.bytes, s.places, c.order.ensures, held.order) (record {
-        asked = record {
-          tables = symbols_asked names heads a.lent.now.symbols.now passed _ _ _ (sym c.requires.0.paired) c.requires.0.named;
-          sound = rw length-stage_places (symbols_sound 4096 names heads a.lent.now.symbols.now passed);
-        };
-        headed = c.requires.1;
-        relocated = relocs_taken heads (length a.lent.now.symbols.now / 20) a.lent.now.relocs.now (sym c.take_relocs.ensures.said ∙ taken) _ (taken_places 23 4096 a.lent.now.relocs.now _ _ c.take_relocs.ensures taken);
-        few_names = c.requires.2;
-        few_symbols = rw length-stage_places held.few;
-      }),
-      c.requires.3,
-    )
+    let taken = ap meaning c.in_ok-take_relocs.was in
+    rw (s.bytes, s.places, c.order.ensures, held.order) (record {
+      asked = record {
+        tables = symbols_asked names heads a.lent.now.symbols.now passed _ _ _ (sym c.requires.0.paired) c.requires.0.named;
+        sound = rw length-stage_places (symbols_sound 4096 names heads a.lent.now.symbols.now passed);
+      };
+      headed = c.requires.1;
+      relocated = relocs_taken heads (length a.lent.now.symbols.now / 20) a.lent.now.relocs.now (sym c.take_relocs.ensures.said ∙ taken) _ (taken_places 23 4096 a.lent.now.relocs.now _ _ c.take_relocs.ensures taken);
+      few_names = c.requires.2;
+      few_symbols = rw length-stage_places held.few;
+    })
 
 pub returns : goal.returns
 unfolding from_symbols
@@ -69,6 +68,6 @@ returns c =
     (gives_goes (sym c.take_relocs.ensures.said ∙ taken)
     (gives_as
     (tables_as a.names.now.bytes.now a.names.now.places.now a.names.now.lengths.now (sections_in a.heads.now.bytes.now a.heads.now.places.now)
-    (sections_of a.heads.now.bytes.now a.heads.now.places.now a.image.now.bytes.now a.image.now.places.now) a.lent.now.symbols.now _ a.lent.now.relocs.now _ a.lent.now.splits.now a.lent.now.units.now a.tables.now.room
+    (sections_of a.heads.now.bytes.now a.heads.now.places.now a.image.now.bytes.now a.image.now.places.now) a.lent.now.symbols.now _ a.lent.now.relocs.now _ a.lent.now.splits.now a.lent.now.units.now (within_ceilings a.tables.now.room)
     s.places (taken_places 23 4096 a.lent.now.relocs.now _ _ c.take_relocs.ensures taken))
     (rw s.bytes at c.with_splits.ensures)))

@@ -1,5 +1,6 @@
 -- The units have their places and each name the number of its unit, and the sections are walked. The tables are still those that were lent, and what was made is within
 -- their room.
+use Rattle.std.proofs.Common.{rules}
 use mathlib.Core.Path.{refl, sym, ap, ◌∙◌}
 use native.Mathlib.Omega.{arith}
 use lib.ListN.{length}
@@ -11,7 +12,7 @@ use Rattle.obj.proofs.Laws.{length-stage_places}
 use Rattle.tables.proofs.Lookups.{places_front}
 use Rattle.splits.specs.Table.{columns_of, rows_of}
 use Rattle.walk.specs.Giving.{output_in}
-use Rattle.stage_walk.proofs.Room.{fits_none, room_low_all}
+use Rattle.stage_walk.proofs.Room.{fits_none, room_low_all, within_same}
 use Rattle.run.specs.Run.{walked}
 use Rattle.run.specs.Answers.{units_at, walked_tables}
 use Rattle.run.proofs.Walking.{units_listed, ready, walked_as}
@@ -23,7 +24,7 @@ number_units-requires c =
     units_listed c.args.unit_table.now _ _ c.args.count (places_front _ _ _ _ (omega (arith, q.2.few)) c.fill_places.ensures) q.2 q.3 (omega arith)
 
 pub invariant_of-tables : goal.invariant_of-tables
-invariant_of-tables c = record { fits = fits_none c.args.pieces.now c.args.entries.now c.args.offsets.now _ _ c.room_of.ensures refl }
+invariant_of-tables c = record { fits = fits_none c.args.pieces.now c.args.entries.now c.args.offsets.now _ _ c.room_of.ensures (search (rules, c.default.ensures)) }
 
 pub walk_columns-requires : goal.walk_columns-requires
 walk_columns-requires c =
@@ -36,7 +37,6 @@ walk_columns-requires c =
       ready q.0 a.unit_table.now _ n.new.column (columns_of a.splits.now) a.splits.now.count q.1 n.ensures
           (omega (arith, count, q.2.few)) (omega (arith, n.auto.column)),
       few_symbols q.0.usable,
-      room_low_all a.pieces.now a.entries.now a.offsets.now _ c.room_of.ensures,
     )
 
 pub returns-in_err-walk_columns : goal.returns-in_err-walk_columns
@@ -47,7 +47,7 @@ returns-in_err-walk_columns c =
     let w = walked_as c.requires.0 (rows_of a.splits.now) a.unit_table.now _ a.count _ placed (rw (c.obj.ensures, c.image.ensures) at c.in_err-walk_columns.ensures) in
     rw (is_err _ c.from_residual.ensures.1)
     (record {
-      is = w.is ∙ ap (λ (room : Counts). walked l.file.now (walked_tables l) room (rows_of a.splits.now) (units_at a.unit_table.now a.count)) c.room_of.ensures;
+      is = w.is ∙ ap (λ (room : Counts). walked l.file.now (walked_tables l) room (rows_of a.splits.now) (units_at a.unit_table.now a.count)) (within_same (room_low_all a.pieces.now a.entries.now a.offsets.now _ c.room_of.ensures) ∙ c.room_of.ensures);
       within = tt;
     })
 
@@ -65,7 +65,7 @@ returns c =
     record {
       is = (λ d. accepted (output_in (pieces d) (entries d) (offsets d) t.made))
           ∙ w.is
-          ∙ ap (λ (room : Counts). walked l.file.now (walked_tables l) room (rows_of a.splits.now) (units_at a.unit_table.now a.count)) c.room_of.ensures;
+          ∙ ap (λ (room : Counts). walked l.file.now (walked_tables l) room (rows_of a.splits.now) (units_at a.unit_table.now a.count)) (within_same (room_low_all a.pieces.now a.entries.now a.offsets.now _ c.room_of.ensures) ∙ c.room_of.ensures);
       within = record {
         pieces = omega (arith, t.fits.few_pieces, ap (λ (m : Counts). m.pieces) room);
         symbols = omega (arith, t.fits.few_symbols, ap (λ (m : Counts). m.symbols) room);

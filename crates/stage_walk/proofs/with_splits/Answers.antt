@@ -10,6 +10,7 @@ use Rattle.sections.specs.Sections.{sections_of}
 use Rattle.relocs.specs.Relocs.{reloc_of}
 use Rattle.splits.specs.Table.{columns_of, rows_of}
 use Rattle.tables.specs.Records.{sections_in}
+use Rattle.stage_walk.specs.Room.{within_ceilings}
 use Rattle.stage_walk.specs.Lines.{from_splits}
 use Rattle.stage_walk.proofs.Passed.{rows_named}
 use Rattle.stage_walk.proofs.Lines.{gives_stops, splits_go}
@@ -21,9 +22,8 @@ with_units-requires c =
     let taken = c.take_split_columns.ensures.taken in
     let passed = sym taken.said ∙ ap meaning c.in_ok-take_split_columns.was in
     let s = c.columns.result in (
-      c.requires.0,
+      c.requires,
       rows_named 1024 a.obj.now.names.lengths.now (sections_in a.obj.now.heads.bytes.now a.obj.now.heads.places.now) a.splits.now (columns_of s) s.count passed (c.columns.ensures.rows ∙ taken.taken passed),
-      c.requires.1,
     )
 
 pub returns : goal.returns
@@ -32,7 +32,7 @@ returns c =
     let taken = c.take_split_columns.ensures.taken in
     let passed = sym taken.said ∙ ap meaning c.in_ok-take_split_columns.was in
     splits_go a.obj.now.names.lengths.now (sections_in a.obj.now.heads.bytes.now a.obj.now.heads.places.now) (image_in a.obj.now) (sections_of a.obj.now.heads.bytes.now a.obj.now.heads.places.now a.image.now.bytes.now a.image.now.places.now) (reloc_of a.relocs.now.bytes.now a.relocs.now.places.now) (length a.relocs.now.places.now) a.splits.now a.unit_table.now
-    (rows_of c.columns.result) a.tables.now.room
+    (rows_of c.columns.result) (within_ceilings a.tables.now.room)
     passed (c.columns.ensures.rows ∙ taken.taken passed) c.with_units.ensures
 
 pub returns-in_err-take_split_columns : goal.returns-in_err-take_split_columns

@@ -13,6 +13,7 @@ use Rattle.sections.specs.Image.{image_in}
 use Rattle.sections.specs.Sections.{sections_of}
 use Rattle.relocs.specs.Relocs.{reloc_of}
 use Rattle.splits.specs.Table.{rows_of}
+use Rattle.stage_walk.specs.Room.{within_ceilings}
 use Rattle.stage_walk.specs.Lines.{from_units}
 use Rattle.stage_walk.proofs.Passed.{units_listed}
 use Rattle.stage_walk.proofs.Lines.{gives_stops, units_go}
@@ -36,7 +37,7 @@ pub returns : goal.returns
 returns c =
     let a = c.args in
     units_go a.obj.now.names.lengths.now (image_in a.obj.now) (sections_of a.obj.now.heads.bytes.now a.obj.now.heads.places.now a.image.now.bytes.now a.image.now.places.now) (reloc_of a.relocs.now.bytes.now a.relocs.now.places.now) (length a.relocs.now.places.now) (rows_of a.splits.now) a.unit_table.now
-    (take (length a.unit_table.now / 8) c.take_units.new.places) a.tables.now.room
+    (take (length a.unit_table.now / 8) c.take_units.new.places) (within_ceilings a.tables.now.room)
     (sym c.take_units.ensures.said ∙ ap meaning c.in_ok-take_units.was) (taken_places 8 1024 c.args.unit_table.now _ _ c.take_units.ensures (ap meaning c.in_ok-take_units.was)) c.walk_columns.ensures
 
 pub returns-in_err-take_units : goal.returns-in_err-take_units

@@ -2,6 +2,7 @@
 -- Assumes nothing.
 use mathlib.Core.Path.{sym, ap, ◌∙◌}
 use native.Mathlib.Nat.{zero-add}
+use Rattle.std.proofs.Common.{rules}
 use lib.ListN.{get_or-eq_default}
 use Rattle.lists.specs.Rows.{tabulate}
 use Rattle.lists.proofs.Rows.{length-tabulate, get_d_tabulate}
@@ -16,4 +17,8 @@ returns-then-k-lists c = let a = c.args in c.record_in.ensures ∙ sym (get_d_ta
 
 pub returns : goal.returns
 unfolding pieces_in
-returns c = let a = c.args in c.default.ensures ∙ sym (get_or-eq_default (tabulate (piece_on a.lists.now) 0 a.lists.now.made.pieces) no_piece (rw (length-tabulate (piece_on a.lists.now) 0 a.lists.now.made.pieces) c.if-k-lists.false))
+returns c =
+    let a = c.args in
+    let d = c.default.ensures in
+    (search (rules, d))
+    ∙ sym (get_or-eq_default (tabulate (piece_on a.lists.now) 0 a.lists.now.made.pieces) no_piece (rw (length-tabulate (piece_on a.lists.now) 0 a.lists.now.made.pieces) c.if-k-lists.false))
