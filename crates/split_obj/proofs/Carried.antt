@@ -83,8 +83,8 @@ module _ (t : Input) (n last : ℕ) (out : Output) (whole : Outcome Output) (sam
   sections_done e = sym (sections_end t n last out e) ∙ same
 
   module _ (h : n < last) (low : ℕ) (is : low ≡ start_in t.sections n) where
-    pub ends_short : refused 10 n (start_in t.sections n) ≡ splitting_end_in t.image t.sections n → refused 10 n low ≡ whole
-    ends_short d = sym (section_short t n last out h low (sym d ∙ ap (λ (a : ℕ). refused 10 n a) (sym is))) ∙ same
+    pub ends_short : (number section address : ℕ) → refused number section address ≡ splitting_end_in t.image t.sections n → refused number section address ≡ whole
+    ends_short number section address d = sym (section_short t n last out h number section address (sym d)) ∙ same
 
     pub goes_section : (end : ℕ) → accepted end ≡ splitting_end_in t.image t.sections n → (c : Columns) (count r : ℕ) → t.splits ≡ rows_of c count
         → Hits (within n low end) c count 0 r → splits_left t last n low end c count low r out ≡ whole

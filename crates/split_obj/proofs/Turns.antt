@@ -135,9 +135,10 @@ module _ (t : Input) (n last : ℕ) (out : Output) where
         ∙ ap (λ (m : ℕ). walk_section t n out >>= λ o. walk_sections t m (last - (n + 1)) o) (sym (add-one n))
 
     -- "10 `.ctors` or `.dtors` with 1 to 3 bytes"
-    pub section_short : (low : ℕ) → splitting_end_in t.image t.sections n ≡ refused 10 n low → walk_sections t n (last - n) out ≡ refused 10 n low
+    pub section_short : (number section address : ℕ) → splitting_end_in t.image t.sections n ≡ refused number section address
+        → walk_sections t n (last - n) out ≡ refused number section address
     unfolding walk_section
-    section_short low e = sections_turn ∙ bind_stops _ later 10 n low (bind_stops _ _ 10 n low e)
+    section_short number section address e = sections_turn ∙ bind_stops _ later number section address (bind_stops _ _ number section address e)
 
     -- its splits, from the first that is taken
     pub section_starts : (low end : ℕ) → splitting_end_in t.image t.sections n ≡ accepted end → low ≡ start_in t.sections n

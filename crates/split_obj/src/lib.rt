@@ -6,8 +6,11 @@ ghost use Rattle.std.specs.Prelude.{◌≡◌, ◌-◌, ◌<◌, ◌≤◌, leng
 ghost use Rattle.splits.specs.Table.{columns_of, rows_of};
 ghost use Rattle.splits.specs.Questions.{within};
 ghost use Rattle.obj.specs.Records.{Held};
-ghost use Rattle.sections.specs.Image.{image_in};
-ghost use Rattle.sections.specs.Sections.{sections_of, head_of};
+ghost use Rattle.obj.specs.Answers.{meaning};
+ghost use Rattle.sections.specs.Bytes.{bytes_of};
+ghost use Rattle.sections.specs.Ends.{splitting_end};
+ghost use Rattle.sections.specs.Image.{image_in, TablesIn};
+ghost use Rattle.sections.specs.Sections.{sections_of, head_of, head_in, KeptIn};
 ghost use Rattle.relocs.specs.Relocs.{reloc_of};
 ghost use Rattle.pieces.specs.Tables.{SameLent};
 ghost use Rattle.units.specs.Units.{unit_names};
@@ -33,12 +36,7 @@ fn next_split(splits: &SplitColumns, n: usize, low: u32, end: u32, from: usize) 
         from: low,
         to: end,
     };
-    for i in from..splits.count {
-        if is_within(range, splits.starts[i], splits.rest[i]) {
-            return Some(i);
-        }
-    }
-    None
+    (from..splits.count).find(|i| is_within(range, splits.starts[*i], splits.rest[*i]))
 }
 
 // Where the split at place j starts, or the splitting end if there is none.
@@ -59,6 +57,15 @@ fn section_start(heads: &Table, n: usize) -> u32
 {
     let head = heads.record::<Section>(n);
     head.address
+}
+
+// Where section n, which starts at `low`, may be split at last: 10 where it is a `.ctors` or `.dtors` of 1 to 3 bytes. A function of its own: a closure in the section loop would
+// borrow the loop's number.
+fn end_in(obj: &Obj, image: &Table, n: usize, low: u32) -> Result<u32, Refusal>
+    requires { TablesIn obj.now × KeptIn obj.now image.now × (n < length obj.now.heads.places.now) × (n < 65536) × (low ≡ (head_in obj.now n).address) }
+    ensures { meaning result ≡ splitting_end (image_in obj.now) n (head_in obj.now n) (bytes_of image.now.bytes.now image.now.places.now n (head_in obj.now n)) }
+{
+    end_of(obj, image, n).map_err(|_| Refusal::new(10, n as u16, low))
 }
 
 // The walk of the sections first..last, behind what is made already. What is carried from one section to the next is the output. `scratch` and `part` are columns to work
@@ -87,9 +94,7 @@ pub fn walk_sections(
     'sections: {
         for n in first..last {
             let low = section_start(&obj.heads, n);
-            let Ok(end) = end_of(obj, image, n) else {
-                return refuse_at(10, n, low);
-            };
+            let end = end_in(obj, image, n, low)?;
             let m = for_section(relocs, n as u16, part);
             let mut current = low;
             let mut i = next_split(splits, n, low, end, 0);

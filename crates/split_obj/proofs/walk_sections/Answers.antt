@@ -29,20 +29,20 @@ use Rattle.split_obj.proofs.Halving.{halving_starts, half_fits, half_stops, half
 use Rattle.split_obj.proofs.Carried.{tables_input, splits_left, refused_at, split_small, split_passes, split_same, no_place, sections_done, ends_short, goes_section, section_done, ends_none, ends_fault, goes_skip, ends_misfit, ends_refused, goes_given}
 use Rattle.split_obj.proofs.walk_sections.Goals as goal
 
-pub returns-in_default : goal.returns-in_default
-returns-in_default c =
+pub returns-in_err-end : goal.returns-in_err-end
+returns-in_err-end c =
     let a = c.args in
     let p = c.loop-n in
     let n = p.n in
     let below : n < a.last = c.loop-n-test.true in
     let k = columns_of a.splits.now in
     let t = tables_input a.obj.now.symbols.bytes.now a.obj.now.symbols.places.now a.obj.now.names.bytes.now a.obj.now.names.places.now a.obj.now.names.lengths.now a.obj.now.heads.bytes.now a.obj.now.heads.places.now a.image.now.bytes.now a.image.now.places.now a.relocs.now.bytes.now a.relocs.now.places.now k a.splits.now.count a.unit_table.now.bytes.now a.unit_table.now.places.now p.tables.room in
-    refused_at _ _ _ _ _ _ _ c.refuse_at.ensures
-    (ends_short t n a.last (output_of p.tables) _ p.invariant.0.same below c.section_start-low.result c.section_start-low.ensures c.in_default.ensures)
+    refused_at _ _ _ _ _ c.in_err-end.field-0.0 _ (is_err _ c.from_residual.ensures.1)
+    (ends_short t n a.last (output_of p.tables) _ p.invariant.0.same below c.section_start-low.result c.section_start-low.ensures _ _ _ c.in_err-end.ensures)
     (p.invariant.1)
 
-pub returns-in_default-i : goal.returns-in_default-i
-returns-in_default-i c =
+pub returns-in_default : goal.returns-in_default
+returns-in_default c =
     let a = c.args in
     let p = c.loop-n in
     let n = p.n in
@@ -53,12 +53,12 @@ returns-in_default-i c =
     let t = lent q.tables.room in
     let tp = lent p.tables.room in
     let low = c.section_start-low.result in
-    let end = c.in-Ok.end in
+    let end = c.in_ok-end.end in
     let out = output_of q.tables in
     let carried =
     q.invariant.0.same
-    ∙ goes_section tp n a.last (output_of p.tables) _ p.invariant.0.same below low c.section_start-low.ensures end c.in-Ok.ensures k a.splits.now.count (place_in a.splits.now.count c.next_split-i.result) refl c.next_split-i.ensures.hits in
-    refused_at _ _ _ _ _ _ _ c.refuse_at-in_default-i.ensures (ends_none t a.last n low end k a.splits.now.count q.current (place_in a.splits.now.count q.i) out _ carried c.loop-current-test.true (no_place c.in_default-i.is))
+    ∙ goes_section tp n a.last (output_of p.tables) _ p.invariant.0.same below low c.section_start-low.ensures end c.in_ok-end.ensures k a.splits.now.count (place_in a.splits.now.count c.next_split-i.result) refl c.next_split-i.ensures.hits in
+    refused_at _ _ _ _ _ _ _ c.refuse_at.ensures (ends_none t a.last n low end k a.splits.now.count q.current (place_in a.splits.now.count q.i) out _ carried c.loop-current-test.true (no_place c.in_default.is))
     (lent_still p.invariant.1 q.invariant.1)
 
 pub choose-requires : goal.choose-requires
@@ -92,14 +92,14 @@ returns-in_err-target c =
     let t = lent q.tables.room in
     let tp = lent p.tables.room in
     let low = c.section_start-low.result in
-    let end = c.in-Ok.end in
+    let end = c.in_ok-end.end in
     let out = output_of q.tables in
     let carried =
     split_same q.invariant.0 c.in-Some.is
-    ∙ goes_section tp n a.last (output_of p.tables) _ p.invariant.0.same below low c.section_start-low.ensures end c.in-Ok.ensures k a.splits.now.count (place_in a.splits.now.count c.next_split-i.result) refl c.next_split-i.ensures.hits in
+    ∙ goes_section tp n a.last (output_of p.tables) _ p.invariant.0.same below low c.section_start-low.ensures end c.in_ok-end.ensures k a.splits.now.count (place_in a.splits.now.count c.next_split-i.result) refl c.next_split-i.ensures.hits in
     let small : c.in-Some.k < a.splits.now.count = split_small q.invariant.0 c.in-Some.is in
     let r = c.in_err-target.field-0.0 in
-    refused_at _ _ _ _ _ r _ (is_err _ c.from_residual.ensures.1)
+    refused_at _ _ _ _ _ r _ (is_err _ c.from_residual-in_err-target.ensures.1)
     (ends_fault t a.last n low end k a.splits.now.count q.current c.in-Some.k out _ carried c.loop-current-test.true small (place_in a.splits.now.count c.next_split-i-in-loop-current.result) c.start_of-next.result c.next_split-i-in-loop-current.ensures.hits c.start_of-next.ensures c.row-s.result c.row-s.ensures r c.in_err-target.ensures.0)
     (lent_still p.invariant.1 q.invariant.1)
 
@@ -125,7 +125,7 @@ give-requires c =
     let kept = c.requires.0.kept in
     let q = c.loop-current in
     let low = c.section_start-low.result in
-    let end = c.in-Ok.end in
+    let end = c.in_ok-end.end in
     let out = output_of q.tables in
     let small : c.in-Some.k < a.splits.now.count = split_small q.invariant.0 c.in-Some.is in
     let gives = subst (λ (x : Option Target). Sane (length a.unit_table.now.places.now) q.current c.row-s.result (Ok x)) c.in-Some-target.is c.in_ok-target.ensures.1 in
@@ -159,11 +159,11 @@ returns-in_err-give c =
     let t = lent q.tables.room in
     let tp = lent p.tables.room in
     let low = c.section_start-low.result in
-    let end = c.in-Ok.end in
+    let end = c.in_ok-end.end in
     let out = output_of q.tables in
     let carried =
     split_same q.invariant.0 c.in-Some.is
-    ∙ goes_section tp n a.last (output_of p.tables) _ p.invariant.0.same below low c.section_start-low.ensures end c.in-Ok.ensures k a.splits.now.count (place_in a.splits.now.count c.next_split-i.result) refl c.next_split-i.ensures.hits in
+    ∙ goes_section tp n a.last (output_of p.tables) _ p.invariant.0.same below low c.section_start-low.ensures end c.in_ok-end.ensures k a.splits.now.count (place_in a.splits.now.count c.next_split-i.result) refl c.next_split-i.ensures.hits in
     let small : c.in-Some.k < a.splits.now.count = split_small q.invariant.0 c.in-Some.is in
     let gives = subst (λ (x : Option Target). Sane (length a.unit_table.now.places.now) q.current c.row-s.result (Ok x)) c.in-Some-target.is c.in_ok-target.ensures.1 in
     let r = c.in_err-give.field-0.0 in
@@ -184,7 +184,7 @@ loop-current-preserved-in_ok-give c =
     let t = lent q.tables.room in
     let tp = lent p.tables.room in
     let low = c.section_start-low.result in
-    let end = c.in-Ok.end in
+    let end = c.in_ok-end.end in
     let out = output_of q.tables in
     let whole = splits_left tp a.last n low end k a.splits.now.count low (place_in a.splits.now.count c.next_split-i.result) (output_of p.tables) in
     let small : c.in-Some.k < a.splits.now.count = split_small q.invariant.0 c.in-Some.is in
@@ -220,7 +220,7 @@ loop-current-preserved c =
     let t = lent q.tables.room in
     let tp = lent p.tables.room in
     let low = c.section_start-low.result in
-    let end = c.in-Ok.end in
+    let end = c.in_ok-end.end in
     let out = output_of q.tables in
     let whole = splits_left tp a.last n low end k a.splits.now.count low (place_in a.splits.now.count c.next_split-i.result) (output_of p.tables) in
     let small : c.in-Some.k < a.splits.now.count = split_small q.invariant.0 c.in-Some.is in
@@ -246,11 +246,11 @@ loop-n-preserved c =
     let t = lent q.tables.room in
     let tp = lent p.tables.room in
     let low = c.section_start-low.result in
-    let end = c.in-Ok.end in
+    let end = c.in_ok-end.end in
     let out = output_of q.tables in
     let carried =
     q.invariant.0.same
-    ∙ goes_section tp n a.last (output_of p.tables) _ p.invariant.0.same below low c.section_start-low.ensures end c.in-Ok.ensures k a.splits.now.count (place_in a.splits.now.count c.next_split-i.result) refl c.next_split-i.ensures.hits in (
+    ∙ goes_section tp n a.last (output_of p.tables) _ p.invariant.0.same below low c.section_start-low.ensures end c.in_ok-end.ensures k a.splits.now.count (place_in a.splits.now.count c.next_split-i.result) refl c.next_split-i.ensures.hits in (
       record {
         up = omega (arith, below);
         same = section_done t a.last n low end k a.splits.now.count q.current (place_in a.splits.now.count q.i) out _ carried below c.loop-current-test.false;
@@ -271,11 +271,11 @@ returns-then-a-le4 c =
     let t = lent q.tables.room in
     let tp = lent p.tables.room in
     let low = c.section_start-low.result in
-    let end = c.in-Ok.end in
+    let end = c.in_ok-end.end in
     let out = output_of q.tables in
     let carried =
     split_same q.invariant.0 c.in-Some.is
-    ∙ goes_section tp n a.last (output_of p.tables) _ p.invariant.0.same below low c.section_start-low.ensures end c.in-Ok.ensures k a.splits.now.count (place_in a.splits.now.count c.next_split-i.result) refl c.next_split-i.ensures.hits in
+    ∙ goes_section tp n a.last (output_of p.tables) _ p.invariant.0.same below low c.section_start-low.ensures end c.in_ok-end.ensures k a.splits.now.count (place_in a.splits.now.count c.next_split-i.result) refl c.next_split-i.ensures.hits in
     let small : c.in-Some.k < a.splits.now.count = split_small q.invariant.0 c.in-Some.is in
     refused_at _ _ _ _ _ _ _ c.refuse_at-then-a-le4.ensures
     (ends_misfit t a.last n low end k a.splits.now.count q.current c.in-Some.k out _ carried c.loop-current-test.true small (place_in a.splits.now.count c.next_split-i-in-loop-current.result) c.start_of-next.result c.next_split-i-in-loop-current.ensures.hits c.start_of-next.ensures c.row-s.result c.row-s.ensures c.in-Some-target.field-0.unit c.in-Some-target.field-0.alignment (ap (λ (x : Option Target). accepted x) (sym c.in-Some-target.is) ∙ c.in_ok-target.ensures.0) c.loop-a.a (half_stops _ _ _ c.loop-a.invariant c.if-current-a-eq0.false c.if-a-le4.true) c.if-current-a-eq0.false)
