@@ -8,7 +8,7 @@ ghost use Rattle.listing.specs.Lent.{listed_pieces, listed_symbols, piece_on, sy
 use crate::PieceLists;
 use crate::lent::RunTables;
 use names::name_at;
-use obj::{Symbol};
+use obj::Symbol;
 use pieces::{Piece, PieceSymbol, record_in};
 
 // A number below the base's count is a base name, else an added one.

@@ -1,1 +1,2 @@
 pub mod Outputs
+pub mod Room

@@ -1,12 +1,21 @@
 // What an entry writes into the tables that are lent to it: numbers of two bytes, the counts, and zeros after what is kept.
 #![tactic(auto)]
 
-ghost use Rattle.std.specs.Prelude.{◌≡◌, ◌*◌, ◌≤◌, length};
+ghost use Rattle.std.specs.Prelude.{◌≡◌, ◌*◌, ◌≤◌, ◌<◌, length};
 ghost use Rattle.std.proofs.lemmas.List.Edits.{sets};
 ghost use Rattle.lists.specs.Rows.{clear_from};
 ghost use Rattle.outputs.specs.Outputs.{halves, store_count};
+ghost use Rattle.outputs.specs.Room.{room_for};
 
 use fields::put16;
+
+// How many records of `width` bytes a lent table of `size` bytes may take: "A shorter lent output table has its own length as ceiling".
+pub fn room_for(ceiling: usize, width: usize, size: usize) -> usize
+    requires { 0 < width }
+    ensures { result ≡ room_for ceiling width size }
+{
+    (size / width).min(ceiling)
+}
 
 // Zeros from place `from` on: "zeros after", "all outputs zero".
 pub fn clear_from(out: &mut [u8], from: usize)

@@ -13,7 +13,8 @@ use Rattle.load.specs.Load.{Loaded, load_of}
 use Rattle.load.specs.Columns.{part, tables_in}
 use Rattle.loaded.proofs.Bytes.{loaded_usable}
 use Rattle.splits.specs.Columns.{Columns}
-use Rattle.stage_walk.specs.Room.{room_for, room_in}
+use Rattle.outputs.specs.Room.{room_for}
+use Rattle.stage_walk.specs.Room.{room_in}
 use Rattle.stage_walk.proofs.Room.{room_low, room_pieces, room_12, room_8}
 use Rattle.run.specs.declared.Ran.{Ran}
 use Rattle.order.specs.declared.Unlinked.{Unlinked}

@@ -38,7 +38,7 @@ use Rattle.restore.proofs.Walked.{pieces_room}
 use Rattle.restore.proofs.Refusals.{Says, says_of, walk-numbers}
 use Rattle.restore.proofs.Alignments as alignments
 use Rattle.restore.proofs.Nobits as nobits
-use Rattle.stage_walk.specs.Room.{room_for}
+use Rattle.outputs.specs.Room.{room_for}
 use Rattle.entry_split_obj.specs.Entry.{split_obj_of, output_of}
 use Rattle.splits.specs.Questions.{is_skipped}
 use Rattle.restore_entry.specs.Tables.{input_in, Accepted, SameTables}

@@ -44,7 +44,7 @@ pub struct RunTables<'u, 'p, 'e, 'o> {
 }
 
 // The walk of the rows into the lent tables, with columns of its own for the units: how many records are made. The first `count` records of the unit table are the units
-// in link order. The tables are lent one by one, since of a slice that is lent alone it is known that it keeps its length; they become one struct here.
+// in link order. The three tables are lent one by one: `RunTables` has the units too, which are read here while the three are written.
 fn walk_lent(
     loaded: &Loaded,
     splits: &SplitColumns,

@@ -15,14 +15,14 @@ use fields::{get16, put16};
 use names::{Names, name_at, put_bytes};
 use obj::{Refusal, place_of, refuse};
 pub use output::NameOutput;
-use outputs::clear_from;
+use outputs::{clear_from, room_for};
 
 // How many names a stage may hold and give back in an output of `size` bytes.
-#[tactic(auto, unfolding(crate::specs::StageNames::names_room))]
+#[tactic(auto, unfolding(crate::specs::StageNames::names_room, outputs::specs::Room::room_for))]
 pub fn names_room(size: usize) -> usize
     ensures { result ≡ names_room size }
 {
-    (size / 2).min(4096)
+    room_for(4096, 2, size)
 }
 
 // How many bytes its names may have in all.

@@ -20,16 +20,16 @@ ghost use Rattle.stage_splits.specs.Output.{LaidIn, GivesIn, LeavesIn, SameLent}
 
 use obj::{Refusal, SPLIT_BYTES, Table, word_of};
 pub use output::SplitOutput;
-use outputs::{clear_from, put_count};
+use outputs::{clear_from, put_count, room_for};
 use splits::{SplitColumns, SplitTable, load, store};
 use stage_tables::take_splits;
 
 // How many splits a stage may hold and give back in an output of `size` bytes.
-#[tactic(auto, unfolding(crate::specs::StageSplits::room_of))]
+#[tactic(auto, unfolding(crate::specs::StageSplits::room_of, outputs::specs::Room::room_for))]
 pub fn room_of(size: usize) -> usize
     ensures { result ≡ room_of size }
 {
-    (size / SPLIT_BYTES).min(1024)
+    room_for(1024, SPLIT_BYTES, size)
 }
 
 // Splits in the columns, at most as many as they have room for: "7 split: ..; in stage tables also ..". `places` is room for the places of the records.

@@ -15,7 +15,8 @@ use Rattle.lists.specs.Tables.{laid}
 use Rattle.lists.proofs.Clear.{clear_is}
 use Rattle.pieces.specs.declared.Counts.{Counts}
 use Rattle.pieces.specs.Room.{Fits, Ceilings}
-use Rattle.stage_walk.specs.Room.{room_for, room_in, within_ceilings}
+use Rattle.outputs.specs.Room.{room_for}
+use Rattle.stage_walk.specs.Room.{room_in, within_ceilings}
 use Rattle.stage_walk.specs.Lines.{none}
 use Rattle.pieces.specs.Pieces.{piece_width}
 

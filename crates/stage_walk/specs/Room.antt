@@ -1,11 +1,8 @@
 -- The room of the outputs of the walk: how many records each lent table may take.
-use Rattle.std.specs.Prelude.{ℕ, ◌/◌, cond, ltb, min}
+use Rattle.std.specs.Prelude.{ℕ, min}
+use Rattle.outputs.specs.Room.{room_for}
 use Rattle.pieces.specs.declared.Counts.{Counts}
 use Rattle.pieces.specs.Pieces.{piece_width}
-
--- a table of `size` bytes for records of `width` bytes: "A shorter lent output table has its own length as ceiling"
-unfoldable pub room_for : (ceiling width size : ℕ) → ℕ
-room_for ceiling width size = cond (ltb (size / width) ceiling) (size / width) ceiling
 
 -- "Outputs: 1,024 pieces, 4,096 piece symbols, 4,096 piece relocations"
 abbrev pub room_in : (pieces symbols relocs : ℕ) → Counts

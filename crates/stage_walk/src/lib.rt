@@ -8,10 +8,11 @@ ghost use Rattle.splits.specs.Table.{columns_of, rows_of};
 ghost use Rattle.relocs.specs.Relocs.{reloc_of};
 ghost use Rattle.units.specs.Units.{unit_names};
 ghost use Rattle.split_obj.specs.Loop.{Ready};
-ghost use Rattle.stage_walk.specs.Room.{room_for, room_in, within_ceilings};
+ghost use Rattle.stage_walk.specs.Room.{room_in, within_ceilings};
 ghost use Rattle.stage_walk.specs.Lines.{walk_of, from_units, from_splits, Gives, Passed, heads_in, sections_lent, Rowed};
 
 use obj::{Refusal, Table};
+use outputs::room_for;
 use pieces::{Counts, PIECE_BYTES, PieceTables};
 use sections::Obj;
 use split_obj::walk_sections;
@@ -19,14 +20,6 @@ use splits::{SplitColumns, SplitTable};
 use stage_splits::take_split_columns;
 use stage_tables::take_units;
 use units::number_units;
-
-// How many records of `width` bytes a lent table of `size` bytes may take: "A shorter lent output table has its own length as ceiling".
-pub fn room_for(ceiling: usize, width: usize, size: usize) -> usize
-    requires { 0 < width }
-    ensures { result ≡ room_for ceiling width size }
-{
-    (size / width).min(ceiling)
-}
 
 // How many records lent tables of these sizes may take.
 pub fn room_of(pieces: usize, symbols: usize, relocs: usize) -> Counts

@@ -53,7 +53,8 @@ fn between(
     refuse_at(73, n, current)
 }
 
-// "Alignment of a split" in section n, asked from `start` on; its range may be asked backwards (11).
+// "Alignment of a split" in section n, asked from `start` on; its range may be asked backwards (11). As `sections::split_alignment`, of a section by number: that one is asked
+// with heads that are all named, `choose` with section n's alone, so calling it would ask more of the walk's callers.
 fn alignment_at(obj: &Obj, n: usize, s: Split, start: u32) -> Result<u32, Backwards>
     requires { Asked obj.now.symbols.bytes.now obj.now.symbols.places.now obj.now.order.now obj.now.names.bytes.now obj.now.names.places.now obj.now.names.lengths.now
         × SectionNamed obj.now.heads.bytes.now obj.now.heads.places.now obj.now.names.places.now n

@@ -1,4 +1,4 @@
--- `stage_walk::room_for` meets its contract: the lower of two numbers.
+-- `outputs::room_for` meets its contract: the lower of two numbers.
 -- Assumes nothing.
 use Prim.Native.Nat.{ℕ, ◌≤◌, ◌<◌}
 use mathlib.Core.Path.{◌≡◌, sym, ap, ◌∙◌}
@@ -10,8 +10,8 @@ use lib.Dec.{ltb}
 use Rattle.std.specs.Prelude.{min}
 use Rattle.std.proofs.Math.Nat.{min-eq_left, min-eq_right}
 use Rattle.lists.proofs.Compare.{lt_or_ge}
-use Rattle.stage_walk.specs.Room.{room_for}
-use Rattle.stage_walk.proofs.room_for.Goals as goal
+use Rattle.outputs.specs.Room.{room_for}
+use Rattle.outputs.proofs.room_for.Goals as goal
 
 lower : (a b : ℕ) → min a b ≡ cond (ltb a b) a b
 lower a b = go (lt_or_ge a b)
