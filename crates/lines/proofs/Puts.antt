@@ -10,7 +10,8 @@ use Rattle.lists.proofs.Stores.{sets-sets}
 use lib.IntN.{ℤ, pos, negsuc}
 use Rattle.names.specs.Fixed.{codes}
 use Rattle.names.specs.GapName.{hex8}
-use Rattle.lines.specs.Lines.{decimal, signed_decimal, shown, owner_of, Put, Written}
+use Rattle.lines.specs.Lines.{decimal, signed_decimal, shown, owner_of, Put, Adds, Written}
+use Rattle.lines.specs.declared.Text.{Text}
 use Rattle.std.specs.Prelude.{Option, Some, None}
 use Rattle.lines.proofs.Digits.{pow10, digits_few, digits-below}
 
@@ -60,15 +61,11 @@ put_more {a} {b} {c} {i} {j} {k} text byte {rest} p q = record {
     long : length (text ++ (byte ∷ rest)) ≡ length (text ++ (byte ∷ [])) + length rest
     long = sym (ap length seam) ∙ length-append (text ++ (byte ∷ [])) rest
 
+-- .. of a text
+pub adds_more : {a b c : Text} (text : List ℕ) (byte : ℕ) {rest : List ℕ} → Adds a b (text ++ (byte ∷ [])) → Adds b c rest → Adds a c (text ++ (byte ∷ rest))
+adds_more text byte p q = record { put = put_more text byte p.put q.put; lent = q.lent ∙ p.lent }
+
 -- ---- where a field ends
-
-put_end : {a b : List ℕ} {i j : ℕ} (text : List ℕ) (byte : ℕ) → Put a b i (text ++ (byte ∷ [])) j → j ≡ i + length text + 1
-put_end text byte p = let u = p.end in let v = length-append text (byte ∷ []) in omega arith
-
--- so far, and the buffer keeps its length
-pub record Step (a b : List ℕ) (i j most : ℕ) : Type 0 where
-  pub few : j ≤ i + most
-  pub long : length b ≡ length a
 
 -- how long a field is at most
 pub decimal_few : (n : ℕ) → length (decimal n) ≤ 20
@@ -105,19 +102,9 @@ owner_few (Some n) = digits_few 20 n
 -- where a field ends, by its text's length
 pub ruleset fields = (length-append, decimal_few, decimal16_few, decimal32_few, hex_long, signed_few, shown_few, owner_few)
 
-text_step : {a b : List ℕ} {i j : ℕ} (text : List ℕ) (byte : ℕ) (most : ℕ) → length text ≤ most → Put a b i (text ++ (byte ∷ [])) j → Step a b i j (most + 1)
-text_step text byte most h p = record { few = let e = put_end text byte p in omega arith; long = p.long }
-
-pub decimal_step : {a b : List ℕ} {i j : ℕ} (n byte : ℕ) → Put a b i (decimal n ++ (byte ∷ [])) j → Step a b i j 21
-decimal_step n byte p = text_step (decimal n) byte 20 (decimal_few n) p
-
-pub hex_step : {a b : List ℕ} {i j : ℕ} (v byte : ℕ) → Put a b i (hex8 v ++ (byte ∷ [])) j → Step a b i j 9
-hex_step v byte p = text_step (hex8 v) byte 8 (let e = hex_long v in omega arith) p
-
 -- a number handed on is that number
-pub signed_as : {a b : List ℕ} {i r : ℕ} {y : ℤ} (z : ℤ) (byte : ℕ) → y ≡ z → Put a b i (signed_decimal y ++ (byte ∷ [])) r
-    → Put a b i (signed_decimal z ++ (byte ∷ [])) r
-signed_as {a} {b} {i} {r} {y} z byte e p = subst (λ (x : ℤ). Put a b i (signed_decimal x ++ (byte ∷ [])) r) e p
+pub signed_as : {a b : Text} {y : ℤ} (z : ℤ) (byte : ℕ) → y ≡ z → Adds a b (signed_decimal y ++ (byte ∷ [])) → Adds a b (signed_decimal z ++ (byte ∷ []))
+signed_as {a} {b} {y} z byte e p = subst (λ (x : ℤ). Adds a b (signed_decimal x ++ (byte ∷ []))) e p
 
 -- ---- an empty name is shown as `-`
 

@@ -4,6 +4,7 @@
 use Rattle.std.specs.Prelude.{ℕ, zero, suc, ◌+◌, ◌/◌, ◌%◌, ◌≤◌, ◌≡◌, List, [], ◌∷◌, ◌++◌, cond, length, take, ltb, ℤ, pos, negsuc, Option, Some, None}
 use Rattle.names.specs.Fixed.{codes}
 use Rattle.names.specs.GapName.{digit, hex8}
+use Rattle.lines.specs.declared.Text.{Text}
 
 -- ---- fields
 
@@ -72,6 +73,11 @@ pub record Put (before after : List ℕ) (at : ℕ) (text : List ℕ) (r : ℕ) 
   pub is : take r after ≡ take at before ++ text
   pub end : r ≡ at + length text
   pub long : length after ≡ length before
+
+-- a text goes behind what is written so far, in the same lent buffer
+pub record Adds (old new : Text) (text : List ℕ) : Type 0 where
+  pub put : Put old.bytes.now new.bytes.now old.at text new.at
+  pub lent : new.bytes.ghost_name ≡ old.bytes.ghost_name
 
 -- a line of r bytes stands at the front of what was lent
 pub record Written (before after : List ℕ) (text : List ℕ) (r : ℕ) : Type 0 where

@@ -1,52 +1,60 @@
 // The lines of the listing, each written into a small lent buffer: no buffer holds the whole listing.
-// Where a field ends, and that there is room for it, follows from the lengths of the texts before it. Each line says that its buffer has 208 bytes and its name no more than
-// 128: that is all that is asked of either, so a struct of one slice would be no plainer.
+// A text says how far it is written, so that each field goes behind the one before. Each line says that its buffer has 208 bytes and its name no more than 128, and from
+// the lengths of the texts before a field follows that there is room for it.
 #![tactic(auto, using(crate::proofs::Puts::fields), unfolding(names::specs::Fixed::codes))]
 
 mod numbers;
 
 ghost use Rattle.std.specs.Prelude.{◌≡◌, cond, ◌+◌, ◌≤◌, ◌++◌, ◌∷◌, [], length};
 ghost use Rattle.names.specs.Fixed.{codes};
-ghost use Rattle.lines.specs.Lines.{shown, owner_of, unit_line, piece_line, sym_line, reloc_line, total_line, refused_line, Put, Written};
+ghost use Rattle.lines.specs.Lines.{shown, owner_of, unit_line, piece_line, sym_line, reloc_line, total_line, refused_line, Adds, Written};
 
-use crate::numbers::put_signed;
 use names::put_bytes;
-pub use numbers::{put_decimal, put_hex8};
 
 const SPACE: u8 = 32;
 
 const NEWLINE: u8 = 10;
 
-// The text and a space.
-fn put_field(out: &mut [u8], at: usize, text: &[u8]) -> usize
-    requires { at + length text.now + 1 ≤ length out.old }
-    ensures { Put out.old out.new at (text.now ++ (32 ∷ [])) result }
-{
-    let end = at + text.len();
-    put_bytes(out, at, text);
-    out[end] = SPACE;
-    end + 1
+// A lent buffer, of which the bytes up to `at` are written.
+#[derive(Drop)]
+pub struct Text<'b> {
+    pub bytes: &'b mut [u8],
+    pub at: usize,
 }
 
-// "name (`-` if empty)"
-fn put_shown(out: &mut [u8], at: usize, name: &[u8]) -> usize
-    requires { at + length name.now + 2 ≤ length out.old }
-    ensures { Put out.old out.new at (shown name.now ++ (32 ∷ [])) result }
-{
-    if name.is_empty() {
-        return put_field(out, at, b"-");
+impl Text<'_> {
+    // The field and a space.
+    fn put_field(&mut self, field: &[u8])
+        requires { self.old.at + length field.now + 1 ≤ length self.old.bytes.now }
+        ensures { Adds self.old self.new (field.now ++ (32 ∷ [])) }
+    {
+        let end = self.at + field.len();
+        put_bytes(self.bytes, self.at, field);
+        self.bytes[end] = SPACE;
+        self.at = end + 1;
     }
-    put_field(out, at, name)
-}
 
-// "piece or `common`", and a space: a piece's number in its unit, where a piece has the symbol.
-fn put_owner(out: &mut [u8], at: usize, owner: Option<u16>) -> usize
-    requires { at + 21 ≤ length out.old }
-    ensures { Put out.old out.new at (owner_of owner ++ (32 ∷ [])) result }
-{
-    match owner {
-        None => put_field(out, at, b"common"),
-        Some(number) => put_decimal(out, at, number as u64, SPACE),
+    // "name (`-` if empty)"
+    fn put_shown(&mut self, name: &[u8])
+        requires { self.old.at + length name.now + 2 ≤ length self.old.bytes.now }
+        ensures { Adds self.old self.new (shown name.now ++ (32 ∷ [])) }
+    {
+        if name.is_empty() {
+            self.put_field(b"-");
+            return;
+        }
+        self.put_field(name);
+    }
+
+    // "piece or `common`", and a space: a piece's number in its unit, where a piece has the symbol.
+    fn put_owner(&mut self, owner: Option<u16>)
+        requires { self.old.at + 21 ≤ length self.old.bytes.now }
+        ensures { Adds self.old self.new (owner_of owner ++ (32 ∷ [])) }
+    {
+        match owner {
+            None => self.put_field(b"common"),
+            Some(number) => self.put_decimal(number as u64, SPACE),
+        }
     }
 }
 
@@ -55,10 +63,12 @@ pub fn write_unit(out: &mut [u8], number: u16, name: &[u8], size: u64) -> usize
     requires { (208 ≤ length out.old) × (length name.now ≤ 128) }
     ensures { Written out.old out.new (unit_line number name.now size) result }
 {
-    let mut at = put_field(out, 0, b"unit");
-    at = put_decimal(out, at, number as u64, SPACE);
-    at = put_field(out, at, name);
-    put_decimal(out, at, size, NEWLINE)
+    let mut text = Text { bytes: out, at: 0 };
+    text.put_field(b"unit");
+    text.put_decimal(number as u64, SPACE);
+    text.put_field(name);
+    text.put_decimal(size, NEWLINE);
+    text.at
 }
 
 // "Piece: number in its unit, name, address, size, alignment.", then its split's origin.
@@ -74,13 +84,15 @@ pub fn write_piece(
     requires { (208 ≤ length out.old) × (length name.now ≤ 128) }
     ensures { Written out.old out.new (piece_line number name.now address size alignment origin) result }
 {
-    let mut at = put_field(out, 0, b"piece");
-    at = put_decimal(out, at, number as u64, SPACE);
-    at = put_field(out, at, name);
-    at = put_hex8(out, at, address, SPACE);
-    at = put_decimal(out, at, size as u64, SPACE);
-    at = put_decimal(out, at, alignment as u64, SPACE);
-    put_decimal(out, at, origin as u64, NEWLINE)
+    let mut text = Text { bytes: out, at: 0 };
+    text.put_field(b"piece");
+    text.put_decimal(number as u64, SPACE);
+    text.put_field(name);
+    text.put_hex8(address, SPACE);
+    text.put_decimal(size as u64, SPACE);
+    text.put_decimal(alignment as u64, SPACE);
+    text.put_decimal(origin as u64, NEWLINE);
+    text.at
 }
 
 // "`sym` name (`-` if empty), piece or `common`, address, size"
@@ -94,11 +106,13 @@ pub fn write_symbol(
     requires { (208 ≤ length out.old) × (length name.now ≤ 128) }
     ensures { Written out.old out.new (sym_line name.now owner address size) result }
 {
-    let mut at = put_field(out, 0, b"sym");
-    at = put_shown(out, at, name);
-    at = put_owner(out, at, owner);
-    at = put_hex8(out, at, address, SPACE);
-    put_decimal(out, at, size as u64, NEWLINE)
+    let mut text = Text { bytes: out, at: 0 };
+    text.put_field(b"sym");
+    text.put_shown(name);
+    text.put_owner(owner);
+    text.put_hex8(address, SPACE);
+    text.put_decimal(size as u64, NEWLINE);
+    text.at
 }
 
 // "`reloc` piece, offset, kind, target, addend"
@@ -113,12 +127,14 @@ pub fn write_reloc(
     requires { 208 ≤ length out.old }
     ensures { Written out.old out.new (reloc_line number offset kind target addend) result }
 {
-    let mut at = put_field(out, 0, b"reloc");
-    at = put_decimal(out, at, number as u64, SPACE);
-    at = put_hex8(out, at, offset, SPACE);
-    at = put_decimal(out, at, kind as u64, SPACE);
-    at = put_decimal(out, at, target as u64, SPACE);
-    put_signed(out, at, addend, NEWLINE)
+    let mut text = Text { bytes: out, at: 0 };
+    text.put_field(b"reloc");
+    text.put_decimal(number as u64, SPACE);
+    text.put_hex8(offset, SPACE);
+    text.put_decimal(kind as u64, SPACE);
+    text.put_decimal(target as u64, SPACE);
+    text.put_signed(addend, NEWLINE);
+    text.at
 }
 
 // "Total: units, pieces, bytes."
@@ -126,10 +142,12 @@ pub fn write_total(out: &mut [u8], units: u16, pieces: u16, bytes: u64) -> usize
     requires { 208 ≤ length out.old }
     ensures { Written out.old out.new (total_line units pieces bytes) result }
 {
-    let mut at = put_field(out, 0, b"total");
-    at = put_decimal(out, at, units as u64, SPACE);
-    at = put_decimal(out, at, pieces as u64, SPACE);
-    put_decimal(out, at, bytes, NEWLINE)
+    let mut text = Text { bytes: out, at: 0 };
+    text.put_field(b"total");
+    text.put_decimal(units as u64, SPACE);
+    text.put_decimal(pieces as u64, SPACE);
+    text.put_decimal(bytes, NEWLINE);
+    text.at
 }
 
 // "A refusal prints only `refused`, number, section, address."
@@ -138,8 +156,10 @@ pub fn write_refused(out: &mut [u8], number: u16, section: u16, address: u32) ->
     requires { 208 ≤ length out.old }
     ensures { Written out.old out.new (refused_line number section address) result }
 {
-    let mut at = put_field(out, 0, b"refused");
-    at = put_decimal(out, at, number as u64, SPACE);
-    at = put_decimal(out, at, section as u64, SPACE);
-    put_hex8(out, at, address, NEWLINE)
+    let mut text = Text { bytes: out, at: 0 };
+    text.put_field(b"refused");
+    text.put_decimal(number as u64, SPACE);
+    text.put_decimal(section as u64, SPACE);
+    text.put_hex8(address, NEWLINE);
+    text.at
 }

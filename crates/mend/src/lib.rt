@@ -12,7 +12,7 @@ ghost use Rattle.lines.specs.Lines.{Written};
 ghost use Rattle.mend.specs.Mend.{section_ends_of, next_of, wrong_end, limit_of, replacement, mend_line, mend_check};
 ghost use Rattle.mend.specs.Steps.{Joins, Turned, Fills, Mends, LowHeads};
 
-use lines::{put_decimal, put_hex8};
+use lines::Text;
 use names::put_bytes;
 use obj::{Refusal, Section, Table, refuse};
 use splits::{SplitColumns, SplitEnds, row, section_of};
@@ -89,14 +89,17 @@ pub fn check_ends(splits: &SplitColumns, section_ends: &[u32]) -> Result<(), Ref
 // ---- lines
 
 // "section number, start, old end and new end"
+#[tactic(auto, using(lines::proofs::Puts::fields))]
 fn write_line(out: &mut [u8], section: u16, start: u32, old: u32, new: u32) -> usize
     requires { 208 ≤ length out.old }
     ensures { Written out.old out.new (mend_line section start old new) result }
 {
-    let mut at = put_decimal(out, 0, section as u64, SPACE);
-    at = put_hex8(out, at, start, SPACE);
-    at = put_hex8(out, at, old, SPACE);
-    put_hex8(out, at, new, NEWLINE)
+    let mut text = Text { bytes: out, at: 0 };
+    text.put_decimal(section as u64, SPACE);
+    text.put_hex8(start, SPACE);
+    text.put_hex8(old, SPACE);
+    text.put_hex8(new, NEWLINE);
+    text.at
 }
 
 // A line behind the lines so far, if it fits: where they end then.

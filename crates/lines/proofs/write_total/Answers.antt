@@ -1,17 +1,17 @@
 -- `lines::write_total` meets its contract: its fields stand one behind another, each with its space, and end as the line does.
 -- Assumes nothing.
+use mathlib.Core.Path.{sym}
 use native.Mathlib.Omega.{arith}
 use Rattle.names.specs.Fixed.{codes}
 use Rattle.lines.specs.Lines.{line, decimal}
-use Rattle.lines.proofs.Puts.{put_more, written, fields}
+use Rattle.lines.proofs.Puts.{adds_more, written, fields}
 use Rattle.lines.proofs.write_total.Goals as goal
 
 pub returns : goal.returns
 unfolding codes line
 returns c =
-    written _
-    (put_more (codes "total") 32 c.put_field-at.ensures
-    (put_more (decimal c.args.units) 32 c.put_decimal-at.ensures
-    (put_more (decimal c.args.pieces) 32 c.put_decimal-at-2.ensures
-    c.put_decimal.ensures)))
-    (grind (arith, fields))
+    let line = adds_more (codes "total") 32 c.put_field.ensures
+    (adds_more (decimal c.args.units) 32 c.put_decimal.ensures
+    (adds_more (decimal c.args.pieces) 32 c.put_decimal-2.ensures
+    c.put_decimal-3.ensures)) in
+    rw (c.out-1.given.1.1 (sym line.lent)) (written _ line.put (grind (arith, fields)))

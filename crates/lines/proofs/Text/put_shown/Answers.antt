@@ -1,10 +1,10 @@
--- `lines::put_shown` meets its contract: the code asks what the definition asks.
+-- `lines::Text::put_shown` meets its contract: the code asks what the definition asks.
 -- Assumes nothing.
 use mathlib.Core.Path.{sym, ◌∙◌}
 use borrow.Author.Tests.{eqb-true, eqb-false}
 use Rattle.names.specs.Fixed.{codes}
 use Rattle.lines.proofs.Puts.{shown_empty, shown_name}
-use Rattle.lines.proofs.put_shown.Goals as goal
+use Rattle.lines.proofs.Text.put_shown.Goals as goal
 
 pub returns-then-is_empty : goal.returns-then-is_empty
 unfolding codes

@@ -1,9 +1,0 @@
--- `lines::put_field` meets its contract: the text is stored, and the space behind it.
--- Assumes nothing.
-use mathlib.Core.Path.{refl}
-use Rattle.lines.proofs.Puts.{put_ended}
-use Rattle.lines.proofs.put_field.Goals as goal
-
-pub returns : goal.returns
-returns c =
-    put_ended c.args.at c.args.text.now 32 c.put_bytes.ensures refl c.requires
