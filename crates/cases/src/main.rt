@@ -3,6 +3,7 @@
 // crates/toposort/proofs/Cases.antt.
 #![tactic(auto)]
 
+use program_input::Answer;
 use std::io;
 
 fn show_bytes(rt: &impl Print, bytes: &[u8]) -> io::Result<()> {
@@ -10,14 +11,6 @@ fn show_bytes(rt: &impl Print, bytes: &[u8]) -> io::Result<()> {
         print!(rt; " {b}")?;
     }
     println!(rt; "")
-}
-
-// Number, section and address of an answer word.
-fn show_word(rt: &impl Print, word: u64) -> io::Result<()> {
-    let number = word / 0x1_0000_0000_0000;
-    let section = word / 0x1_0000_0000 % 0x1_0000;
-    let address = word % 0x1_0000_0000;
-    println!(rt; "{number} {section} {address}")
 }
 
 // A call of the entry, whose two outputs are slices of their own.
@@ -28,8 +21,10 @@ fn toposort(
     out: &mut [u8],
     counts: &mut [u8],
 ) -> io::Result<()> {
-    let word = entry_toposort::toposort(nodes, edges, out, counts);
-    show_word(rt, word)?;
+    let answer = Answer {
+        word: entry_toposort::toposort(nodes, edges, out, counts),
+    };
+    println!(rt; "{answer}")?;
     show_bytes(rt, out)?;
     show_bytes(rt, counts)
 }

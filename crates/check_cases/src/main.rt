@@ -3,7 +3,7 @@
 // sections, symbols, relocations, splits and units. `stdout` has what must come out, by document 01 and the decisions.
 #![tactic(auto)]
 
-use program_input::{Gathered, digit, longer, read_full};
+use program_input::{Answer, CaseReader, Gathered, Turn, digit, longer, read_full};
 use std::io;
 
 // ---- what is read
@@ -11,30 +11,23 @@ use std::io;
 // What the next character belongs to.
 #[derive(Clone, Copy)]
 pub enum Mode {
-    // bytes as hexadecimal digits
-    Bytes,
-    // `= title` up to the line's end
-    Title,
-    // `# comment` up to the line's end
-    Comment,
+    // what every program's cases have
+    Case,
     // `"text"`
     Text,
-    // `@width*count` and `*count`: the last `width` bytes, or the last one, stand so many times in all
+    // `@width*count`: the last `width` bytes stand so many times in all
     Width,
-    Count,
     // `<k` keeps the first k tables of the case before
     Keep,
 }
 
-// How far a case is read: `high` is the first digit of a byte, where that was read; table k ends at cuts[k].
+// How far a case is read: table k ends at cuts[k].
 #[derive(Drop)]
 pub struct Reading<'b> {
-    pub bytes: Gathered<'b>,
+    pub case: CaseReader<'b>,
     pub mode: Mode,
-    pub high: Option<u8>,
     pub table: usize,
     pub width: usize,
-    pub count: usize,
     pub cuts: [usize; 9],
 }
 
@@ -62,62 +55,17 @@ fn push_names(bytes: &mut Gathered) {
 // ---- a character more. Each kind of character takes the reading, what is printed to and the character: a struct of these would be made for one character.
 
 impl Reading<'_> {
-    // The byte `width` before the end, 0 if there is none.
-    fn before(&self) -> u8 {
-        let bytes = self.bytes.bytes();
-        if (self.width == 0) | (bytes.len() < self.width) {
-            return 0;
-        }
-        bytes[bytes.len() - self.width]
-    }
-
-    // The last `width` bytes once more.
-    fn again(&mut self) {
-        for _ in 0..self.width {
-            let v = self.before();
-            self.bytes.push(v);
-        }
-    }
-
-    // The last `width` bytes so many times in all.
-    fn repeat(&mut self) {
-        for _ in 1..self.count {
-            self.again();
-        }
-    }
-
-    // A byte that was read.
-    fn add(&mut self, v: u8) {
-        self.bytes.push(v);
-        self.high = None;
-    }
-
     fn add_names(&mut self) {
-        push_names(&mut self.bytes);
-        self.high = None;
-    }
-
-    fn in_title(&mut self, rt: &impl Print, c: u8) -> io::Result<()> {
-        if c == b'\n' {
-            self.mode = Mode::Bytes;
-            return rt.write_all(b": ");
-        }
-        rt.write_all(&[c])
-    }
-
-    // As in `run_cases`, over other modes: one function for both would be generic over them, and no shorter.
-    fn in_comment(&mut self, c: u8) {
-        if c == b'\n' {
-            self.mode = Mode::Bytes;
-        }
+        push_names(&mut self.case.bytes);
+        self.case.high = None;
     }
 
     fn in_text(&mut self, c: u8) {
         if c == b'"' {
-            self.mode = Mode::Bytes;
+            self.mode = Mode::Case;
             return;
         }
-        self.add(c);
+        self.case.add(c);
     }
 
     fn in_width(&mut self, c: u8) {
@@ -125,85 +73,68 @@ impl Reading<'_> {
             self.width = longer(self.width, d);
             return;
         }
-        self.mode = Mode::Count;
-    }
-
-    fn in_count(&mut self, c: u8) {
-        if let Some(d @ 0..=9) = digit(c) {
-            self.count = longer(self.count, d);
-            return;
-        }
-        self.repeat();
-        self.high = None;
-        self.mode = Mode::Bytes;
+        self.mode = Mode::Case;
+        self.case.start_count(self.width);
     }
 
     // Table k ends where the bytes so far do.
     fn cut(&mut self) {
         if self.table < 9 {
-            self.cuts[self.table] = self.bytes.used;
+            self.cuts[self.table] = self.case.bytes.used;
             self.table += 1;
         }
     }
 
     fn in_keep(&mut self, c: u8) {
-        self.mode = Mode::Bytes;
+        self.mode = Mode::Case;
         if let Some(k @ 1..=8) = digit(c) {
             self.table = k as usize;
-            self.bytes.take_up(self.cuts[self.table - 1]);
+            self.case.bytes.take_up(self.cuts[self.table - 1]);
         }
     }
 
-    fn in_bytes(&mut self, c: u8) {
-        let Some(d) = digit(c) else {
-            return;
-        };
-        let Some(high) = self.high else {
-            self.high = Some(d);
-            return;
-        };
-        self.add(high % 16 * 16 + d);
-    }
-
-    // The next case begins, with its title.
+    // The next case begins.
     fn next_case(&mut self) {
-        self.mode = Mode::Title;
-        self.bytes.take_up(0);
+        self.case.clear();
         self.table = 0;
     }
 
-    // A number of times begins; of more than one byte where its width is read first.
-    fn start_count(&mut self, mode: Mode, width: usize) {
-        self.mode = mode;
-        self.width = width;
-        self.count = 0;
+    // The width of what stands several times begins.
+    fn start_width(&mut self) {
+        self.mode = Mode::Width;
+        self.width = 0;
     }
 
     fn on_sign(&mut self, rt: &impl Print, c: u8) -> io::Result<()> {
         match c {
-            b'=' => self.next_case(),
-            b'#' => self.mode = Mode::Comment,
             b'"' => self.mode = Mode::Text,
-            b'@' => self.start_count(Mode::Width, 0),
-            b'*' => self.start_count(Mode::Count, 1),
+            b'@' => self.start_width(),
             b'<' => self.mode = Mode::Keep,
             b'|' => self.cut(),
             b'N' => self.add_names(),
             b'?' => return self.check_file(rt),
             b'!' => return self.check_tables(rt),
-            _ => self.in_bytes(c),
+            _ => (),
+        }
+        Ok(())
+    }
+
+    fn in_case(&mut self, rt: &impl Print, c: u8) -> io::Result<()> {
+        match self.case.turn(c) {
+            Turn::Taken => (),
+            Turn::Begins => self.next_case(),
+            Turn::Title(b'\n') => return rt.write_all(b": "),
+            Turn::Title(letter) => return rt.write_all(&[letter]),
+            Turn::Sign(sign) => return self.on_sign(rt, sign),
         }
         Ok(())
     }
 
     fn turn(&mut self, rt: &impl Print, c: u8) -> io::Result<()> {
         match self.mode {
-            Mode::Bytes => return self.on_sign(rt, c),
-            Mode::Title => return self.in_title(rt, c),
-            Mode::Comment => self.in_comment(c),
+            Mode::Case => return self.in_case(rt, c),
             Mode::Text => self.in_text(c),
             Mode::Width => self.in_width(c),
-            Mode::Count => self.in_count(c),
             Mode::Keep => self.in_keep(c),
         }
         Ok(())
@@ -211,14 +142,6 @@ impl Reading<'_> {
 }
 
 // ---- a case is run
-
-// Number, section and address of an answer word. `cases` prints the same and ends its line there; no contract can say what is printed, so neither shares it.
-fn show_word(rt: &impl Print, word: u64) -> io::Result<()> {
-    let number = word / 0x1_0000_0000_0000;
-    let section = word / 0x1_0000_0000 % 0x1_0000;
-    let address = word % 0x1_0000_0000;
-    print!(rt; "{number} {section} {address}")
-}
 
 fn show_counts(rt: &impl Print, counts: &[u8]) -> io::Result<()> {
     for i in 0..counts.len() / 2 {
@@ -236,23 +159,23 @@ fn part(bytes: &[u8], from: usize, to: usize) -> &[u8] {
 impl Reading<'_> {
     fn check_file(&self, rt: &impl Print) -> io::Result<()> {
         let mut counts = [9u8; 12];
-        show_word(
-            rt,
-            entry_check_file::check_file(self.bytes.bytes(), &mut counts),
-        )?;
+        let answer = Answer {
+            word: entry_check_file::check_file(self.case.bytes.bytes(), &mut counts),
+        };
+        print!(rt; "{answer}")?;
         show_counts(rt, &counts)
     }
 
     // Where table k ends: tables that a case doesn't have are empty.
     fn end(&self, k: usize) -> usize {
         if (self.table <= k) | (9 <= k) {
-            return self.bytes.used;
+            return self.case.bytes.used;
         }
         self.cuts[k]
     }
 
     fn table(&self, k: usize) -> &[u8] {
-        let bytes = self.bytes.bytes();
+        let bytes = self.case.bytes.bytes();
         if k == 0 {
             return part(bytes, 0, self.end(0));
         }
@@ -260,9 +183,8 @@ impl Reading<'_> {
     }
 
     fn check_tables(&self, rt: &impl Print) -> io::Result<()> {
-        show_word(
-            rt,
-            entry_check_tables::check_tables(
+        let answer = Answer {
+            word: entry_check_tables::check_tables(
                 self.table(0),
                 self.table(1),
                 self.table(2),
@@ -273,8 +195,8 @@ impl Reading<'_> {
                 self.table(7),
                 self.table(8),
             ),
-        )?;
-        println!(rt; "")
+        };
+        println!(rt; "{answer}")
     }
 }
 
@@ -282,12 +204,10 @@ impl Reading<'_> {
 
 fn run(rt: &impl Print, text: &[u8], buffer: &mut [u8]) -> io::Result<()> {
     let mut s = Reading {
-        bytes: Gathered { buffer, used: 0 },
-        mode: Mode::Bytes,
-        high: None,
+        case: CaseReader::new(buffer),
+        mode: Mode::Case,
         table: 0,
-        width: 1,
-        count: 0,
+        width: 0,
         cuts: [0; 9],
     };
     for c in text {

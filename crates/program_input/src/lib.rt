@@ -1,12 +1,16 @@
 // What more than one of the programs needs to read its input: a buffer filled from a reader, and the digits and bytes of cases that stand in text.
 #![tactic(auto)]
 
+mod answer;
+mod case_reader;
 mod gathered;
 
 ghost use Rattle.std.specs.Prelude.{◌≡◌, ℕ, ◌+◌, ◌*◌, ◌≤◌, ◌<◌, length, take, IfOk, IfSome};
 ghost use Rattle.std.specs.Io.KnownBytes.{Consumes, IsAtEnd};
 ghost use Rattle.names.specs.GapName.{digit};
 
+pub use answer::Answer;
+pub use case_reader::{CaseReader, Mode, Turn};
 pub use gathered::Gathered;
 use std::io;
 use std::io::Read;

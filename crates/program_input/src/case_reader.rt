@@ -1,0 +1,216 @@
+// Cases that stand in text: for each its title and its bytes. The reader knows what more than one program has in its cases; what a character means beyond that is for the
+// program, which is handed it.
+ghost use Rattle.std.specs.Prelude.{◌≡◌, ℕ, ◌+◌, ◌*◌, ◌<◌, length, None, Some};
+ghost use Rattle.std.proofs.Common.{set};
+ghost use Rattle.names.specs.GapName.{digit};
+ghost use Rattle.program_input.specs.declared.case_reader.Mode.TheVariants as mode;
+ghost use Rattle.program_input.specs.declared.case_reader.Turn.TheVariants.{Taken, Begins, Title, Sign};
+ghost use Rattle.program_input.specs.Cases.{Added, NoDigit, ReadByte, LineOf, Starts};
+
+use crate::{Gathered, digit, longer};
+
+// What the next character belongs to.
+#[derive(Clone, Copy)]
+pub enum Mode {
+    // bytes as hexadecimal digits
+    Bytes,
+    // `= title` up to the line's end
+    Title,
+    // `# comment` up to the line's end
+    Comment,
+    // `*count`: the last byte, or the last `width` bytes, stand so many times in all
+    Count,
+}
+
+// What a character is to the program.
+#[derive(Clone, Copy)]
+pub enum Turn {
+    // the reader took it
+    Taken,
+    // a case begins; the bytes of the one before are still there
+    Begins,
+    // one of the title's, whose end is a newline
+    Title(u8),
+    // no character of the reader's
+    Sign(u8),
+}
+
+// How far a case is read: `high` is the first digit of a byte, where that was read.
+#[derive(Drop)]
+pub struct CaseReader<'b> {
+    pub bytes: Gathered<'b>,
+    pub mode: Mode,
+    pub high: Option<u8>,
+    pub width: usize,
+    pub count: usize,
+}
+
+impl<'b> CaseReader<'b> {
+    // Nothing is read yet; the bytes are gathered in the lent buffer.
+    pub fn new(buffer: &'b mut [u8]) -> CaseReader<'b>
+        ensures none { (result.bytes.used ≡ 0) × (result.high ≡ None) × (result.mode ≡ mode.Bytes) }
+        ensures lent { result.bytes.buffer.ghost_name ≡ buffer.entry.ghost_name }
+    {
+        CaseReader {
+            bytes: Gathered { buffer, used: 0 },
+            mode: Mode::Bytes,
+            high: None,
+            width: 1,
+            count: 0,
+        }
+    }
+}
+
+impl CaseReader<'_> {
+    // No bytes, and no digit of one.
+    pub fn clear(&mut self)
+        ensures none { (self.new.bytes.used ≡ 0) × (self.new.high ≡ None) }
+        ensures mode { self.new.mode ≡ self.old.mode }
+        ensures lent { self.new.bytes.buffer.ghost_name ≡ self.old.bytes.buffer.ghost_name }
+    {
+        self.bytes.take_up(0);
+        self.high = None;
+    }
+
+    // A byte that was read.
+    pub fn add(&mut self, v: u8)
+        ensures added { Added self.old self.new v }
+        ensures lent { self.new.bytes.buffer.ghost_name ≡ self.old.bytes.buffer.ghost_name }
+    {
+        self.bytes.push(v);
+        self.high = None;
+    }
+
+    // A number of times begins, for the last `width` bytes.
+    pub fn start_count(&mut self, width: usize)
+        ensures counts { Starts self.old self.new mode.Count }
+        ensures width { (self.new.width ≡ width) × (self.new.count ≡ 0) }
+        ensures lent { self.new.bytes.buffer.ghost_name ≡ self.old.bytes.buffer.ghost_name }
+    {
+        self.mode = Mode::Count;
+        self.width = width;
+        self.count = 0;
+    }
+
+    // The byte `width` before the end, 0 if there is none.
+    fn before(&self) -> u8 {
+        let bytes = self.bytes.bytes();
+        if (self.width == 0) | (bytes.len() < self.width) {
+            return 0;
+        }
+        bytes[bytes.len() - self.width]
+    }
+
+    // The last `width` bytes once more.
+    fn again(&mut self)
+        ensures lent { self.new.bytes.buffer.ghost_name ≡ self.old.bytes.buffer.ghost_name }
+    {
+        for _ in 0..self.width {
+            let byte = self.before();
+            self.bytes.push(byte);
+        }
+    }
+
+    // The last `width` bytes so many times in all.
+    fn repeat(&mut self)
+        ensures lent { self.new.bytes.buffer.ghost_name ≡ self.old.bytes.buffer.ghost_name }
+    {
+        for _ in 1..self.count {
+            self.again();
+        }
+    }
+
+    fn in_count(&mut self, c: u8)
+        ensures digit { (k : ℕ) → k < 10 → digit k ≡ c → self.old.count < 100000 → (self.new.count ≡ self.old.count * 10 + k) × Starts self.old self.new self.old.mode }
+        ensures end { NoDigit c → self.new.mode ≡ mode.Bytes }
+        ensures lent { self.new.bytes.buffer.ghost_name ≡ self.old.bytes.buffer.ghost_name }
+    {
+        if let Some(d @ 0..=9) = digit(c) {
+            self.count = longer(self.count, d);
+            return;
+        }
+        self.repeat();
+        self.high = None;
+        self.mode = Mode::Bytes;
+    }
+
+    // A title or a comment ends with its line.
+    fn in_line(&mut self, c: u8)
+        ensures line { LineOf self.old self.new c }
+        ensures lent { self.new.bytes.buffer.ghost_name ≡ self.old.bytes.buffer.ghost_name }
+    {
+        if c == b'\n' {
+            self.mode = Mode::Bytes;
+        }
+    }
+
+    // Two digits are a byte.
+    fn in_bytes(&mut self, c: u8) -> Turn
+        ensures byte { ReadByte self.old self.new c result }
+        ensures lent { self.new.bytes.buffer.ghost_name ≡ self.old.bytes.buffer.ghost_name }
+    {
+        let Some(d) = digit(c) else {
+            return Turn::Sign(c);
+        };
+        let Some(high) = self.high else {
+            self.high = Some(d);
+            return Turn::Taken;
+        };
+        self.add(high % 16 * 16 + d);
+        Turn::Taken
+    }
+
+    fn on_sign(&mut self, c: u8) -> Turn
+        ensures begins { c ≡ 61 → (result ≡ Begins) × Starts self.old self.new mode.Title }
+        ensures comments { c ≡ 35 → (result ≡ Taken) × Starts self.old self.new mode.Comment }
+        ensures counts { c ≡ 42 → (result ≡ Taken) × Starts self.old self.new mode.Count }
+        ensures byte { (c ≡ 61 → ⊥) → (c ≡ 35 → ⊥) → (c ≡ 42 → ⊥) → ReadByte self.old self.new c result }
+        ensures lent { self.new.bytes.buffer.ghost_name ≡ self.old.bytes.buffer.ghost_name }
+    {
+        match c {
+            b'=' => {
+                self.mode = Mode::Title;
+                Turn::Begins
+            }
+            b'#' => {
+                self.mode = Mode::Comment;
+                Turn::Taken
+            }
+            b'*' => {
+                self.start_count(1);
+                Turn::Taken
+            }
+            _ => self.in_bytes(c),
+        }
+    }
+
+    // A character more. Where bytes are read, a sign of the reader's begins a title, a comment or a count, two digits are a byte, and the rest is for the program.
+    pub fn turn(&mut self, c: u8) -> Turn
+        ensures title { self.old.mode ≡ mode.Title → (result ≡ Title c) × LineOf self.old self.new c }
+        ensures comment { self.old.mode ≡ mode.Comment → (result ≡ Taken) × LineOf self.old self.new c }
+        ensures begins { self.old.mode ≡ mode.Bytes → c ≡ 61 → (result ≡ Begins) × Starts self.old self.new mode.Title }
+        ensures comments { self.old.mode ≡ mode.Bytes → c ≡ 35 → (result ≡ Taken) × Starts self.old self.new mode.Comment }
+        ensures counts { self.old.mode ≡ mode.Bytes → c ≡ 42 → (result ≡ Taken) × Starts self.old self.new mode.Count }
+        ensures byte { self.old.mode ≡ mode.Bytes → (c ≡ 61 → ⊥) → (c ≡ 35 → ⊥) → (c ≡ 42 → ⊥) → ReadByte self.old self.new c result }
+        ensures count { self.old.mode ≡ mode.Count → result ≡ Taken }
+        ensures counted { self.old.mode ≡ mode.Count → (k : ℕ) → k < 10 → digit k ≡ c → self.old.count < 100000 → (self.new.count ≡ self.old.count * 10 + k) × Starts self.old self.new self.old.mode }
+        ensures count_ends { self.old.mode ≡ mode.Count → NoDigit c → self.new.mode ≡ mode.Bytes }
+        ensures lent { self.new.bytes.buffer.ghost_name ≡ self.old.bytes.buffer.ghost_name }
+    {
+        match self.mode {
+            Mode::Bytes => self.on_sign(c),
+            Mode::Title => {
+                self.in_line(c);
+                Turn::Title(c)
+            }
+            Mode::Comment => {
+                self.in_line(c);
+                Turn::Taken
+            }
+            Mode::Count => {
+                self.in_count(c);
+                Turn::Taken
+            }
+        }
+    }
+}
