@@ -25,12 +25,37 @@ use Rattle.stage_tables.specs.StageTables.{stage_sections, stage_splits, image_c
 use Rattle.sections.specs.Image.{Image, image_of}
 use Rattle.stage_sections.proofs.Laws.{bytes_as}
 use Rattle.sections.specs.Sections.{Sections, sections_of, head_of}
-use Rattle.sections.specs.Ends.{splitting_end}
-use Rattle.sections.specs.Alignment.{Chosen, alignment_from}
+use Rattle.sections.specs.Ends.{splitting_end, end_meaning}
+use Rattle.sections.specs.Alignment.{Chosen, chosen, alignment_from, alignment_meaning}
+use Rattle.sections.specs.declared.Short.{Short}
+use Rattle.sections.specs.declared.Alignment.{Alignment}
+use Rattle.symbols.specs.declared.Backwards.{Backwards}
+use Rattle.obj.specs.Answers.{meaning}
+use Rattle.obj.specs.declared.Refusal.{Refusal}
+use Rattle.std.specs.Prelude.{Result, Ok, Err, MatchResult}
+use Rattle.std.specs.Result.{IsErrAnd}
+use Rattle.std.proofs.lemmas.Result.{err_from_is_err_and}
 use Rattle.entry_questions.specs.declared.Question.{Question}
 use Rattle.entry_questions.specs.declared.Question.TheVariants as questions
 use Rattle.entry_questions.specs.Entry.{end_of, alignment_at, question_of, image_in, sections_in, split_in, split_of, answer_of, end_answer}
 use Rattle.entry_questions.specs.Lines.{from_symbols}
+
+-- ---- an error of a question on sections, handed on as a refusal
+pub end_else : (n start : ℕ) (m : Result ℕ Short) (r : Result ℕ Refusal) {P : Short → Refusal → Type 0} → MatchResult m (λ x. r ≡ Ok x) (λ e. IsErrAnd r (P e))
+    → ((e : Short) (d : Refusal) → P e d → d ≡ record { number = 10; section = n; address = start }) → end_meaning n start m ≡ meaning r
+end_else n start (Ok x) r h is = sym (ap meaning h)
+end_else n start (Err e) r h is = let p = err_from_is_err_and r h in sym (ap meaning (p.1 ∙ ap Err (is e p.0 p.2)))
+
+-- the alignment that was chosen, or the refusal
+abbrev pub chosen_of : Result Alignment Refusal → Outcome Chosen
+chosen_of (Ok a) = accepted (chosen a)
+chosen_of (Err d) = refused d.number d.section d.address
+
+pub alignment_else : (n start : ℕ) (m : Result Alignment Backwards) (r : Result Alignment Refusal) {P : Backwards → Refusal → Type 0}
+    → MatchResult m (λ x. r ≡ Ok x) (λ e. IsErrAnd r (P e))
+    → ((e : Backwards) (d : Refusal) → P e d → d ≡ record { number = 11; section = n; address = start }) → alignment_meaning n start m ≡ chosen_of r
+alignment_else n start (Ok x) r h is = sym (ap chosen_of h)
+alignment_else n start (Err e) r h is = let p = err_from_is_err_and r h in sym (ap chosen_of (p.1 ∙ ap Err (is e p.0 p.2)))
 
 -- ---- the splitting end
 module _ (g : Image) (sections : Sections) (section : ℕ) where
@@ -76,9 +101,10 @@ module _ (g : Image) (head : ℕ → Section) (count : ℕ) (split : ℕ → Spl
     unfolding ◌>>=◌
     alignment_given c said = alignment_found (accepted c) said
 
-    pub alignment_refused : refused 11 s.section s.start ≡ alignment_from g head s.start s → refused 11 s.section s.start ≡ alignment_at g head count split which
+    pub alignment_refused : (r : Result Alignment Refusal) {d : Refusal} → r ≡ Err d → chosen_of r ≡ alignment_from g head s.start s
+        → refused d.number d.section d.address ≡ alignment_at g head count split which
     unfolding ◌>>=◌
-    alignment_refused said = alignment_found (refused 11 s.section s.start) said
+    alignment_refused r {d} was said = alignment_found (refused d.number d.section d.address) (sym (ap chosen_of was) ∙ said)
 
 -- ---- the question over the columns is that over the lent tables
 

@@ -44,7 +44,8 @@ answer_in t question = answer_of t.name_ends.now t.name_bytes.now t.sections.now
 abbrev pub split_at_in : (splits : Table) → ℕ → Split
 split_at_in splits = split_of splits.bytes.now splits.places.now
 
--- the sections that passed, with their names and bytes; where no bytes are asked, with their names alone
+-- the sections that passed, with their names and bytes; where no bytes are asked, with their names alone. `KeptIn` of sections says the first of an `Obj`, which there is
+-- only once the symbols have passed: here are the parts that it is then made of.
 abbrev pub KeptIn : (heads image : Table) → Names → Type 0
 KeptIn heads image n = Kept heads.bytes.now heads.places.now image.bytes.now image.places.now n.places.now
 

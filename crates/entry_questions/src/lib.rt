@@ -14,7 +14,7 @@ use fields::put32;
 use lent_tables::{NO_TABLES, StageTables};
 use name_table::NameArrays;
 use names::Names;
-use obj::{SPLIT_BYTES, Refusal, Section, Split, Table, refuse, word_of};
+use obj::{Refusal, SPLIT_BYTES, Section, Split, Table, refuse, word_of};
 use outputs::clear_from;
 use sections::Obj;
 use stage_sections::{SectionArrays, SymbolArrays};
@@ -37,10 +37,9 @@ fn splitting_end(obj: &Obj, image: &Table, section: u16) -> Result<u32, Refusal>
     if obj.heads.places.len() <= n {
         return refuse(20, section, 0);
     }
-    let Ok(end) = sections::end_of(obj, image, n) else {
-        return refuse(10, section, obj.heads.record::<Section>(n).address);
-    };
-    Ok(end)
+    let start = obj.heads.record::<Section>(n).address;
+    let end = sections::end_of(obj, image, n);
+    end.map_err(|_| Refusal::new(10, section, start))
 }
 
 // The alignment of a split of the table: "11 start above end"; 20 where the split is not there.
@@ -53,9 +52,8 @@ fn alignment(obj: &Obj, splits: &Table, which: u16) -> Result<u32, Refusal>
         return refuse(20, 0, which as u32);
     }
     let s = splits.record::<Split>(k);
-    let Ok(chosen) = sections::split_alignment(obj, s, s.start) else {
-        return refuse(11, s.section, s.start);
-    };
+    let chosen = sections::split_alignment(obj, s, s.start);
+    let chosen = chosen.map_err(|_| Refusal::new(11, s.section, s.start))?;
     Ok(chosen.value())
 }
 
