@@ -10,7 +10,7 @@ use join_pieces::{base_of, join};
 use kept_output::settle;
 use obj::Refusal;
 
-// The bytes that were joined, if nothing was refused: how many they are.
+// The bytes that were joined, if nothing was refused: how many they are. The four tables stay apart: `StageTables` has no joined pieces, and its other seven tables are not lent here.
 fn join_tables(
     name_ends: &[u8],
     name_bytes: &[u8],

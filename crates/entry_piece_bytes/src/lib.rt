@@ -38,7 +38,8 @@ fn reach_of(image: usize) -> usize
     0xFFFF_FFFF
 }
 
-// The piece starts below its section's start, or ends above its end.
+// The piece starts below its section's start, or ends above its end. The ends are summed in 64 bits here: nothing was checked of the two yet, and a method for the end would
+// ask that it is below 2 ^ 32.
 fn is_outside(head: Section, p: Piece) -> bool
     ensures { result ≡ outside head p }
 {

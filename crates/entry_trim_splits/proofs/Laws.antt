@@ -33,7 +33,7 @@ use Rattle.trim.specs.Steps.{seen, AllPlaced}
 use Rattle.trim.proofs.Alike.{trim_alike}
 use Rattle.entry_trim_splits.specs.Entry.{from_splits, from_symbols, from_sections}
 
--- ---- the stage's answer
+-- ---- the stage's answer: `gives_refused` and `gives_laid` of stage_splits speak of an outcome, and what the trim answers is one only with its rows (`seen`)
 module _ {size counts_size : ℕ} {out counts : List ℕ} (a : Answer) (o : Outcome (List Split)) (l : List Split) (q : seen a l ≡ o) where
   pub seen_refused : {d : Refusal} → a ≡ Err d → Gives o a size counts_size out counts
   seen_refused e = gives_said o (sym e) (gives_refused (sym (ap (λ (x : Answer). seen x l) e) ∙ q))

@@ -46,7 +46,8 @@ from_symbols name_bytes name_places name_lengths heads sections symbols splits s
   symbols_check main_ceilings.symbols (length name_lengths) heads symbols
   from_splits name_lengths heads (image_of symbols (stage_places 20 (length symbols / 20)) name_bytes name_places name_lengths) sections splits size
 
--- from the sections on, over names that passed
+-- from the sections on, over names that passed. As in entry_create_gap_splits, whose stage has ceilings for the names that it adds and another outcome: one definition for both
+-- would take what follows the sections as an argument, and each would still be named to be unfolded.
 unfoldable pub from_sections : (name_bytes name_places name_lengths sections places image symbols splits : List ℕ) → (size : ℕ) → Outcome (List Split)
 from_sections name_bytes name_places name_lengths sections places image symbols splits size = do
   image_check main_ceilings.sections name_lengths places (length image) sections

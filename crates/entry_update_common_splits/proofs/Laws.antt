@@ -44,7 +44,7 @@ use Rattle.common.specs.Sections.{bss_at, Sections}
 use Rattle.entry_update_common_splits.specs.Entry.{stage_bss, update_of, from_splits, from_sections}
 use Rattle.entry_update_common_splits.specs.Lent.{update_with}
 
--- ---- the stage's answer
+-- ---- the stage's answer. Not those of stage_splits and no `seen_refused` of the trim's entry: what this stage answers is an outcome with its rows by `answered`.
 module _ {size counts_size : ℕ} {out counts : List ℕ} {a : Answer} (o : Outcome (List Split)) (l : List Split) (q : answered a l ≡ o) where
   pub gives_refused : {d : Refusal} → a ≡ Err d → Gives o a size counts_size out counts
   gives_refused e = gives_as (sym (ap (λ (x : Answer). answered x l) e) ∙ q) (record { answered = ap meaning e; given = λ r z. absurd (not_both z) })

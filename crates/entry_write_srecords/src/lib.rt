@@ -10,7 +10,7 @@ use kept_output::settle;
 use obj::Refusal;
 use write_srecords::{lines_room, write};
 
-// The lines, if nothing was refused: how many bytes they are.
+// The lines, if nothing was refused: how many bytes they are. The four tables stay apart, as in `join_tables`.
 fn write_tables(
     name_ends: &[u8],
     name_bytes: &[u8],
