@@ -85,6 +85,7 @@ fn line_at(tables: &RunTables, cursor: Cursor, out: &mut [u8]) -> Option<Line>
 }
 
 // The next line of the listing, if one is left.
+// The tables become one struct here and not at the caller: tried, it is proved in this crate, and in `print_run`, which would owe `Readable` at its literal, it was not.
 pub fn next_line<'a>(
     base: &Names<'a, '_, '_>,
     added: &Names<'a, '_, '_>,

@@ -22,7 +22,7 @@ pub fn name_of<'a>(tables: &RunTables<'a>, k: usize) -> &'a [u8]
     name_at(tables.added, k - tables.base.places.len())
 }
 
-// Piece k; all zeros where there is none.
+// Piece k; all zeros where there is none, since what is listed of it then is what is listed of zeros (`no_piece`): an Option would be turned into them by each caller.
 pub fn piece_of(lists: &PieceLists, k: usize) -> Piece
     ensures { result ≡ piece_of (listed_pieces lists.now) k }
 {

@@ -1,8 +1,8 @@
--- `listing::reading::piece_of` meets its contract: below the count it is read, else the default stands there.
+-- `listing::reading::piece_of` meets its contract: below the count it is read, else the default stands there. That the default's fields are zeros is found only where it stands alone.
 -- Assumes nothing.
-use mathlib.Core.Path.{sym, ap, ◌∙◌}
-use native.Mathlib.Nat.{zero-add}
+use mathlib.Core.Path.{◌≡◌, sym, ap, ◌∙◌}
 use Rattle.std.proofs.Common.{rules}
+use native.Mathlib.Nat.{zero-add}
 use lib.ListN.{get_or-eq_default}
 use Rattle.lists.specs.Rows.{tabulate}
 use Rattle.lists.proofs.Rows.{length-tabulate, get_d_tabulate}
@@ -19,6 +19,5 @@ pub returns : goal.returns
 unfolding pieces_in
 returns c =
     let a = c.args in
-    let d = c.default.ensures in
-    (search (rules, d))
-    ∙ sym (get_or-eq_default (tabulate (piece_on a.lists.now) 0 a.lists.now.made.pieces) no_piece (rw (length-tabulate (piece_on a.lists.now) 0 a.lists.now.made.pieces) c.if-k-lists.false))
+    let zeros : c.default.result ≡ no_piece = search (rules, c.default.ensures) in
+    rw zeros (sym (get_or-eq_default (tabulate (piece_on a.lists.now) 0 a.lists.now.made.pieces) no_piece (rw (length-tabulate (piece_on a.lists.now) 0 a.lists.now.made.pieces) c.if-k-lists.false)))
