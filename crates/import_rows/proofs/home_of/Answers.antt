@@ -1,4 +1,5 @@
--- `import_rows::home_of`: what std's search says of the place, or of there being none, is what the definition asks.
+-- `import_rows::home_of`: what std's search says of the place, or of there being none, is what the definition asks. The check finds each fact only where it stands alone, and
+-- not the answer in one step.
 use Rattle.std.proofs.Common.{rules, ◌≡◌, ◌<◌, ℕ, length, get_or, arith}
 use lib.Dec.{eqb}
 use borrow.Author.Tests.{eq-eqb, ne_eqb}

@@ -1,3 +1,5 @@
+-- `names::gap_name::leading_dots`: what std's search says of the place, or of there being none. The check finds each fact only where it stands alone, as what `dots_found` asks,
+-- and not the answer in one step.
 use Rattle.std.proofs.Common.{rules}
 use Rattle.names.proofs.Gaps.{dots_found, dots_all}
 use Rattle.names.proofs.gap_name.leading_dots.Goals as goal

@@ -1,4 +1,5 @@
--- `order::records::put_unit` meets its contract: each field is stored where the one before it ends, so the stores are one run.
+-- `order::records::put_unit` meets its contract: each field is stored where the one before it ends, so the stores are one run. That the order fits
+-- its type is a fact of the argument that has no name of its own.
 use Rattle.std.proofs.Common.{rules}
 use mathlib.Core.Path.{◌≡◌, refl, ap, ◌∙◌}
 use mathlib.Core.List.{◌∷◌, [], ◌++◌}
