@@ -20,6 +20,7 @@ loop-name-preserved c =
       | then-graph-unit w ↦
           rw (w.graph-is, w.m-is) (record {
             counting = counting_new l.invariant.counting c.loop-name-test.true c.requires.few inside (omega arith) w.if-graph-unit.true;
+            -- a slice of the graph was lent within the turn and came back: that it is still the one that the caller lent is found by search, and no fact says it by name
             lent = search rules;
           })
       | else-graph-unit w ↦ rw (w.graph-is, w.m-is) (record { counting = counting_old l.invariant.counting c.loop-name-test.true c.requires.few inside w.if-graph-unit.false; lent = l.invariant.lent })

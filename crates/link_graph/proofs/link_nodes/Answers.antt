@@ -12,6 +12,7 @@ loop-i-preserved c =
     record {
       starts = link_written (λ (x : UnitEdge). x.from) s e l.i (omega arith) l.graph.from.now _ (omega arith) refl ∙ l.invariant.starts;
       goals = link_written (λ (x : UnitEdge). x.to) s e l.i (omega arith) l.graph.to.now _ (omega arith) refl ∙ l.invariant.goals;
+      -- a slice of the graph was lent within the turn and came back: that it is still the one that the caller lent is found by search, and no fact says it by name
       others = record { column = l.invariant.others.column; nodes = l.invariant.others.nodes; count = l.invariant.others.count; lent = search rules };
     }
 

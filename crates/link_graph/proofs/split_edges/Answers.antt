@@ -41,6 +41,7 @@ loop-i-preserved c =
             listing = rw others.column
                 (listing_edge l.invariant.listing (omega arith) (sym c.apart.ensures ∙ w.if-not-apart.true) _ _ (unit_of_row col splits.count _ (omega arith)) (unit_of_row col splits.count _ (omega arith))
                 (omega (arith, few, l.graph.long.long_from, c.args.tables.now.held.few)) (omega (arith, few, l.graph.long.long_to, c.args.tables.now.held.few)));
+            -- a slice of the graph was lent within the turn and came back: that it is still the one that the caller lent is found by search, and no fact says it by name
             others = record { column = others.column; nodes = others.nodes; count = others.count; lent = search rules };
           })
       | else-not-apart w ↦ rw (w.graph-is, w.e-is) (record { listing = listing_apart l.invariant.listing (omega arith) (sym c.apart.ensures ∙ w.if-not-apart.false); others = others })
