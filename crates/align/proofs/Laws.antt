@@ -1,7 +1,7 @@
 -- A number with one bit set is the power of two of its trailing zeros, and a power of two has one bit set. So a good alignment is known by its exponent.
 -- Assumes nothing.
 use mathlib.Core.Path.{◌≡◌, refl, sym, ap, ◌∙◌}
-use mathlib.Core.Bool.{Bool, true, false, ◌&&◌}
+use mathlib.Core.Bool.{true, false}
 use mathlib.Core.Logic.{◌≢◌}
 use Prim.Native.Nat.{ℕ, zero, suc, ◌+◌, ◌-◌, ◌*◌, ◌/◌, ◌%◌, ◌^◌, ◌≤◌, ◌<◌}
 use native.Mathlib.Nat.{add-zero, one-mul, pow-suc, div-mul-le_self, lt_of_not-le}
@@ -10,14 +10,10 @@ use borrow.Author.Tests.{eqb-true, leb-true, ne_eqb, not-false}
 use lib.Dec.{eqb, leb}
 use lib.Count.{ones, ones_in, ones_step, ones_cat, count_trailing_zeros, under}
 use lib.Pow.{pow_pos, pow_mono}
+use Rattle.std.proofs.lemmas.Bool.{and_parts}
 use Rattle.align.specs.Align.{good_align, bad_align, align_up}
 
 -- ---- one bit set
-
--- both tests hold
-both : (s t : Bool) → (s && t) ≡ true → (s ≡ true) × (t ≡ true)
-both true t e = (refl, e)
-both false t e = absurd (let z : ◌≡◌ {A = ℕ} 0 1 = cc in omega arith)
 
 -- a number without set bits is 0
 no_ones : (k n : ℕ) → n < 2 ^ k → ones n ≡ 0 → n ≡ 0
@@ -64,7 +60,7 @@ ones_pow e =
 pub good_parts : (a : ℕ) → good_align a ≡ true → (ones a ≡ 1) × (a ≤ 65536)
 unfolding good_align
 good_parts a e =
-    let p = both (eqb (ones a) 1) (leb a 65536) e in
+    let p = and_parts (eqb (ones a) 1) (leb a 65536) e in
     (eqb-true (ones a) 1 p.0, leb-true a 65536 p.1)
 
 -- an alignment that is given and not bad is good

@@ -9,14 +9,14 @@ use lib.Dec.{eqb, leb}
 use lib.ListN.{length, get_or, set, take, length-set}
 use lib.Seq.{get_or-set_same, get_or-set_other, get_or-take}
 use borrow.Author.Count.{below_more}
-use Rattle.lists.proofs.Rows.{get_d_tabulate, get_d_map}
+use Rattle.lists.proofs.Rows.{get_d_tabulate}
 use Rattle.obj.specs.declared.Split.{Split}
 use Rattle.splits.specs.Columns.{Good, columns, row_of, row_at, rows}
 use Rattle.splits.specs.Updates.{with_common}
 use Rattle.splits.proofs.Rows.{good_row}
 use Rattle.common.specs.Common.{marked}
 use Rattle.common.specs.Records.{no_split, Kept}
-use Rattle.std.proofs.lemmas.List.{take-map}
+use Rattle.std.proofs.lemmas.List.{take-map, get_or-map}
 use Rattle.lists.proofs.Mapping.{tabulate-take}
 
 -- ---- the records up to i are written back
@@ -86,7 +86,7 @@ module _ (section address : ℕ) (starts ends units rest : List ℕ) (table : Li
 
   marked_at : (k : ℕ) → k < n → get_or (map (marked section address) table) k no_split ≡ marked section address (f k)
   marked_at k l =
-      get_d_map (marked section address) table k no_split no_split (omega arith)
+      get_or-map (marked section address) table k no_split no_split (omega arith)
       ∙ ap (marked section address) (sym (get_or-take n table k no_split l) ∙ ap (λ (t : List Split). get_or t k no_split) q ∙ get_d_tabulate f 0 n k no_split l ∙ ap f (zero-add k))
 
   pub marked-kept : Kept (columns starts ends units rest) (map (marked section address) table) n

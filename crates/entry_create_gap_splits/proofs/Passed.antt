@@ -11,12 +11,13 @@ use borrow.Author.Tests.{ne_eqb, ltb-true, ltb-false}
 use lib.Dec.{eqb, leb, ltb}
 use lib.ListN.{length, get_or, take, length-take, length-append}
 use lib.Seq.{get_or-take, length-take-le}
+use Rattle.std.proofs.lemmas.Bool.{or_parts}
+use Rattle.std.proofs.lemmas.List.{get_or-map}
 use Rattle.lists.specs.Outcome.{Outcome, accepted, refuse, ◌>>◌, ◌>>=◌}
 use Rattle.lists.specs.Rows.{tabulate, first_from}
 use Rattle.lists.proofs.First.{first-none, first_le}
 use Rattle.lists.proofs.Outcomes.{then_inv}
-use Rattle.lists.proofs.Rows.{get_d_map, length-tabulate, tabulate_more, tabulate_ext}
-use Rattle.lists.proofs.Tests.{or_false}
+use Rattle.lists.proofs.Rows.{length-tabulate, tabulate_more, tabulate_ext}
 use Rattle.obj.specs.Answers.{place}
 use Rattle.obj.specs.Records.{section_at, stage_places}
 use Rattle.obj.specs.declared.Section.{Section}
@@ -94,7 +95,7 @@ pub sections_short : (ceiling : ℕ) (lengths places image b : List ℕ) → ima
     → (head_places name_bytes name_places : List ℕ) → head_places ≡ stage_places 15 (length b / 15) → Short b head_places name_bytes name_places lengths
 sections_short ceiling lengths places image b passed head_places name_bytes name_places there n h =
     let q : n < length b / 15 = omega (arith, h, ap length there, length-stage_places 15 (length b / 15)) in
-    let e : head_of b head_places n ≡ get_or (stage_sections b) n no_section = ap (λ (l : List ℕ). head_of b l n) there ∙ sym (get_d_map (section_at b) (stage_places 15 (length b / 15)) n 0 no_section (rw length-stage_places q)) in
+    let e : head_of b head_places n ≡ get_or (stage_sections b) n no_section = ap (λ (l : List ℕ). head_of b l n) there ∙ sym (get_or-map (section_at b) (stage_places 15 (length b / 15)) n 0 no_section (rw length-stage_places q)) in
     let small = (tables.sections_named lengths (stage_sections b) (length b / 15) sections_passed n q).1 in
     omega (arith, name_short name_bytes name_places lengths (head_of b head_places n).name, ap (λ (s : Section). get_or lengths s.name 0) e, small)
   where
@@ -185,7 +186,7 @@ module _ (most most_bytes : ℕ) (ends : List ℕ) (passed : fit_check most most
       go : (n : ℕ) → length ends / 2 ≡ n → start_of ends n ≤ most_bytes
       go zero e = omega (arith, start_none ends)
       go (suc k) e =
-          let q = or_false (leb most k) (ltb most_bytes (end_of ends k)) (none-beyond k (omega (arith, e))) in
+          let q = or_parts (leb most k) (ltb most_bytes (end_of ends k)) (none-beyond k (omega (arith, e))) in
           omega (arith, ltb-false most_bytes (end_of ends k) q.1, start_more ends k, ap (start_of ends) (add-one k))
 
 -- ---- names that passed, read from the arrays that hold them

@@ -7,7 +7,7 @@ use native.Mathlib.Omega.{arith}
 use lib.ListN.{length, get_or, take}
 use Rattle.lists.specs.Outcome.{Outcome, accepted}
 use Rattle.lists.proofs.Outcomes.{then_goes}
-use Rattle.lists.proofs.Rows.{get_d_map, length-tabulate}
+use Rattle.lists.proofs.Rows.{length-tabulate}
 use Rattle.obj.specs.Records.{section_at, stage_places, split_width}
 use Rattle.obj.specs.Answers.{Answer}
 use Rattle.obj.specs.declared.Section.{Section}
@@ -25,6 +25,7 @@ use Rattle.splits.specs.Columns.{Columns, row_at, rows}
 use Rattle.mend.specs.Mend.{section_ends_of, mend}
 use Rattle.mend.specs.Steps.{LowHeads, Mends, line_bytes}
 use Rattle.std.specs.Prelude.{Result}
+use Rattle.std.proofs.lemmas.List.{get_or-map}
 use Rattle.obj.specs.declared.Refusal.{Refusal}
 use Rattle.mend_outputs.specs.Outputs.{Laid, Gives, Stores}
 use Rattle.mend_outputs.proofs.Laws.{stored_gives}
@@ -51,7 +52,7 @@ low_heads lengths b {places} passed e all = record { held = held all; low = low 
         let n = ap length e ∙ length-stage_places 15 (length b / 15) in
         let top = sections_end lengths (stage_sections b) (length b / 15) passed k (omega (arith, n, h)) in
         let same : get_or (stage_sections b) k no_section ≡ section_at b (get_or places k 0) =
-        ap (λ (p : List ℕ). get_or (sections_in b p) k no_section) (sym e) ∙ get_d_map (section_at b) places k 0 no_section h in
+        ap (λ (p : List ℕ). get_or (sections_in b p) k no_section) (sym e) ∙ get_or-map (section_at b) places k 0 no_section h in
         let end = ap (λ (s : Section). s.address + s.size) same in
         omega (arith, top, end)
 

@@ -8,9 +8,10 @@ use native.Mathlib.Omega.{arith}
 use borrow.Author.Tests.{le-leb, lt-leb, ltb-false, eq-eqb, ne_eqb}
 use lib.Dec.{ltb}
 use lib.ListN.{length, get_or, take, drop, length-take, length-drop}
+use Rattle.std.proofs.lemmas.Bool.{or_parts}
 use Rattle.lists.specs.Outcome.{accepted, refused}
 use Rattle.lists.proofs.Outcomes.{fails, passes}
-use Rattle.lists.proofs.Tests.{or_false, and_false, none_of}
+use Rattle.lists.proofs.Tests.{and_false, none_of}
 use Rattle.obj.specs.Records.{section_at}
 use Rattle.obj.specs.declared.Section.{Section}
 use Rattle.tables.specs.Records.{bytes_cut}
@@ -52,10 +53,10 @@ bytes_lie places image k s e bytes = ltb-false _ _ (none_of _ 1 (and_false _ _ e
 -- a piece that is not outside lies between its section's start and end
 module _ (head : Section) (p : Piece) (e : outside head p ≡ false) where
   pub not_below : head.address ≤ p.address
-  not_below = ltb-false _ _ (or_false (ltb p.address head.address) (ltb (head.address + head.size) (p.address + p.size)) e).0
+  not_below = ltb-false _ _ (or_parts (ltb p.address head.address) (ltb (head.address + head.size) (p.address + p.size)) e).0
 
   pub not_above : p.address + p.size ≤ head.address + head.size
-  not_above = ltb-false _ _ (or_false (ltb p.address head.address) (ltb (head.address + head.size) (p.address + p.size)) e).1
+  not_above = ltb-false _ _ (or_parts (ltb p.address head.address) (ltb (head.address + head.size) (p.address + p.size)) e).1
 
 -- a part of a part that reaches no farther than both has the length that was asked for
 pub part_long : (l : List ℕ) (start size from to : ℕ) → start + size ≤ length l → to ≤ size → from ≤ to

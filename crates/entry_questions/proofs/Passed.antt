@@ -5,8 +5,8 @@ use mathlib.Core.Path.{◌≡◌, sym}
 use mathlib.Core.List.{List}
 use native.Mathlib.Omega.{arith}
 use lib.ListN.{length, get_or}
+use Rattle.std.proofs.lemmas.List.{get_or-map}
 use Rattle.lists.specs.Outcome.{accepted}
-use Rattle.lists.proofs.Rows.{get_d_map}
 use Rattle.obj.specs.Records.{split_at, stage_places, split_width}
 use Rattle.obj.specs.declared.Section.{Section}
 use Rattle.obj.proofs.Laws.{length-stage_places}
@@ -37,4 +37,4 @@ homes_taken ceiling lengths sections b passed low {places} {head_places} there c
     within k h = rw length-stage_places at h
 
     split_is : (k : ℕ) → k < length b / split_width → split_of b (stage_places split_width (length b / split_width)) k ≡ get_or (stage_splits b) k no_split
-    split_is k h = sym (get_d_map (split_at b) (stage_places split_width (length b / split_width)) k 0 no_split (rw length-stage_places h))
+    split_is k h = sym (get_or-map (split_at b) (stage_places split_width (length b / split_width)) k 0 no_split (rw length-stage_places h))

@@ -9,7 +9,7 @@ use lib.ListN.{length, get_or, take, length-map}
 use lib.Seq.{get_or-take}
 use Rattle.lists.specs.Rows.{clear_from}
 use Rattle.lists.specs.Outcome.{Outcome, accepted, refused, ◌>>◌}
-use Rattle.lists.proofs.Rows.{get_d_map, get_d_tabulate, length-tabulate, has_place}
+use Rattle.lists.proofs.Rows.{get_d_tabulate, length-tabulate, has_place}
 use Rattle.lists.proofs.Outcomes.{then_goes}
 use Rattle.lists.proofs.Clear.{clear_all}
 use Rattle.obj.specs.Answers.{word, outcome_word, meaning}
@@ -17,6 +17,7 @@ use Rattle.obj.specs.Records.{section_at, split_at, unit_at, stage_places, split
 use Rattle.obj.specs.Answers.{Answer}
 use Rattle.std.specs.Prelude.{Result, Ok, Err}
 use Rattle.std.specs.Result.{IsErrAnd}
+use Rattle.std.proofs.lemmas.List.{get_or-map}
 use Rattle.obj.specs.declared.Refusal.{Refusal}
 use Rattle.obj.specs.declared.Split.{Split}
 use Rattle.obj.specs.declared.Section.{Section}
@@ -83,7 +84,7 @@ module _ (lengths b : List ℕ) (e : sections_check 64 lengths b ≡ accepted tt
 
   -- section k of the table is the head at its place
   head_at : (k : ℕ) → k < length b / 15 → get_or (stage_sections b) k no_section ≡ section_at b (get_or (stage_places 15 (length b / 15)) k 0)
-  head_at k h = get_d_map (section_at b) (stage_places 15 (length b / 15)) k 0 no_section (omega (arith, length-stage_places 15 (length b / 15)))
+  head_at k h = get_or-map (section_at b) (stage_places 15 (length b / 15)) k 0 no_section (omega (arith, length-stage_places 15 (length b / 15)))
 
   head_named : (k : ℕ) → k < length b / 15 → (section_at b (get_or (stage_places 15 (length b / 15)) k 0)).name < length lengths
   head_named k h =
@@ -157,7 +158,7 @@ units_taken lengths b places f e few =
       few = omega (arith, passed.1);
       named = λ k h.
           let q : k < length b / 8 = omega arith in
-          let at : get_or (stage_units b) k no_unit ≡ unit_at b (get_or (stage_places 8 (length b / 8)) k 0) = get_d_map (unit_at b) (stage_places 8 (length b / 8)) k 0 no_unit (omega (arith, length-stage_places 8 (length b / 8))) in
+          let at : get_or (stage_units b) k no_unit ≡ unit_at b (get_or (stage_places 8 (length b / 8)) k 0) = get_or-map (unit_at b) (stage_places 8 (length b / 8)) k 0 no_unit (omega (arith, length-stage_places 8 (length b / 8))) in
           let n = has_place lengths (get_or (stage_units b) k no_unit).name (tables.units_named lengths (stage_units b) (length b / 8) passed.2 k q) in
           let m : (unit_at b (get_or (stage_places 8 (length b / 8)) k 0)).name < 4096 = omega (arith, ap (λ (u : units.Unit). u.name) at) in
           subst (λ (l : List ℕ). (unit_at b (get_or l k 0)).name < 4096) (sym there) m;

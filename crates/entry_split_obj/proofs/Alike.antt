@@ -9,6 +9,7 @@ use lib.Dec.{ltb}
 use lib.ListN.{length, get_or}
 use Rattle.lists.specs.Rows.{keep_if}
 use Rattle.lists.specs.Outcome.{Outcome, accepted, refused, ◌>>=◌}
+use Rattle.lists.proofs.Binds.{onward}
 use Rattle.obj.specs.declared.Reloc.{Reloc}
 use Rattle.obj.specs.declared.Split.{Split}
 use Rattle.sections.specs.Image.{Image}
@@ -20,12 +21,6 @@ use Rattle.pieces.specs.declared.Counts.{Counts}
 use Rattle.stage_sections.proofs.Laws.{bytes_as}
 use Rattle.walk.specs.Walk.{Input, Output, given, on_aligned, on_kept, on_split, walk_splits, walk_section, walk_sections, walk, nothing}
 use Rattle.walk.specs.Giving.{input_of}
-
--- the same goes on
-onward : {A B : Type 0} (m : Outcome A) (f h : A → Outcome B) → ((a : A) → f a ≡ h a) → (m >>= f) ≡ (m >>= h)
-unfolding ◌>>=◌
-onward (accepted a) f h e = e a
-onward (refused number section address) f h e = refl
 
 module _ (g : Image) (heads head_places image : List ℕ) (reloc : ℕ → Reloc) (relocs : ℕ) (splits : List Split) (units : List ℕ) (room : Counts) where
   abbrev input : List ℕ → Input

@@ -5,8 +5,8 @@ use mathlib.Core.List.{List}
 use native.Mathlib.Nat.{mul-div-le}
 use native.Mathlib.Omega.{arith}
 use lib.ListN.{length, get_or, length-map}
+use Rattle.std.proofs.lemmas.List.{get_or-map}
 use Rattle.lists.specs.Outcome.{accepted}
-use Rattle.lists.proofs.Rows.{get_d_map}
 use Rattle.obj.specs.Records.{reloc_at, stage_places}
 use Rattle.obj.specs.declared.Section.{Section}
 use Rattle.obj.specs.declared.Reloc.{Reloc}
@@ -30,7 +30,7 @@ module _ (heads : List Section) (symbols : ℕ) (b : List ℕ) (passed : relocs_
   relocs_few = (table_passed 23 4096 b _ passed).1
 
   reloc_is : (i : ℕ) → i < count → reloc_of b stage i ≡ get_or (stage_relocs b) i no_reloc
-  reloc_is i h = sym (get_d_map (reloc_at b) stage i 0 no_reloc (rw length-stage_places h))
+  reloc_is i h = sym (get_or-map (reloc_at b) stage i 0 no_reloc (rw length-stage_places h))
 
   rises : (i j : ℕ) → i < j → j < count → (reloc_of b stage i).section ≡ (reloc_of b stage j).section → (reloc_of b stage i).address ≤ (reloc_of b stage j).address
   rises i j q h e =

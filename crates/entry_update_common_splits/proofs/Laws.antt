@@ -11,16 +11,17 @@ use lib.ListN.{length, get_or, take, drop, get_or-eq_default}
 use lib.Seq.{get_or-take, length-take-le}
 use Rattle.lists.specs.Outcome.{Outcome, accepted, ◌>>◌}
 use Rattle.lists.specs.Rows.{tabulate, keep_if}
-use Rattle.lists.proofs.Compare.{lt_or_ge}
 use Rattle.lists.proofs.Filter.{keep_same}
 use Rattle.lists.proofs.Mapping.{numbers_all}
 use Rattle.lists.proofs.Outcomes.{not_both, same_accepted}
-use Rattle.lists.proofs.Rows.{get_d_map, has_place}
+use Rattle.lists.proofs.Rows.{has_place}
 use Rattle.obj.specs.Answers.{meaning}
 use Rattle.obj.specs.Records.{section_at, stage_places}
 use Rattle.obj.specs.Answers.{Answer}
 use Rattle.std.specs.Prelude.{Option, None, Some, Ok, Err, is_some, unwrap_or}
 use Rattle.std.specs.Bool.{then_some}
+use Rattle.std.proofs.lemmas.Bool.{cases_lt}
+use Rattle.std.proofs.lemmas.List.{get_or-map}
 use Rattle.obj.specs.declared.Refusal.{Refusal}
 use Rattle.obj.specs.declared.Section.{Section}
 use Rattle.obj.specs.declared.Split.{Split}
@@ -82,7 +83,7 @@ sections_of_lem {name_bytes} {name_places} {name_lengths} b places names f e = r
     named_at : (k : ℕ) → k < n → (section_at b (get_or (take n places) k 0)).name < length name_places
     named_at k h =
         let at = ap (λ (l : List ℕ). (section_at b (get_or l k 0)).name) (taken_places 15 64 b places _ f e) in
-        let there = ap (λ (s : Section). s.name) (get_d_map (section_at b) (stage_places 15 n) k 0 no_section (omega (arith, h, length-stage_places 15 n))) in
+        let there = ap (λ (s : Section). s.name) (get_or-map (section_at b) (stage_places 15 n) k 0 no_section (omega (arith, h, length-stage_places 15 n))) in
         let named = (sections_named name_lengths (stage_sections b) n (table_passed 15 64 b _ (sym f.said ∙ e)).2 k h).0 in
         omega (arith, at, there, has_place name_lengths (get_or (stage_sections b) k no_section).name named, names.paired)
 
@@ -92,7 +93,7 @@ sections_of_lem {name_bytes} {name_places} {name_lengths} b places names f e = r
 name_as : {ends bytes places lengths heads chain : List ℕ} {n : ℕ} → Stored ends bytes places lengths heads chain n → (j : ℕ)
     → name_at bytes (name_starts ends n) (name_lengths ends bytes n) j ≡ get_or (stage_names ends bytes n) j []
 unfolding name_at
-name_as {ends} {bytes} {places} {lengths} {heads} {chain} {n} s j = rw (sym s.starts, sym s.sizes) (go (lt_or_ge j n))
+name_as {ends} {bytes} {places} {lengths} {heads} {chain} {n} s j = rw (sym s.starts, sym s.sizes) (go (cases_lt j n))
   where
     go : (j < n) ⊎ (n ≤ j) → take (get_or (take n lengths) j 0) (drop (get_or (take n places) j 0) bytes) ≡ get_or (stage_names ends bytes n) j []
     go (inl h) =
@@ -126,7 +127,7 @@ names_as {ends} {bytes} sections splits given start size s =
     one : (k : ℕ) → k < count → bss_at bytes (name_starts ends (length ends / 2)) (stage_lengths ends bytes) sections at k ≡ stage_bss ends bytes sections k
     one k h =
         ap is_bss (name_as s (section_at sections (get_or at k 0)).name
-        ∙ ap (λ (x : Section). get_or (stage_names ends bytes (length ends / 2)) x.name []) (sym (get_d_map (section_at sections) at k 0 no_section (omega (arith, h, length-stage_places 15 count)))))
+        ∙ ap (λ (x : Section). get_or (stage_names ends bytes (length ends / 2)) x.name []) (sym (get_or-map (section_at sections) at k 0 no_section (omega (arith, h, length-stage_places 15 count)))))
 
 -- ---- the start
 

@@ -6,10 +6,10 @@ use mathlib.Core.Bool.{Bool}
 use mathlib.Core.List.{List, [], ◌++◌}
 use native.Mathlib.Omega.{arith}
 use lib.ListN.{length, get_or}
+use Rattle.std.proofs.lemmas.List.{get_or-map}
 use Rattle.lists.proofs.All.{all_map}
 use Rattle.lists.proofs.Filter.{keep_same}
 use Rattle.lists.proofs.Rising.{numbers-below}
-use Rattle.lists.proofs.Rows.{get_d_map}
 use Rattle.obj.specs.Records.{section_at, stage_places}
 use Rattle.obj.specs.declared.Section.{Section}
 use Rattle.obj.proofs.Laws.{length-stage_places}
@@ -80,7 +80,7 @@ module _ {file : List ℕ} {t : Loaded} (u : Usable file t) (names more : List (
 
   -- the head of section k, in the list of the sections
   head_same : (k : ℕ) → k < length t.sections → get_or (stage_sections (tables_of file t).sections) k no_section ≡ head_of file t.sections k
-  head_same k h = ap (λ (l : List Section). get_or l k no_section) (sections_back u) ∙ get_d_map (section_at file) t.sections k 0 no_section h
+  head_same k h = ap (λ (l : List Section). get_or l k no_section) (sections_back u) ∙ get_or-map (section_at file) t.sections k 0 no_section h
 
   -- THEOREM: the same sections are those of pointer lists
   pub pointers_same : (k : ℕ) → k < length t.sections

@@ -10,10 +10,10 @@ use borrow.Author.Tests.{le-ltb, lt-leb, eq-eqb, ne_eqb, eqb-true, eqb-false}
 use lib.Dec.{eqb, ltb, leb}
 use lib.ListN.{length, get_or, take, drop, length-append, length-drop, length-map, get_or-append}
 use lib.Seq.{length-take-le}
+use Rattle.std.proofs.lemmas.List.{get_or-map}
 use Rattle.lists.specs.Outcome.{accepted}
 use Rattle.lists.specs.Rows.{any_of, any_from}
 use Rattle.lists.proofs.Binds.{after_goes}
-use Rattle.lists.proofs.Rows.{get_d_map}
 use Rattle.obj.specs.Records.{section_at, reloc_at, partial_width}
 use Rattle.obj.specs.declared.Section.{Section}
 use Rattle.obj.specs.declared.Symbol.{Symbol}
@@ -165,7 +165,7 @@ module _ {file : List ℕ} {t : Loaded} (u : Usable file t) (names more : List (
   pub length_still : (k : ℕ) → k < length t.names → get_or (map length names) k 0 ≡ get_or t.lengths k 0
   unfolding name_at
   length_still k h =
-      get_d_map length names k [] 0 (omega (arith, names_more))
+      get_or-map length names k [] 0 (omega (arith, names_more))
       ∙ ap length (name_still k h)
       ∙ length-take-le (get_or t.lengths k 0) (drop (get_or t.names k 0) file) (simp length-drop (omega (arith, u.good.names.held k h)))
 
@@ -194,7 +194,7 @@ module _ {file : List ℕ} {t : Loaded} (u : Usable file t) (names more : List (
   unfolding bytes_cut any_of any_from
   not_cut k h =
       let lies = (sections_kept u).lies k h in
-      rw (get_d_map (section_at file) t.sections k 0 no_section h)
+      rw (get_or-map (section_at file) t.sections k 0 no_section h)
       (asked (head_of file t.sections k).kind 3 _
       (λ n.
       rw (

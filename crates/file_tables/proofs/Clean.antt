@@ -11,8 +11,8 @@ use borrow.Author.Tests.{ltb-false}
 use lib.Dec.{ltb, leb}
 use lib.ListN.{length, get_or, take, drop, length-append, length-drop}
 use lib.Seq.{length-take-le}
+use Rattle.std.proofs.lemmas.Bool.{cases_lt}
 use Rattle.lists.specs.Outcome.{accepted, refused}
-use Rattle.lists.proofs.Compare.{lt_or_ge}
 use Rattle.lists.proofs.Outcomes.{not_both, same_accepted, then_inv}
 use Rattle.fields.specs.Fields.{le16, le32}
 use Rattle.names.specs.Names.{name_bad}
@@ -125,7 +125,7 @@ module _ (file : List ℕ) (t : Loaded) (accepts : load_of main_ceilings file �
 
   -- THEOREM: an accepted file has names of at most 65,535 bytes in all, as a name table may
   pub loaded_short : bytes_of (names_in file t) ≤ 65535
-  loaded_short = go (lt_or_ge (length t.names) 1)
+  loaded_short = go (cases_lt (length t.names) 1)
     where
       go : (length t.names < 1) ⊎ (1 ≤ length t.names) → bytes_of (names_in file t) ≤ 65535
       go (inl h) = omega (arith, no_bytes (names_in file t) (let e : length (names_in file t) ≡ 0 = omega (arith, h, many) in e))

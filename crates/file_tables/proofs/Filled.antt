@@ -11,12 +11,11 @@ use borrow.Author.Tests.{lt-ltb, le-ltb, ltb-false, leb-false}
 use lib.Dec.{eqb, ltb, leb}
 use lib.ListN.{length, get_or, drop, length-append, length-drop, get_or-append}
 use lib.Seq.{get_or-append_seam, length-take-le}
+use Rattle.std.proofs.lemmas.Bool.{or_parts, cases_lt}
 use Rattle.lists.specs.Outcome.{accepted, refuse, ◌>>◌}
 use Rattle.lists.specs.Rows.{any_of, any_from, some}
 use Rattle.lists.proofs.All.{all_map}
-use Rattle.lists.proofs.Compare.{lt_or_ge}
 use Rattle.lists.proofs.Outcomes.{same_accepted, then_inv, bind_inv}
-use Rattle.lists.proofs.Tests.{or_false}
 use Rattle.names.specs.Names.{name_at, same_name, number_of, outside, name_bad}
 use Rattle.names.specs.Index.{Different}
 use Rattle.names.specs.Fixed.{codes}
@@ -45,10 +44,10 @@ use Rattle.file_tables.proofs.Clean.{clean_loaded}
 some-append : {A : Type 0} (p : A → Bool) (s t : List A) → some p s ≡ false → some p t ≡ false → some p (s ++ t) ≡ false
 unfolding some
 some-append p [] t e f = f
-some-append p (x ∷ s) t e f = let q = or_false (p x) (some p s) e in rw (q.0, some-append p s t q.1 f)
+some-append p (x ∷ s) t e f = let q = or_parts (p x) (some p s) e in rw (q.0, some-append p s t q.1 f)
 
 digit_inside : (d : ℕ) → d < 16 → outside (digit d) ≡ false
-digit_inside d h = go (lt_or_ge d 10)
+digit_inside d h = go (cases_lt d 10)
   where
     go : (d < 10) ⊎ (10 ≤ d) → outside (digit d) ≡ false
     go (inl q) = rw (lt-ltb d 10 q) (rw (le-ltb (48 + d) 33 (omega arith), le-ltb 126 (48 + d) (omega arith)))
@@ -75,7 +74,7 @@ hex_inside a =
 dots_inside : (name : List ℕ) → some outside name ≡ false → some outside (without_dots name) ≡ false
 unfolding some without_dots
 dots_inside [] e = refl
-dots_inside (b ∷ name) e = go (eqb b 46) (dots_inside name (or_false (outside b) (some outside name) e).1)
+dots_inside (b ∷ name) e = go (eqb b 46) (dots_inside name (or_parts (outside b) (some outside name) e).1)
   where
     go : (t : Bool) → some outside (without_dots name) ≡ false → some outside (cond t (without_dots name) (b ∷ name)) ≡ false
     go true ih = ih
@@ -113,13 +112,13 @@ gap_short section address name = omega (arith, dots_short name)
 pub gap_good : (section address : ℕ) (name : List ℕ) → name_bad name ≡ false → length name ≤ 64 → name_bad (gap_name section address name) ≡ false
 unfolding name_bad any_of any_from
 gap_good section address name e h =
-    let q = or_false (ltb 128 (length name)) (some outside name) e in
+    let q = or_parts (ltb 128 (length name)) (some outside name) e in
     rw (le-ltb 128 (length (gap_name section address name)) (omega (arith, gap_short section address name)), gap_inside section address name q.1)
 
 -- ---- a name comes
 
 different_more : (names : List (List ℕ)) (x : List ℕ) → Different names → number_of names x ≡ length names → Different (names ++ (x ∷ []))
-different_more names x d new j k p h = go (lt_or_ge k (length names))
+different_more names x d new j k p h = go (cases_lt k (length names))
   where
     go : (k < length names) ⊎ (length names ≤ k) → same_name (get_or (names ++ (x ∷ [])) j []) (get_or (names ++ (x ∷ [])) k []) ≡ false
     go (inl q) = rw (get_or-append names (x ∷ []) [] j (omega arith), get_or-append names (x ∷ []) [] k q) (d j k p q)
@@ -148,7 +147,7 @@ module _ (room : Ceilings) (few : room.names ≤ 4096) (short : room.bytes ≤ 6
       go true t q = rw (sym (same_accepted q)) c
       go false t q =
           let p = then_inv 28 section start (full room names x) _ r q in
-          let fits = or_false (leb room.names (length names)) (ltb room.bytes (bytes_of names + length x)) p.0 in
+          let fits = or_parts (leb room.names (length names)) (ltb room.bytes (bytes_of names + length x)) p.0 in
           let l = ltb-false (number_of names x) (length names) t in
           rw (sym (same_accepted p.1)) (record {
             few = omega (arith, length-append names (x ∷ []), leb-false room.names (length names) fits.0);

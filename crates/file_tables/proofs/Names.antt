@@ -9,10 +9,11 @@ use native.Mathlib.Omega.{arith}
 use borrow.Author.Tests.{le-ltb, lt-leb, ne_eqb}
 use lib.ListN.{length, get_or, take, drop, length-append}
 use lib.Seq.{take-append_seam, drop-append-add, ext_get_or, get_or-take, length-take-le, take-length}
+use Rattle.std.proofs.lemmas.List.{get_or-map}
 use Rattle.lists.specs.Outcome.{accepted}
 use Rattle.lists.specs.Rows.{any_of, any_from}
 use Rattle.lists.proofs.Binds.{after_goes}
-use Rattle.lists.proofs.Rows.{get_d_map, get_d_tabulate}
+use Rattle.lists.proofs.Rows.{get_d_tabulate}
 use Rattle.fields.specs.Fields.{le16, enc16}
 use Rattle.outputs.specs.Outputs.{halves}
 use Rattle.outputs.proofs.Laws.{length-halves}
@@ -155,7 +156,7 @@ module _ (names : List (List ℕ)) (short : bytes_of names ≤ 65535) (extra : L
       ∙ start_is names short k (omega arith)
       in
       let size : get_or (stage_lengths (ends_of names) (flat names ++ extra)) k 0 ≡ length (get_or names k []) =
-      ap (λ (l : List ℕ). get_or l k 0) lengths_behind ∙ get_d_map length names k [] 0 h in
+      ap (λ (l : List ℕ). get_or l k 0) lengths_behind ∙ get_or-map length names k [] 0 h in
       ap₂ (λ (n m : ℕ). take n (drop m (flat names ++ extra))) size starts ∙ part_at names extra k h
 
 -- ---- a name of a list stands in it

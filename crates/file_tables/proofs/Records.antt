@@ -7,8 +7,8 @@ use native.Mathlib.Nat.{mul-zero, mul-suc, mul-div_cancel_left, mul-mod_right, l
 use native.Mathlib.Omega.{arith}
 use lib.ListN.{length, get_or, take, drop, length-append, length-drop, length-map, get_or-append}
 use lib.Seq.{length-take-le, get_or-append-add, get_or-take, get_or-drop}
+use Rattle.std.proofs.lemmas.List.{get_or-map}
 use Rattle.lists.specs.Rows.{tabulate}
-use Rattle.lists.proofs.Rows.{get_d_map}
 use Rattle.lists.proofs.Parts.{tabulate-map, tabulate_list, tabulate_same}
 use Rattle.fields.specs.Fields.{le16, le32, le64, signed32, signed64, enc32, little}
 use Rattle.fields.proofs.Laws.{le16_is, le32_is, le64_is, number_at_same, round32}
@@ -298,4 +298,4 @@ module _ {file : List ℕ} {t : Loaded} (u : Usable file t) where
       words_back (byte_places t.sections)
       (λ k h.
       let q : k < length t.sections = omega (arith, h, length-map t.sections (λ place. place + 15)) in
-      omega (arith, get_d_map (λ place. place + 15) t.sections k 0 0 q, places_small u k q))
+      omega (arith, get_or-map (λ place. place + 15) t.sections k 0 0 q, places_small u k q))

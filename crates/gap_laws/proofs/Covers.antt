@@ -10,10 +10,10 @@ use native.Mathlib.Omega.{arith}
 use borrow.Author.Tests.{ne_eqb, le-ltb}
 use lib.Dec.{eqb}
 use lib.ListN.{length, length-map, get_or, get_or-eq_default}
+use Rattle.std.proofs.lemmas.Bool.{and_right}
 use Rattle.lists.specs.Outcome.{accepted}
 use Rattle.lists.specs.Rows.{keep_if}
 use Rattle.lists.specs.InsertBy.{insert_by}
-use Rattle.lists.proofs.Compare.{and_fails}
 use Rattle.lists.proofs.Each.{all_placed}
 use Rattle.lists.proofs.Filter.{keep_nothing}
 use Rattle.lists.proofs.Outcomes.{same_accepted, then_inv, bind_inv}
@@ -155,7 +155,7 @@ no_unit heads t section q = keep_nothing (of_unit section (length t.names)) t.ro
     other k h =
         let p = table-laws.split_good (map length t.names) heads t.rows k (q k h) in
         let s = sound_of (map length t.names) (get_or t.rows k no_split) (table-laws.partial_good (map length t.names) t.rows k p.0) in
-        and_fails (eqb (get_or t.rows k no_split).section section)
+        and_right (eqb (get_or t.rows k no_split).section section) _
         (ne_eqb (get_or t.rows k no_split).unit (length t.names) (not_next t.names (get_or t.rows k no_split).unit s.named))
 
 -- a new name is added, and has the next number

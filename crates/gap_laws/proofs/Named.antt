@@ -8,10 +8,10 @@ use borrow.Author.Tests.{ltb-true, ltb-false, leb-false}
 use lib.Dec.{leb, ltb}
 use lib.ListN.{length, length-append, get_or}
 use lib.Seq.{get_or-append_seam}
+use Rattle.std.proofs.lemmas.Bool.{or_parts}
 use Rattle.lists.specs.Outcome.{accepted, refuse, ◌>>◌}
 use Rattle.lists.specs.Sort.{All, none, each}
 use Rattle.lists.proofs.Outcomes.{same_accepted, then_inv, bind_inv}
-use Rattle.lists.proofs.Tests.{or_false}
 use Rattle.names.specs.Names.{number_of}
 use Rattle.names.specs.Fixed.{codes}
 use Rattle.names.specs.GapName.{gap_name}
@@ -52,7 +52,7 @@ module _ (room : Ceilings) (section start : ℕ) (names : List (List ℕ)) (x : 
       })
       go false h q =
           let p = then_inv 28 section start (full room names x) _ r q in
-          let o = or_false (leb room.names (length names)) (ltb room.bytes (bytes_of names + length x)) p.0 in
+          let o = or_parts (leb room.names (length names)) (ltb room.bytes (bytes_of names + length x)) p.0 in
           rw (sym (same_accepted p.1)) (record {
             more = x ∷ [];
             grown = refl;

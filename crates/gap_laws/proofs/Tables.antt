@@ -7,11 +7,11 @@ use mathlib.Core.Bool.{false}
 use Prim.Native.Nat.{ℕ, ◌≤◌, ◌<◌}
 use native.Mathlib.Omega.{arith}
 use lib.ListN.{length, get_or, get_or-append, get_or-eq_default, get_or-map}
+use Rattle.std.proofs.lemmas.Bool.{cases_lt}
 use Rattle.lists.specs.Outcome.{accepted}
 use Rattle.lists.specs.Rows.{any_of, any_from}
 use Rattle.lists.specs.Sort.{All}
 use Rattle.lists.proofs.All.{all_any, all_map}
-use Rattle.lists.proofs.Compare.{lt_or_ge}
 use Rattle.lists.proofs.Outcomes.{bind_inv}
 use Rattle.align.specs.Align.{bad_align}
 use Rattle.obj.specs.declared.Section.{Section}
@@ -37,7 +37,7 @@ use Rattle.gap_laws.proofs.Named.{name_long, Gives, named_gives, Comes, filled_k
 module _ (lengths more : List ℕ) where
   -- a name that is there keeps its length
   length_there : (k : ℕ) → 0 < get_or lengths k 0 → 0 < get_or (lengths ++ more) k 0
-  length_there k h = go (lt_or_ge k (length lengths))
+  length_there k h = go (cases_lt k (length lengths))
     where
       go : (k < length lengths) ⊎ (length lengths ≤ k) → 0 < get_or (lengths ++ more) k 0
       go (inl q) = let e = get_or-append lengths more 0 k q in omega arith

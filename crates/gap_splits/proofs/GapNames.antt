@@ -7,7 +7,7 @@ use Prim.Native.Nat.{ℕ, ◌+◌, ◌*◌, ◌/◌, ◌%◌, ◌≤◌, ◌<◌
 use native.Mathlib.Omega.{arith}
 use borrow.Author.Tests.{lt-ltb, le-ltb}
 use lib.ListN.{get_or}
-use Rattle.lists.proofs.Compare.{lt_or_ge}
+use Rattle.std.proofs.lemmas.Bool.{cases_lt}
 use Rattle.names.specs.Names.{same_name}
 use Rattle.names.specs.Fixed.{codes}
 use Rattle.names.specs.GapName.{digit, decimal2, hex8, gap_name}
@@ -16,7 +16,7 @@ use Rattle.names.proofs.Laws.{same_equal}
 -- ---- digits
 
 digit_is : (d : ℕ) → d < 16 → ((d < 10) × (digit d ≡ 48 + d)) ⊎ ((10 ≤ d) × (digit d ≡ 55 + d))
-digit_is d h = go (lt_or_ge d 10)
+digit_is d h = go (cases_lt d 10)
   where
     go : (d < 10) ⊎ (10 ≤ d) → ((d < 10) × (digit d ≡ 48 + d)) ⊎ ((10 ≤ d) × (digit d ≡ 55 + d))
     go (inl q) = inl (q, rw (lt-ltb d 10 q))

@@ -1,7 +1,7 @@
 -- A name among those of the tables and those that were added: where it stands, and the number and the names that `named` gives. Assumes nothing.
 use mathlib.Core.Path.{◌≡◌, refl, sym, ap, ap₂, ◌∙◌}
 use mathlib.Core.List.{List, [], ◌∷◌, ◌++◌, append_assoc}
-use mathlib.Core.Bool.{Bool, true, false, cond, not}
+use mathlib.Core.Bool.{Bool, true, false, cond, not, false≢true}
 use Prim.Native.Nat.{ℕ, zero, suc, ◌+◌, ◌≤◌, ◌<◌, zero-le}
 use native.Mathlib.Nat.{not-suc-le-zero}
 use native.Mathlib.Omega.{arith}
@@ -10,9 +10,7 @@ use lib.Dec.{leb, ltb}
 use lib.ListN.{length, length-append}
 use Rattle.lists.specs.Outcome.{Outcome, accepted, refused}
 use Rattle.lists.specs.Rows.{tabulate, first_in, any_of, any_from}
-use Rattle.lists.proofs.Compare.{never}
 use Rattle.lists.proofs.Outcomes.{fails, passes}
-use Rattle.lists.proofs.Tests.{or_false}
 use Rattle.names.specs.Names.{names_of, same_name, number_of}
 use Rattle.names.specs.Append.{Columns as Beside, table_full, Appended}
 use Rattle.names.specs.Index.{Sought}
@@ -21,6 +19,7 @@ use Rattle.gap_splits.specs.Entering.{Ceilings, Named, bytes_of, full, named}
 use Rattle.gap_splits.specs.Added.{added, Room, Stand}
 use Rattle.gap_splits.specs.Answers.{ceilings, Absent, Adds, Numbered}
 use Rattle.std.specs.Prelude.{None, Some}
+use Rattle.std.proofs.lemmas.Bool.{or_parts}
 
 -- ---- the number of a name among two lists of names
 
@@ -106,7 +105,7 @@ module _ (base before : List (List ℕ)) (x : List ℕ) (most most_bytes : ℕ) 
 
   pub place_there : full (ceilings base most most_bytes) (base ++ before) x ≡ false → (length before < most) × (bytes_of before + length x ≤ most_bytes)
   place_there e =
-      let q = or_false (leb (length base + most) (length (base ++ before))) (ltb (bytes_of base + most_bytes) (bytes_of (base ++ before) + length x)) e in
+      let q = or_parts (leb (length base + most) (length (base ++ before))) (ltb (bytes_of base + most_bytes) (bytes_of (base ++ before) + length x)) e in
       let u = leb-false (length base + most) (length (base ++ before)) q.0 in
       let v = ltb-false (bytes_of base + most_bytes) (bytes_of (base ++ before) + length x) q.1 in
       let l = length-append base before in
@@ -183,16 +182,16 @@ module _ (x : List ℕ) (c c' : Beside) (names used most most_bytes : ℕ) (s : 
   pub adds_done : {r : Bool} → Appended c c' used names x most most_bytes r → r ≡ true → Adds (added c names) (added c' (names + 1)) x most most_bytes r
   adds_done a t = record {
     room = λ h. (omega (arith, many, (a.fits t).0), omega (arith, s.sum, (a.fits t).1));
-    full = λ h. absurd (never (sym h ∙ t));
+    full = λ h. absurd (false≢true (sym h ∙ t));
     added = λ h. a.names t;
-    same = λ h. absurd (never (sym h ∙ t));
+    same = λ h. absurd (false≢true (sym h ∙ t));
   }
 
   pub adds_full : {r : Bool} → Appended c c' used names x most most_bytes r → r ≡ false → Adds (added c names) (added c' names) x most most_bytes r
   adds_full a t = record {
-    room = λ h. absurd (never (sym t ∙ h));
-    full = λ h q. never (sym t ∙ a.is ∙ ap not (place_free (omega (arith, many, q.0)) (omega (arith, s.sum, q.1))));
-    added = λ h. absurd (never (sym t ∙ h));
+    room = λ h. absurd (false≢true (sym t ∙ h));
+    full = λ h q. false≢true (sym t ∙ a.is ∙ ap not (place_free (omega (arith, many, q.0)) (omega (arith, s.sum, q.1))));
+    added = λ h. absurd (false≢true (sym t ∙ h));
     same = λ h. ap (λ (d : Beside). added d names) (a.unchanged t);
   }
 

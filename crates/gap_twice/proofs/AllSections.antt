@@ -2,18 +2,17 @@
 -- what the section's own search found. Assumes nothing.
 use mathlib.Core.Path.{◌≡◌, refl, sym, ap, subst, ◌∙◌}
 use mathlib.Core.List.{List, [], ◌∷◌, ◌++◌, map, append-nil, append_assoc}
-use mathlib.Core.Bool.{Bool, true, false, cond, ◌||◌}
+use mathlib.Core.Bool.{Bool, true, false, cond, ◌||◌, false≢true}
 use mathlib.Core.Logic.{◌⊎◌, inl, inr}
 use Prim.Native.Nat.{ℕ, zero, suc, ◌+◌, ◌≤◌, ◌<◌}
 use native.Mathlib.Omega.{arith}
 use lib.Dec.{eqb, ltb}
 use borrow.Author.Tests.{lt-ltb, le-ltb, eq-eqb, ne_eqb, ltb-true, eqb-true}
+use Rattle.std.proofs.lemmas.Bool.{and_parts, cases_lt}
 use Rattle.lists.specs.Outcome.{accepted}
 use Rattle.lists.specs.Rows.{keep_if}
 use Rattle.lists.specs.Sort.{All, none, each, Sorted, Rising, merge_by}
 use Rattle.lists.proofs.All.{all_append, all_map, all_any, all_both, all_keep}
-use Rattle.lists.proofs.Both.{both}
-use Rattle.lists.proofs.Compare.{lt_or_ge, never}
 use Rattle.lists.proofs.Binds.{bind_goes}
 use Rattle.lists.proofs.Filter.{keep_append, keep_all, keep_nothing, keep_passes, map_keep}
 use Rattle.lists.proofs.Outcomes.{same_accepted, bind_inv}
@@ -90,7 +89,7 @@ module _ (g : Image) (sections : Sections) (unit : Gap → ℕ) (rows : List Spl
     where
       fits : (end : ℕ) (s : Split) → Forward s → below n end s ≡ true
           → Fits g.symbol g.count n (default_of g sections n) end (default_small n) unit s
-      fits end s f t = let q = both (eqb s.section n) (ltb s.start end) t in record { home = eqb-true s.section n q.0; start = ltb-true s.start end q.1; forward = f }
+      fits end s f t = let q = and_parts (eqb s.section n) (ltb s.start end) t in record { home = eqb-true s.section n q.0; start = ltb-true s.start end q.1; forward = f }
 
   -- the gaps' splits that the section's search looks at
   abbrev seen : (n end : ℕ) → Gap → Bool
@@ -114,7 +113,7 @@ module _ (g : Image) (sections : Sections) (unit : Gap → ℕ) (rows : List Spl
 
       go : (s : Split) → Low s → (t : Bool) → below n a.end s ≡ t → (below n a.end s ≡ true → All (λ x. x.start ≡ s.start → ⊥) gaps) → All (λ x. key_of x ≡ split_key s → ⊥) gaps
       go s l true t q = all_map (λ x w (e : key_of x ≡ split_key s). w.1 (same_place x s (omega (arith, w.0.forward, w.0.high)) l e).1) (all_both a.again.spans (q t))
-      go s l false t q = all_map (λ x w (e : key_of x ≡ split_key s). never (sym t ∙ there s x l w e)) a.again.spans
+      go s l false t q = all_map (λ x w (e : key_of x ≡ split_key s). false≢true (sym t ∙ there s x l w e)) a.again.spans
 
   -- ---- all sections
 
@@ -139,7 +138,7 @@ module _ (g : Image) (sections : Sections) (unit : Gap → ℕ) (rows : List Spl
     later = all_append (all_map (λ x w. (omega (arith, w.home), omega (arith, w.forward, w.high))) spans) (all_map (λ x w. (omega (arith, w.0), w.1)) p.later);
     rising = rising_append key_of a.again.rising p.rising (all_map (λ x w. all_map (λ y v. omega (arith, w.home, w.forward, w.high, v.0)) p.later) spans);
     apart = all_map (λ s q. all_append q.0 q.1) (all_both (section_apart n own a h) p.apart);
-    picks = λ m l q. pick m q (lt_or_ge n m) l;
+    picks = λ m l q. pick m q (cases_lt n m) l;
   }
     where
       spans : All (Spans n (sections.head n).address a.end) own

@@ -2,19 +2,19 @@
 -- split is then pushed, and a push is an insertion by section and start. Assumes nothing.
 use mathlib.Core.Path.{◌≡◌, refl, sym, ap, ◌∙◌}
 use mathlib.Core.List.{List, [], ◌∷◌, ◌++◌, map}
-use mathlib.Core.Bool.{Bool, true, false, cond, ◌&&◌}
+use mathlib.Core.Bool.{Bool, true, false, cond, ◌&&◌, false≢true}
 use mathlib.Core.Logic.{◌⊎◌, inl, inr}
 use Prim.Native.Nat.{ℕ, ◌≤◌, ◌<◌}
 use native.Mathlib.Omega.{arith}
 use lib.Dec.{eqb, leb, ltb}
 use lib.ListN.{length, length-append, get_or, get_or-append}
 use borrow.Author.Tests.{lt-ltb, le-ltb, le-leb, lt-leb, eq-eqb, ne_eqb, ltb-true, ltb-false, eqb-true}
+use Rattle.std.proofs.lemmas.Bool.{cases_order, and_right}
 use Rattle.lists.specs.Outcome.{accepted, refuse, ◌>>◌}
 use Rattle.lists.specs.Rows.{keep_if, first_in}
 use Rattle.lists.specs.InsertBy.{insert_by}
 use Rattle.lists.specs.Sort.{All, none, each, Rising, insert_key, merge_by}
-use Rattle.lists.proofs.All.{all_map, all_both, all_insert}
-use Rattle.lists.proofs.Compare.{same_or_other, never, and_fails}
+use Rattle.lists.proofs.All.{all_map, all_both, all_insert, all_first, all_rest}
 use Rattle.lists.proofs.Filter.{keep_nothing}
 use Rattle.lists.proofs.Outcomes.{same_accepted, then_inv, bind_inv}
 use Rattle.obj.specs.declared.Section.{Section}
@@ -34,14 +34,6 @@ use Rattle.gap_laws.proofs.Covers.{merge_pushes}
 use Rattle.gap_twice.specs.Twice.{split_key, gap_row, with_gap_splits, Low}
 use Rattle.gap_twice.proofs.MergedByKey.{merge_first, insert_by_key}
 use Rattle.gap_twice.proofs.AllSections.{all_rows}
-
--- what holds of each element holds of the first, and of each other
-module _ {A : Type 0} {P : A → Type 0} {x : A} {l : List A} where
-  first : All P (x ∷ l) → P x
-  first (each h q) = h
-
-  rest : All P (x ∷ l) → All P l
-  rest (each h q) = q
 
 -- ---- a push
 
@@ -63,7 +55,7 @@ module _ (new y : Split) (h : Low new) (l : Low y) (apart : split_key y ≡ spli
 
   -- and lies before another if its key is below
   after-place : after new y ≡ leb (split_key new) (split_key y)
-  after-place = go (same_or_other new.section y.section) (same_or_other new.start y.start)
+  after-place = go (cases_order new.section y.section) (cases_order new.start y.start)
     where
       go : (new.section ≡ y.section) ⊎ ((new.section < y.section) ⊎ (y.section < new.section)) → (new.start ≡ y.start) ⊎ ((new.start < y.start) ⊎ (y.start < new.start)) → after new y ≡ leb (split_key new) (split_key y)
       go (inl a) (inl b) = absurd (apart (omega arith))
@@ -137,7 +129,7 @@ module _ (section_name : ℕ → List ℕ) (heads : List Section) (most : ℕ) (
 
   -- no split starts where the next gap does
   away_from : (t : Filled) (x : Gap) (l : List Gap) (unit : ℕ) → All (λ s. All (λ y. key_of y ≡ split_key s → ⊥) (x ∷ l)) t.rows → All (λ s. split_key s ≡ split_key (gap_split x unit) → ⊥) t.rows
-  away_from t x l unit q = all_map (λ s h (e : split_key s ≡ key_of x). let a : key_of x ≡ split_key s → ⊥ = first h in a (sym e)) q
+  away_from t x l unit q = all_map (λ s h (e : split_key s ≡ key_of x). let a : key_of x ≡ split_key s → ⊥ = all_first h in a (sym e)) q
 
   -- a name that is there keeps its number
   number_kept : (x : Gap) (unit : Named) (t t' : Filled) → t.names ≡ unit.names → (unit.number ≡ number_of unit.names (name_of x)) × (unit.number < length unit.names)
@@ -148,10 +140,10 @@ module _ (section_name : ℕ → List ℕ) (heads : List Section) (most : ℕ) (
 
   -- the unit of the next gap has no split yet
   own_none : (t : Filled) (x : Gap) (l : List Gap) (unit : Named) → Gives room t.names (name_of x) unit → All (Other t.names (x ∷ l)) t.rows → keep_if (of_unit x.section unit.number) t.rows ≡ []
-  own_none t x l unit n q = keep_nothing (of_unit x.section unit.number) t.rows (all_map (λ s o. and_fails (eqb s.section x.section) (ne_eqb s.unit unit.number (differ s o))) q)
+  own_none t x l unit n q = keep_nothing (of_unit x.section unit.number) t.rows (all_map (λ s o. and_right (eqb s.section x.section) _ (ne_eqb s.unit unit.number (differ s o))) q)
     where
       differ : (s : Split) → Other t.names (x ∷ l) s → s.unit ≡ unit.number → ⊥
-      differ s o e = never (sym (first o.other) ∙ ap (same_name (name_of x)) is ∙ same_self (name_of x))
+      differ s o e = false≢true (sym (all_first o.other) ∙ ap (same_name (name_of x)) is ∙ same_self (name_of x))
         where
           is : get_or t.names s.unit [] ≡ name_of x
           is = sym (get_or-append t.names n.more [] s.unit o.named) ∙ ap (λ (m : List (List ℕ)). get_or m s.unit []) (sym n.grown) ∙ ap (λ (k : ℕ). get_or unit.names k []) e ∙ n.is
@@ -161,7 +153,7 @@ module _ (section_name : ℕ → List ℕ) (heads : List Section) (most : ℕ) (
       → t'.names ≡ unit.names → t'.rows ≡ insert_key split_key (gap_split x unit.number) t.rows → Ready t' l
   ready_on t x l unit t' n small told later above r en er = rw (en, er) (record {
     low = all_insert split_key (gap_split x unit.number) told.1 r.low;
-    apart = all_insert split_key (gap_split x unit.number) (all_map (λ y (h : key_of x < key_of y) (e : key_of y ≡ key_of x). omega arith) above) (all_map (λ s q. rest q) r.apart);
+    apart = all_insert split_key (gap_split x unit.number) (all_map (λ y (h : key_of x < key_of y) (e : key_of y ≡ key_of x). omega arith) above) (all_map (λ s q. all_rest q) r.apart);
     units = all_insert split_key (gap_split x unit.number) (record { named = small; other = all_map (λ y q. rw n.is (other_name y q.0 q.1)) (all_both later above) }) (all_map grow r.units);
   })
     where
@@ -173,7 +165,7 @@ module _ (section_name : ℕ → List ℕ) (heads : List Section) (most : ℕ) (
       grow : (s : Split) → Other t.names (x ∷ l) s → Other unit.names l s
       grow s o = record {
         named = omega (arith, o.named, ap length n.grown, length-append t.names n.more);
-        other = rw (ap (λ (m : List (List ℕ)). get_or m s.unit []) n.grown ∙ get_or-append t.names n.more [] s.unit o.named) (rest o.other);
+        other = rw (ap (λ (m : List (List ℕ)). get_or m s.unit []) n.grown ∙ get_or-append t.names n.more [] s.unit o.named) (all_rest o.other);
       }
 
   -- THEOREM: gaps whose names tell their places, entered where no split starts and under units that have none, leave the splits with theirs among them

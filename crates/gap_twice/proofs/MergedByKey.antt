@@ -2,7 +2,7 @@
 -- that keys never fall. Assumes nothing.
 use mathlib.Core.Path.{◌≡◌, refl, sym, ap, ap₂, ◌∙◌}
 use mathlib.Core.List.{List, [], ◌∷◌, ◌++◌}
-use mathlib.Core.Bool.{Bool, true, false, cond}
+use mathlib.Core.Bool.{Bool, true, false, cond, false≢true}
 use mathlib.Core.Logic.{◌⊎◌, inl, inr}
 use Prim.Native.Nat.{ℕ, suc, ◌≤◌, ◌<◌, suc-le-suc}
 use native.Mathlib.Nat.{zero-lt-suc}
@@ -10,15 +10,15 @@ use native.Mathlib.Omega.{arith}
 use lib.Dec.{leb}
 use lib.ListN.{length, get_or}
 use borrow.Author.Tests.{le-leb, lt-leb}
+use Rattle.std.proofs.lemmas.Bool.{cases_lt}
 use Rattle.lists.specs.Rows.{keep_if}
 use Rattle.lists.specs.InsertBy.{insert_by}
 use Rattle.lists.specs.Sort.{All, none, each, Sorted, Rising, insert_key, sort_by, merge_by}
 use Rattle.lists.proofs.All.{all_append, all_map, all_keep}
-use Rattle.lists.proofs.Compare.{never, lt_or_ge}
 use Rattle.lists.proofs.Each.{all_placed}
 use Rattle.lists.proofs.Filter.{keep_append}
 use Rattle.lists.proofs.Merge.{merge_nil, merge_sort}
-use Rattle.lists.proofs.Sort.{keep_sort}
+use Rattle.lists.proofs.Sort.{keep_sort, insert-first}
 
 -- a property of the elements that pass is one of all, where they pass
 pub all_kept : {A : Type 0} {P : A → Type 0} (p : A → Bool) (l : List A) → All P (keep_if p l) → All (λ x. p x ≡ true → P x) l
@@ -28,7 +28,7 @@ all_kept {P} p (x ∷ l) h = go (p x) refl h (all_kept p l)
   where
     go : (t : Bool) → p x ≡ t → All P (cond t (x ∷ keep_if p l) (keep_if p l)) → (All P (keep_if p l) → All (λ x. p x ≡ true → P x) l) → All (λ x. p x ≡ true → P x) (x ∷ l)
     go true e (each h q) ih = each (λ z. h) (ih q)
-    go false e q ih = each (λ z. absurd (never (sym e ∙ z))) (ih q)
+    go false e q ih = each (λ z. absurd (false≢true (sym e ∙ z))) (ih q)
 
 module _ {A : Type 0} (k : A → ℕ) where
   -- those not above s come before it, those above it after
@@ -68,16 +68,10 @@ module _ {A : Type 0} (k : A → ℕ) where
   sorted_placed [] d h = tt
   sorted_placed (x ∷ l) d h = (all_placed l d (λ j q. h 0 (suc j) (zero-lt-suc j) (suc-le-suc q)), sorted_placed l d (λ i j p q. h (suc i) (suc j) (suc-le-suc p) (suc-le-suc q)))
 
-  -- x is the first of those whose keys are not below its own
-  insert_front : (x : A) {l : List A} → All (λ y. k x ≤ k y) l → insert_key k x l ≡ x ∷ l
-  unfolding insert_key
-  insert_front x none = refl
-  insert_front x (each {x = y} h q) = rw (le-leb (k x) (k y) h)
-
   sort_sorted : (l : List A) → Sorted k l → sort_by k l ≡ l
   unfolding Sorted sort_by
   sort_sorted [] r = refl
-  sort_sorted (x ∷ l) r = ap (insert_key k x) (sort_sorted l r.1) ∙ insert_front x r.0
+  sort_sorted (x ∷ l) r = ap (insert_key k x) (sort_sorted l r.1) ∙ insert-first k x l r.0
 
   merge_as_sort : (s t : List A) → Sorted k s → Sorted k t → merge_by k s t ≡ sort_by k (s ++ t)
   merge_as_sort s t p q = sym (ap₂ (merge_by k) (sort_sorted s p) (sort_sorted t q)) ∙ merge_sort k s t
@@ -100,7 +94,7 @@ module _ {A : Type 0} (k : A → ℕ) where
   pub merge_first : (x : A) (s : List A) {l : List A} → All (λ y. k x < k y) s → Away x l → merge_by k s (insert_key k x l) ≡ merge_by k (x ∷ s) l
   unfolding insert_key merge_by
   merge_first x s h none = merge_cut x [] s none h ∙ ap (λ (t : List A). x ∷ t) (merge_nil k s)
-  merge_first x s h (each {x = b} {l} q away) = go (lt_or_ge (k b) (k x)) (merge_first x s h away)
+  merge_first x s h (each {x = b} {l} q away) = go (cases_lt (k b) (k x)) (merge_first x s h away)
     where
       go : (k b < k x) ⊎ (k x ≤ k b) → merge_by k s (insert_key k x l) ≡ merge_by k (x ∷ s) l → merge_by k s (insert_key k x (b ∷ l)) ≡ merge_by k (x ∷ s) (b ∷ l)
       go (inl d) ih = rw (lt-leb (k x) (k b) d) (merge_cut b (insert_key k x l) s none (all_map (λ y (w : k x < k y). omega arith) h) ∙ ap (λ (t : List A). b ∷ t) ih)

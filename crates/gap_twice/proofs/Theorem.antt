@@ -2,16 +2,16 @@
 -- search over what that leaves finds none. Assumes nothing but its premises.
 use mathlib.Core.Path.{◌≡◌, refl, sym, ap, ◌∙◌}
 use mathlib.Core.List.{List, [], map}
-use mathlib.Core.Bool.{Bool, true, false}
+use mathlib.Core.Bool.{Bool, true, false, false≢true}
 use mathlib.Core.Logic.{◌⊎◌, inl, inr}
 use Prim.Native.Nat.{ℕ, ◌≤◌, ◌<◌}
 use native.Mathlib.Omega.{arith}
 use lib.ListN.{length, length-map, get_or}
+use Rattle.std.proofs.lemmas.Bool.{cases_order}
 use Rattle.lists.specs.Outcome.{accepted}
 use Rattle.lists.specs.Sort.{All, Sorted}
 use Rattle.lists.proofs.All.{all_any, all_map, all_both}
 use Rattle.lists.proofs.Binds.{bind_goes}
-use Rattle.lists.proofs.Compare.{never, same_or_other}
 use Rattle.lists.proofs.Each.{all_placed}
 use Rattle.lists.proofs.Outcomes.{bind_inv}
 use Rattle.lists.proofs.Rows.{has_place}
@@ -69,7 +69,7 @@ module _ (heads : List Section) (t : Filled) (q : Faultless heads t) where
       not_below : (i j : ℕ) → i < j → j < length t.rows → split_key (row i) ≤ split_key (row j)
       not_below i j h l =
           go (table-laws.splits_rise (map length t.names) heads t.rows (length t.rows) (table-laws.records_pass _ (length t.rows) q) i j (omega arith) l)
-          (same_or_other (row i).section (row j).section) (row_sound i (omega arith)).start
+          (cases_order (row i).section (row j).section) (row_sound i (omega arith)).start
         where
           go : NotBelow (row i) (row j) → ((row i).section ≡ (row j).section) ⊎ (((row i).section < (row j).section) ⊎ ((row j).section < (row i).section)) → (row i).start ≤ 4026531840 → split_key (row i) ≤ split_key (row j)
           go b (inl e) m = omega (arith, b.starts e)
@@ -89,7 +89,7 @@ gap_other section address name other h = go (same_name (gap_name section address
   where
     go : (u : Bool) → same_name (gap_name section address name) other ≡ u → u ≡ false
     go false e = refl
-    go true e = absurd (never (sym h ∙ ap (begins_with auto_front) (sym (same_equal (gap_name section address name) other e)) ∙ gap_begins section address name))
+    go true e = absurd (false≢true (sym h ∙ ap (begins_with auto_front) (sym (same_equal (gap_name section address name) other e)) ∙ gap_begins section address name))
 
 -- ---- the filling of a list without a fault that was accepted
 module _ (g : Image) (sections : Sections) (heads : List Section) (most : ℕ) (room : Ceilings) (few : sections.count ≤ 64) (below : Below sections) (t t' : Filled) (q : Faultless heads t)

@@ -6,11 +6,11 @@ use Prim.Native.Nat.{ℕ, ◌+◌, ◌/◌, ◌≤◌, ◌<◌}
 use native.Mathlib.Omega.{arith}
 use lib.ListN
 use lib.ListN.{length, length-map, length-append, get_or, get_or-append}
+use Rattle.std.proofs.lemmas.List.{get_or-map}
 use Rattle.lists.specs.Outcome.{accepted}
 use Rattle.lists.specs.Sort.{All}
 use Rattle.lists.proofs.Binds.{after_goes}
 use Rattle.lists.proofs.Outcomes.{then_both}
-use Rattle.lists.proofs.Rows.{get_d_map}
 use Rattle.obj.specs.Records.{section_at, symbol_at, stage_places, split_width}
 use Rattle.obj.specs.declared.Section.{Section}
 use Rattle.obj.specs.declared.Split.{Split}
@@ -129,7 +129,7 @@ module _ (c : Call) (t' : Filled) (e : outcome c ≡ accepted t') where
   sections_passed = table-laws.image_sections (stage_lengths ends bytes) (image_places_of places) (length image) heads (length sections / 15) (table_passed 15 64 sections _ lines.headed).2
 
   head_is : (n : ℕ) → n < length sections / 15 → sections_of_lem.head n ≡ get_or heads n no_section
-  head_is n h = sym (get_d_map (section_at sections) (stage_places 15 (length sections / 15)) n 0 no_section (rw length-stage_places h))
+  head_is n h = sym (get_or-map (section_at sections) (stage_places 15 (length sections / 15)) n 0 no_section (rw length-stage_places h))
 
   section_number : (n : ℕ) → n < sections_of_lem.count → n < length sections / 15
   section_number n h = rw length-stage_places at h
@@ -158,7 +158,7 @@ module _ (c : Call) (t' : Filled) (e : outcome c ≡ accepted t') where
   symbol_named : (i : ℕ) → i < image_of_lem.count → (image_of_lem.symbol i).name < length ends / 2
   symbol_named i h =
       let q : i < length symbols / 20 = rw length-stage_places at h in
-      let is : image_of_lem.symbol i ≡ get_or (stage_symbols symbols) i no_symbol = sym (get_d_map (symbol_at symbols) (stage_places 20 (length symbols / 20)) i 0 no_symbol (rw length-stage_places q)) in
+      let is : image_of_lem.symbol i ≡ get_or (stage_symbols symbols) i no_symbol = sym (get_or-map (symbol_at symbols) (stage_places 20 (length symbols / 20)) i 0 no_symbol (rw length-stage_places q)) in
       rw is (table-laws.symbols_name (length ends / 2) heads (stage_symbols symbols) (length symbols / 20) (table_passed 20 4096 symbols _ lines.marked).2 i q)
 
   faultless : Faultless heads (list_of c)

@@ -7,10 +7,10 @@ use Prim.Native.Nat.{ℕ, zero, suc, ◌+◌, ◌≤◌, ◌<◌}
 use native.Mathlib.Omega.{arith}
 use lib.Dec.{leb, ltb, eqb}
 use borrow.Author.Tests.{ltb-true}
+use Rattle.std.proofs.lemmas.Bool.{and_parts}
 use Rattle.lists.specs.Outcome.{Outcome, accepted, ◌>>=◌}
 use Rattle.lists.specs.Sort.{All, none, each, Rising}
 use Rattle.lists.proofs.All.{all_append, all_map}
-use Rattle.lists.proofs.Both.{both}
 use Rattle.lists.proofs.Filter.{keep_passes}
 use Rattle.lists.proofs.Outcomes.{same_accepted, then_inv, bind_inv}
 use Rattle.align.specs.Align.{align_up}
@@ -85,7 +85,7 @@ module _ (g : Image) (sections : Sections) (rows : List Split) where
       (all_map (λ s t. start-below s p.0 t) (keep_passes (below n p.0) rows)) gaps p.2)
     where
       start-below : (s : Split) (end : ℕ) → below n end s ≡ true → s.start ≤ end
-      start-below s end t = let q = ltb-true s.start end (both (eqb s.section n) (ltb s.start end) t).1 in omega arith
+      start-below s end t = let q = ltb-true s.start end (and_parts (eqb s.section n) (ltb s.start end) t).1 in omega arith
 
       lies : (x : Gap) (end : ℕ) → end ≤ (sections.head n).address + (sections.head n).size → Ends n end x → Lies sections x
       lies x end last w = record {

@@ -2,7 +2,7 @@
 -- again. Assumes nothing.
 use mathlib.Core.Path.{◌≡◌, refl, sym, ap, ap₂, subst, ◌∙◌}
 use mathlib.Core.List.{List, [], ◌∷◌}
-use mathlib.Core.Bool.{Bool, true, false, cond, not, ◌&&◌, ◌||◌}
+use mathlib.Core.Bool.{Bool, true, false, cond, not, ◌&&◌, ◌||◌, false≢true}
 use Prim.Native.Nat.{ℕ, zero, suc, ◌+◌, ◌%◌, ◌≤◌, ◌<◌}
 use native.Mathlib.Numerals.{add-one}
 use native.Mathlib.Omega.{arith}
@@ -10,12 +10,11 @@ use lib.Dec.{eqb, leb}
 use lib.ListN.{length, get_or, take, drop, set, replicate, length-set, drop_of_length-le}
 use lib.Seq.{take-suc, drop-cons, get_or-set_same, get_or-set_other, take_all}
 use borrow.Author.Tests.{eqb-true, eqb-false, le-leb, lt-leb}
+use Rattle.std.proofs.lemmas.Bool.{or_parts}
 use Rattle.lists.specs.Rows.{some}
 use Rattle.lists.specs.Outcome.{Outcome, accepted, refused, refuse, ◌>>◌, ◌>>=◌}
 use Rattle.lists.proofs.All.{all_at, all_take}
-use Rattle.lists.proofs.Compare.{never}
 use Rattle.lists.proofs.Outcomes.{fails, passes}
-use Rattle.lists.proofs.Tests.{or_false}
 use Rattle.obj.specs.declared.Symbol.{Symbol}
 use Rattle.symbol_order.specs.Order.{symbol_of, Readable}
 use Rattle.symbols.specs.Ranges.{stripped, symbols_between}
@@ -71,7 +70,7 @@ module _ (symbol : ℕ → Symbol) (current : ℕ) (part : List ℕ) where
     next_is n next = sym (p.is n next) ∙ rw (add-one, drop-cons part j 0 h)
 
     earlier : (k : ℕ) → some (λ i. eqb k (symbol i).name) (take (j + 1) part) ≡ false → (some (λ i. eqb k (symbol i).name) (take j part) ≡ false) × (eqb k y.name ≡ false)
-    earlier k e = or_false (some (λ i. eqb k (symbol i).name) (take j part)) (eqb k y.name) (sym (some_more (λ i. eqb k (symbol i).name) part j 0 h) ∙ e)
+    earlier k e = or_parts (some (λ i. eqb k (symbol i).name) (take j part)) (eqb k y.name) (sym (some_more (λ i. eqb k (symbol i).name) part j 0 h) ∙ e)
 
     -- a stripped symbol is passed
     pub passing_stripped : stripped y ≡ true → Passing symbol current part marks (j + 1)
@@ -99,7 +98,7 @@ module _ (symbol : ℕ → Symbol) (current : ℕ) (part : List ℕ) where
       pub passing_named : (not (eqb (get_or marks y.name 0) 0) || misses current y) ≡ false → Passing symbol current part (set marks y.name 1) (j + 1)
       unfolding some
       passing_named t =
-          let q = or_false (not (eqb (get_or marks y.name 0) 0)) (misses current y) t in
+          let q = or_parts (not (eqb (get_or marks y.name 0) 0)) (misses current y) t in
           let new : some (eqb y.name) p.names ≡ false = sym (p.marked y.name room) ∙ q.0 in
           record {
             names = y.name ∷ p.names;
@@ -156,7 +155,7 @@ module _ (symbol : ℕ → Symbol) (n current next : ℕ) (part marks : List ℕ
             ≡ cond t (refuse 41 n current astray >> accepted here_is.address) (accepted here_is.address)
         go true u e = refl
         go false true e = refl
-        go false false e = absurd (never e)
+        go false false e = absurd (false≢true e)
 
     -- "41 repeated name not at a multiple of 4"
     pub ends_astray : (repeated && astray) ≡ true → refused 41 n current ≡ end_in symbol n current next part
@@ -165,8 +164,8 @@ module _ (symbol : ℕ → Symbol) (n current next : ℕ) (part marks : List ℕ
       where
         go : (t u : Bool) → (t && u) ≡ true → cond t (refuse 41 n current u >> accepted here_is.address) (accepted here_is.address) ≡ refused 41 n current
         go true true q = refl
-        go true false q = absurd (never q)
-        go false u q = absurd (never q)
+        go true false q = absurd (false≢true q)
+        go false u q = absurd (false≢true q)
 
     module _ (e : (repeated && astray) ≡ false) where
       at_symbol : end_from symbol n current next [] part ≡ accepted here_is.address
@@ -174,7 +173,7 @@ module _ (symbol : ℕ → Symbol) (n current next : ℕ) (part marks : List ℕ
       at_symbol = ended ∙ go repeated astray e
         where
           go : (t u : Bool) → (t && u) ≡ false → cond t (refuse 41 n current u >> accepted here_is.address) (accepted here_is.address) ≡ accepted here_is.address
-          go true true q = absurd (never (sym q))
+          go true true q = absurd (false≢true (sym q))
           go true false q = refl
           go false u q = refl
 

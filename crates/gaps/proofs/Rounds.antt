@@ -8,12 +8,12 @@ use Prim.Native.Nat.{ℕ, zero, suc, ◌-◌, ◌%◌, ◌≤◌, ◌<◌}
 use native.Mathlib.Omega.{arith}
 use lib.Dec.{eqb, leb, ltb}
 use borrow.Author.Tests.{lt-ltb, le-ltb, leb-true, ltb-true, leb-false, eqb-true}
+use Rattle.std.proofs.lemmas.Bool.{and_parts}
 use Rattle.lists.specs.Rows.{some}
 use Rattle.lists.specs.Outcome.{Outcome, accepted, refused, refuse, ◌>>◌, ◌>>=◌}
 use Rattle.lists.specs.Sort.{All, none, each}
 use Rattle.lists.specs.Members.{In}
 use Rattle.lists.proofs.All.{all_keep, all_sort, all_both, all_map}
-use Rattle.lists.proofs.Both.{both}
 use Rattle.lists.proofs.Filter.{keep_passes}
 use Rattle.lists.proofs.Outcomes.{same_accepted, then_inv, bind_inv}
 use Rattle.lists.proofs.Rising.{numbers-below}
@@ -44,8 +44,8 @@ module _ (symbol : ℕ → Symbol) (count : ℕ) where
     where
       within : (i : ℕ) → i < count → in_section n (symbol i) ≡ true → (leb current (symbol i).address && ltb (symbol i).address next) ≡ true → Within symbol count n current next i
       within i h e q =
-          let section = both (has_section (symbol i)) (eqb (symbol i).section n) e in
-          let range = both (leb current (symbol i).address) (ltb (symbol i).address next) q in
+          let section = and_parts (has_section (symbol i)) (eqb (symbol i).section n) e in
+          let range = and_parts (leb current (symbol i).address) (ltb (symbol i).address next) q in
           record { there = h; home = eqb-true _ _ section.1; low = leb-true _ _ range.0; high = ltb-true _ _ range.1 }
 
 -- a gap ends at the next start, or at one of its symbols

@@ -9,16 +9,17 @@ use native.Mathlib.Omega.{arith}
 use lib.Dec.{eqb, leb, ltb}
 use lib.ListN.{length, get_or, length-map, length-append}
 use borrow.Author.Tests.{le-leb, lt-leb, lt-ltb, le-ltb, leb-false, ltb-true, eqb-true}
+use Rattle.std.proofs.lemmas.Bool.{and_parts}
 use Rattle.lists.specs.Rows.{tabulate, keep_if}
 use Rattle.lists.specs.Outcome.{Outcome, accepted, refused, refuse, ◌>>◌, ◌>>=◌}
 use Rattle.lists.specs.Sort.{All, none, each}
 use Rattle.lists.specs.Members.{In}
 use Rattle.lists.proofs.All.{all_keep, all_both, all_map, all_append}
-use Rattle.lists.proofs.Both.{both}
 use Rattle.lists.proofs.Filter.{keep_passes}
 use Rattle.lists.proofs.Outcomes.{same_accepted, not_both, then_inv, bind_inv, fails, passes}
 use Rattle.lists.proofs.Rows.{length-tabulate}
 use Rattle.lists.proofs.Stands.{numbers_in}
+use Rattle.lists.proofs.Members.{in_map}
 use Rattle.align.specs.Align.{good_align, bad_align}
 use Rattle.obj.specs.declared.Symbol.{Symbol}
 use Rattle.obj.specs.declared.Split.{Split}
@@ -47,11 +48,6 @@ in_left v (x ∷ s) t (inr i) = inr (in_left v s t i)
 in_right : (v : ℕ) (s t : List ℕ) → In v t → In v (s ++ t)
 in_right v [] t i = i
 in_right v (x ∷ s) t i = inr (in_right v s t i)
-
-in_map : (f : ℕ → ℕ) (i : ℕ) (l : List ℕ) → In i l → In (f i) (map f l)
-in_map f i [] h = absurd h
-in_map f i (x ∷ l) (inl e) = inl (ap f e)
-in_map f i (x ∷ l) (inr h) = inr (in_map f i l h)
 
 all_in_map : {A : Type 0} (f : A → ℕ) (l : List A) → All (λ x. In (f x) (map f l)) l
 all_in_map f [] = none
@@ -238,7 +234,7 @@ module _ (n end : ℕ) (room : List ℕ) (c : Columns) where
     where
       known : (s : Split) → ((In (key s.section s.start) room × In (key s.section s.end) room) × (bad_align s.alignment ≡ false)) × (below n end s ≡ true) → Known n end room s
       known s p =
-          let q = both (eqb s.section n) (ltb s.start end) p.1 in
+          let q = and_parts (eqb s.section n) (ltb s.start end) p.1 in
           let home = eqb-true s.section n q.0 in
           record {
             low = ltb-true s.start end q.1;

@@ -8,11 +8,12 @@ use native.Mathlib.Nat.{zero-add}
 use native.Mathlib.Omega.{arith}
 use borrow.Author.Tests.{ltb-false}
 use lib.ListN.{length, get_or, length-map}
+use Rattle.std.proofs.lemmas.List.{get_or-map}
 use Rattle.lists.specs.Rows.{tabulate}
 use Rattle.lists.proofs.All.{all_at, all_keep}
 use Rattle.lists.proofs.Filter.{keep_passes}
 use Rattle.lists.proofs.Mapping.{numbers_all}
-use Rattle.lists.proofs.Rows.{length-tabulate, get_d_tabulate, get_d_map}
+use Rattle.lists.proofs.Rows.{length-tabulate, get_d_tabulate}
 use Rattle.lists.proofs.Some.{some_false}
 use Rattle.lists.proofs.Tests.{none_of, and_false}
 use Rattle.tables.specs.Records.{no_section, no_symbol}
@@ -80,11 +81,11 @@ module _ (file : List ℕ) (names : List (List ℕ)) where
   module _ (j : ℕ) (h : j < length (taken (header_table file))) where
     pub section_is : get_or (tables_of file names).sections j no_section ≡ head_of names (section_strings file) (made_of file j)
     unfolding tables_of
-    section_is = get_d_map (λ k. head_of names (section_strings file) (header_of (header_table file) k)) (taken (header_table file)) j 0 no_section h
+    section_is = get_or-map (λ k. head_of names (section_strings file) (header_of (header_table file) k)) (taken (header_table file)) j 0 no_section h
 
     pub place_is : get_or (tables_of file names).places j 0 ≡ place_of (made_of file j)
     unfolding tables_of
-    place_is = get_d_map (λ k. place_of (header_of (header_table file) k)) (taken (header_table file)) j 0 0 h
+    place_is = get_or-map (λ k. place_of (header_of (header_table file) k)) (taken (header_table file)) j 0 0 h
 
   -- as many symbols as entries past the null one
   pub symbols_count : length (tables_of file names).symbols ≡ length (symbol_bytes file) / 16 - 1
@@ -99,5 +100,5 @@ module _ (file : List ℕ) (names : List (List ℕ)) where
   symbol_is j h =
       let row : ℕ → SymbolEntry = λ k. symbol_entry_at (symbol_bytes file) (16 * k) in
       let many = length (symbol_bytes file) / 16 - 1 in
-      get_d_map (symbol_of names (symbol_strings file) (taken (header_table file))) (tabulate row 1 many) j (symbol_entry_at [] 0) no_symbol (omega (arith, length-tabulate row 1 many))
+      get_or-map (symbol_of names (symbol_strings file) (taken (header_table file))) (tabulate row 1 many) j (symbol_entry_at [] 0) no_symbol (omega (arith, length-tabulate row 1 many))
       ∙ ap (symbol_of names (symbol_strings file) (taken (header_table file))) (get_d_tabulate row 1 many j (symbol_entry_at [] 0) h)

@@ -4,7 +4,7 @@ use mathlib.Core.Path.{◌≡◌, refl, sym, ap, subst, ◌∙◌}
 use mathlib.Core.List.Memᴰ
 use mathlib.Core.List.{List, [], ◌∷◌, Memᴰ}
 use mathlib.Core.Logic.{◌⊎◌, inl, inr}
-use mathlib.Core.Bool.{Bool, true, false, not}
+use mathlib.Core.Bool.{Bool, true, false, not, false≢true}
 use Prim.Native.Nat.{ℕ, ◌+◌, ◌-◌, ◌≤◌, ◌<◌}
 use native.Mathlib.Omega.{arith}
 use native.Mathlib.Decide.{dec_lt, dec_le}
@@ -12,7 +12,6 @@ use lib.ListN.{length, get_or, take, drop, length-take, length-drop}
 use lib.Seq.{sets, length-sets, ext_get_or, get_or-take, get_or-drop, length-take-le}
 use borrow.Author.Tests.{not-false}
 use Rattle.lists.specs.Rows.{some}
-use Rattle.lists.proofs.Compare.{never}
 use Rattle.lists.proofs.Stores.{get_or-sets_other, get_or-sets_at}
 use Rattle.names.specs.Names.{same_name}
 use Rattle.names.proofs.Laws.{same_self, same_equal}
@@ -179,7 +178,7 @@ module _ (heads : List Section) where
       where
         found : some_unlike heads laid parts ≡ true → (b : Bool) → differ parts ≡ b → differ parts ≡ true
         found f true e = e
-        found f false e = absurd (never (sym (none_by (unlike heads laid) parts (λ p m. unlike_not p (own_bytes e p m))) ∙ f))
+        found f false e = absurd (false≢true (sym (none_by (unlike heads laid) parts (λ p m. unlike_not p (own_bytes e p m))) ∙ f))
 
         missed : differ parts ≡ true → (b : Bool) → some_unlike heads laid parts ≡ b → some_unlike heads laid parts ≡ true
         missed d true e = e

@@ -2,13 +2,12 @@
 use mathlib.Core.Path.{◌≡◌, refl, sym, ap, ◌∙◌}
 use mathlib.Core.List.{List, [], ◌∷◌, Memᴰ}
 use mathlib.Core.Logic.{◌⊎◌, inl, inr}
-use mathlib.Core.Bool.{Bool, true, false, cond, not}
+use mathlib.Core.Bool.{Bool, true, false, cond, not, false≢true}
 use Prim.Native.Nat.{ℕ, ◌+◌, ◌≤◌, ◌<◌}
 use lib.ListN.{length}
 use borrow.Author.Tests.{eq-eqb, eqb-true, eqb-false, ltb-true, leb-true, lt-ltb, le-leb, not-true}
-use Rattle.lists.proofs.Both.{both}
-use Rattle.lists.proofs.Compare.{never}
-use Rattle.lists.proofs.Among.{and_true, some_by, some_member, range_member, member_range}
+use Rattle.std.proofs.lemmas.Bool.{and_parts, and_from}
+use Rattle.lists.proofs.Among.{some_by, some_member, range_member, member_range}
 use Rattle.join.specs.Join.{Part, covers, byte_of, addresses, differ_at, differ, joined_at}
 
 -- ---- where a piece lies
@@ -22,13 +21,13 @@ pub record Lies (n x : ℕ) (p : Part) : Type 0 where
 pub lies : (n x : ℕ) (p : Part) → covers n x p ≡ true → Lies n x p
 unfolding covers
 lies n x p e =
-    let r = both _ _ e in
-    let s = both _ _ r.1 in
+    let r = and_parts _ _ e in
+    let s = and_parts _ _ r.1 in
     record { of = eqb-true _ _ r.0; low = leb-true _ _ s.0; high = ltb-true _ _ s.1 }
 
 pub lies_covers : (n x : ℕ) (p : Part) → Lies n x p → covers n x p ≡ true
 unfolding covers
-lies_covers n x p l = and_true (eq-eqb _ _ l.of) (and_true (le-leb _ _ l.low) (lt-ltb _ _ l.high))
+lies_covers n x p l = and_from _ _ (eq-eqb _ _ l.of) (and_from _ _ (le-leb _ _ l.low) (lt-ltb _ _ l.high))
 
 -- ---- two pieces that differ
 
@@ -52,7 +51,7 @@ apart parts e =
     let s = some_member _ parts r.2 in
     let t = some_member _ (addresses s.0) s.2 in
     let m = member_range s.0.address (length s.0.bytes) t.0 t.1 in
-    let d = both _ _ t.2 in
+    let d = and_parts _ _ t.2 in
     record {
       one = r.0;
       other = s.0;
@@ -73,7 +72,7 @@ apart-differ parts a =
     some_by _ a.has_one
     (some_by _ a.has_other
     (some_by _ (range_member a.other.address (length a.other.bytes) a.address o.low o.high)
-    (and_true
+    (and_from _ _
     (lies_covers _ _ _ (record { of = a.one_lies.of ∙ sym o.of; low = a.one_lies.low; high = a.one_lies.high }))
     (ap not (borrow.Author.Tests.ne_eqb _ _ a.unequal)))))
 
@@ -85,7 +84,7 @@ meets parts e n x p q mp mq lp lq = go (native.Mathlib.Decide.ℕ_discrete (byte
     go : Dec (byte_of x p ≡ byte_of x q) → byte_of x p ≡ byte_of x q
     go (yes h) = h
     go (no h) =
-        absurd (never (sym e ∙ apart-differ parts (record {
+        absurd (false≢true (sym e ∙ apart-differ parts (record {
           one = p;
           other = q;
           has_one = mp;
@@ -115,7 +114,7 @@ joined_byte (p ∷ later) n x = go (covers n x p) refl (joined_byte later n x)
     go false e (empty f h) = empty (λ q m l. other q l (mathlib.Core.List.Memᴰ.cases_cons m) (f q)) h
       where
         other : (q : Part) → Lies n x q → (q ≡ p) ⊎ Memᴰ q later → (Memᴰ q later → Lies n x q → ⊥) → ⊥
-        other q l (inl s) f = never (sym e ∙ ap (covers n x) (sym s) ∙ lies_covers n x q l)
+        other q l (inl s) f = false≢true (sym e ∙ ap (covers n x) (sym s) ∙ lies_covers n x q l)
         other q l (inr m) f = f m l
 
 -- THEOREM: where the pieces agree, it is the byte of each piece that lies there

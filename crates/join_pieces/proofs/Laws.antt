@@ -8,8 +8,8 @@ use native.Mathlib.Numerals.{add-one}
 use lib.ListN.{length, get_or, take, drop, get_or-eq_default}
 use lib.Seq.{sets, take_all}
 use lib.Dec.{eqb, ltb}
+use Rattle.std.proofs.lemmas.List.{get_or-map}
 use Rattle.lists.specs.Rows.{any_of, any_from}
-use Rattle.lists.proofs.Rows.{get_d_map}
 use Rattle.obj.specs.Records.{section_at, stage_places}
 use Rattle.obj.specs.declared.Section.{Section}
 use Rattle.obj.proofs.Laws.{length-stage_places, stage_place}
@@ -30,7 +30,7 @@ test start size s = (eqb s.kind 3 || ltb start s.address) || ltb (s.address + s.
 module _ (b : List ℕ) where
   pub head_there : (k : ℕ) → k < length b / 15 → get_or (stage_sections b) k nowhere ≡ section_at b (15 * k)
   head_there k h =
-      get_d_map (section_at b) (stage_places 15 (length b / 15)) k 0 nowhere (rw length-stage_places h)
+      get_or-map (section_at b) (stage_places 15 (length b / 15)) k 0 nowhere (rw length-stage_places h)
       ∙ ap (section_at b) (stage_place 15 (length b / 15) k h)
 
   pub head_past : (k : ℕ) → length b / 15 ≤ k → get_or (stage_sections b) k nowhere ≡ nowhere

@@ -9,6 +9,7 @@ use Prim.Native.Nat.{ℕ, ◌+◌, ◌-◌, ◌≤◌, ◌<◌}
 use native.Mathlib.Omega.{arith}
 use lib.ListN.{length, get_or, take, replicate, get_or-replicate}
 use borrow.Author.Tests.{eqb-false, ne_eqb, le-ltb, not-true}
+use Rattle.std.proofs.lemmas.Bool.{false_from_ne_true}
 use Rattle.lists.specs.Outcome.{accepted}
 use Rattle.lists.specs.Rows.{some, any_of, any_from}
 use Rattle.lists.proofs.Outcomes.{passes, same_accepted}
@@ -22,7 +23,7 @@ use Rattle.restore.proofs.Parts.{part_agrees}
 use Rattle.restore.proofs.Walked.{pieces_from}
 use Rattle.restore.proofs.Theorems.{restores, inside}
 use Rattle.join.specs.Join.{Part, nowhere, outside, byte_of, differ, joined_at, held, join_of}
-use Rattle.lists.proofs.Among.{fails_by, none_by, perm_among}
+use Rattle.lists.proofs.Among.{none_by, perm_among}
 use Rattle.join.proofs.Members.{Lies, apart, Byte, of, empty, joined_byte}
 use Rattle.join.proofs.Sizes.{Place, below-held, joined_reads}
 use Rattle.lists.proofs.Among.{all_find}
@@ -91,7 +92,7 @@ module _ (t : Input) (out : Output) (checked : Checked t) (walked : walk t ≡ a
 
     none_differ : differ parts ≡ false
     none_differ =
-        fails_by (differ parts) (λ e. let a = apart parts e in
+        false_from_ne_true (differ parts) (λ e. let a = apart parts e in
         a.unequal (byte_is a.section a.address a.one a.has_one a.one_lies ∙ sym (byte_is a.section a.address a.other a.has_other a.other_lies)))
 
     -- the joined byte of a section of the restoring rule

@@ -10,13 +10,14 @@ use native.Mathlib.Omega.{arith}
 use borrow.Author.Tests.{lt-ltb, ltb-true, eq-eqb, ne_eqb}
 use lib.Dec.{eqb}
 use lib.ListN.{length, get_or, take, length-map, length-append, length-take}
+use Rattle.std.proofs.lemmas.List.{get_or-map}
 use Rattle.lists.specs.Rows.{keep_if, tabulate, any_of}
 use Rattle.lists.specs.Sort.{sort_by, All, none, each}
 use Rattle.lists.specs.Members.{In}
-use Rattle.lists.proofs.Rows.{get_d_map, length-tabulate}
+use Rattle.lists.proofs.Rows.{length-tabulate}
 use Rattle.lists.proofs.All.{all_map, all_keep, all_any}
 use Rattle.lists.proofs.Filter.{keep_same, keep_passes, map_keep}
-use Rattle.lists.proofs.Ranks.{length-kept}
+use Rattle.lists.proofs.Ranks.{length-kept, map_same}
 use Rattle.lists.proofs.Sort.{length_sort}
 use Rattle.lists.proofs.Rising.{numbers-below}
 use Rattle.obj.specs.declared.Split.{Split}
@@ -39,9 +40,6 @@ use Rattle.link_graph.proofs.Rows.{row_at_lem, units_of_rows}
 use Rattle.link_graph.proofs.Edges.{start_in, goal_in}
 
 -- ---- lists
-map_alike : {A B : Type 0} (f g : A → B) {l : List A} → All (λ x. f x ≡ g x) l → map f l ≡ map g l
-map_alike f g none = refl
-map_alike {A} {B} f g (each h p) = ap₂ (λ (x : B) (t : List B). x ∷ t) h (map_alike f g p)
 
 pub all_mapped : {A B : Type 0} {P : B → Type 0} (f : A → B) {l : List A} → All (λ x. P (f x)) l → All P (map f l)
 all_mapped f none = none
@@ -58,7 +56,7 @@ module _ (splits : List Split) where
   pub unit_in : (k : ℕ) → k < length splits → In (split_at splits k).unit (nodes splits)
   unfolding nodes
   unit_in k h =
-      let at = get_d_map (λ (s : Split). s.unit) splits k no_split 0 h in
+      let at = get_or-map (λ (s : Split). s.unit) splits k no_split 0 h in
       counted_in (split_at splits k).unit (units_of splits) []
       (rw (sym at) (in_at (units_of splits) k (omega (arith, length-map splits (λ (s : Split). s.unit)))))
 
@@ -79,12 +77,12 @@ module _ (splits : List Split) (column : List ℕ) (marked : Marked column (node
   module _ (named : (k : ℕ) → k < length splits → (split_at splits k).unit < length column) (pointers : ℕ → Bool) where
     pub starts-marked : map (start_in column) (split_edges pointers splits) ≡ map (λ (e : UnitEdge). node_of (nodes splits) e.from) (split_edges pointers splits)
     starts-marked =
-        map_alike (start_in column) (λ (e : UnitEdge). node_of (nodes splits) e.from)
+        map_same (start_in column) (λ (e : UnitEdge). node_of (nodes splits) e.from) _
         (edges_all splits pointers (λ i h. node-marked (split_at splits i).unit (named i (omega arith)) (unit_in splits i (omega arith))))
 
     pub goals_marked : map (goal_in column) (split_edges pointers splits) ≡ map (λ (e : UnitEdge). node_of (nodes splits) e.to) (split_edges pointers splits)
     goals_marked =
-        map_alike (goal_in column) (λ (e : UnitEdge). node_of (nodes splits) e.to)
+        map_same (goal_in column) (λ (e : UnitEdge). node_of (nodes splits) e.to) _
         (edges_all splits pointers (λ i h. node-marked (split_at splits (i + 1)).unit (named (i + 1) h) (unit_in splits (i + 1) h)))
 
 -- a mark other than 65535 is a node's
@@ -114,10 +112,10 @@ module _ (g : Given) (ub up column : List ℕ) (us : g.units ≡ units_in ub up)
 
   marks_kept : keep_if (λ v. not (eqb v 65535)) (map (λ k. get_or column (unit_of ub up k).name 0) (ordered_numbers ub up)) ≡ map node_at (keep_if chains (ordered_numbers ub up))
   marks_kept =
-      ap (keep_if (λ v. not (eqb v 65535))) (map_alike (λ k. get_or column (unit_of ub up k).name 0) mark_of (all_map (λ k h. marked.marks (unit_of ub up k).name h) inside))
+      ap (keep_if (λ v. not (eqb v 65535))) (map_same (λ k. get_or column (unit_of ub up k).name 0) mark_of _ (all_map (λ k h. marked.marks (unit_of ub up k).name h) inside))
       ∙ sym (map_keep mark_of (λ v. not (eqb v 65535)) (ordered_numbers ub up))
       ∙ ap (map mark_of) (keep_same (λ k. not (eqb (mark_of k) 65535)) chains (ordered_numbers ub up) (all_any (λ k. marks_node N (unit_of ub up k).name few) (ordered_numbers ub up)))
-      ∙ map_alike mark_of node_at (all_map (λ k h. mark_is N (unit_of ub up k).name h) (keep_passes chains (ordered_numbers ub up)))
+      ∙ map_same mark_of node_at _ (all_map (λ k h. mark_is N (unit_of ub up k).name h) (keep_passes chains (ordered_numbers ub up)))
 
   -- the records of the numbers
   names-kept : map (λ k. (unit_of ub up k).name) (keep_if chains (ordered_numbers ub up)) ≡ chained g

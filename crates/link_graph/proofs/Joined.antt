@@ -3,7 +3,7 @@
 use Prim.Native.Nat.{ℕ, zero, suc, ◌+◌, ◌-◌, ◌≤◌, ◌<◌, zero-le, suc-le-suc}
 use mathlib.Core.Path.{◌≡◌, refl, sym, ap, ap₂, subst, ◌∙◌}
 use mathlib.Core.List.{List, [], ◌∷◌, ◌++◌, map}
-use mathlib.Core.Bool.{Bool, true, false, not, ◌&&◌, ◌||◌}
+use mathlib.Core.Bool.{Bool, true, false, not, ◌&&◌, ◌||◌, false≢true}
 use mathlib.Core.Logic.{inl, inr}
 use native.Mathlib.Nat.{not-suc-le-zero, suc-add}
 use native.Mathlib.Omega.{arith}
@@ -11,16 +11,16 @@ use borrow.Author.Tests.{eqb-true, eqb-false, eq-eqb, ne_eqb, not-true, not-fals
 use lib.Dec.{eqb}
 use lib.ListN.{length, get_or, length-map, length-append, get_or-append}
 use lib.Seq.{get_or-append-add}
+use Rattle.std.proofs.lemmas.Bool.{and_right}
+use Rattle.std.proofs.lemmas.List.{get_or-map}
 use Rattle.lists.specs.Rows.{keep_if, tabulate, any_of, any_from}
 use Rattle.lists.specs.Sort.{All, none, each}
 use Rattle.lists.specs.Members.{In}
-use Rattle.lists.proofs.Rows.{get_d_map}
 use Rattle.lists.proofs.All.{all_map, all_keep, all_append, all_both, all_at}
-use Rattle.lists.proofs.Compare.{never, and_fails}
 use Rattle.lists.proofs.Filter.{keep_passes}
 use Rattle.lists.proofs.Rising.{numbers-below}
 use Rattle.lists.proofs.Stands.{kept_in, numbers_in}
-use Rattle.lists.proofs.Tests.{none_of, and_false}
+use Rattle.lists.proofs.Tests.{none_of, and_false, none_of_four}
 use Rattle.obj.specs.declared.Split.{Split}
 use Rattle.obj.specs.declared.Unit as units
 use Rattle.order_numbers.specs.Numbers.{ordered}
@@ -36,9 +36,6 @@ abbrev pub BySection : List Split → Type 0
 BySection splits = (i j : ℕ) → i ≤ j → j < length splits → (split_at splits i).section ≤ (split_at splits j).section
 
 -- ---- four tests
-none_of_four : {a b c d : Bool} → a ≡ false → b ≡ false → c ≡ false → d ≡ false → any_of (a ∷ b ∷ c ∷ d ∷ []) ≡ false
-unfolding any_of any_from
-none_of_four ea eb ec ed = λ z. ((ea z || eb z) || ec z) || ed z
 
 -- ---- neighbours
 module _ (g : Given) (lies : BySection g.splits) where
@@ -72,19 +69,19 @@ module _ (g : Given) (lies : BySection g.splits) where
       before k q s = (i - 1, (let z : i - 1 < i = omega arith in z), eqb-true _ _ (not-false _ s))
 
       by_place : (k : ℕ) → i ≡ k → is_first g.splits i ≡ false → (j : ℕ) × (j < i) × ((at j).section ≡ (at i).section)
-      by_place zero q f = absurd (never (sym f ∙ first_of_all g.splits i q))
+      by_place zero q f = absurd (false≢true (sym f ∙ first_of_all g.splits i q))
       by_place (suc k) q f = before k q (sym (first_by_section g.splits i (λ z. omega arith)) ∙ f)
 
       earlier : (t : Bool) → is_first g.splits i ≡ t → (is_first g.splits i && g.pointers (at i).section) ≡ false → g.pointers (at i).section ≡ true
           → (j : ℕ) × (j < i) × ((at j).section ≡ (at i).section)
-      earlier true f s p = absurd (never (sym (and_false _ _ s f) ∙ p))
+      earlier true f s p = absurd (false≢true (sym (and_false _ _ s f) ∙ p))
       earlier false f s p = by_place i refl f
 
   -- .. and neighbours are not kept apart
   pub neighbours_joined : (a b : ℕ) (n : Neighbours g a b) → apart g.pointers g.splits n.at ≡ false
   unfolding apart
   neighbours_joined a b n =
-      none_of_four
+      none_of_four _ _ _ _
       (ap not (eq-eqb _ _ n.together))
       (ne_eqb _ _ (λ e. n.different (sym n.first ∙ e ∙ n.second)))
       (alone (is_common (at (n.at + 1))) refl)
@@ -95,7 +92,7 @@ module _ (g : Given) (lies : BySection g.splits) where
       alone false e = refl
 
       passed : (t : Bool) → g.pointers (at n.at).section ≡ t → (is_first g.splits n.at && t) ≡ false
-      passed false e = and_fails (is_first g.splits n.at) refl
+      passed false e = and_right (is_first g.splits n.at) _ refl
       passed true e =
           let early = n.not_first e in
           ap (λ (t : Bool). t && true) (not_first n.at early.0 early.1 (omega (arith, n.inside)) early.2)
@@ -184,7 +181,7 @@ module _ (g : Given) (lies : BySection g.splits) where
         at = k.0;
         inside = rw (length-map (keep_if p (tabulate (λ i. i) 0 m)) (edge_at g.splits)) k.1;
         is =
-            get_d_map (edge_at g.splits) (keep_if p (tabulate (λ i. i) 0 m)) k.0 0 none-edge k.1
+            get_or-map (edge_at g.splits) (keep_if p (tabulate (λ i. i) 0 m)) k.0 0 none-edge k.1
             ∙ ap (edge_at g.splits) k.2
             ∙ ap₂ edge n.first n.second;
       })

@@ -9,9 +9,10 @@ use borrow.Author.Tests.{eq-eqb, ne_eqb}
 use lib.Dec.{eqb}
 use lib.ListN.{length, get_or, take, length-map}
 use lib.Seq.{ext_get_or, get_or-take, length-take-le}
+use Rattle.std.proofs.lemmas.List.{get_or-map}
 use Rattle.lists.specs.Rows.{any_of, any_from}
 use Rattle.lists.specs.Sort.{All, none, each}
-use Rattle.lists.proofs.Rows.{get_d_tabulate, get_d_map, length-tabulate}
+use Rattle.lists.proofs.Rows.{get_d_tabulate, length-tabulate}
 use Rattle.obj.specs.declared.Split.{Split}
 use Rattle.tables.specs.Records.{no_split}
 use Rattle.splits.specs.Columns.{Columns, rows, row_at}
@@ -54,7 +55,7 @@ module _ (c : Columns) (n : ℕ) (h : n ≤ length c.units) where
       ext_get_or 0 (units_of (rows c n)) (take n c.units) (long ∙ sym (length-take-le n c.units h))
       (λ i q.
       let k : i < n = omega (arith, long) in
-      get_d_map (λ (s : Split). s.unit) (rows c n) i no_split 0 (omega (arith, length-tabulate (row_at c) 0 n))
+      get_or-map (λ (s : Split). s.unit) (rows c n) i no_split 0 (omega (arith, length-tabulate (row_at c) 0 n))
       ∙ ap (λ (s : Split). s.unit) (row_at_lem c n i k)
       ∙ row_unit _ _ _ _
       ∙ sym (get_or-take n c.units i 0 k))

@@ -7,10 +7,10 @@ use mathlib.Core.Logic.{inl, inr}
 use native.Mathlib.Nat.{le_of_suc-le-suc, not-suc-le-zero}
 use native.Mathlib.Omega.{arith}
 use lib.ListN.{length, get_or, length-map}
+use Rattle.std.proofs.lemmas.List.{get_or-map}
 use Rattle.lists.specs.Members.{In, Distinct}
-use Rattle.lists.proofs.Rows.{get_d_map}
 use Rattle.lists.proofs.All.{all_at}
-use Rattle.lists.proofs.Members.{fresh_in, fresh_of}
+use Rattle.lists.proofs.Members.{fresh_in, fresh_of, in_map}
 use Rattle.toposort.specs.Sorting.{Sound, Within}
 use Rattle.toposort.specs.Answers as nodes-of
 use Rattle.link_graph.specs.Graph.{Given, UnitEdge, edge, node_of, units_of, nodes, edges, graph_of}
@@ -31,10 +31,6 @@ apart_at (x ∷ l) d (suc i) (suc j) h k e = ap suc (apart_at l d.1 i j (le_of_s
 
 -- members of a list of values
 module _ (f : ℕ → ℕ) where
-  in_map : (v : ℕ) (l : List ℕ) → In v l → In (f v) (map f l)
-  in_map v [] i = absurd i
-  in_map v (x ∷ l) (inl e) = inl (ap f e)
-  in_map v (x ∷ l) (inr i) = inr (in_map v l i)
 
   map_in : (w : ℕ) (l : List ℕ) → In w (map f l) → (v : ℕ) × In v l × (f v ≡ w)
   map_in w [] i = absurd i
@@ -75,8 +71,8 @@ module _ (g : Given) (lies : BySection g.splits) where
       let x = get_or (edges g) e.at (edge 0 0) in
       let joined = all_at e.at (edge 0 0) (edges_join g lies) inside in
       let members = joined_in g x.from x.to joined in
-      let start : node_of N x.from ≡ v = sym (get_d_map (λ (y : UnitEdge). node_of N y.from) (edges g) e.at (edge 0 0) 0 inside) ∙ e.leaves in
-      let goal : node_of N x.to ≡ w = sym (get_d_map (λ (y : UnitEdge). node_of N y.to) (edges g) e.at (edge 0 0) 0 inside) ∙ e.enters in (
+      let start : node_of N x.from ≡ v = sym (get_or-map (λ (y : UnitEdge). node_of N y.from) (edges g) e.at (edge 0 0) 0 inside) ∙ e.leaves in
+      let goal : node_of N x.to ≡ w = sym (get_or-map (λ (y : UnitEdge). node_of N y.to) (edges g) e.at (edge 0 0) 0 inside) ∙ e.enters in (
         subst (λ (k : ℕ). k < length N) start (in_has x.from N members.0),
         subst (λ (k : ℕ). k < length N) goal (in_has x.to N members.1),
         subst2 (sym (node_back x.from N members.0) ∙ ap unit_at start) (sym (node_back x.to N members.1) ∙ ap unit_at goal) joined,
@@ -91,8 +87,8 @@ module _ (g : Given) (lies : BySection g.splits) where
       let s = join_edges g lies a b j in record {
         at = s.at;
         inside = rw (length-map (edges g) (λ (x : UnitEdge). node_of N x.from)) s.inside;
-        leaves = get_d_map (λ (x : UnitEdge). node_of N x.from) (edges g) s.at (edge 0 0) 0 s.inside ∙ ap (λ (x : UnitEdge). node_of N x.from) s.is;
-        enters = get_d_map (λ (x : UnitEdge). node_of N x.to) (edges g) s.at (edge 0 0) 0 s.inside ∙ ap (λ (x : UnitEdge). node_of N x.to) s.is;
+        leaves = get_or-map (λ (x : UnitEdge). node_of N x.from) (edges g) s.at (edge 0 0) 0 s.inside ∙ ap (λ (x : UnitEdge). node_of N x.from) s.is;
+        enters = get_or-map (λ (x : UnitEdge). node_of N x.to) (edges g) s.at (edge 0 0) 0 s.inside ∙ ap (λ (x : UnitEdge). node_of N x.to) s.is;
       }
 
   -- ---- ways and cycles

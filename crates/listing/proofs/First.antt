@@ -9,9 +9,9 @@ use native.Mathlib.Numerals.{add-one}
 use native.Mathlib.Omega.{arith}
 use lib.ListN.{length, get_or, drop, drop_of_length-le}
 use lib.Seq.{drop-cons}
+use Rattle.std.proofs.lemmas.Bool.{cases_lt}
 use Rattle.lists.specs.Rows.{tabulate, keep_if}
 use Rattle.lists.proofs.Rows.{length-tabulate, get_d_tabulate}
-use Rattle.lists.proofs.Compare.{lt_or_ge}
 
 module _ {A : Type 0} (p : A → Bool) (l : List A) (k : ℕ) where
   -- kept: it is the first
@@ -55,7 +55,7 @@ module _ {A : Type 0} (p : A → Bool) (f : ℕ → A) (count at : ℕ) where
 
   -- none passes from `at` on
   pub none_left : ((j : ℕ) → at ≤ j → j < count → p (f j) ≡ false) → keep_if p (drop at (tabulate f 0 count)) ≡ []
-  none_left g = go (lt_or_ge at count)
+  none_left g = go (cases_lt at count)
     where
       go : (at < count) ⊎ (count ≤ at) → keep_if p (drop at (tabulate f 0 count)) ≡ []
       go (inl h) =
@@ -69,7 +69,7 @@ module _ {A : Type 0} (p : A → Bool) (f : ℕ → A) (count at : ℕ) where
 
 -- one more that does not pass
 pub none_more : {p : ℕ → Bool} {at k : ℕ} → ((j : ℕ) → at ≤ j → j < k → p j ≡ false) → p k ≡ false → (j : ℕ) → at ≤ j → j < k + 1 → p j ≡ false
-none_more {p} {at} {k} g e j a b = go (lt_or_ge j k)
+none_more {p} {at} {k} g e j a b = go (cases_lt j k)
   where
     go : (j < k) ⊎ (k ≤ j) → p j ≡ false
     go (inl h) = g j a h

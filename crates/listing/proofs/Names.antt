@@ -8,7 +8,7 @@ use native.Mathlib.Omega.{arith}
 use borrow.Author.Tests.{lt-ltb, le-ltb}
 use lib.ListN.{length, get_or, drop, length-take, get_or-append}
 use lib.Seq.{get_or-append-add}
-use Rattle.lists.proofs.Compare.{lt_or_ge}
+use Rattle.std.proofs.lemmas.Bool.{cases_lt}
 use Rattle.names.specs.Names.{name_at, names_of, Named}
 use Rattle.names.proofs.Laws.{length-names, name_there}
 use Rattle.names.specs.Append.{Columns}
@@ -53,7 +53,7 @@ module _ (base added : Columns) (k : ℕ) {r : List ℕ} where
 pub name_listed : (base added : Columns) (count k : ℕ) → k < length base.places + count
     → name_in base added k
     ≡ get_or (names_of base.bytes base.places base.lengths (length base.places) ++ names_of added.bytes added.places added.lengths count) k []
-name_listed base added count k h = go (lt_or_ge k n)
+name_listed base added count k h = go (cases_lt k n)
   where
     n : ℕ
     n = length base.places

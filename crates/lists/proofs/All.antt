@@ -13,6 +13,12 @@ module _ {A : Type 0} {P : A → Type 0} where
   all_append none q = q
   all_append (each h p) q = each h (all_append p q)
 
+  pub all_first : {x : A} {l : List A} → All P (x ∷ l) → P x
+  all_first (each h p) = h
+
+  pub all_rest : {x : A} {l : List A} → All P (x ∷ l) → All P l
+  all_rest (each h p) = p
+
   pub all_take : (n : ℕ) {s : List A} → All P s → All P (take n s)
   all_take zero p = none
   all_take (suc n) none = none

@@ -4,47 +4,19 @@ use mathlib.Core.Path.{◌≡◌, refl, sym, ap, subst, ◌∙◌}
 use mathlib.Core.List.Memᴰ
 use mathlib.Core.List.{List, [], ◌∷◌, Memᴰ, Permᴰ}
 use mathlib.Core.Logic.{◌⊎◌, inl, inr}
-use mathlib.Core.Bool.{Bool, true, false, ◌&&◌, ◌||◌}
+use mathlib.Core.Bool.{Bool, true, false, false≢true}
 use Prim.Native.Nat.{ℕ, zero, suc, ◌+◌, ◌≤◌, ◌<◌}
 use native.Mathlib.Omega.{arith}
 use lib.ListN.{length, get_or}
+use Rattle.std.proofs.lemmas.Bool.{or_left, or_right, or_cases, false_from_ne_true}
 use Rattle.lists.specs.Rows.{tabulate, some}
 use Rattle.lists.specs.Sort.{All, none, each}
-use Rattle.lists.proofs.Compare.{never}
-
--- ---- tests
-
--- a test holds or fails
-pub holds_or_fails : (b : Bool) → (b ≡ true) ⊎ (b ≡ false)
-holds_or_fails true = inl refl
-holds_or_fails false = inr refl
 
 -- two tests are the same where each holds if the other does
 pub same_test : (a b : Bool) → (a ≡ true → b ≡ true) → (b ≡ true → a ≡ true) → a ≡ b
 same_test true b f g = sym (f refl)
 same_test false true f g = g refl
 same_test false false f g = refl
-
--- a test that can't hold fails
-pub fails_by : (b : Bool) → (b ≡ true → ⊥) → b ≡ false
-fails_by true f = absurd (f refl)
-fails_by false f = refl
-
--- both tests hold
-pub and_true : {a b : Bool} → a ≡ true → b ≡ true → (a && b) ≡ true
-and_true {a} {b} p q = ap (λ (x : Bool). x && b) p ∙ q
-
-or_left : (a b : Bool) → a ≡ true → (a || b) ≡ true
-or_left true b e = refl
-or_left false b e = absurd (never e)
-
-or_right : (a b : Bool) → b ≡ true → (a || b) ≡ true
-or_right true b e = refl
-or_right false b e = e
-
-or_cases : (a b : Bool) → (a || b) ≡ true → (a ≡ true) ⊎ (b ≡ true)
-or_cases true b e = inl refl
-or_cases false b e = inr e
 
 -- ---- some member passes
 module _ {A : Type 0} (p : A → Bool) where
@@ -55,7 +27,7 @@ module _ {A : Type 0} (p : A → Bool) where
 
   pub some_member : (l : List A) → some p l ≡ true → (x : A) × Memᴰ x l × (p x ≡ true)
   unfolding some
-  some_member [] e = absurd (never e)
+  some_member [] e = absurd (false≢true e)
   some_member (y ∷ l) e = go (or_cases (p y) (some p l) e) (some_member l)
     where
       go : (p y ≡ true) ⊎ (some p l ≡ true) → (some p l ≡ true → (x : A) × Memᴰ x l × (p x ≡ true)) → (x : A) × Memᴰ x (y ∷ l) × (p x ≡ true)
@@ -63,10 +35,10 @@ module _ {A : Type 0} (p : A → Bool) where
       go (inr h) ih = let r = ih h in (r.0, Memᴰ.tail r.1, r.2)
 
   pub none_member : (l : List A) → some p l ≡ false → (x : A) → Memᴰ x l → p x ≡ false
-  none_member l e x m = fails_by (p x) (λ h. never (sym e ∙ some_by m h))
+  none_member l e x m = false_from_ne_true (p x) (λ h. false≢true (sym e ∙ some_by m h))
 
   pub none_by : (l : List A) → ((x : A) → Memᴰ x l → p x ≡ false) → some p l ≡ false
-  none_by l f = fails_by (some p l) (λ h. let r = some_member l h in never (sym (f r.0 r.1) ∙ r.2))
+  none_by l f = false_from_ne_true (some p l) (λ h. let r = some_member l h in false≢true (sym (f r.0 r.1) ∙ r.2))
 
 -- ---- the members of a list
 

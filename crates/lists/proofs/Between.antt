@@ -9,9 +9,10 @@ use native.Mathlib.Omega.{arith}
 use lib.Dec.{leb, ltb}
 use lib.ListN.{length, get_or, take, drop}
 use borrow.Author.Tests.{le-leb, lt-leb, lt-ltb, le-ltb, leb-true}
+use Rattle.std.proofs.lemmas.Bool.{cases_lt, and_right}
 use Rattle.lists.specs.Rows.{keep_if, first_in}
 use Rattle.lists.specs.Sort.{Sorted, between, at_least}
-use Rattle.lists.proofs.Compare.{lt_or_ge, and_fails, and_holds}
+use Rattle.lists.proofs.Compare.{and_holds}
 use Rattle.lists.proofs.All.{all_at, all_map}
 use Rattle.lists.proofs.Filter.{keep_same, keep_nothing}
 use Rattle.lists.proofs.FirstIn.{first_in-first, first_in_le, first_in_passes}
@@ -20,7 +21,7 @@ module _ {A : Type 0} (k : A → ℕ) (low : ℕ) where
   before_first : (s : List A) → Sorted k s → take (first_in (at_least k low) s) s ≡ keep_if (λ y. ltb (k y) low) s
   unfolding first_in keep_if Sorted
   before_first [] p = refl
-  before_first (x ∷ s) p = go (lt_or_ge (k x) low) (before_first s p.1)
+  before_first (x ∷ s) p = go (cases_lt (k x) low) (before_first s p.1)
     where
       go : (k x < low) ⊎ (low ≤ k x) → take (first_in (at_least k low) s) s ≡ keep_if (λ y. ltb (k y) low) s → take (first_in (at_least k low) (x ∷ s)) (x ∷ s) ≡ keep_if (λ y. ltb (k y) low) (x ∷ s)
       go (inl l) ih = rw (lt-leb _ _ l, lt-ltb _ _ l) (ap (λ (t : List A). x ∷ t) ih)
@@ -31,7 +32,7 @@ pub part-between : {A : Type 0} (k : A → ℕ) (low high : ℕ) (s : List A) �
     → take (first_in (at_least k high) s - first_in (at_least k low) s) (drop (first_in (at_least k low) s) s) ≡ keep_if (between k low high) s
 unfolding first_in keep_if Sorted
 part-between k low high [] p = refl
-part-between {A} k low high (x ∷ s) p = go (lt_or_ge (k x) low) (lt_or_ge (k x) high) (part-between k low high s p.1)
+part-between {A} k low high (x ∷ s) p = go (cases_lt (k x) low) (cases_lt (k x) high) (part-between k low high s p.1)
   where
     l : ℕ
     l = first_in (at_least k low) s
@@ -40,7 +41,7 @@ part-between {A} k low high (x ∷ s) p = go (lt_or_ge (k x) low) (lt_or_ge (k x
     h = first_in (at_least k high) s
 
     none_above : high ≤ k x → keep_if (between k low high) s ≡ []
-    none_above b = keep_nothing (between k low high) s (all_map (λ y q. and_fails (leb low (k y)) (le-ltb _ _ (le_trans b q))) p.0)
+    none_above b = keep_nothing (between k low high) s (all_map (λ y q. and_right (leb low (k y)) _ (le-ltb _ _ (le_trans b q))) p.0)
 
     go : (k x < low) ⊎ (low ≤ k x) → (k x < high) ⊎ (high ≤ k x) → take (h - l) (drop l s) ≡ keep_if (between k low high) s
         → take (first_in (at_least k high) (x ∷ s) - first_in (at_least k low) (x ∷ s)) (drop (first_in (at_least k low) (x ∷ s)) (x ∷ s)) ≡ keep_if (between k low high) (x ∷ s)
@@ -71,7 +72,7 @@ module _ {A : Type 0} (k : A → ℕ) (d : A) (s : List A) (p : Sorted k s) wher
     first n = first_in (at_least k n) s
 
     pub first_later : low ≤ high → first low ≤ first high
-    first_later h = go (lt_or_ge (first high) (length s))
+    first_later h = go (cases_lt (first high) (length s))
       where
         go : (first high < length s) ⊎ (length s ≤ first high) → first low ≤ first high
         go (inl q) = place-below k low s (first high) d q (le_trans h (leb-true _ _ (first_in_passes (at_least k high) s d q)))

@@ -24,6 +24,18 @@ module _ {B : Type 0} (m : Outcome (Unit {0})) (n : Outcome B) where
   unfolding ◌>>◌
   after-stops number section address e = rw e
 
+-- a chain after a chain
+pub bind_assoc : {A B C : Type 0} (m : Outcome A) (f : A → Outcome B) (g : B → Outcome C) → ((m >>= f) >>= g) ≡ (m >>= λ a. f a >>= g)
+unfolding ◌>>=◌
+bind_assoc (accepted a) f g = refl
+bind_assoc (refused number section address) f g = refl
+
+-- the same goes on
+pub onward : {A B : Type 0} (m : Outcome A) (f g : A → Outcome B) → ((a : A) → f a ≡ g a) → (m >>= f) ≡ (m >>= g)
+unfolding ◌>>=◌
+onward (accepted a) f g e = e a
+onward (refused number section address) f g e = refl
+
 -- the value as it is
 pub bind_same : {A : Type 0} (m : Outcome A) → (m >>= λ a. accepted a) ≡ m
 unfolding ◌>>=◌

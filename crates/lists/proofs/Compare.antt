@@ -1,30 +1,17 @@
--- Which of two numbers is the larger, two comparisons that are alike, and a test that fails beside another. Assumes nothing.
+-- Two comparisons that are alike, the lower and the higher of two numbers, and a test beside one that holds. Assumes nothing.
 use mathlib.Core.Path.{◌≡◌, refl}
-use mathlib.Core.Bool.{Bool, true, false, ◌&&◌}
+use mathlib.Core.Bool.{Bool, true, false, cond, ◌&&◌}
 use mathlib.Core.Logic.{◌⊎◌, inl, inr}
-use Prim.Native.Nat.{ℕ, ◌≤◌, ◌<◌}
+use Prim.Native.Nat.{ℕ, ◌≤◌, ◌<◌, max}
 use native.Mathlib.Omega.{arith}
 use lib.Dec.{leb, ltb}
 use borrow.Author.Tests.{le-leb, lt-leb, ltb-true, ltb-false}
-
-pub lt_or_ge : (a b : ℕ) → (a < b) ⊎ (b ≤ a)
-lt_or_ge a b = go (ltb a b) refl
-  where
-    go : (t : Bool) → ltb a b ≡ t → (a < b) ⊎ (b ≤ a)
-    go true e = inl (ltb-true a b e)
-    go false e = inr (ltb-false a b e)
-
-pub same_or_other : (a b : ℕ) → (a ≡ b) ⊎ ((a < b) ⊎ (b < a))
-same_or_other a b = go (lt_or_ge a b) (lt_or_ge b a)
-  where
-    go : (a < b) ⊎ (b ≤ a) → (b < a) ⊎ (a ≤ b) → (a ≡ b) ⊎ ((a < b) ⊎ (b < a))
-    go (inl h) g = inr (inl h)
-    go (inr h) (inl g) = inr (inr g)
-    go (inr h) (inr g) = inl (omega arith)
+use Rattle.std.proofs.lemmas.Bool.{cases_lt}
+use Rattle.lists.specs.Bounds.{lower, higher}
 
 -- two comparisons that imply each other are one
 pub same_leb : (x y u v : ℕ) → (x ≤ y → u ≤ v) → (u ≤ v → x ≤ y) → leb x y ≡ leb u v
-same_leb x y u v f g = go (lt_or_ge v u)
+same_leb x y u v f g = go (cases_lt v u)
   where
     other : v < u → (y < x) ⊎ (x ≤ y) → leb x y ≡ false
     other h (inl q) = lt-leb _ _ q
@@ -32,17 +19,48 @@ same_leb x y u v f g = go (lt_or_ge v u)
 
     go : (v < u) ⊎ (u ≤ v) → leb x y ≡ leb u v
     go (inr h) = rw (le-leb _ _ h) (le-leb _ _ (g h))
-    go (inl h) = rw (lt-leb _ _ h) (other h (lt_or_ge y x))
-
--- no test both holds and fails
-pub never : false ≡ true → ⊥
-never e = let z : ◌≡◌ {A = ℕ} 0 1 = cc in omega arith
-
--- the second test fails, so both together do
-pub and_fails : (a : Bool) {b : Bool} → b ≡ false → (a && b) ≡ false
-and_fails true e = e
-and_fails false e = refl
+    go (inl h) = rw (lt-leb _ _ h) (other h (cases_lt y x))
 
 -- the first test holds, so the second decides
 pub and_holds : {a b : Bool} → a ≡ true → (a && b) ≡ b
 and_holds e = rw e
+
+-- the larger of two numbers is one of them
+pub one_of_two : (a b : ℕ) → (max a b ≡ a) ⊎ (max a b ≡ b)
+one_of_two a b = go (cases_lt a b)
+  where
+    go : (a < b) ⊎ (b ≤ a) → (max a b ≡ a) ⊎ (max a b ≡ b)
+    go (inl h) = inr (omega arith)
+    go (inr h) = inl (omega arith)
+
+-- the lower of two numbers is above neither
+module _ (a b : ℕ) where
+  pub lower-first : lower a b ≤ a
+  lower-first = go (ltb a b) refl
+    where
+      go : (t : Bool) → ltb a b ≡ t → cond t a b ≤ a
+      go true e = omega arith
+      go false e = ltb-false a b e
+
+  pub lower-second : lower a b ≤ b
+  lower-second = go (ltb a b) refl
+    where
+      go : (t : Bool) → ltb a b ≡ t → cond t a b ≤ b
+      go true e = let h = ltb-true a b e in omega arith
+      go false e = omega arith
+
+-- what neither of two numbers is above, neither the lower nor the higher is
+module _ (a b most : ℕ) (p : a ≤ most) (q : b ≤ most) where
+  pub lower-most : lower a b ≤ most
+  lower-most = go (ltb a b)
+    where
+      go : (t : Bool) → cond t a b ≤ most
+      go true = p
+      go false = q
+
+  pub higher-most : higher a b ≤ most
+  higher-most = go (ltb a b)
+    where
+      go : (t : Bool) → cond t b a ≤ most
+      go true = q
+      go false = p

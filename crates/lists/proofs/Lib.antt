@@ -24,7 +24,6 @@ pub mod InsertBy
 pub mod Settle
 pub mod FilterRows
 pub mod SomeRows
-pub mod Both
 pub mod Each
 pub mod Mapping
 pub mod Binds

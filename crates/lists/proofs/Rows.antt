@@ -105,13 +105,8 @@ module _ {A : Type 0} (f : ℕ → A) (n : ℕ) where
 pub unmapped : (X Y : Type 0) (f : X → Y) (l : List X) (n : ℕ) → length (map f l) ≡ n → length l ≡ n
 unmapped X Y f l n p = sym (length-map l f) ∙ p
 
--- the rows made of a list: at a place within it, and past its end
+-- the rows made of a list, past its end
 module _ {A B : Type 0} (f : A → B) where
-  pub get_d_map : (l : List A) (k : ℕ) (d : A) (e : B) → k < length l → get_or (map f l) k e ≡ f (get_or l k d)
-  get_d_map [] k d e h = absurd (not-suc-le-zero h)
-  get_d_map (x ∷ l) zero d e h = refl
-  get_d_map (x ∷ l) (suc k) d e h = get_d_map l k d e (le_of_suc-le-suc h)
-
   pub get_or-map_past : (l : List A) (k : ℕ) (e : B) → length l ≤ k → get_or (map f l) k e ≡ e
   get_or-map_past [] k e h = refl
   get_or-map_past (x ∷ l) zero e h = absurd (not-suc-le-zero h)

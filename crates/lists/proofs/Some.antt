@@ -9,10 +9,10 @@ use native.Mathlib.Numerals.{add-one}
 use native.Mathlib.Omega.{arith}
 use lib.ListN.{length, get_or, drop, drop_of_length-le}
 use lib.Seq.{drop-cons}
+use Rattle.std.proofs.lemmas.Bool.{or_parts}
 use Rattle.lists.specs.Rows.{tabulate, keep_if, first_in, some}
 use Rattle.lists.specs.Sort.{All, none, each}
 use Rattle.lists.proofs.Rows.{rest-cons, rest-none}
-use Rattle.lists.proofs.Tests.{or_false}
 
 module _ {A : Type 0} (p : A → Bool) where
   -- the elements from i on: element i, and those from i + 1 on
@@ -29,8 +29,8 @@ module _ {A : Type 0} (p : A → Bool) where
   pub some_false : (l : List A) (i : ℕ) (d : A) → some p l ≡ false → i < length l → p (get_or l i d) ≡ false
   unfolding some
   some_false [] i d e h = absurd (not-suc-le-zero h)
-  some_false (x ∷ l) zero d e h = (or_false (p x) (some p l) e).0
-  some_false (x ∷ l) (suc i) d e h = some_false l i d (or_false (p x) (some p l) e).1 (le_of_suc-le-suc h)
+  some_false (x ∷ l) zero d e h = (or_parts (p x) (some p l) e).0
+  some_false (x ∷ l) (suc i) d e h = some_false l i d (or_parts (p x) (some p l) e).1 (le_of_suc-le-suc h)
 
 -- ---- two tests, the elements that pass a test, and those of a map
 

@@ -1,7 +1,7 @@
 -- Whether some row of a table passes a test, `some`: with the answer of the rows before it, and the first rows with one more. Assumes nothing.
 use mathlib.Core.Path.{◌≡◌, refl, sym, ap, ◌∙◌}
 use mathlib.Core.List.{List, [], ◌∷◌, ◌++◌}
-use mathlib.Core.Bool.{Bool, true, false, ◌||◌}
+use mathlib.Core.Bool.{Bool, true, false, ◌||◌, or-false}
 use Prim.Native.Nat.{ℕ, ◌+◌, ◌-◌, ◌≤◌, ◌<◌}
 use Rattle.lists.specs.Rows.{tabulate, some}
 use Rattle.lists.proofs.Rows.{rest-cons, rest-none, tabulate_more}
@@ -9,10 +9,6 @@ use Rattle.lists.proofs.Rows.{rest-cons, rest-none, tabulate_more}
 or_assoc : (a b c : Bool) → ((a || b) || c) ≡ (a || (b || c))
 or_assoc true b c = refl
 or_assoc false b c = refl
-
-pub or_no : (a : Bool) → (a || false) ≡ a
-or_no true = refl
-or_no false = refl
 
 module _ {A : Type 0} (p : A → Bool) where
   pub some-append : (l r : List A) → some p (l ++ r) ≡ (some p l || some p r)
@@ -28,10 +24,10 @@ module _ {A : Type 0} (p : A → Bool) where
 
     pub some_ended : (n i : ℕ) (seen : Bool) → n ≤ i → (seen || some p (tabulate f i (n - i))) ≡ seen
     unfolding some
-    some_ended n i seen h = rw (rest-none f i n h) (or_no seen)
+    some_ended n i seen h = rw (rest-none f i n h) (or-false seen)
 
     -- the first i + 1 rows
     pub some_more : (i : ℕ) → some p (tabulate f 0 (i + 1)) ≡ (some p (tabulate f 0 i) || p (f i))
     unfolding some
     some_more i =
-        ap (some p) (tabulate_more f i) ∙ some-append (tabulate f 0 i) (f i ∷ []) ∙ ap (λ (b : Bool). some p (tabulate f 0 i) || b) (or_no (p (f i)))
+        ap (some p) (tabulate_more f i) ∙ some-append (tabulate f 0 i) (f i ∷ []) ∙ ap (λ (b : Bool). some p (tabulate f 0 i) || b) (or-false (p (f i)))

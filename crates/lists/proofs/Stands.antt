@@ -1,15 +1,15 @@
 -- What stands in a list of numbers that was sorted, of which some were kept, or that counts on from a number. Assumes nothing.
 use mathlib.Core.Path.{◌≡◌, refl, sym, ap, ◌∙◌}
 use mathlib.Core.List.{List, [], ◌∷◌}
-use mathlib.Core.Bool.{Bool, true, false, cond}
+use mathlib.Core.Bool.{Bool, true, false, cond, false≢true}
 use mathlib.Core.Logic.{◌⊎◌, inl, inr}
 use Prim.Native.Nat.{ℕ, zero, suc, ◌+◌, ◌≤◌, ◌<◌}
 use native.Mathlib.Omega.{arith}
 use lib.Dec.{leb}
+use Rattle.std.proofs.lemmas.Bool.{cases_lt}
 use Rattle.lists.specs.Rows.{keep_if, tabulate}
 use Rattle.lists.specs.Members.{In}
 use Rattle.lists.specs.Sort.{insert_key, sort_by}
-use Rattle.lists.proofs.Compare.{lt_or_ge, never}
 
 -- ---- those that pass a test
 module _ (p : ℕ → Bool) (v : ℕ) where
@@ -31,7 +31,7 @@ module _ (p : ℕ → Bool) (v : ℕ) where
       go : (t : Bool) → p x ≡ t → In v (x ∷ s) → (In v s → p v ≡ true → In v (keep_if p s)) → In v (cond t (x ∷ keep_if p s) (keep_if p s))
       go true h (inl q) later = inl q
       go true h (inr j) later = inr (later j e)
-      go false h (inl q) later = absurd (never (sym h ∙ ap p (sym q) ∙ e))
+      go false h (inl q) later = absurd (false≢true (sym h ∙ ap p (sym q) ∙ e))
       go false h (inr j) later = later j e
 
 -- ---- those of a sorted list
@@ -87,7 +87,7 @@ module _ (v : ℕ) where
   pub numbers_in : (from n : ℕ) → from ≤ v → v < from + n → In v (tabulate (λ x. x) from n)
   unfolding tabulate
   numbers_in from zero h g = absurd (omega arith)
-  numbers_in from (suc n) h g = go (lt_or_ge from v) (λ q. numbers_in (suc from) n q (omega arith))
+  numbers_in from (suc n) h g = go (cases_lt from v) (λ q. numbers_in (suc from) n q (omega arith))
     where
       go : (from < v) ⊎ (v ≤ from) → (from < v → In v (tabulate (λ x. x) (suc from) n)) → In v (from ∷ tabulate (λ x. x) (suc from) n)
       go (inl q) later = inr (later q)

@@ -7,6 +7,7 @@ use native.Mathlib.Omega.{arith}
 use lib.Dec.{eqb}
 use lib.ListN.{get_or}
 use borrow.Author.Tests.{eqb-true, eqb-false, eq-eqb, ne_eqb}
+use Rattle.std.proofs.lemmas.Bool.{or_parts}
 use Rattle.lists.specs.Rows.{any_of, any_from}
 
 -- where a test's arms meet: x is what the arm that was taken gives
@@ -17,24 +18,28 @@ module _ {A : Type 0} {b : Bool} {x : A} (t e : A) where
   pub by_false : b ≡ false → x ≡ e → x ≡ cond b t e
   by_false h p = rw h p
 
--- neither test holds
-pub or_false : (a b : Bool) → (a || b) ≡ false → (a ≡ false) × (b ≡ false)
-or_false true b e = absurd (let z : ◌≡◌ {A = ℕ} 0 1 = cc in omega arith)
-or_false false b e = (refl, e)
-
 -- none of the tests holds
 none_from_here : (t : Bool) (l : List Bool) (i : ℕ) → any_from t l ≡ false → get_or (t ∷ l) i false ≡ false
 unfolding any_from
 none_from_here t [] zero e = e
 none_from_here t [] (suc i) e = refl
-none_from_here t (u ∷ l) zero e = (or_false t u (none_from_here (t || u) l 0 e)).0
-none_from_here t (u ∷ l) (suc zero) e = (or_false t u (none_from_here (t || u) l 0 e)).1
+none_from_here t (u ∷ l) zero e = (or_parts t u (none_from_here (t || u) l 0 e)).0
+none_from_here t (u ∷ l) (suc zero) e = (or_parts t u (none_from_here (t || u) l 0 e)).1
 none_from_here t (u ∷ l) (suc (suc i)) e = none_from_here (t || u) l (suc i) e
 
 pub none_of : (l : List Bool) (i : ℕ) → any_of l ≡ false → get_or l i false ≡ false
 unfolding any_of
 none_of [] i e = refl
 none_of (t ∷ l) i e = none_from_here t l i e
+
+-- none of four tests holds, or of six
+pub none_of_four : (a b c d : Bool) → a ≡ false → b ≡ false → c ≡ false → d ≡ false → any_of (a ∷ b ∷ c ∷ d ∷ []) ≡ false
+unfolding any_of any_from
+none_of_four a b c d p q r s = rw (p, q, r, s)
+
+pub none_of_six : (a b c d e f : Bool) → a ≡ false → b ≡ false → c ≡ false → d ≡ false → e ≡ false → f ≡ false → any_of (a ∷ b ∷ c ∷ d ∷ e ∷ f ∷ []) ≡ false
+unfolding any_of any_from
+none_of_six a b c d e f p q r s t u = rw (p, q, r, s, t, u)
 
 -- not both tests hold, and the first does
 pub and_false : (a b : Bool) → (a && b) ≡ false → a ≡ true → b ≡ false

@@ -13,7 +13,7 @@ use lib.ListN.{length, get_or, take, drop, set, length-set, length-append, lengt
 use lib.Seq.{length-take-le, take_all, take-append_seam, take-suc-set, get_or-append_seam}
 use Rattle.obj.specs.declared.Reloc.{Reloc}
 use Rattle.std.specs.Prelude.{Option, is_some, ltb}
-use Rattle.lists.proofs.Rows.{get_d_map}
+use Rattle.std.proofs.lemmas.List.{get_or-map}
 use Rattle.lists.proofs.Tests.{none_of}
 use Rattle.obj.specs.Records.{section_at, reloc_at}
 use Rattle.names.specs.Names.{number_of, name_bad}
@@ -387,7 +387,7 @@ module _ (c : Ceilings) (file : List ℕ) (at len : ℕ) (n : Counts) (places le
   address_low : (reloc_at file at).address < 4026531840
   address_low =
       let home = old.good.sections.each (reloc_at file at).section known in
-      let inside = rw (get_d_map (section_at file) (tables_in n places lengths).sections (reloc_at file at).section 0 no_section known)
+      let inside = rw (get_or-map (section_at file) (tables_in n places lengths).sections (reloc_at file at).section 0 no_section known)
       at (reloc_inside _ _ _ _ (reloc_at file at) p.good).1 in
       omega (arith, home.end)
 

@@ -9,9 +9,10 @@ use borrow.Author.Tests.{ltb-false}
 use lib.Dec.{ltb, leb}
 use lib.ListN.{length, get_or, take, drop, length-append, length-map, length-drop}
 use lib.Seq.{length-take-le}
+use Rattle.std.proofs.lemmas.List.{get_or-map}
 use Rattle.lists.specs.Outcome.{accepted, refused}
 use Rattle.lists.proofs.Outcomes.{not_both, same_accepted, then_inv}
-use Rattle.lists.proofs.Rows.{get_d_map, has_place}
+use Rattle.lists.proofs.Rows.{has_place}
 use Rattle.fields.specs.Fields.{le16, le32}
 use Rattle.obj.specs.Records.{section_at, symbol_at, reloc_at, partial_at, partial_numbered, unit_at, partial_width}
 use Rattle.lists.proofs.Tests.{none_of}
@@ -277,21 +278,21 @@ module _ {c : Ceilings} {file : List ℕ} {t : Loaded} (g : Good c file t) where
       omega arith
 
   pub good_sections : (k : ℕ) → k < length t.sections → SectionGood t.lengths (get_or (sections_in file t.sections) k no_section)
-  good_sections k h = rw (get_d_map (section_at file) t.sections k 0 no_section h) (g.sections.each k h)
+  good_sections k h = rw (get_or-map (section_at file) t.sections k 0 no_section h) (g.sections.each k h)
 
   pub good_symbols : (k : ℕ) → k < length t.symbols
       → SymbolGood (length t.names) (sections_in file t.sections) (get_or (symbols_in file t.symbols) k no_symbol)
-  good_symbols k h = rw (get_d_map (symbol_at file) t.symbols k 0 no_symbol h) (g.symbols.each k h)
+  good_symbols k h = rw (get_or-map (symbol_at file) t.symbols k 0 no_symbol h) (g.symbols.each k h)
 
   pub good_relocs : (k : ℕ) → k < length t.relocations
       → RelocGood (sections_in file t.sections) (length t.symbols) (get_or (relocs_in file t.relocations) k no_reloc)
-  good_relocs k h = rw (get_d_map (reloc_at file) t.relocations k 0 no_reloc h) (g.relocations.each k h)
+  good_relocs k h = rw (get_or-map (reloc_at file) t.relocations k 0 no_reloc h) (g.relocations.each k h)
 
   pub good_splits : (k : ℕ) → k < length t.splits → SplitGood t.lengths (get_or (partials_in file t.splits) k no_split)
   good_splits k h = rw (partial_is file t.splits k h) (any_number t.lengths file (get_or t.splits k 0) k (g.splits.each k h))
 
   pub good_units : (k : ℕ) → k < length t.units → UnitGood t.lengths (get_or (units_in file t.units) k no_unit)
-  good_units k h = rw (get_d_map (unit_at file) t.units k 0 no_unit h) (g.units.each k h)
+  good_units k h = rw (get_or-map (unit_at file) t.units k 0 no_unit h) (g.units.each k h)
 
   -- the readers' `AllHeld`, within ceilings that fit 32 bits
   pub held_sections : c.sections ≤ 4294967295 → AllHeld 15 file t.sections

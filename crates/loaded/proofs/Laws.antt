@@ -5,7 +5,7 @@ use mathlib.Core.Path.{◌≡◌, sym, ap, ◌∙◌}
 use mathlib.Core.List.{List}
 use native.Mathlib.Omega.{arith}
 use lib.ListN.{length, get_or, length-map}
-use Rattle.lists.proofs.Rows.{get_d_map}
+use Rattle.std.proofs.lemmas.List.{get_or-map}
 use Rattle.align.specs.Align.{bad_align}
 use Rattle.obj.specs.Records.{reloc_at}
 use Rattle.obj.specs.declared.Split.{Split}
@@ -63,7 +63,7 @@ module _ {file : List ℕ} {t : Loaded} (u : Usable file t) where
 
   -- the bytes of section k are behind its head
   place_is : (k : ℕ) → k < length t.sections → get_or (byte_places t.sections) k 0 ≡ get_or t.sections k 0 + 15
-  place_is k h = get_d_map (λ place. place + 15) t.sections k 0 0 h
+  place_is k h = get_or-map (λ place. place + 15) t.sections k 0 0 h
 
   pub sections_kept : Kept file t.sections file (byte_places t.sections) t.names
   sections_kept = record {
@@ -107,7 +107,7 @@ module _ {file : List ℕ} {t : Loaded} (u : Usable file t) where
   relocs_whole = record { each = u.good.relocations.held }
 
   reloc_is : (i : ℕ) → i < length t.relocations → get_or (relocs_in file t.relocations) i no_reloc ≡ relocs.reloc_of file t.relocations i
-  reloc_is i h = get_d_map (reloc_at file) t.relocations i 0 no_reloc h
+  reloc_is i h = get_or-map (reloc_at file) t.relocations i 0 no_reloc h
 
   pub relocs_rising : relocs.Rising (relocs.reloc_of file t.relocations) (length t.relocations)
   relocs_rising = record { each = rises }

@@ -2,7 +2,7 @@
 -- Assumes nothing.
 use mathlib.Core.Path.{◌≡◌, refl, sym, ap, ◌∙◌}
 use mathlib.Core.List.{List, [], ◌∷◌}
-use mathlib.Core.Bool.{Bool, true, false, cond, not, ◌&&◌}
+use mathlib.Core.Bool.{Bool, true, false, cond, not, ◌&&◌, false≢true}
 use Prim.Native.Nat.{ℕ, ◌+◌, ◌-◌, ◌*◌, ◌%◌, ◌≤◌, ◌<◌}
 use native.Mathlib.Omega.{arith}
 use lib.Dec.{eqb, leb, ltb}
@@ -10,8 +10,7 @@ use lib.ListN.{length, get_or, length-map}
 use borrow.Author.Tests.{eq-eqb, ne_eqb, eqb-true, eqb-false, le-leb, lt-leb, lt-ltb, le-ltb}
 use Rattle.lists.specs.Rows.{tabulate, keep_if}
 use Rattle.lists.specs.Outcome.{Outcome, accepted, refused, refuse, ◌>>◌}
-use Rattle.lists.proofs.Compare.{never}
-use Rattle.lists.proofs.Rows.{length-tabulate, get_d_map}
+use Rattle.lists.proofs.Rows.{length-tabulate}
 use Rattle.lists.proofs.Parts.{tabulate_all}
 use Rattle.lists.proofs.Outcomes.{fails, passes}
 use Rattle.obj.specs.declared.Split.{Split}
@@ -27,6 +26,7 @@ use Rattle.std.specs.Prelude.{Result, Ok, Err, Option, Some, None, is_some}
 use Rattle.obj.specs.declared.Refusal.{Refusal}
 use Rattle.std.specs.Prelude.{min, max}
 use Rattle.std.proofs.lemmas.Bool.Decides.{nat_tests}
+use Rattle.std.proofs.lemmas.List.{get_or-map}
 use Rattle.lists.specs.Bounds.{lower, higher}
 use Rattle.merge.specs.declared.Step as steps
 use Rattle.merge.specs.declared.Step.TheVariants.{Join}
@@ -144,12 +144,12 @@ module _ (room : ℕ) (c : Columns) (n : ℕ) (new : Split) where
         → on_own room (rows c n) new own ≡ refused 22 new.section new.start
     unfolding on_own
     own_several (Some j) s e = by_second j s.0 true (lt-ltb j n s.1)
-    own_several None s e = absurd (never e)
+    own_several None s e = absurd (false≢true e)
 
     pub own_one : (second : Option ℕ) → NextHit (of_unit new.section new.unit) c n (i + 1) second → is_some second ≡ false
         → on_own room (rows c n) new own ≡ on_old (rows c n) new (row_at c i)
     unfolding on_own
-    own_one (Some j) s e = absurd (never (sym e))
+    own_one (Some j) s e = absurd (false≢true (sym e))
     own_one None s e = by_second n s false (le-ltb n n (omega arith))
 
 -- ---- up to the splits of the unit
@@ -167,8 +167,8 @@ module _ (heads places : List ℕ) (cap : ℕ) (l : List Split) (new : Split) wh
   module _ (h : new.section < length places) where
     end_there : get_or with_heads.ends new.section 0 ≡ section_end (section_at heads (get_or places new.section 0))
     end_there =
-        get_d_map section_end (sections_in heads places) new.section no_section 0 (omega (arith, length-map places (section_at heads)))
-        ∙ ap section_end (get_d_map (section_at heads) places new.section 0 no_section h)
+        get_or-map section_end (sections_in heads places) new.section no_section 0 (omega (arith, length-map places (section_at heads)))
+        ∙ ap section_end (get_or-map (section_at heads) places new.section 0 no_section h)
 
     module _ (limit : ℕ) (e : limit ≡ section_end (section_at heads (get_or places new.section 0))) where
       past_20 : decide with_heads l new

@@ -8,11 +8,11 @@ use native.Mathlib.Omega.{arith}
 use borrow.Author.Tests.{eqb-true}
 use lib.Dec.{ltb}
 use lib.ListN.{length}
+use Rattle.std.proofs.lemmas.Bool.{and_parts}
 use Rattle.lists.specs.Sort.{All, none, each}
 use Rattle.lists.specs.Bounds.{lower}
 use Rattle.lists.specs.Outcome.{accepted}
 use Rattle.lists.proofs.All.{all_keep, all_any}
-use Rattle.lists.proofs.Both.{both}
 use Rattle.lists.proofs.Filter.{keep_passes}
 use Rattle.lists.proofs.Outcomes.{bind_inv, same_accepted}
 use Rattle.obj.specs.declared.Split.{Split}
@@ -80,7 +80,7 @@ module _ (P : Split → Type 0) (keeps : Keeps P) where
 
   -- it is of the new split's section
   same_section : (new old : Split) → of_unit new.section new.unit old ≡ true → new.section ≡ old.section
-  same_section new old e = sym (eqb-true _ _ (both _ _ e).0)
+  same_section new old e = sym (eqb-true _ _ (and_parts _ _ e).0)
 
   module _ (g : Given) where
     kept_on_push : (rows : List Split) (new : Split) → All P rows → (Inside g new → P new) → Pushes g rows new → All P (pushed new rows)

@@ -9,12 +9,12 @@ use native.Mathlib.Omega.{arith}
 use borrow.Author.Tests.{eqb-true, eqb-false, ne_eqb, le-ltb, lt-leb}
 use lib.Dec.{eqb, ltb}
 use lib.ListN.{length, get_or, length-map}
+use Rattle.std.proofs.lemmas.List.{get_or-map}
 use Rattle.lists.specs.Rows.{any_of, any_from}
 use Rattle.lists.specs.Sort.{All}
 use Rattle.lists.specs.Outcome.{accepted}
 use Rattle.lists.proofs.All.{all_at}
 use Rattle.lists.proofs.Each.{all_placed}
-use Rattle.lists.proofs.Rows.{get_d_map}
 use Rattle.align.specs.Align.{bad_align}
 use Rattle.obj.specs.declared.Section.{Section}
 use Rattle.obj.specs.declared.Split.{Split}
@@ -26,6 +26,7 @@ use Rattle.tables.proofs.Laws as table-laws
 use Rattle.splits.specs.Rising.{NotBelow, Rising}
 use Rattle.splits.proofs.Rising.{rising_at, rising_of}
 use Rattle.lists.specs.Bounds.{lower, higher}
+use Rattle.lists.proofs.Compare.{higher-most, lower-most}
 use Rattle.merge.specs.Merge.{Given, given, section_end, joint_of, merge_one, merge_all}
 use Rattle.merge.specs.Kept.{Inside, Keeps}
 use Rattle.merge.proofs.Decisions.{bit_product}
@@ -74,19 +75,6 @@ module _ (lengths : List ℕ) where
       rw (some-length (get_or lengths s.unit 0) q.named, rename_good s q, q.aligned, le-ltb 7 s.flags q.flags, le-ltb 4026531840 s.start q.start, le-ltb 4026531840 s.end q.end)
 
 -- ---- what a merge keeps of a split
-lower-most : (a b most : ℕ) → a ≤ most → b ≤ most → lower a b ≤ most
-lower-most a b most h q = go (ltb a b)
-  where
-    go : (t : Bool) → cond t a b ≤ most
-    go true = h
-    go false = q
-
-higher-most : (a b most : ℕ) → a ≤ most → b ≤ most → higher a b ≤ most
-higher-most a b most h q = go (ltb a b)
-  where
-    go : (t : Bool) → cond t b a ≤ most
-    go true = q
-    go false = h
 
 module _ (lengths : List ℕ) (g : Given) where
   -- no fault of its own, and neither 20 nor 21
@@ -140,7 +128,7 @@ module _ (lengths : List ℕ) (g : Given) where
 module _ (lengths : List ℕ) (sections : List Section) (room : ℕ) where
   -- where a section ends, as the merge is given it
   end_given : (k : ℕ) → k < length sections → get_or (map section_end sections) k 0 ≡ section_end (get_or sections k no_section)
-  end_given k h = get_d_map section_end sections k no_section 0 h
+  end_given k h = get_or-map section_end sections k no_section 0 h
 
   module _ (rows : List Split) (faultless : (k : ℕ) → k < length rows → split_fault lengths sections rows k ≡ 0) where
     passed : records_check (split_fault lengths sections rows) (length rows) ≡ accepted tt

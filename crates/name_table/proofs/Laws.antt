@@ -12,12 +12,13 @@ use borrow.Author.Tests.{ltb-false, eqb-true, eqb-false}
 use lib.Dec.{eqb, ltb}
 use lib.ListN.{length, get_or, take, drop, set, length-set, length-take, length-drop, length-map}
 use lib.Seq.{take-suc-set, get_or-set_same, get_or-set_other, get_or-take, length-take-le}
+use Rattle.std.proofs.lemmas.Bool.{or_parts}
 use Rattle.lists.specs.Outcome.{Outcome, accepted, refused}
 use Rattle.lists.specs.Rows.{tabulate, any_of}
 use Rattle.lists.proofs.Outcomes.{not_both, then_both}
 use Rattle.lists.proofs.Rows.{length-tabulate, get_d_tabulate, tabulate_more, tabulate_ext}
 use Rattle.lists.proofs.Some.{some_false}
-use Rattle.lists.proofs.Tests.{none_of, or_false}
+use Rattle.lists.proofs.Tests.{none_of}
 use Rattle.names.specs.Names.{name_at, names_of, Named, number_of, outside, name_bad}
 use Rattle.names.specs.Index.{bucket_of, Indexed, InBucket}
 use Rattle.names.proofs.Laws.{number_le, number_below}
@@ -235,7 +236,7 @@ module _ (ceiling : ℕ) (ends bytes : List ℕ) (passed : names_check ceiling e
   unfolding name_bad
   good_bytes k i h q =
       let none = some_false outside (name_in ends bytes k) i 0 (none_of _ 1 (passed_sound k h).good) q in
-      let two = or_false _ _ none in
+      let two = or_parts _ _ none in
       (ltb-false _ _ two.0, ltb-false _ _ two.1)
 
   no_two : (j k : ℕ) → j < k → k < length ends / 2 → name_in ends bytes j ≢ name_in ends bytes k

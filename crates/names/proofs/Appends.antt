@@ -1,7 +1,7 @@
 -- A name more in a name table: its bytes lie behind all others, so the names before it stay. Assumes nothing.
 use mathlib.Core.Path.{◌≡◌, refl, sym, ap, ap₂, ◌∙◌}
 use mathlib.Core.List.{List, [], ◌∷◌, ◌++◌}
-use mathlib.Core.Bool.{Bool, true, false}
+use mathlib.Core.Bool.{Bool, true, false, false≢true}
 use Prim.Native.Nat.{ℕ, ◌+◌, ◌≤◌, ◌<◌}
 use native.Mathlib.Nat.{zero-add}
 use native.Mathlib.Omega.{arith}
@@ -90,7 +90,7 @@ module _ (bytes places lengths : List ℕ) (n used : ℕ) (name : List ℕ) (p :
 -- ---- what `append` leaves
 
 not_both : {A : Type 0} → false ≡ true → A
-not_both e = absurd (let z : ◌≡◌ {A = ℕ} 0 1 = cc in omega arith)
+not_both e = absurd (false≢true e)
 
 module _ (before : Columns) (used n : ℕ) (name : List ℕ) (maxNames maxBytes : ℕ) where
   -- a full table stays

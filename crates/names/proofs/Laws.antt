@@ -2,7 +2,7 @@
 -- `length-names`, `name_there`, and `number_there`, `number_below`, `number_none`. Assumes nothing.
 use mathlib.Core.Path.{◌≡◌, refl, sym, ap, ap₂, ◌∙◌}
 use mathlib.Core.List.{List, [], ◌∷◌}
-use mathlib.Core.Bool.{Bool, true, false, ◌&&◌, ◌||◌}
+use mathlib.Core.Bool.{Bool, true, false, ◌&&◌, ◌||◌, and-false}
 use Prim.Native.Nat.{ℕ, suc, ◌+◌, ◌-◌, ◌≤◌, ◌<◌}
 use native.Mathlib.Nat.{zero-add}
 use native.Mathlib.Numerals.{add-one}
@@ -14,20 +14,12 @@ use lib.Seq.{drop-cons}
 use Rattle.lists.specs.Rows.{first_in, some}
 use Rattle.std.specs.List.{list_any}
 use Rattle.std.specs.Cmp.Lexicographic.{pointwise}
+use Rattle.std.proofs.lemmas.Bool.{and_parts}
 use Rattle.lists.proofs.Rows.{length-tabulate, get_d_tabulate}
 use Rattle.lists.proofs.FirstIn.{first_in_le, first_in_passes, first_in-first, first_in_before, first_in-none}
 use Rattle.names.specs.Names.{name_at, names_of, Named, same_name, number_of}
 
 -- ---- the same bytes
-
--- both tests hold
-pub both : (s t : Bool) → (s && t) ≡ true → (s ≡ true) × (t ≡ true)
-both true t e = (refl, e)
-both false t e = absurd (let z : ◌≡◌ {A = ℕ} 0 1 = cc in omega arith)
-
-and_false : (t : Bool) → (t && false) ≡ false
-and_false true = refl
-and_false false = refl
 
 -- a name is the same as itself
 pub same_self : (x : List ℕ) → same_name x x ≡ true
@@ -42,7 +34,7 @@ same_equal [] [] e = refl
 same_equal [] (b ∷ y) e = absurd (let z : ◌≡◌ {A = ℕ} 0 1 = cc in omega arith)
 same_equal (a ∷ x) [] e = absurd (let z : ◌≡◌ {A = ℕ} 0 1 = cc in omega arith)
 same_equal (a ∷ x) (b ∷ y) e =
-    let p = both (eqb a b) (same_name x y) e in
+    let p = and_parts (eqb a b) (same_name x y) e in
     ap₂ (λ (c : ℕ) (l : List ℕ). c ∷ l) (eqb-true a b p.0) (same_equal x y p.1)
 
 -- names that are not the same are not, either way round
@@ -59,7 +51,7 @@ unfolding same_name
 other_lengths [] [] h = absurd (h refl)
 other_lengths [] (b ∷ y) h = refl
 other_lengths (a ∷ x) [] h = refl
-other_lengths (a ∷ x) (b ∷ y) h = rw (other_lengths x y (λ e. h (ap suc e))) (and_false (eqb a b))
+other_lengths (a ∷ x) (b ∷ y) h = rw (other_lengths x y (λ e. h (ap suc e))) (and-false (eqb a b))
 
 -- the bytes from i on: byte i, and those from i + 1 on
 pub same_turn : (x y : List ℕ) (i : ℕ) → i < length x → i < length y

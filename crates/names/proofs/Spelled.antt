@@ -10,11 +10,12 @@ use native.Mathlib.Omega.{arith}
 use lib.Dec.{eqb, leb}
 use lib.ListN.{length}
 use borrow.Author.Tests.{eqb-false, leb-true}
+use Rattle.std.proofs.lemmas.Bool.{and_parts}
 use Rattle.lists.specs.Rows.{some, keep_if}
 use Rattle.lists.proofs.Tests.{eqb_sym}
 use Rattle.names.specs.Names.{same_name}
 use Rattle.names.specs.Fixed.{codes, spells, spells_one, of_length, linker_labels, is_linker_label}
-use Rattle.names.proofs.Laws.{both, other_lengths}
+use Rattle.names.proofs.Laws.{other_lengths}
 
 -- a name is compared with a text's bytes
 pub spelled : (text : String) (name : List ℕ) → same_name name (codes text) ≡ spells text name
@@ -84,8 +85,8 @@ unfolding have_lengths spells_one
 no_length least most [] name e h = refl
 no_length least most (text ∷ texts) name e h =
     let n = length (codes text) in
-    let p = both (leb least n && leb n most) (have_lengths least most texts) e in
-    let q = both (leb least n) (leb n most) p.0 in
+    let p = and_parts (leb least n && leb n most) (have_lengths least most texts) e in
+    let q = and_parts (leb least n) (leb n most) p.0 in
     let low = leb-true least n q.0 in
     let high = leb-true n most q.1 in
     rw (not_spelled text name (λ k. h (omega arith) (omega arith))) (no_length least most texts name p.1 h)

@@ -1,5 +1,5 @@
 -- The records of a stage table lie at the multiples of their length; a record's number as an address has 32 bits. Assumes nothing.
-use Prim.Native.Nat.{ℕ, ◌+◌, ◌*◌, ◌≤◌, ◌<◌}
+use Prim.Native.Nat.{ℕ, ◌*◌, ◌<◌}
 use mathlib.Core.Path.{◌≡◌, refl, ap, ◌∙◌}
 use mathlib.Core.Bool.{Bool, true, false, cond}
 use native.Mathlib.Nat.{zero-add}
@@ -7,7 +7,6 @@ use native.Mathlib.Omega.{arith}
 use borrow.Author.Tests.{ltb-true}
 use lib.Dec.{ltb}
 use lib.ListN.{length, get_or}
-use Rattle.lists.specs.Rows.{tabulate}
 use Rattle.lists.proofs.Rows.{get_d_tabulate, length-tabulate}
 use Rattle.obj.specs.Answers.{place}
 use Rattle.obj.specs.Records.{stage_places}

@@ -5,8 +5,6 @@ use mathlib.Core.List.{List}
 use lib.ListN.{get_or}
 use lib.IntN.{ℤ}
 use Rattle.fields.specs.Fields.{le16, le32, le64, signed32, signed64}
-use Rattle.obj.specs.declared.Reloc.{Reloc}
-use Rattle.obj.specs.declared.Unit as units
 use Rattle.obj.specs.Records.{reloc_at, unit_at}
 
 module _ (b : List ℕ) (at : ℕ) where

@@ -1,6 +1,6 @@
 -- The answers: what a check or a stage says, the outcome that it means, and the word that an entry gives for it.
 -- Document 01: "A refusal is a number, section and address".
-use Rattle.std.specs.Prelude.{ℕ, ◌+◌, ◌*◌, Bool, cond, ltb, Result, Ok, Err}
+use Rattle.std.specs.Prelude.{ℕ, ◌+◌, ◌*◌, cond, ltb, Result, Ok, Err}
 use Rattle.lists.specs.Outcome.{Outcome, accepted, refused}
 use Rattle.obj.specs.declared.Refusal.{Refusal}
 

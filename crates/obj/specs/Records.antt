@@ -1,7 +1,7 @@
 -- The records of document 01, "Records and ceilings", at a place of lent bytes: the fields in its order and widths, little-endian.
 -- A table of a kind is the records at a column of places; a stage table's places are the multiples of the record's length.
 -- Callers use the laws of proofs/Laws.antt.
-use Rattle.std.specs.Prelude.{ℕ, ◌+◌, ◌*◌, ◌/◌, ◌%◌, ◌<◌, ◌≤◌, cond, List, map, eqb, get_or, length}
+use Rattle.std.specs.Prelude.{ℕ, ◌+◌, ◌*◌, ◌/◌, ◌%◌, ◌<◌, ◌≤◌, cond, List, eqb, get_or, length}
 use Rattle.lists.specs.Rows.{tabulate}
 use Rattle.fields.specs.Fields.{le16, le32, le64, signed32, signed64}
 use Rattle.obj.specs.declared.Section.{Section}

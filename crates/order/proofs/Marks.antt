@@ -3,7 +3,7 @@
 use Prim.Native.Nat.{ℕ, zero, suc, ◌+◌, ◌≤◌, ◌<◌, zero-le, suc-le-suc}
 use mathlib.Core.Path.{◌≡◌, refl, sym, ap, ap₂, ◌∙◌}
 use mathlib.Core.List.{List, ◌∷◌, map}
-use mathlib.Core.Bool.{Bool, true, false, cond, not, ◌&&◌, ◌||◌}
+use mathlib.Core.Bool.{Bool, true, false, cond, not, ◌&&◌, ◌||◌, or-false}
 use mathlib.Core.Logic.{◌≢◌}
 use native.Mathlib.Omega.{arith}
 use native.Mathlib.Decide.{ℕ_discrete}
@@ -12,11 +12,12 @@ use lib.Dec.{eqb, ltb}
 use lib.ListN.{length, get_or, drop, set, replicate, length-replicate, get_or-replicate}
 use lib.Seq.{get_or-set_same, get_or-set_other}
 use Rattle.std.proofs.lemmas.List.{drop_more}
+use Rattle.std.proofs.lemmas.Bool.{and_right}
 use Rattle.lists.specs.Rows.{tabulate, first_in, some}
 use Rattle.lists.specs.Sort.{All, none, each}
 use Rattle.lists.proofs.All.{all_map, all_at}
-use Rattle.lists.proofs.SomeRows.{some_more, or_no}
-use Rattle.lists.proofs.Compare.{and_fails}
+use Rattle.lists.proofs.SomeRows.{some_more}
+use Rattle.lists.proofs.Ranks.{map_same}
 use Rattle.obj.specs.declared.Split.{Split}
 use Rattle.obj.specs.declared.Unit as units
 use Rattle.tables.specs.Records.{no_unit}
@@ -36,10 +37,10 @@ module _ (f : ℕ → Split) (before : List ℕ) where
     same_mark : (v : ℕ) → hand_of v (f i) ≡ false → (x : ℕ) → cond (some (hand_of v) (tabulate f 0 i)) 65534 x ≡ cond (some (hand_of v) (tabulate f 0 (i + 1))) 65534 x
     same_mark v e x =
         ap (λ (t : Bool). cond t 65534 x)
-        (sym (some_more (hand_of v) f i ∙ ap (λ (t : Bool). some (hand_of v) (tabulate f 0 i) || t) e ∙ or_no (some (hand_of v) (tabulate f 0 i))))
+        (sym (some_more (hand_of v) f i ∙ ap (λ (t : Bool). some (hand_of v) (tabulate f 0 i) || t) e ∙ or-false (some (hand_of v) (tabulate f 0 i))))
 
     pub hand_auto : is_auto (f i) ≡ true → HandMarked (tabulate f 0 (i + 1)) before column
-    hand_auto e = record { marks = λ v h. m.marks v h ∙ same_mark v (and_fails (eqb (f i).unit v) (ap not e)) (get_or before v 0) }
+    hand_auto e = record { marks = λ v h. m.marks v h ∙ same_mark v (and_right (eqb (f i).unit v) _ (ap not e)) (get_or before v 0) }
 
     pub hand_made : is_auto (f i) ≡ false → (f i).unit < length column → HandMarked (tabulate f 0 (i + 1)) before (set column (f i).unit 65534)
     hand_made e inside = record { marks = λ v h. go v h (ℕ_discrete v (f i).unit) }
@@ -166,16 +167,11 @@ module _ (splits : List Split) (us : List units.Unit) (v : ℕ) where
       by_record false e true q = absurd (omega arith)
       by_record false e false q = absurd (omega arith)
 
--- the records of a list of nodes
-map_alike : {B : Type 0} (f g : ℕ → B) {l : List ℕ} → All (λ x. f x ≡ g x) l → map f l ≡ map g l
-map_alike f g none = refl
-map_alike {B} f g (each h p) = ap₂ (λ (x : B) (t : List B). x ∷ t) h (map_alike f g p)
-
 pub records_are : (splits : List Split) (us : List units.Unit) (column nodes' list : List ℕ) → length us ≤ 1024 → nodes' ≡ nodes splits → Recorded splits us column
     → All (λ v. v < length nodes') list → All (λ x. x < length column) nodes' → map (node_record us column nodes') list ≡ records_of splits us list
 unfolding records_of
 records_are splits us column nodes' list few e r inside named =
-    map_alike (node_record us column nodes') (λ v. record_of splits us (get_or (nodes splits) v 0))
+    map_same (node_record us column nodes') (λ v. record_of splits us (get_or (nodes splits) v 0)) _
     (all_map (λ v h.
     let x = get_or nodes' v 0 in
     ap (λ (m : ℕ). record_by us m x) (r.marks x (all_at v 0 named h))

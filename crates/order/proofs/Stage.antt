@@ -15,13 +15,14 @@ use Rattle.lists.specs.Rows.{keep_if, some}
 use Rattle.lists.specs.Outcome.{Outcome, accepted, refuse, ◌>>◌}
 use Rattle.lists.proofs.Outcomes.{fails, passes}
 use Rattle.lists.proofs.FirstIn.{first_in_passes}
-use Rattle.lists.proofs.Rows.{get_d_map, length-tabulate}
+use Rattle.lists.proofs.Rows.{length-tabulate}
 use Rattle.obj.specs.Answers.{meaning}
 use Rattle.obj.specs.declared.Split.{Split}
 use Rattle.obj.specs.declared.Unit as units
 use Rattle.std.specs.Prelude.{Result, Ok, Err, MatchResult}
 use Rattle.std.specs.Result.{IsErrAnd, ForErr}
 use Rattle.std.proofs.lemmas.Result.{err_from_is_err_and}
+use Rattle.std.proofs.lemmas.List.{get_or-map}
 use Rattle.toposort.specs.Search.{Graph, End, all, cyclic, lost, searched}
 use Rattle.toposort.specs.Sorting as sorting
 use Rattle.toposort.specs.Sorting.{sort_of, kept, Sorts, Within, Sound, answer_of}
@@ -114,7 +115,7 @@ nodes-named c n column w = all_in (λ x. x < length column) (nodes (rows c n)) (
         let inside : k.0 < n = omega (arith, k.1, long) in
         let is : (row_at c k.0).unit ≡ v =
         ap (λ (s : Split). s.unit) (sym (row_at_lem c n k.0 inside))
-        ∙ sym (get_d_map (λ (s : Split). s.unit) (rows c n) k.0 no_split 0 (omega (arith, length-tabulate (row_at c) 0 n)))
+        ∙ sym (get_or-map (λ (s : Split). s.unit) (rows c n) k.0 no_split 0 (omega (arith, length-tabulate (row_at c) 0 n)))
         ∙ k.2 in
         omega (arith, w k.0 inside)
 

@@ -10,10 +10,10 @@ use borrow.Author.Tests.{eqb-false, ne_eqb}
 use lib.Dec.{eqb, leb}
 use lib.ListN.{length, get_or, drop, length-drop, length-map}
 use lib.Seq.{drop-cons}
+use Rattle.std.proofs.lemmas.List.{get_or-map}
 use Rattle.lists.specs.Rows.{some}
 use Rattle.lists.specs.Sort.{insert_key, sort_by, All, none, each, Sorted}
 use Rattle.lists.proofs.All.{all_map}
-use Rattle.lists.proofs.Rows.{get_d_map}
 use Rattle.lists.proofs.Sort.{sorted_sort}
 use Rattle.lists.proofs.Tests.{eqb_sym}
 use Rattle.order_numbers.specs.Numbers.{twice, next_same}
@@ -115,7 +115,7 @@ module _ (f : ℕ → ℕ) (s : List ℕ) where
   turn : (i : ℕ) → i + 1 < length s → next_same (drop i (map f s)) ≡ (eqb (f (get_or s i 0)) (f (get_or s (i + 1) 0)) || next_same (drop (i + 1) (map f s)))
   turn i h =
       next_turn (map f s) i (omega (arith, length-map s f))
-      ∙ ap₂ (λ (x y : ℕ). eqb x y || next_same (drop (i + 1) (map f s))) (get_d_map f s i 0 0 (omega arith)) (get_d_map f s (i + 1) 0 0 h)
+      ∙ ap₂ (λ (x y : ℕ). eqb x y || next_same (drop (i + 1) (map f s))) (get_or-map f s i 0 0 (omega arith)) (get_or-map f s (i + 1) 0 0 h)
 
   pub map_turn : (i : ℕ) → 0 < i → i < length s
       → next_same (drop (i - 1) (map f s)) ≡ (eqb (f (get_or s (i - 1) 0)) (f (get_or s i 0)) || next_same (drop i (map f s)))

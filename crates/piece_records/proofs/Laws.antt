@@ -1,7 +1,7 @@
 -- Piece records: one that isn't cut lies whole in the bytes, those that were counted all do, and a pass goes from one to the next. Assumes nothing.
 use mathlib.Core.Path.{◌≡◌, refl, sym, ap, subst, ◌∙◌}
 use mathlib.Core.List.{List, [], ◌∷◌}
-use mathlib.Core.Bool.{Bool, true, false, cond, not, ◌||◌}
+use mathlib.Core.Bool.{Bool, true, false, cond, not, ◌||◌, false≢true}
 use Prim.Native.Nat.{ℕ, zero, suc, ◌+◌, ◌-◌, ◌≤◌, ◌<◌}
 use native.Mathlib.Omega.{arith}
 use native.Mathlib.Numerals.{add-one}
@@ -9,11 +9,11 @@ use lib.ListN.{length, drop, length-take, length-drop}
 use lib.Dec.{eqb, ltb, leb}
 use borrow.Author.Tests.{ltb-false, lt-ltb, le-ltb, le-leb, lt-leb}
 use Rattle.std.specs.Coded.{×_prop, Unit-prop, le_prop}
+use Rattle.std.proofs.lemmas.Bool.{or_parts}
 use Rattle.lists.specs.Outcome.{accepted, refused, refuse, ◌>>◌}
-use Rattle.lists.proofs.Compare.{never}
 use Rattle.lists.proofs.Outcomes.{then_inv, same_accepted, not_both, fails, passes}
 use Rattle.lists.specs.Rows.{any_of, some}
-use Rattle.lists.proofs.Tests.{none_of, or_false}
+use Rattle.lists.proofs.Tests.{none_of}
 use Rattle.fields.specs.Fields.{le16, le32}
 use Rattle.join.specs.Join.{Part}
 use Rattle.piece_records.specs.Records.{part_at, next_at, record_bad, count_from, parts_at, Lying, Whole}
@@ -35,8 +35,8 @@ not_bad_lies b at e = go (ltb (length b) (at + 6)) (ltb (length b) (next_at b at
   where
     go : (p q : Bool) → ltb (length b) (at + 6) ≡ p → ltb (length b) (next_at b at) ≡ q
         → cond p true (cond q true (any_of (not (eqb (le16 b (at + 4)) 7) ∷ ltb (le32 b at) 6 ∷ []))) ≡ false → Lying b at
-    go true q h i e = absurd (never (sym e))
-    go false true h i e = absurd (never (sym e))
+    go true q h i e = absurd (false≢true (sym e))
+    go false true h i e = absurd (false≢true (sym e))
     go false false h i e = record { head = ltb-false _ _ h; payload = ltb-false _ _ i; long = ltb-false _ _ (none_of _ 1 e) }
 
 module _ (b : List ℕ) (at : ℕ) where
@@ -162,4 +162,4 @@ module _ (p : Part → Bool) (b : List ℕ) (at i n : ℕ) where
   some_ended h = ap (some p) (parts_end b at i n h)
 
   pub none_turn : i < n → some p (parts_at (n - i) b at) ≡ false → (p (part_at b at) ≡ false) × (some p (parts_at (n - (i + 1)) b (next_at b at)) ≡ false)
-  none_turn h e = or_false _ _ (sym (some_turn h) ∙ e)
+  none_turn h e = or_parts _ _ (sym (some_turn h) ∙ e)

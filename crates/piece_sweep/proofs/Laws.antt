@@ -4,23 +4,22 @@ use mathlib.Core.Path.{◌≡◌, refl, sym, ap, subst, ◌∙◌}
 use mathlib.Core.List.Memᴰ
 use mathlib.Core.List.{List, [], ◌∷◌, map, Memᴰ}
 use mathlib.Core.Logic.{◌⊎◌, inl, inr}
-use mathlib.Core.Bool.{Bool, true, false, cond, not, ◌&&◌}
+use mathlib.Core.Bool.{Bool, true, false, cond, not, ◌&&◌, false≢true}
 use native.Mathlib.Omega.{arith}
 use lib.Dec.{eqb, leb}
 use lib.ListN.{length, get_or, drop, length-take, length-drop, drop_of_length-le}
 use lib.Seq.{ext_get_or, get_or-take, get_or-drop}
 use borrow.Author.Tests.{not-true, eqb-false, eq-eqb, ne_eqb, le-leb, lt-leb}
 use Rattle.std.proofs.lemmas.List.{at_drop_more}
+use Rattle.std.proofs.lemmas.Bool.{and_parts, false_from_ne_true, and_from, and_right}
 use Rattle.lists.specs.Sort.{sort_by, All}
 use Rattle.lists.proofs.All.{all_sort}
 use Rattle.lists.proofs.Rising.{numbers-below}
-use Rattle.lists.proofs.Both.{both}
-use Rattle.lists.proofs.Compare.{never, and_fails}
 use Rattle.names.specs.Names.{same_name}
 use Rattle.names.proofs.Laws.{same_self, same_equal}
 use Rattle.join.specs.Join.{Part, byte_of, addresses, differ_at, differ}
 use Rattle.piece_sweep.specs.Sweep.{end_of, unequal, farther, sweep_from, sweep}
-use Rattle.lists.proofs.Among.{same_test, fails_by, some_by, some_member, and_true, range_member, member_range}
+use Rattle.lists.proofs.Among.{same_test, some_by, some_member, range_member, member_range}
 use Rattle.join.proofs.Members.{Lies, lies, lies_covers}
 use Rattle.piece_records.specs.Records.{part_at, next_at, parts_at, Whole}
 use Rattle.piece_order.specs.Order.{starts_at, part_in, key_of, order_in, Placed}
@@ -40,7 +39,7 @@ unfolding unequal addresses differ_at
 apart p q e =
     let r = some_member _ (addresses q) e in
     let m = member_range q.address (length q.bytes) r.0 r.1 in
-    let d = both _ _ r.2 in
+    let d = and_parts _ _ r.2 in
     record { address = r.0; one = lies _ _ _ d.0; other = record { of = refl; low = m.0; high = m.1 }; differ = eqb-false _ _ (not-true _ d.1) }
 
 pub apart-unequal : (p q : Part) → Apart p q → unequal p q ≡ true
@@ -48,15 +47,15 @@ unfolding unequal addresses differ_at
 apart-unequal p q a =
     let o = a.other in
     some_by _ (range_member q.address (length q.bytes) a.address o.low o.high)
-    (and_true (lies_covers _ _ _ a.one) (ap not (ne_eqb _ _ a.differ)))
+    (and_from _ _ (lies_covers _ _ _ a.one) (ap not (ne_eqb _ _ a.differ)))
 
 -- pieces of other sections, or that lie nowhere together, don't differ
 pub apart_sections : (p q : Part) → (p.section ≡ q.section → ⊥) → unequal p q ≡ false
-apart_sections p q d = fails_by (unequal p q) (λ e. d (apart p q e).one.of)
+apart_sections p q d = false_from_ne_true (unequal p q) (λ e. d (apart p q e).one.of)
 
 pub apart_places : (p q : Part) → high_of p q ≤ low_of p q → unequal p q ≡ false
 apart_places p q h =
-    fails_by (unequal p q) (λ e.
+    false_from_ne_true (unequal p q) (λ e.
     let a = apart p q e in
     let x = a.one.low in let y = a.one.high in let z = a.other.low in let w = a.other.high in
     omega arith)
@@ -89,7 +88,7 @@ overlap_is p q s = same_test (not (same_name a b)) (unequal p q) (λ e. found e 
 
     found : not (same_name a b) ≡ true → (t : Bool) → unequal p q ≡ t → unequal p q ≡ true
     found e true u = u
-    found e false u = absurd (never (sym (not-true _ e) ∙ ap (λ (x : List ℕ). same_name x b) equal ∙ same_self b))
+    found e false u = absurd (false≢true (sym (not-true _ e) ∙ ap (λ (x : List ℕ). same_name x b) equal ∙ same_self b))
       where
         each : (k : ℕ) → k < high - low → get_or a k 0 ≡ get_or b k 0
         each k h = in_at p low high k (omega arith) h ∙ go (native.Mathlib.Decide.ℕ_discrete (byte_of (low + k) p) (byte_of (low + k) q)) ∙ sym (in_at q low high k (omega arith) h)
@@ -97,7 +96,7 @@ overlap_is p q s = same_test (not (same_name a b)) (unequal p q) (λ e. found e 
             go : Dec (byte_of (low + k) p ≡ byte_of (low + k) q) → byte_of (low + k) p ≡ byte_of (low + k) q
             go (yes z) = z
             go (no z) =
-                absurd (never (sym u ∙ apart-unequal p q (record {
+                absurd (false≢true (sym u ∙ apart-unequal p q (record {
                   address = low + k;
                   one = record { of = s; low = omega arith; high = omega arith };
                   other = record { of = refl; low = omega arith; high = omega arith };
@@ -131,7 +130,7 @@ farther_stays far p e h = rw (eq-eqb _ _ e, le-leb _ _ h)
 
 pub farther-beyond : (far p : Part) → end_of far < end_of p → farther far p ≡ p
 unfolding farther
-farther-beyond far p h = ap (λ (t : Bool). cond t far p) (and_fails (eqb far.section p.section) (lt-leb (end_of p) (end_of far) h))
+farther-beyond far p h = ap (λ (t : Bool). cond t far p) (and_right (eqb far.section p.section) _ (lt-leb (end_of p) (end_of far) h))
 
 pub farther_another : (far p : Part) → (far.section ≡ p.section → ⊥) → farther far p ≡ p
 unfolding farther

@@ -4,20 +4,20 @@ use mathlib.Core.List.Memᴰ
 use mathlib.Core.List.Permᴰ
 use mathlib.Core.List.{List, [], ◌∷◌, ◌++◌, Memᴰ, Permᴰ}
 use mathlib.Core.Logic.{◌⊎◌, inl, inr, ◌≢◌}
-use mathlib.Core.Bool.{Bool, true, false, cond, ◌&&◌, ◌||◌, not}
+use mathlib.Core.Bool.{Bool, true, false, cond, ◌&&◌, ◌||◌, not, false≢true}
 use Prim.Native.Nat.{ℕ, ◌≤◌, ◌<◌}
 use native.Mathlib.Omega.{arith}
 use native.Mathlib.Decide.{ℕ_discrete, dec_le}
 use lib.ListN.{length}
 use lib.Dec.{eqb, leb}
 use borrow.Author.Tests.{eq-eqb, ne_eqb, le-leb, lt-leb}
+use Rattle.std.proofs.lemmas.Bool.{false_from_ne_true, and_from}
 use Rattle.lists.specs.Sort.{All, Sorted, sort_by, insert_key}
-use Rattle.lists.proofs.Compare.{never}
 use Rattle.lists.proofs.Sort.{sorted_sort}
 use Rattle.join.specs.Join.{Part, byte_of, covers, addresses, differ_at, differ}
 use Rattle.piece_order.specs.Order.{key_of}
 use Rattle.piece_sweep.specs.Sweep.{end_of, unequal, farther, sweep_from, sweep, sweep_all}
-use Rattle.lists.proofs.Among.{fails_by, some_by, none_member, and_true, range_member, perm_among, all_find}
+use Rattle.lists.proofs.Among.{some_by, none_member, range_member, perm_among, all_find}
 use Rattle.join.proofs.Members.{Lies, lies_covers, Apart, apart, meets}
 use Rattle.join.proofs.Order.{differ_same}
 
@@ -36,7 +36,7 @@ equal_agree far p e n x a b =
     go : Dec (byte_of x far ≡ byte_of x p) → (covers p.section x far && not (eqb (byte_of x far) (byte_of x p))) ≡ false → byte_of x far ≡ byte_of x p
     go (yes h) f = h
     go (no h) f =
-        absurd (never (sym f ∙ and_true
+        absurd (false≢true (sym f ∙ and_from _ _
         (lies_covers p.section x far (record { of = a.of ∙ sym b.of; low = a.low; high = a.high }))
         (ap not (ne_eqb _ _ h))))
 
@@ -53,7 +53,7 @@ farther_is far p = go (ℕ_discrete far.section p.section) (dec_le (end_of p) (e
   where
     go : Dec (far.section ≡ p.section) → Dec (end_of p ≤ end_of far)
         → Farther far p (cond (eqb far.section p.section && leb (end_of p) (end_of far)) far p)
-    go (yes e) (yes h) = subst (Farther far p) (sym (ap (λ (t : Bool). cond t far p) (and_true (eq-eqb _ _ e) (le-leb _ _ h)))) (stays e h)
+    go (yes e) (yes h) = subst (Farther far p) (sym (ap (λ (t : Bool). cond t far p) (and_from _ _ (eq-eqb _ _ e) (le-leb _ _ h)))) (stays e h)
     go (yes e) (no h) =
         subst (Farther far p) (sym (ap (λ (t : Bool). cond t far p) (ap (λ (t : Bool). t && leb (end_of p) (end_of far)) (eq-eqb _ _ e) ∙ lt-leb (end_of p) (end_of far) (omega arith))))
         (beyond e (omega arith))
@@ -103,7 +103,7 @@ module _ (far p : Part) (passed later : List Part) (w : Passed far passed (p ∷
       meets passed w.agree n x q far m w.has lq there ∙ equal_agree far p alike n x there lp
 
   agree_more : differ (p ∷ passed) ≡ false
-  agree_more = fails_by (differ (p ∷ passed)) (λ e. let a = apart (p ∷ passed) e in go a (Memᴰ.cases_cons a.has_one) (Memᴰ.cases_cons a.has_other))
+  agree_more = false_from_ne_true (differ (p ∷ passed)) (λ e. let a = apart (p ∷ passed) e in go a (Memᴰ.cases_cons a.has_one) (Memᴰ.cases_cons a.has_other))
     where
       go : (a : Apart (p ∷ passed)) → (a.one ≡ p) ⊎ Memᴰ a.one passed → (a.other ≡ p) ⊎ Memᴰ a.other passed → ⊥
       go a (inl e) (inl f) = a.unequal (ap (byte_of a.address) (e ∙ sym f))
@@ -166,7 +166,7 @@ from_finds far passed (p ∷ later) w narrow sorted = go (unequal far p) refl
         ∙ differ_same ((p ∷ passed) ++ later) (passed ++ (p ∷ later)) (perm_among (Permᴰ.symm (Permᴰ.middle p passed later))) (perm_among (Permᴰ.middle p passed later))
 
 one_agrees : (p : Part) → differ (p ∷ []) ≡ false
-one_agrees p = fails_by (differ (p ∷ [])) (λ e. let a = apart (p ∷ []) e in
+one_agrees p = false_from_ne_true (differ (p ∷ [])) (λ e. let a = apart (p ∷ []) e in
     a.unequal (ap (byte_of a.address) (mathlib.Core.List.Memᴰ.eq_of_singleton a.has_one ∙ sym (mathlib.Core.List.Memᴰ.eq_of_singleton a.has_other))))
 
 -- pieces in order: the sweep finds a difference exactly if two differ
@@ -175,7 +175,7 @@ unfolding sweep Sorted
 sweep_sorted [] narrow sorted = nothing
   where
     nothing : false ≡ differ []
-    nothing = sym (fails_by (differ []) (λ e. Memᴰ.not-nil (apart [] e).has_one))
+    nothing = sym (false_from_ne_true (differ []) (λ e. Memᴰ.not-nil (apart [] e).has_one))
 sweep_sorted (p ∷ later) narrow sorted =
     from_finds p (p ∷ []) later (record {
       agree = one_agrees p;

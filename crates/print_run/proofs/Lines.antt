@@ -2,7 +2,7 @@
 -- Assumes nothing.
 use Prim.Native.Nat.{ℕ, ◌≤◌, ◌<◌}
 use mathlib.Core.Path.{◌≡◌, refl, sym, ap, subst, ◌∙◌}
-use mathlib.Core.Bool.{true, false}
+use mathlib.Core.Bool.{true, false, true≢false}
 use mathlib.Core.List.{List, [], ◌++◌, append_assoc}
 use native.Mathlib.Omega.{arith}
 use lib.ListN.{length, take, length-map, length-append}
@@ -32,16 +32,13 @@ line_valid t c r n = subst (λ (k : ℕ). Valid k r.next) (length-map t.units.pl
 
 -- ---- what is written
 
-never : true ≡ false → ⊥
-never e = let z : ◌≡◌ {A = ℕ} 0 1 = cc in omega arith
-
 -- where no line is left, nothing is
 rest_ended : (t : Run) (c : Cursor) → goes_on c ≡ false → rest t c ≡ []
-rest_ended t (Units unit bytes) e = absurd (never e)
-rest_ended t (Pieces unit at bytes) e = absurd (never e)
-rest_ended t (Symbols unit at bytes) e = absurd (never e)
-rest_ended t (Relocs unit at bytes) e = absurd (never e)
-rest_ended t (Total bytes) e = absurd (never e)
+rest_ended t (Units unit bytes) e = absurd (true≢false e)
+rest_ended t (Pieces unit at bytes) e = absurd (true≢false e)
+rest_ended t (Symbols unit at bytes) e = absurd (true≢false e)
+rest_ended t (Relocs unit at bytes) e = absurd (true≢false e)
+rest_ended t (Total bytes) e = absurd (true≢false e)
 rest_ended t Done e = refl
 
 -- what a writer took so far and what is left at the cursor are the listing

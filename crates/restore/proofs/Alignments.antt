@@ -8,6 +8,7 @@ use mathlib.Core.Bool.{Bool, true, false, not}
 use native.Mathlib.Omega.{arith}
 use lib.ListN.{length}
 use borrow.Author.Tests.{eq-eqb, ne_eqb}
+use Rattle.std.proofs.lemmas.Bool.{cond-false}
 use Rattle.lists.specs.Outcome.{accepted, refused}
 use Rattle.lists.specs.Sort.{All}
 use Rattle.lists.proofs.All.{all_map}
@@ -25,7 +26,6 @@ use Rattle.lists.proofs.Among.{all_find}
 use Rattle.restore.specs.Restoring.{Checked}
 use Rattle.restore.specs.Alignments.{Largest, None}
 use Rattle.restore.specs.Misfits.{Comes, Asked, Misfit}
-use Rattle.restore.proofs.Parts.{second}
 use Rattle.restore.proofs.Steps.{From, split_inv, kept_inv}
 use Rattle.restore.proofs.Walked.{pieces_from}
 use Rattle.restore.proofs.Coming.{comes_reached, behind, split_turn, split_left}
@@ -79,7 +79,7 @@ asked_misfits t checked n current next s listed out a none =
     passes 71 n current _ _ (ap not (eq-eqb _ _ a.here))
     ∙ passes 72 n current _ _ a.inside
     ∙ passes 73 n current _ _ a.zeros
-    ∙ second (is_skipped s) (accepted out) (on_kept t n current s out) a.kept
+    ∙ cond-false (is_skipped s) (accepted out) (on_kept t n current s out) a.kept
     ∙ kept_misfits t checked s listed n current out a.chosen a.listed a.asked none
 
 -- a walk that is refused with 75 has come to such a split
@@ -130,7 +130,7 @@ splits_aligned t out checked e n there s current o r kept =
     let next = next_start r.end r.later in
     let a = bind_inv _ _ _ (sym (split_left t r.left there r.ends) ∙ e) in
     let b = bind_inv _ _ _ (sym (split_turn t n r.end current o s r.later r.below) ∙ a.1) in
-    let k = kept_inv t n current s o b.0 (sym (second (is_skipped s) (accepted o) (on_kept t n current s o) kept) ∙ (split_inv t n current s o b.0 next b.1).rest) in
+    let k = kept_inv t n current s o b.0 (sym (cond-false (is_skipped s) (accepted o) (on_kept t n current s o) kept) ∙ (split_inv t n current s o b.0 next b.1).rest) in
     let c = k.chosen in
     let good = alignment_good t checked s (comes_reached t r).listed n current c k.asked in
     (c, k.asked, halved_largest c.value current good k.passed.fitted)

@@ -8,6 +8,7 @@ use borrow.Author.Tests.{lt-ltb}
 use Rattle.lists.specs.Outcome.{Outcome, accepted, ◌>>=◌}
 use Rattle.lists.specs.Sort.{All, each}
 use Rattle.lists.proofs.Binds.{bind_goes}
+use Rattle.lists.proofs.All.{all_first, all_rest}
 use Rattle.obj.specs.declared.Split.{Split}
 use Rattle.walk.specs.Walk.{Input, Output, splitting_end_in, on_split, walk_splits, walk_section, walk_sections, walk, nothing}
 use Rattle.splits.specs.Questions.{next_start}
@@ -15,20 +16,14 @@ use Rattle.restore.specs.Misfits.{ToSection, at_first, section_past, ToSplit, at
 use Rattle.restore.proofs.Steps.{Reached}
 use Rattle.restore.proofs.Walked.{reached_all}
 
-first_of : {A : Type 0} {P : A → Type 0} {x : A} {l : List A} → All P (x ∷ l) → P x
-first_of (each h q) = h
-
-rest_of : {A : Type 0} {P : A → Type 0} {x : A} {l : List A} → All P (x ∷ l) → All P l
-rest_of (each h q) = q
-
 module _ (t : Input) where
   -- the splits that are left are of the section
   left_reached : {n end current : ℕ} {out : Output} {l : List Split} → ToSplit t n end current out l → All (Reached t n) l
   left_reached {n} {end} (at_start q) = reached_all t n end
-  left_reached (split_past q b e) = rest_of (left_reached q)
+  left_reached (split_past q b e) = all_rest (left_reached q)
 
   pub comes_reached : {n current : ℕ} {s : Split} {out : Output} → Comes t n current s out → Reached t n s
-  comes_reached r = first_of (left_reached r.left)
+  comes_reached r = all_first (left_reached r.left)
 
   -- ---- what is left to do
 

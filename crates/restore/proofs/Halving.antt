@@ -2,13 +2,12 @@
 use Prim.Native.Nat.{ℕ, zero, suc, ◌+◌, ◌*◌, ◌/◌, ◌%◌, ◌^◌, ◌≤◌, ◌<◌}
 use mathlib.Core.Path.{◌≡◌, refl, sym, ap, ◌∙◌}
 use mathlib.Core.Logic.{◌⊎◌, inl, inr, ◌≢◌}
-use mathlib.Core.Bool.{Bool, true, false, cond}
+use mathlib.Core.Bool.{Bool, true, false, cond, false≢true}
 use native.Mathlib.Nat.{pow-suc}
 use native.Mathlib.Omega.{arith}
 use lib.Dec.{leb}
 use lib.Pow.{pow_pos}
 use borrow.Author.Tests.{eqb-true, eqb-false, leb-true, leb-false}
-use Rattle.lists.proofs.Compare.{never}
 use Rattle.align.specs.Align.{good_align}
 use Rattle.align.proofs.Theorems.{good_is}
 use Rattle.walk.specs.Walk.{fits, halved}
@@ -82,7 +81,7 @@ module _ (address : ℕ) where
           → ((f : ℕ) → a / 2 ≡ 2 ^ f → fits (halved times (a / 2) address) address ≡ true → Largest (a / 2) address (halved times (a / 2) address))
           → Largest a address (cond b a (cond c a (halved times (a / 2) address)))
       go true s c u g ih = itself a s
-      go false s true u g ih = absurd (never (sym s ∙ g))
+      go false s true u g ih = absurd (false≢true (sym s ∙ g))
       go false s false u g ih =
           let p = half_pow e a q (leb-false _ _ u) in
           let l = ih p.0 p.2 g in
@@ -103,7 +102,7 @@ module _ (address : ℕ) where
           → fits (cond b a (cond c a (halved times (a / 2) address))) address ≡ false
           → ((f : ℕ) → a / 2 ≡ 2 ^ f → f ≤ times + 2 → fits (halved times (a / 2) address) address ≡ false → None (a / 2) address)
           → None a address
-      go true s c u g ih = absurd (never (sym g ∙ s))
+      go true s c u g ih = absurd (false≢true (sym g ∙ s))
       go false s true u g ih = small a (leb-true _ _ u) s
       go false s false u g ih =
           let p = half_pow e a q (leb-false _ _ u) in

@@ -11,6 +11,7 @@ use lib.Dec.{eqb, ltb}
 use lib.ListN.{length, get_or, take, drop, replicate, length-replicate, length-take, length-drop, get_or-eq_default}
 use lib.Seq.{sets, length-sets}
 use borrow.Author.Tests.{eq-eqb, ne_eqb, ltb-false}
+use Rattle.std.proofs.lemmas.Bool.{cond-false}
 use Rattle.lists.specs.Outcome.{Outcome, accepted, ◌>>=◌}
 use Rattle.lists.specs.Rows.{keep_if}
 use Rattle.lists.specs.Sort.{All, none, each}
@@ -22,7 +23,7 @@ use Rattle.splits.specs.Questions.{within, is_common, is_skipped, next_start}
 use Rattle.pieces.specs.declared.Piece.{Piece}
 use Rattle.walk.specs.Walk.{Input, Output, splitting_end_in, piece_of, on_split, walk_splits, walk_section}
 use Rattle.restore.specs.Restoring.{Part, returned, part_of, parts, laid_on, laid}
-use Rattle.restore.proofs.Parts.{sets_right, part_agrees, zero_at, second}
+use Rattle.restore.proofs.Parts.{sets_right, part_agrees, zero_at}
 use Rattle.restore.proofs.Steps.{Reached, From, split_adds, split_gave}
 use Rattle.restore.proofs.Walked.{reached_all}
 
@@ -38,7 +39,7 @@ laid-append n start under (p ∷ ps) qs = laid-append n start (cond (eqb p.secti
 laid_other : (n start : ℕ) (under : List ℕ) (ps : List Part) → All (λ p. p.section ≢ n) ps → laid_on n start under ps ≡ under
 unfolding laid_on
 laid_other n start under [] none = refl
-laid_other n start under (p ∷ ps) (each d a) = ap (λ (l : List ℕ). laid_on n start l ps) (second _ _ _ (ne_eqb _ _ d)) ∙ laid_other n start under ps a
+laid_other n start under (p ∷ ps) (each d a) = ap (λ (l : List ℕ). laid_on n start l ps) (cond-false _ _ _ (ne_eqb _ _ d)) ∙ laid_other n start under ps a
 
 pub laid-length : (n start : ℕ) (under : List ℕ) (ps : List Part) → length (laid_on n start under ps) ≡ length under
 unfolding laid_on

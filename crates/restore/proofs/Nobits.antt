@@ -4,18 +4,18 @@ use Prim.Native.Nat.{ℕ, zero, suc, ◌+◌, ◌-◌, ◌<◌, zero-le}
 use mathlib.Core.Path.{◌≡◌, refl, sym, ap, ◌∙◌, subst}
 use mathlib.Core.List.{List, [], ◌∷◌, ◌++◌, reverse}
 use mathlib.Core.Logic.{◌≢◌}
-use mathlib.Core.Bool.{Bool, true, false, cond, not, ◌&&◌, ◌||◌}
+use mathlib.Core.Bool.{Bool, true, false, cond, not, ◌&&◌, ◌||◌, false≢true}
 use native.Mathlib.Omega.{arith}
 use native.Mathlib.Decide.{ℕ_discrete}
 use borrow.Author.Tests.{eq-eqb, ne_eqb}
 use lib.Dec.{eqb, ltb}
 use lib.ListN.{length, take, drop, replicate, drop_of_length-le}
+use Rattle.std.proofs.lemmas.Bool.{and_parts, cond-false}
 use Rattle.lists.specs.Outcome.{accepted, refused, refuse, ◌>>=◌, ◌>>◌}
 use Rattle.lists.specs.Rows.{keep_if}
 use Rattle.lists.specs.Sort.{All, none, each}
 use Rattle.lists.proofs.All.{all_append, all_map}
-use Rattle.lists.proofs.Both.{both}
-use Rattle.lists.proofs.Compare.{never, and_holds}
+use Rattle.lists.proofs.Compare.{and_holds}
 use Rattle.lists.proofs.Outcomes.{passes, same_accepted}
 use Rattle.obj.specs.declared.Section.{Section}
 use Rattle.obj.specs.declared.Split.{Split}
@@ -34,7 +34,6 @@ use Rattle.pieces.specs.Questions.{count_of}
 use Rattle.walk.specs.Walk.{Input, Output, start_in, end_in, splitting_end_in, nonzero, piece_of, given, on_aligned, on_kept, on_split, walk_splits, walk_section, walk_sections, walk, nothing}
 use Rattle.restore.specs.Restoring.{bytes_in}
 use Rattle.restore.specs.Nobits.{Empty, with_sections, of_kind, as_data, Whole, Placed}
-use Rattle.restore.proofs.Parts.{second}
 use Rattle.restore.proofs.Steps.{From, split_inv, kept_inv}
 use Rattle.restore.proofs.Walked.{sections_keep, pieces_from}
 use Rattle.restore.proofs.Refusals.{says_of, Line, walk_says, end_says, split_says}
@@ -66,7 +65,7 @@ nobits_never t empty number n address e = says_of P (walk t) number n address (w
           end = end_says P t m (others m) (λ d nobits. absurd (d nobits));
           missing = λ current nobits. ((λ z. omega arith), (λ z. omega arith));
           split = λ s current out r. let next = next_start r.end r.later in split_says P t m (others m) s current next out
-              (λ f nobits. absurd (never (sym (nobits_zero t m s.end next (empty m b nobits)) ∙ (both (ltb s.end next) _ f).1)))
+              (λ f nobits. absurd (false≢true (sym (nobits_zero t m s.end next (empty m b nobits)) ∙ (and_parts (ltb s.end next) _ f).1)))
               (λ a f nobits. ((λ z. omega arith), (λ z. omega arith)));
         }
 
@@ -237,13 +236,13 @@ all_drop : (i : ℕ) (l : List ℕ) → all_zero l ≡ true → all_zero (drop i
 unfolding all_zero
 all_drop zero l e = e
 all_drop (suc i) [] e = refl
-all_drop (suc i) (b ∷ l) e = all_drop i l (both (eqb b 0) (all_zero l) e).1
+all_drop (suc i) (b ∷ l) e = all_drop i l (and_parts (eqb b 0) (all_zero l) e).1
 
 all_take : (m : ℕ) (l : List ℕ) → all_zero l ≡ true → all_zero (take m l) ≡ true
 unfolding all_zero
 all_take zero l e = refl
 all_take (suc m) [] e = refl
-all_take (suc m) (b ∷ l) e = let q = both (eqb b 0) (all_zero l) e in and_holds q.0 ∙ all_take m l q.1
+all_take (suc m) (b ∷ l) e = let q = and_parts (eqb b 0) (all_zero l) e in and_holds q.0 ∙ all_take m l q.1
 
 data_zero : (size from to : ℕ) → zero_between (replicate size 0) from to ≡ true
 data_zero size from to = all_take (to - from) (drop from (replicate size 0)) (all_drop from (replicate size 0) (zeros_zero size))
@@ -265,8 +264,8 @@ module _ (s : Sections) (n : ℕ) where
   other_seen : (g : Image) (m : ℕ) → m ≢ n → Seen g s (as_data s n) m
   other_seen g m d =
       same_seen g s (as_data s n) m
-      (sym (second (eqb m n) (of_kind 1 (s.head m)) (s.head m) (ne_eqb m n d)))
-      (sym (second (eqb m n) (replicate (s.head m).size 0) (s.bytes m) (ne_eqb m n d)))
+      (sym (cond-false (eqb m n) (of_kind 1 (s.head m)) (s.head m) (ne_eqb m n d)))
+      (sym (cond-false (eqb m n) (replicate (s.head m).size 0) (s.bytes m) (ne_eqb m n d)))
 
 -- THEOREM T6: a section of kind 3 is walked as data whose bytes are zeros, where no reduction lowers the splitting end of that: the outcome is the same, pieces,
 -- symbols, relocations or refusal
@@ -301,7 +300,7 @@ lowered_same g free end [] = refl
 lowered_same g free end (i ∷ earlier) = go (object_below end (g.symbol i)) (is_linkers g (g.symbol i)) (free i) (lowered_same g free end earlier)
   where
     go : (a b : Bool) → b ≡ false → lowered g end earlier ≡ end → cond a (cond b (lowered g (g.symbol i).address earlier) end) (lowered g end earlier) ≡ end
-    go a true e ih = absurd (never (sym e))
+    go a true e ih = absurd (false≢true (sym e))
     go true false e ih = refl
     go false false e ih = ih
 

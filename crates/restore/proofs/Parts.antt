@@ -3,17 +3,16 @@ use Prim.Native.Nat.{ℕ, zero, suc, ◌+◌, ◌≤◌, ◌<◌}
 use mathlib.Core.Path.{◌≡◌, refl, sym, ap, ◌∙◌}
 use mathlib.Core.List.{List, [], ◌∷◌, Memᴰ}
 use mathlib.Core.Logic.{◌⊎◌, inl, inr}
-use mathlib.Core.Bool.{Bool, true, false, cond, ◌&&◌}
+use mathlib.Core.Bool.{Bool, true, false, cond, ◌&&◌, false≢true}
 use native.Mathlib.Omega.{arith}
 use native.Mathlib.Decide.{ℕ_discrete}
 use lib.Dec.{eqb}
 use lib.ListN.{length, get_or, set, take, drop, length-set}
 use lib.Seq.{sets, get_or-set_same, get_or-set_other, get_or-take, get_or-drop}
 use borrow.Author.Tests.{eqb-true}
+use Rattle.std.proofs.lemmas.Bool.{and_parts, cond-false}
 use Rattle.lists.specs.Sort.{All, none, each}
 use Rattle.lists.proofs.All.{all_map}
-use Rattle.lists.proofs.Both.{both}
-use Rattle.lists.proofs.Compare.{never}
 use Rattle.sections.specs.Bytes.{all_zero}
 
 -- values that are those of `own` from i on, written from i on: what was right stays right, and what they cover is right
@@ -43,8 +42,8 @@ part_agrees own i m j h = get_or-take m (drop i own) j 0 h ∙ get_or-drop i own
 pub zero_at : (l : List ℕ) (k : ℕ) → all_zero l ≡ true → get_or l k 0 ≡ 0
 unfolding all_zero
 zero_at [] k e = refl
-zero_at (b ∷ l) zero e = eqb-true b 0 (both (eqb b 0) (all_zero l) e).0
-zero_at (b ∷ l) (suc k) e = zero_at l k (both (eqb b 0) (all_zero l) e).1
+zero_at (b ∷ l) zero e = eqb-true b 0 (and_parts (eqb b 0) (all_zero l) e).0
+zero_at (b ∷ l) (suc k) e = zero_at l k (and_parts (eqb b 0) (all_zero l) e).1
 
 -- each element of a list is in it
 pub all_members : {A : Type 0} (l : List A) → All (λ x. Memᴰ x l) l
@@ -55,8 +54,3 @@ all_members (x ∷ l) = each (Memᴰ.head refl) (all_map (λ y m. Memᴰ.tail m)
 pub and_false_left : (a b : Bool) → (a && b) ≡ false → b ≡ true → a ≡ false
 and_false_left true b e h = sym h ∙ e
 and_false_left false b e h = refl
-
--- the arm of a test that fails
-pub second : {A : Type 0} (b : Bool) (x y : A) → b ≡ false → cond b x y ≡ y
-second true x y e = absurd (never (sym e))
-second false x y e = refl

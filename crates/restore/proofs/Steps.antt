@@ -7,10 +7,11 @@ use native.Mathlib.Omega.{arith}
 use lib.Dec.{ltb}
 use lib.ListN.{length}
 use borrow.Author.Tests.{eqb-true, ltb-false, lt-ltb, not-false}
+use Rattle.std.proofs.lemmas.Bool.{or_parts, cond-false}
 use Rattle.lists.specs.Outcome.{accepted}
 use Rattle.lists.specs.Sort.{All, none, each}
 use Rattle.lists.proofs.Outcomes.{then_inv, bind_inv, same_accepted}
-use Rattle.lists.proofs.Tests.{and_false, or_false}
+use Rattle.lists.proofs.Tests.{and_false}
 use Rattle.obj.specs.declared.Split.{Split}
 use Rattle.sections.specs.Alignment.{Chosen}
 use Rattle.sections.specs.Bytes.{zero_between}
@@ -20,7 +21,7 @@ use Rattle.units.specs.Units.{unit_of}
 use Rattle.pieces.specs.declared.Counts.{Counts}
 use Rattle.walk.specs.Walk.{Input, Output, start_in, alignment_in, fits, halved, piece_of, given, over, on_aligned, on_kept, on_split}
 use Rattle.splits.specs.Questions.{is_common, is_skipped}
-use Rattle.restore.proofs.Parts.{and_false_left, second}
+use Rattle.restore.proofs.Parts.{and_false_left}
 
 -- a split of section n, from its start on
 pub record Reached (t : Input) (n : ℕ) (s : Split) : Type 0 where
@@ -42,7 +43,7 @@ pub record From (t : Input) (p : Piece) : Type 0 where
 
 -- an output that isn't too much for its tables
 within_room : (room : Counts) (o : Output) → over room o ≡ false → length o.pieces ≤ room.pieces
-within_room room o e = ltb-false _ _ (or_false (ltb room.symbols (length o.symbols) || ltb room.relocs (length o.relocs)) (ltb room.pieces (length o.pieces)) e).1
+within_room room o e = ltb-false _ _ (or_parts (ltb room.symbols (length o.symbols) || ltb room.relocs (length o.relocs)) (ltb room.pieces (length o.pieces)) e).1
 
 module _ (t : Input) (n current : ℕ) (s : Split) (out out' : Output) where
   -- a split that passed 75, 11 and 76
@@ -162,7 +163,7 @@ module _ (t : Input) (n current : ℕ) (s : Split) (out out' : Output) where
     unfolding given
     split_gave e b c =
         let q = split_inv e in
-        let k = kept_inv (sym (second (is_skipped s) _ _ b) ∙ q.rest) in
+        let k = kept_inv (sym (cond-false (is_skipped s) _ _ b) ∙ q.rest) in
         record {
           unit = unit_of t.units s.unit;
           number = count_of (unit_of t.units s.unit) out.pieces;
@@ -170,5 +171,5 @@ module _ (t : Input) (n current : ℕ) (s : Split) (out out' : Output) where
           here = q.here;
           forward = ltb-false _ _ (and_false_left _ _ k.passed.forward (ap not c));
           between = q.between;
-          pieces = ap (λ (o : Output). o.pieces) (sym k.passed.is) ∙ ap (λ (l : List Piece). out.pieces ++ l) (second (is_common s) _ _ c);
+          pieces = ap (λ (o : Output). o.pieces) (sym k.passed.is) ∙ ap (λ (l : List Piece). out.pieces ++ l) (cond-false (is_common s) _ _ c);
         }

@@ -8,11 +8,11 @@ use native.Mathlib.Omega.{arith}
 use lib.Dec.{eqb, leb, ltb}
 use lib.ListN.{length}
 use borrow.Author.Tests.{eqb-true, leb-true}
+use Rattle.std.proofs.lemmas.Bool.{and_parts}
 use Rattle.lists.specs.Outcome.{accepted, ◌>>=◌}
 use Rattle.lists.specs.Rows.{keep_if}
 use Rattle.lists.specs.Sort.{All, none, each}
 use Rattle.lists.proofs.All.{all_append, all_map, all_keep, all_both}
-use Rattle.lists.proofs.Both.{both}
 use Rattle.lists.proofs.Filter.{keep_passes}
 use Rattle.lists.proofs.Outcomes.{then_inv, bind_inv, same_accepted}
 use Rattle.obj.specs.declared.Split.{Split}
@@ -32,8 +32,8 @@ reached_all t n end =
 
     one : (s : Split) → Memᴰ s t.splits → within n low end s ≡ true → Reached t n s
     one s m w =
-        let a = both (eqb s.section n) (leb low s.start && ltb s.start end) w in
-        let b = both (leb low s.start) (ltb s.start end) a.1 in
+        let a = and_parts (eqb s.section n) (leb low s.start && ltb s.start end) w in
+        let b = and_parts (leb low s.start) (ltb s.start end) a.1 in
         record { listed = m; section = eqb-true _ _ a.0; low = leb-true _ _ b.0 }
 
 -- what each split keeps

@@ -8,10 +8,10 @@ use native.Mathlib.Omega.{arith}
 use lib.ListN.{length, get_or, drop, length-drop}
 use lib.Seq.{length-take-le}
 use borrow.Author.Tests.{ne_eqb}
+use Rattle.std.proofs.lemmas.List.{get_or-map}
 use Rattle.lists.specs.Outcome.{accepted}
 use Rattle.lists.specs.Sort.{All}
 use Rattle.lists.proofs.Each.{all_placed}
-use Rattle.lists.proofs.Rows.{get_d_map}
 use Rattle.align.specs.Align.{bad_align}
 use Rattle.obj.specs.Records.{section_at, stage_places, split_width}
 use Rattle.obj.specs.declared.Section.{Section}
@@ -35,7 +35,7 @@ use Rattle.restore_entry.specs.Tables.{Lent, input_in, Passed}
 -- a section's head is its record
 pub head_is : (sections : List ℕ) (n : ℕ) → n < length sections / 15
     → head_of sections (stage_places 15 (length sections / 15)) n ≡ get_or (stage_sections sections) n no_section
-head_is sections n h = sym (get_d_map (section_at sections) (stage_places 15 (length sections / 15)) n 0 no_section (rw length-stage_places h))
+head_is sections n h = sym (get_or-map (section_at sections) (stage_places 15 (length sections / 15)) n 0 no_section (rw length-stage_places h))
 
 module _ (t : Lent) (a : Passed t) where
   abbrev head : ℕ → Section

@@ -6,7 +6,6 @@ use mathlib.Core.List.{List, [], map-map}
 use native.Mathlib.Omega.{arith}
 use lib.ListN.{length, get_or, length-map}
 use Rattle.lists.specs.Sort.{All}
-use Rattle.lists.proofs.Rows.{get_d_map}
 use Rattle.lists.proofs.All.{all_at}
 use Rattle.obj.specs.Records.{unit_at, stage_places}
 use Rattle.obj.specs.declared.Split.{Split}
@@ -23,6 +22,7 @@ use Rattle.units.specs.Units.{unit_names, Listed, Numbered}
 use Rattle.pieces.specs.declared.Counts.{Counts}
 use Rattle.pieces.specs.declared.lent.PieceTables.{PieceTables}
 use Rattle.std.specs.Prelude.{Result}
+use Rattle.std.proofs.lemmas.List.{get_or-map}
 use Rattle.obj.specs.declared.Refusal.{Refusal}
 use Rattle.split_obj.specs.Loop.{Ready}
 use Rattle.stage_walk.specs.Lines.{walk_of, Gives}
@@ -42,7 +42,7 @@ units_listed b places column k e w names long =
           let q : i < k = omega (arith, length-stage_places 8 k) in
           record { there = h; inside = omega (arith, stage_place 8 k i q, w.fit) };
       named = λ i h.
-          let at : get_or (units_at b k) i no_unit ≡ unit_at b (get_or (stage_places 8 k) i 0) = get_d_map (unit_at b) (stage_places 8 k) i 0 no_unit h in
+          let at : get_or (units_at b k) i no_unit ≡ unit_at b (get_or (stage_places 8 k) i 0) = get_or-map (unit_at b) (stage_places 8 k) i 0 no_unit h in
           let low = all_at i no_unit names (omega (arith, length-map (stage_places 8 k) (unit_at b))) in
           omega (arith, long, low, ap (λ (u : units.Unit). u.name) at);
     })

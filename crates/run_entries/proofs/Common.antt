@@ -6,10 +6,10 @@ use mathlib.Core.Bool.{Bool, true, false, cond, ◌&&◌}
 use native.Mathlib.Omega.{arith}
 use lib.Dec.{eqb, leb}
 use lib.ListN.{length, get_or, length-map}
+use Rattle.std.proofs.lemmas.List.{get_or-map}
 use Rattle.lists.specs.Outcome.{accepted}
 use Rattle.lists.specs.Rows.{any_of, any_from}
 use Rattle.lists.proofs.Outcomes.{bind_inv, same_accepted}
-use Rattle.lists.proofs.Rows.{get_d_map}
 use Rattle.obj.specs.declared.Section.{Section}
 use Rattle.obj.specs.declared.Split.{Split}
 use Rattle.faults.specs.Faults.{split_misplaced}
@@ -56,7 +56,7 @@ module _ (section address : ℕ) where
 
       go : (b : Bool) → Same (cond b no_split (get_or rows (suc k - 1) no_split)) (cond b no_split (get_or (map m rows) (suc k - 1) no_split))
       go true = record { section = refl; start = refl; end = refl }
-      go false = subst (Same (get_or rows (suc k - 1) no_split)) (sym (get_d_map m rows (suc k - 1) no_split no_split there)) (marked_same (get_or rows (suc k - 1) no_split))
+      go false = subst (Same (get_or rows (suc k - 1) no_split)) (sym (get_or-map m rows (suc k - 1) no_split no_split there)) (marked_same (get_or rows (suc k - 1) no_split))
 
   -- what is asked of a split's place stays as it was
   placed_same : (heads : List Section) (a b s r : Split) → Same a b → Same s r
@@ -73,7 +73,7 @@ module _ (section address : ℕ) where
         let p = split_good lengths heads rows k e in
         let sound = sound_good lengths (m s) (marked_sound lengths s (sound_of lengths s (partial_good lengths rows k p.0))) in
         let placed = placed_same heads (split_before rows k) (split_before (map m rows) k) s (m s) (before_same rows k h) (marked_same s) p.1 in
-        rw (get_d_map m rows k no_split no_split h, sound, placed)
+        rw (get_or-map m rows k no_split no_split h, sound, placed)
 
 module _ (lengths : List ℕ) (heads : List Section) where
   from_faultless : (from : From) (rows : List Split) → ((k : ℕ) → k < length rows → split_fault lengths heads rows k ≡ 0)

@@ -6,13 +6,13 @@ use mathlib.Core.List.{List, [], map}
 use mathlib.Core.Logic.{◌⊎◌, inl, inr}
 use native.Mathlib.Omega.{arith}
 use lib.ListN.{length, get_or, drop, length-map}
+use Rattle.std.proofs.lemmas.List.{get_or-map}
 use Rattle.lists.specs.Outcome.{Outcome, accepted, refused, ◌>>=◌}
 use Rattle.lists.specs.Members.{In}
 use Rattle.lists.specs.Sort.{All}
 use Rattle.lists.proofs.Binds.{bind_goes}
 use Rattle.lists.proofs.Each.{all_placed}
 use Rattle.lists.proofs.Outcomes.{same_accepted}
-use Rattle.lists.proofs.Rows.{get_d_map}
 use Rattle.obj.specs.declared.Split.{Split}
 use Rattle.obj.specs.declared.Unit as units
 use Rattle.obj.specs.Records.{section_at, partial_at, partial_numbered}
@@ -68,7 +68,7 @@ unit_node : (S : List Split) (k : ℕ) → k < length S → In (get_or S k no_sp
 unfolding nodes
 unit_node S k h =
     counted_in (get_or S k no_split).unit (units_of S) []
-    (subst (λ (v : ℕ). In v (units_of S)) (get_d_map (λ (s : Split). s.unit) S k no_split 0 h) (in_at (units_of S) k (omega (arith, length-map S (λ (s : Split). s.unit)))))
+    (subst (λ (v : ℕ). In v (units_of S)) (get_or-map (λ (s : Split). s.unit) S k no_split 0 h) (in_at (units_of S) k (omega (arith, length-map S (λ (s : Split). s.unit)))))
 
 module _ (B : Type 0) {file : List ℕ} {t : Loaded} (u : Usable file t) where
   -- ---- the rows of a table without a fault

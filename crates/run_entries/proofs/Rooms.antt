@@ -10,14 +10,8 @@ use lib.ListN.{length}
 use Rattle.stage_names.specs.StageNames.{names_room, bytes_room}
 use Rattle.gap_splits.specs.Entering.{bytes_of}
 use Rattle.lists.specs.Bounds.{lower}
+use Rattle.lists.proofs.Compare.{lower-first}
 use Rattle.run_entries.specs.Entries.{ends_size, bytes_size}
-
-lower-first : (a b : ℕ) → lower a b ≤ a
-lower-first a b = go (ltb a b) refl
-  where
-    go : (t : Bool) → ltb a b ≡ t → cond t a b ≤ a
-    go true e = omega arith
-    go false e = ltb-false a b e
 
 at_most : (most n : ℕ) → n ≤ most → cond (ltb n most) n most ≡ n
 at_most most n h = go (ltb n most) refl

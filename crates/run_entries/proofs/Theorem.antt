@@ -6,6 +6,7 @@ use mathlib.Core.List.{List, ◌++◌}
 use native.Mathlib.Omega.{arith}
 use lib.ListN.{length, drop}
 use Rattle.lists.specs.Outcome.{Outcome, accepted, refused, ◌>>◌, ◌>>=◌}
+use Rattle.lists.proofs.Binds.{bind_assoc}
 use Rattle.obj.specs.declared.Section.{Section}
 use Rattle.obj.specs.declared.Split.{Split}
 use Rattle.tables.specs.Tables.{main_ceilings}
@@ -43,12 +44,6 @@ use Rattle.run_entries.proofs.Rooms.{names_low, bytes_low}
 use Rattle.run_entries.proofs.Steps.{add_is, update_is, gaps_is, validate_is, trim_is, resolve_is, ends_is}
 
 -- ---- chains
-
--- a chain after a chain
-bind_chain : {A B C : Type 0} (m : Outcome A) (f : A → Outcome B) (g : B → Outcome C) → ((m >>= f) >>= g) ≡ (m >>= λ a. f a >>= g)
-unfolding ◌>>=◌
-bind_chain (accepted a) f g = refl
-bind_chain (refused number section address) f g = refl
 
 -- a check, a value that is changed, and what follows
 after_chain : {A B C : Type 0} (v : Outcome (Unit {0})) (m : Outcome A) (f : A → B) (g : B → Outcome C) → (((v >> m) >>= λ a. accepted (f a)) >>= g) ≡ (v >> (m >>= λ a. g (f a)))
@@ -97,15 +92,15 @@ module _ (file : List ℕ) (t : Loaded) (room : Rooms) where
   stages_chain : stages file t room ≡ chain
   unfolding stages table.split_table ordered_and_walked
   stages_chain =
-      bind_chain (table.merged file t room.splits room.names) (λ merged. table.with_common file t room.splits room.names merged >>= filled_table) walked_table
+      bind_assoc (table.merged file t room.splits room.names) (λ merged. table.with_common file t room.splits room.names merged >>= filled_table) walked_table
       ∙ λ k.
       table.merged file t room.splits room.names
       >>= λ merged.
-      (bind_chain (table.with_common file t room.splits room.names merged) filled_table walked_table
+      (bind_assoc (table.with_common file t room.splits room.names merged) filled_table walked_table
       ∙ (λ j.
       table.with_common file t room.splits room.names merged
       >>= λ common.
-      (bind_chain (table.with_gaps file t room.splits room.names common) checked_table walked_table
+      (bind_assoc (table.with_gaps file t room.splits room.names common) checked_table walked_table
       ∙ (λ i. table.with_gaps file t room.splits room.names common >>= λ full. checked_chain full i)) j)) k
 
 -- ---- the entries

@@ -9,12 +9,12 @@ use native.Mathlib.Omega.{arith}
 use borrow.Author.Tests.{eqb-true, eq-eqb, ltb-true, lt-ltb, leb-true, le-leb}
 use lib.Dec.{eqb, leb, ltb}
 use lib.ListN.{length}
+use Rattle.std.proofs.lemmas.Bool.{and_parts}
 use Rattle.lists.specs.Outcome.{accepted}
 use Rattle.lists.specs.Members.{In}
 use Rattle.lists.specs.Rows.{keep_if}
 use Rattle.lists.specs.Sort.{All, none, each}
-use Rattle.lists.proofs.All.{all_map, all_keep, all_both}
-use Rattle.lists.proofs.Both.{both}
+use Rattle.lists.proofs.All.{all_map, all_keep, all_both, all_first, all_rest}
 use Rattle.lists.proofs.Filter.{keep_passes}
 use Rattle.obj.specs.declared.Split.{Split}
 use Rattle.sections.specs.Sections.{Sections}
@@ -60,7 +60,7 @@ pub record Taken (t : Input) (n end : ℕ) (s : Split) : Type 0 where
 -- a range that starts at or above the section's start and ends at or below its end
 inside : (sections : Sections) (n from to : ℕ) → start_in sections n ≤ from → to ≤ end_in sections n → (ltb from to && outside sections n from to) ≡ true → ⊥
 inside sections n from to low high e =
-    let p = both (ltb from to) (outside sections n from to) e in
+    let p = and_parts (ltb from to) (outside sections n from to) e in
     let rises = ltb-true from to p.0 in
     let no : outside sections n from to ≡ false =
     rw (
@@ -70,12 +70,6 @@ inside sections n from to low high e =
       le-leb to (end_in sections n) high,
     ) in
     absurd (let z : ◌≡◌ {A = Bool} true false = sym p.1 ∙ no in let w : ◌≡◌ {A = ℕ} 0 1 = ap (λ (b : Bool). cond b 0 1) z in omega (arith, w))
-
-first_of : {A : Type 0} {P : A → Type 0} {x : A} {l : List A} → All P (x ∷ l) → P x
-first_of (each h q) = h
-
-rest_of : {A : Type 0} {P : A → Type 0} {x : A} {l : List A} → All P (x ∷ l) → All P l
-rest_of (each h q) = q
 
 module _ (B : Type 0) (t : Input) (few : t.sections.count ≤ 64) (below : Below t.sections) where
   next_within : (n end : ℕ) → end ≤ end_in t.sections n → {l : List Split} → All (Taken t n end) l → next_start end l ≤ end_in t.sections n
@@ -132,8 +126,8 @@ module _ (B : Type 0) (t : Input) (few : t.sections.count ≤ 64) (below : Below
         one : (s : Split) → (s.section ≡ n → s.start < end → low ≤ s.start → low ≤ s.end) → unit_of t.units s.unit < length t.units → within n low end s ≡ true
             → Taken t n end s
         one s f l w =
-            let a = both (eqb s.section n) (leb low s.start && ltb s.start end) w in
-            let b = both (leb low s.start) (ltb s.start end) a.1 in
+            let a = and_parts (eqb s.section n) (leb low s.start && ltb s.start end) w in
+            let b = and_parts (leb low s.start) (ltb s.start end) a.1 in
             let high = ltb-true s.start end b.1 in
             record { high = high; forward = f (eqb-true s.section n a.0) high (leb-true low s.start b.0); listed = l }
 
@@ -141,7 +135,7 @@ module _ (B : Type 0) (t : Input) (few : t.sections.count ≤ 64) (below : Below
     left_taken : {n end current : ℕ} {out : Output} {l : List Split} → n < t.sections.count → splitting_end_in t.image t.sections n ≡ accepted end
         → ToSplit t n end current out l → All (Taken t n end) l
     left_taken {n} {end} h e (at_start q) = taken_all n end h e
-    left_taken h e (split_past q b f) = rest_of (left_taken h e q)
+    left_taken h e (split_past q b f) = all_rest (left_taken h e q)
 
     -- THEOREM: neither 72 nor 74 comes
     pub walk_can : Says (Can B) (walk t)
@@ -154,6 +148,6 @@ module _ (B : Type 0) (t : Input) (few : t.sections.count ≤ 64) (below : Below
           split = λ s current out r.
               let within-section = end_within t.image n (t.sections.head n) (t.sections.bytes n) r.end r.ends in
               let taken = left_taken h r.ends r.left in
-              split_can n current (omega arith) (omega (arith, b, within-section, r.below)) s out r.end (next_start r.end r.later) (first_of taken)
-              (next_within n r.end within-section (rest_of taken));
+              split_can n current (omega arith) (omega (arith, b, within-section, r.below)) s out r.end (next_start r.end r.later) (all_first taken)
+              (next_within n r.end within-section (all_rest taken));
         })

@@ -34,23 +34,11 @@ use Rattle.order.specs.declared.Unlinked.TheVariants.{Refused, Cycle}
 use Rattle.run_room.specs.Room.{sum}
 use Rattle.run_room.proofs.Sums.{sum_turn, sum-none}
 use Rattle.lists.specs.Bounds.{lower}
+use Rattle.lists.proofs.Compare.{lower-first, lower-second}
 use Rattle.run_file.specs.RunFile.{rooms_in, Holds}
 
 -- ---- the lower of two
 module _ (a b : ℕ) where
-  pub lower-first : lower a b ≤ a
-  lower-first = go (ltb a b) refl
-    where
-      go : (t : Bool) → ltb a b ≡ t → cond t a b ≤ a
-      go true e = omega arith
-      go false e = omega (arith, ltb-false a b e)
-
-  pub lower_second : lower a b ≤ b
-  lower_second = go (ltb a b) refl
-    where
-      go : (t : Bool) → ltb a b ≡ t → cond t a b ≤ b
-      go true e = omega (arith, ltb-true a b e)
-      go false e = omega arith
 
 -- ---- the bytes of the file's names
 module _ (file places lengths : List ℕ) (inside : (k : ℕ) → k < length lengths → get_or places k 0 + get_or lengths k 0 ≤ length file) where
@@ -140,7 +128,7 @@ module _ {a : ℕ} (most n ceiling : ℕ) (e : a ≡ lower (ceiling - n) most) w
   left_first = omega (arith, e, lower-first (ceiling - n) most)
 
   pub left_second : a ≤ most
-  left_second = omega (arith, e, lower_second (ceiling - n) most)
+  left_second = omega (arith, e, lower-second (ceiling - n) most)
 
   pub left_sum : n ≤ ceiling → n + a ≤ ceiling
   left_sum h = omega (arith, e, h, lower-first (ceiling - n) most)

@@ -9,7 +9,7 @@ use lib.ListN.{length, get_or, length-map}
 use Rattle.lists.specs.Rows.{tabulate}
 use Rattle.lists.specs.Sort.{All}
 use Rattle.lists.proofs.All.{all_at, all_map}
-use Rattle.lists.proofs.Rows.{get_d_map, get_d_tabulate, length-tabulate}
+use Rattle.lists.proofs.Rows.{get_d_tabulate, length-tabulate}
 use Rattle.obj.specs.Records.{unit_at, stage_places}
 use Rattle.obj.specs.declared.Unit as units
 use Rattle.obj.proofs.Laws.{length-stage_places, stage_place}
@@ -27,6 +27,7 @@ use Rattle.pieces.specs.declared.Counts.{Counts}
 use Rattle.run_splits.specs.Table.{Homed}
 use Rattle.run_splits.proofs.Keeping.{table_homed}
 use Rattle.std.specs.Prelude.{Ok}
+use Rattle.std.proofs.lemmas.List.{get_or-map}
 use Rattle.run.specs.Run.{Rooms, Result, walked, stages}
 use Rattle.run.specs.Answers.{ran_in, Units, units_at}
 use Rattle.listing.specs.Tables.{Readable}
@@ -54,7 +55,7 @@ module _ (b : List ℕ) (n k : ℕ) where
   reloc_at_lem h q = row_at_lem (λ i. reloc_at b (8 * i)) n k h q
 
   unit_at_lem : {P : units.Unit → Type 0} → k < length (stage_places 8 n) → All P (units_at b n) → P (unit_at b (get_or (stage_places 8 n) k 0))
-  unit_at_lem {P} h q = subst P (get_d_map (unit_at b) (stage_places 8 n) k 0 no_unit h) (all_at k no_unit q (omega (arith, length-map (stage_places 8 n) (unit_at b))))
+  unit_at_lem {P} h q = subst P (get_or-map (unit_at b) (stage_places 8 n) k 0 no_unit h) (all_at k no_unit q (omega (arith, length-map (stage_places 8 n) (unit_at b))))
 
 -- ---- what the stages gave names what is there
 module _ {file : List ℕ} {t : Loaded} (u : Usable file t) (room : Rooms) (r : Result) (f : Finished file t room r) where

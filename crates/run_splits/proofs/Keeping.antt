@@ -37,17 +37,11 @@ use Rattle.gap_splits.specs.Entering.{Filled, Ceilings, Named, full, named, gap_
 use Rattle.create_gap_splits.specs.Create.{gaps_filled}
 use Rattle.loaded.proofs.Laws.{section_below}
 use Rattle.lists.specs.Bounds.{higher}
+use Rattle.lists.proofs.Compare.{higher-most}
 use Rattle.run_splits.specs.Table as table
 use Rattle.run_splits.specs.Table.{Fine, Homed}
 
 -- ---- the merge
-
-higher-most : (a b most : ℕ) → a ≤ most → b ≤ most → higher a b ≤ most
-higher-most a b most h q = go (ltb a b)
-  where
-    go : (t : Bool) → cond t b a ≤ most
-    go true = q
-    go false = h
 
 fine_joint : {sections names : ℕ} (new old : Split) → Fine sections names new → Fine sections names old → Fine sections names (joint_of new old)
 unfolding joint_of

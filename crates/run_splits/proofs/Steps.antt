@@ -4,7 +4,7 @@ use mathlib.Core.Path.{◌≡◌, refl, sym, ap, ◌∙◌}
 use mathlib.Core.List.{List, [], ◌++◌}
 use lib.ListN.{length}
 use Rattle.lists.specs.Outcome.{Outcome, accepted, refused, ◌>>=◌}
-use Rattle.lists.proofs.Binds.{bind_goes, bind_stops}
+use Rattle.lists.proofs.Binds.{bind_goes, bind_stops, bind_assoc}
 use Rattle.obj.specs.declared.Split.{Split}
 use Rattle.names.specs.Names.{names_of}
 use Rattle.tables.specs.Records.{sections_in, partials_in}
@@ -24,12 +24,6 @@ use Rattle.create_gap_splits.specs.Create.{gaps_filled}
 use Rattle.run_merge.specs.Merging.{marked_in}
 use Rattle.run_trim.specs.Checking.{checked_table}
 use Rattle.run_splits.specs.Table.{merged, with_common, with_gaps, checked, split_table}
-
--- what follows a part is what follows its end
-bind_turn : {A B C : Type 0} (m : Outcome A) (f : A → Outcome B) (g : B → Outcome C) → ((m >>= f) >>= g) ≡ (m >>= λ a. f a >>= g)
-unfolding ◌>>=◌
-bind_turn (accepted a) f g = refl
-bind_turn (refused number section address) f g = refl
 
 -- the gaps of a table that is given are found and enter it
 abbrev pub filled_after : Image → Sections → Given → Ceilings → (names : List (List ℕ)) → Outcome (List Split) → Outcome Filled
@@ -56,7 +50,7 @@ module _ (file : List ℕ) (t : Loaded) (room : ℕ) (names : Ceilings) where
 
   table_of : trim_with (byte_places t.sections) (gaps_with (byte_places t.sections) marked_table) ≡ split_table file t room names
   unfolding split_table merged with_common with_gaps checked names_in
-  table_of = bind_turn _ _ _ ∙ bind_turn _ _ _
+  table_of = bind_assoc _ _ _ ∙ bind_assoc _ _ _
 
   pub table_is : (images : List ℕ) → images ≡ byte_places t.sections → {x : Outcome (List Split)} {y z : Outcome Filled} → x ≡ marked_table → y ≡ gaps_with images x
       → z ≡ trim_with images y → z ≡ split_table file t room names

@@ -9,11 +9,11 @@ use lib.ListN.{length, get_or, take, drop, replicate, length-append, length-take
 use mir.Syntax.{w32}
 use mir.Val.{SFits}
 use lib.Seq.{sets, sets-eq, drop_at, get_or-take}
+use Rattle.std.proofs.lemmas.List.{get_or-map}
 use Rattle.lists.specs.Outcome.{Outcome, accepted}
 use Rattle.lists.specs.Sort.{All}
 use Rattle.lists.specs.Members.{In}
 use Rattle.lists.proofs.All.{all_at, all_map}
-use Rattle.lists.proofs.Rows.{get_d_map}
 use Rattle.lists.proofs.Outcomes.{bind_inv}
 use Rattle.fields.specs.Fields.{le16, enc16}
 use Rattle.fields.proofs.Laws.{round16}
@@ -60,7 +60,7 @@ use Rattle.run_theorems.proofs.Running.{names-within, names_few, splits_few, don
 pub file_order : (c : Call) (k : ℕ) → k < length (unit_records c) → SFits w32 (get_or (unit_records c) k no_unit).order
 file_order c k h =
     let q : k < length (tables c).units = omega (arith, length-map (tables c).units (unit_at c.file)) in
-    subst (λ (u : units.Unit). SFits w32 u.order) (sym (get_d_map (unit_at c.file) (tables c).units k 0 no_unit q)) (unit_fits c.file (get_or (tables c).units k 0))
+    subst (λ (u : units.Unit). SFits w32 u.order) (sym (get_or-map (unit_at c.file) (tables c).units k 0 no_unit q)) (unit_fits c.file (get_or (tables c).units k 0))
 
 module _ (c : Call) where
   -- the file was loaded, and its stages ended so

@@ -2,19 +2,18 @@
 -- a cycle, and else the answer is the walk's; and 61 shows a cycle. Each rests on what the link order may give (order's `ways`) for the run's split table. Assumes nothing.
 use Prim.Native.Nat.{ℕ, ◌-◌, ◌/◌, ◌≤◌, ◌<◌}
 use mathlib.Core.Path.{◌≡◌, refl, sym, ap, subst, ◌∙◌}
-use mathlib.Core.Bool.{true, false}
+use mathlib.Core.Bool.{true, false, false≢true}
 use mathlib.Core.List.{List, [], ◌∷◌, map}
 use mathlib.Core.Logic.{◌⊎◌, inl, inr, ◌↔◌, ◌≢◌}
 use native.Mathlib.Omega.{arith}
 use borrow.Author.Tests.{eqb-true}
 use lib.ListN.{length, get_or, drop, replicate, length-map}
+use Rattle.std.proofs.lemmas.List.{get_or-map}
 use Rattle.lists.specs.Outcome.{Outcome, accepted, refused, ◌>>=◌}
 use Rattle.lists.specs.Members.{In}
 use Rattle.lists.specs.Tables.{laid}
-use Rattle.lists.proofs.Compare.{never}
 use Rattle.lists.proofs.Outcomes.{bind_inv, not_both, same_accepted}
 use Rattle.lists.proofs.Binds.{bind_goes}
-use Rattle.lists.proofs.Rows.{get_d_map}
 use Rattle.fields.specs.Fields.{le16}
 use Rattle.obj.specs.Answers.{refusal_word, outcome_word}
 use Rattle.obj.specs.declared.Split.{Split}
@@ -180,7 +179,7 @@ module _ (c : Call) (t : Tabled c) where
     -- an order that is walked, or a cycle
     two_ways : (o : Outcome End) → link_order G room ≡ o → Ways G room o → (Walks c t × (HasCycle G → ⊥)) ⊎ ((c.word ≡ refusal_word 61 0 0) × HasCycle G)
     unfolding on_order records_of
-    two_ways o q (number_twice e) = absurd (never (sym no_number_twice ∙ e))
+    two_ways o q (number_twice e) = absurd (false≢true (sym no_number_twice ∙ e))
     two_ways o q (no_room e h) = absurd (omega (arith, unit_room, good.room))
     two_ways o q (on_cycle l x inside) = inr (word_after (cyclic l) q, closed G (units_at G l) x)
     two_ways o q (ordered h l r inside acyclic) =
@@ -191,7 +190,7 @@ module _ (c : Call) (t : Tabled c) where
             own = λ k k-inside.
                 let i : k < length l = omega (arith, length_records t.full.rows (unit_records c) l) in
                 let at : get_or (records_of t.full.rows (unit_records c) l) k no_unit ≡ record_of t.full.rows (unit_records c) (get_or (nodes t.full.rows) (get_or l k 0) 0) =
-                get_d_map (λ v. record_of t.full.rows (unit_records c) (get_or (nodes t.full.rows) v 0)) l k 0 no_unit i in
+                get_or-map (λ v. record_of t.full.rows (unit_records c) (get_or (nodes t.full.rows) v 0)) l k 0 no_unit i in
                 at ∙ ap (record_of t.full.rows (unit_records c)) (sym (ap (λ (u : units.Unit). u.name) at ∙ own_name t.full.rows (unit_records c) _));
             answer = word_after (all l) q ∙ done_word _ _;
           },

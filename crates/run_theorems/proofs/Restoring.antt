@@ -6,10 +6,10 @@ use mathlib.Core.Bool.{false}
 use mathlib.Core.List.{List, [], map}
 use native.Mathlib.Omega.{arith}
 use lib.ListN.{length, get_or, length-map}
+use Rattle.std.proofs.lemmas.List.{get_or-map}
 use Rattle.lists.specs.Outcome.{accepted}
 use Rattle.lists.specs.Sort.{All}
 use Rattle.lists.proofs.Each.{all_placed}
-use Rattle.lists.proofs.Rows.{get_d_map}
 use Rattle.align.specs.Align.{bad_align}
 use Rattle.fields.specs.Fields.{le16}
 use Rattle.obj.specs.Records.{section_at}
@@ -46,7 +46,7 @@ use Rattle.run_theorems.proofs.Order.{units_read}
 
 -- a section's head is its record
 head_is : (c : Call) (n : ℕ) → n < length (tables c).sections → head_of c.file (tables c).sections n ≡ get_or (section_heads c) n no_section
-head_is c n h = sym (get_d_map (section_at c.file) (tables c).sections n 0 no_section h)
+head_is c n h = sym (get_or-map (section_at c.file) (tables c).sections n 0 no_section h)
 
 module _ (c : Call) (e : c.word ≡ 0) where
   abbrev u : Usable c.file (tables c)

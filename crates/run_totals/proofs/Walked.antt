@@ -9,11 +9,12 @@ use native.Mathlib.Omega.{arith}
 use borrow.Author.Tests.{eqb-false, eq-eqb, ltb-false}
 use lib.Dec.{eqb}
 use lib.ListN.{length}
+use Rattle.std.proofs.lemmas.Bool.{or_parts}
 use Rattle.lists.specs.Outcome.{accepted}
 use Rattle.lists.specs.Sort.{All, none, each}
 use Rattle.lists.proofs.All.{all_append, all_map}
 use Rattle.lists.proofs.Outcomes.{then_inv, same_accepted}
-use Rattle.lists.proofs.Tests.{or_false, and_false}
+use Rattle.lists.proofs.Tests.{and_false}
 use Rattle.obj.specs.declared.Split.{Split}
 use Rattle.obj.specs.declared.Symbol.{Symbol}
 use Rattle.sections.specs.Image.{Image}
@@ -47,7 +48,7 @@ has-none : (unit i : ℕ) (out : List PieceSymbol) → has unit i out ≡ false 
 unfolding has
 has-none unit i [] e = none
 has-none unit i (y ∷ out) e =
-    let q = or_false (eqb y.unit unit && eqb y.symbol i) (has unit i out) e in
+    let q = or_parts (eqb y.unit unit && eqb y.symbol i) (has unit i out) e in
     each (λ a b. eqb-false _ _ (and_false (eqb y.unit unit) (eqb y.symbol i) q.0 (eq-eqb _ _ a)) b) (has-none unit i out q.1)
 
 -- one more that is not there
@@ -95,7 +96,7 @@ module _ (t : Input) where
   given_fine : (n unit alignment : ℕ) (s : Split) → unit < length t.units → (o : Output) → OfUnitsIn o → over t.room (given t n unit alignment s o) ≡ false
       → OfUnitsIn (given t n unit alignment s o)
   unfolding given piece_of
-  given_fine n unit alignment s h o f room = record { pieces = go (is_common s); symbols = named.0; once = named.1; few = ltb-false _ _ (or_false _ _ (or_false _ _ room).0).0 }
+  given_fine n unit alignment s h o f room = record { pieces = go (is_common s); symbols = named.0; once = named.1; few = ltb-false _ _ (or_parts _ _ (or_parts _ _ room).0).0 }
     where
       go : (b : Bool) → All (λ p. p.unit < length t.units) (o.pieces ++ cond b [] (piece_of (t.sections.head n) n unit (count_of unit o.pieces) alignment s ∷ []))
       go true = all_append f.pieces none

@@ -10,7 +10,7 @@ use borrow.Author.Tests.{eqb-true, eqb-false}
 use lib.Dec.{eqb}
 use Rattle.lists.specs.Outcome.{accepted, ◌>>=◌}
 use Rattle.lists.proofs.Outcomes.{same_accepted, bind_inv}
-use Rattle.lists.proofs.Both.{one_of_two}
+use Rattle.lists.proofs.Compare.{one_of_two}
 use Rattle.align.specs.Align.{good_align, bad_align}
 use Rattle.align.proofs.Laws.{not_bad}
 use Rattle.align.proofs.Theorems.{good_is}

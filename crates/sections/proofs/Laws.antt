@@ -1,7 +1,7 @@
 -- The splitting end: a turn of its pass over the symbols, and the ways in which it is found. Assumes nothing.
 use mathlib.Core.Path.{◌≡◌, ap, ◌∙◌}
 use mathlib.Core.List.{List, [], ◌∷◌, reverse, reverse-append}
-use mathlib.Core.Bool.{true, false, cond, ◌&&◌, ◌||◌}
+use mathlib.Core.Bool.{true, false, cond, ◌&&◌, ◌||◌, false≢true}
 use mathlib.Core.Logic.{◌⊎◌, inl, inr}
 use Prim.Native.Nat.{ℕ, suc, ◌+◌, ◌-◌, ◌≤◌, ◌<◌}
 use native.Mathlib.Omega.{arith}
@@ -9,8 +9,8 @@ use lib.Dec.{ltb, eqb}
 use lib.ListN.{length, get_or, take}
 use lib.Seq.{take-suc}
 use borrow.Author.Tests.{le-ltb}
+use Rattle.std.proofs.lemmas.Bool.{cases_lt}
 use Rattle.lists.specs.Outcome.{accepted, refused, refuse, ◌>>◌}
-use Rattle.lists.proofs.Compare.{lt_or_ge, never}
 use Rattle.obj.specs.declared.Section.{Section}
 use Rattle.obj.specs.declared.Symbol.{Symbol}
 use Rattle.names.specs.Fixed.{is_pointer_list}
@@ -20,11 +20,11 @@ use Rattle.sections.specs.Ends.{object_below, is_linkers, lowered, lowered_end, 
 
 -- its address lies below
 pub object_below_lem : (end : ℕ) (y : Symbol) → object_below end y ≡ true → y.address < end
-object_below_lem end y e = go (lt_or_ge y.address end)
+object_below_lem end y e = go (cases_lt y.address end)
   where
     go : (y.address < end) ⊎ (end ≤ y.address) → y.address < end
     go (inl h) = h
-    go (inr h) = absurd (never (rw (le-ltb _ _ h) at e))
+    go (inr h) = absurd (false≢true (rw (le-ltb _ _ h) at e))
 
 last_first : (l : List ℕ) (j : ℕ) → 0 < j → j ≤ length l → reverse (take j l) ≡ get_or l (j - 1) 0 ∷ reverse (take (j - 1) l)
 last_first l j h q =

@@ -10,13 +10,14 @@ use native.Mathlib.Omega.{arith}
 use lib.Dec.{ltb}
 use borrow.Author.Tests.{le-ltb, lt-ltb}
 use Rattle.lists.specs.Rows.{keep_if}
-use Rattle.lists.proofs.Compare.{lt_or_ge, and_fails, and_holds}
+use Rattle.lists.proofs.Compare.{and_holds}
 use Rattle.lists.proofs.Filter.{keep_append, keep_keep}
 use Rattle.obj.specs.declared.Symbol.{Symbol}
 use Rattle.symbol_order.specs.Order.{symbols_of}
 use Rattle.symbols.specs.Ranges.{last_or, sized_unstripped, last_below}
 use Rattle.std.specs.Prelude.{Option, Some, None}
 use Rattle.std.proofs.lemmas.Option.{none-some}
+use Rattle.std.proofs.lemmas.Bool.{cases_lt, and_right}
 use Rattle.sections.specs.Image.{Image}
 use Rattle.sections.specs.Ends.{object_below, is_linkers, lowered, lowered_end, round}
 use Rattle.sections.proofs.Laws.{object_below_lem}
@@ -55,10 +56,10 @@ first_passes p (x ∷ r) j e = go (p x) refl e (first_passes p r j)
 
 -- what is no such symbol at an end is none below it either
 stays : (y : Symbol) (end low : ℕ) → object_below end y ≡ false → low ≤ end → object_below low y ≡ false
-stays y end low e h = go (lt_or_ge y.address end)
+stays y end low e h = go (cases_lt y.address end)
   where
     go : (y.address < end) ⊎ (end ≤ y.address) → object_below low y ≡ false
-    go (inl q) = and_fails (ltb y.address low) (sym (and_holds (lt-ltb _ _ q)) ∙ e)
+    go (inl q) = and_right (ltb y.address low) _ (sym (and_holds (lt-ltb _ _ q)) ∙ e)
     go (inr q) = let w : low ≤ y.address = omega arith in rw (le-ltb _ _ w)
 
 module _ (g : Image) where

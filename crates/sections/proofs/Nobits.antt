@@ -2,11 +2,10 @@
 -- address plus size and never 10, and no byte of theirs is other than zero. Assumes nothing.
 use mathlib.Core.Path.{◌≡◌, refl, sym, ap, ◌∙◌}
 use mathlib.Core.List.{List, []}
-use mathlib.Core.Bool.{Bool, true, false}
+use mathlib.Core.Bool.{Bool, true, false, false≢true}
 use Prim.Native.Nat.{ℕ, ◌+◌, zero-le}
 use lib.Dec.{eqb}
 use borrow.Author.Tests.{eq-eqb, eqb-true}
-use Rattle.lists.proofs.Compare.{never}
 use Rattle.lists.specs.Outcome.{accepted}
 use Rattle.obj.specs.declared.Section.{Section}
 use Rattle.sections.specs.Image.{Image}
@@ -35,4 +34,4 @@ end_alike g n head image other places same = go (eqb head.kind 3) refl
   where
     go : (t : Bool) → eqb head.kind 3 ≡ t → splitting_end g n head (bytes_of image places n head) ≡ splitting_end g n head (bytes_of other places n head)
     go true e = let q = eqb-true head.kind 3 e in nobits_end n head q g _ ∙ sym (nobits_end n head q g _)
-    go false e = ap (splitting_end g n head) (same (λ q. never (sym e ∙ eq-eqb head.kind 3 q)))
+    go false e = ap (splitting_end g n head) (same (λ q. false≢true (sym e ∙ eq-eqb head.kind 3 q)))

@@ -1,14 +1,13 @@
 -- Whether bytes are zero, byte by byte from the front; a range past the end holds none. Assumes nothing.
 use mathlib.Core.Path.{◌≡◌, refl}
 use mathlib.Core.List.{List, [], ◌∷◌}
-use mathlib.Core.Bool.{Bool, true, false, ◌&&◌}
+use mathlib.Core.Bool.{Bool, true, false, ◌&&◌, false≢true}
 use native.Mathlib.Nat.{le_of_suc-le-suc, zero-lt-suc}
 use Rattle.std.proofs.Common.{suc-le-suc}
 use borrow.Author.Tests.{eqb-true, eqb-false}
 use Rattle.std.specs.List.{All}
 use Rattle.std.specs.Bool.{Decides}
 use Rattle.std.proofs.lemmas.List.Elements.{All-nil}
-use Rattle.lists.proofs.Compare.{never}
 use Prim.Native.Nat.{ℕ, zero, suc, ◌-◌, ◌≤◌}
 use lib.Dec.{eqb}
 use lib.ListN.{length, take, drop_of_length-le}
@@ -31,7 +30,7 @@ all_zero_decides (x ∷ l) = go (eqb x 0) refl (all_zero_decides l)
         at : x ≡ 0 → All (λ (x : ℕ). x ≡ 0) l → All (λ (x : ℕ). x ≡ 0) (x ∷ l)
         at z q zero d h = z
         at z q (suc k) d h = q k d (le_of_suc-le-suc h)
-    go false e p = (λ q. absurd (never q), λ q. absurd (eqb-false x 0 e (q zero 0 (zero-lt-suc _))))
+    go false e p = (λ q. absurd (false≢true q), λ q. absurd (eqb-false x 0 e (q zero 0 (zero-lt-suc _))))
 
 module _ (l : List ℕ) (i : ℕ) where
   pub zero_past : (to : ℕ) → length l ≤ i → zero_between l i to ≡ true

@@ -9,9 +9,9 @@ use native.Mathlib.Omega.{arith}
 use borrow.Author.Tests.{lt-ltb, le-ltb, ne_eqb, eqb-true, eqb-false}
 use lib.Dec.{eqb, ltb}
 use lib.ListN.{length, get_or}
+use Rattle.std.proofs.lemmas.Bool.{cases_lt, and_right}
 use Rattle.lists.specs.Rows.{tabulate, keep_if, some, insert_at, first_from}
 use Rattle.lists.specs.InsertBy.{insert_by}
-use Rattle.lists.proofs.Compare.{lt_or_ge, and_fails}
 use Rattle.lists.proofs.Rows.{length-tabulate, tabulate-insert}
 use Rattle.lists.proofs.Parts.{tabulate_all, tabulate-map}
 use Rattle.lists.proofs.Filter.{keep_append}
@@ -49,7 +49,7 @@ module _ {A : Type 0} (p : A → Bool) (f : ℕ → A) (n : ℕ) where
   insert-rows : (x : A) (i : ℕ) → i ≤ n → ((k : ℕ) → k < i → p (f k) ≡ false) → (i < n → p (f i) ≡ true) → insert_by p x (tabulate f 0 n) ≡ insert_at i x (tabulate f 0 n)
   insert-rows x i h low here =
       sym (insert_at-first_in p x (tabulate f 0 n))
-      ∙ ap (λ (k : ℕ). insert_at k x (tabulate f 0 n)) (sym (first_list p f n) ∙ sym (first_past (λ k. p (f k)) n i h low) ∙ go (lt_or_ge i n))
+      ∙ ap (λ (k : ℕ). insert_at k x (tabulate f 0 n)) (sym (first_list p f n) ∙ sym (first_past (λ k. p (f k)) n i h low) ∙ go (cases_lt i n))
     where
       go : (i < n) ⊎ (n ≤ i) → first_from (λ k. p (f k)) i (n - i) ≡ i
       go (inl q) = first_here (λ k. p (f k)) i n q (here q)
@@ -79,7 +79,7 @@ module _ (s : Split) (c₀ : Columns) (n first stop : ℕ) (l : stop ≤ n)
 
   -- what holds of each row around holds of each row that is left
   each_left : (P : Split → Type 0) → ((k : ℕ) → k < first → P (row_at c₀ k)) → ((k : ℕ) → stop ≤ k → k < n → P (row_at c₀ k)) → (k : ℕ) → k < size → P (g k)
-  each_left P a b k h = go (lt_or_ge k first)
+  each_left P a b k h = go (cases_lt k first)
     where
       go : (k < first) ⊎ (first ≤ k) → P (g k)
       go (inl m) = subst P (sym (q.below k m)) (a k m)
@@ -95,13 +95,13 @@ module _ (s : Split) (c₀ : Columns) (n first stop : ℕ) (l : stop ≤ n)
   keeps_name k alone = go (eqb (get_or c₀.units k 0) s.unit) refl
     where
       other : eqb (get_or c₀.units k 0) s.unit ≡ false → (i : ℕ) → i < n → (in_range (row_at c₀ i) && eqb (get_or c₀.units i 0) (get_or c₀.units k 0)) ≡ false
-      other e i h = place (lt_or_ge i first) (lt_or_ge i stop)
+      other e i h = place (cases_lt i first) (cases_lt i stop)
         where
           place : (i < first) ⊎ (first ≤ i) → (i < stop) ⊎ (stop ≤ i) → (in_range (row_at c₀ i) && eqb (get_or c₀.units i 0) (get_or c₀.units k 0)) ≡ false
           place (inl a) b = rw (low i a) refl
           place (inr a) (inr b) = rw (t.none i b h) refl
           place (inr a) (inl b) =
-              and_fails (in_range (row_at c₀ i))
+              and_right (in_range (row_at c₀ i)) _
               (ne_eqb (get_or c₀.units i 0) (get_or c₀.units k 0) (λ z. eqb-false (get_or c₀.units k 0) s.unit e (sym z ∙ alone i a b (sym z))))
 
       go : (b : Bool) → eqb (get_or c₀.units k 0) s.unit ≡ b → row_at c₀ k ≡ renamed s.unit in_range table (row_at c₀ k)

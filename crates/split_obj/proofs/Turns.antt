@@ -11,11 +11,11 @@ use lib.Dec.{eqb, leb, ltb}
 use lib.ListN.{get_or}
 use borrow.Author.Tests.{lt-ltb, le-ltb, leb-true, ne_eqb}
 use Rattle.std.specs.Prelude.{None, Some}
+use Rattle.std.proofs.lemmas.Bool.{and_parts}
 use Rattle.lists.specs.Rows.{tabulate, keep_if}
 use Rattle.lists.specs.Outcome.{Outcome, accepted, refused, ◌>>=◌}
 use Rattle.lists.proofs.Outcomes.{fails, passes}
-use Rattle.lists.proofs.Binds.{bind_goes, bind_stops}
-use Rattle.lists.proofs.Both.{both}
+use Rattle.lists.proofs.Binds.{bind_goes, bind_stops, bind_assoc}
 use Rattle.obj.specs.declared.Split.{Split}
 use Rattle.splits.specs.Columns.{Columns, row_of, row_at, rows}
 use Rattle.splits.specs.Questions.{within, from_hit, next_start}
@@ -25,10 +25,6 @@ use Rattle.walk.proofs.Deciding.{carried, decide_then_give}
 use Rattle.split_obj.specs.Loop.{Hits}
 
 -- ---- chains
-bind_assoc : {A B C : Type 0} (m : Outcome A) (f : A → Outcome B) (g : B → Outcome C) → ((m >>= f) >>= g) ≡ (m >>= λ a. f a >>= g)
-unfolding ◌>>=◌
-bind_assoc (accepted a) f g = refl
-bind_assoc (refused number section address) f g = refl
 
 -- ---- a row's start
 row_start : (c : Columns) (i : ℕ) → (row_at c i).start ≡ get_or c.starts i 0
@@ -38,8 +34,8 @@ row_start c i = refl
 -- a row that the walk takes starts at or above the section's start
 pub row_low : (n low end : ℕ) (c : Columns) (i : ℕ) → within n low end (row_at c i) ≡ true → low ≤ (row_at c i).start
 row_low n low end c i e =
-    let p = both (eqb (row_at c i).section n) (leb low (row_at c i).start && ltb (row_at c i).start end) e in
-    leb-true low (row_at c i).start (both (leb low (row_at c i).start) (ltb (row_at c i).start end) p.1).0
+    let p = and_parts (eqb (row_at c i).section n) (leb low (row_at c i).start && ltb (row_at c i).start end) e in
+    leb-true low (row_at c i).start (and_parts (leb low (row_at c i).start) (ltb (row_at c i).start end) p.1).0
 
 -- ---- the splits of a section
 module _ (t : Input) (n end current : ℕ) (out : Output) where

@@ -3,7 +3,7 @@
 use Prim.Native.Nat.{ℕ, ◌+◌, ◌*◌, ◌/◌, ◌%◌, ◌≤◌, ◌<◌}
 use mathlib.Core.Path.{◌≡◌, refl, sym, ap, subst, ◌∙◌}
 use mathlib.Core.List.{List, [], ◌∷◌, map}
-use mathlib.Core.Bool.{Bool, true, false, cond, ◌&&◌}
+use mathlib.Core.Bool.{Bool, true, false, cond, ◌&&◌, false≢true}
 use native.Mathlib.Omega.{arith}
 use borrow.Author.Tests.{eqb-true, eqb-false, eq-eqb, ne_eqb, ltb-true, ltb-false}
 use lib.Dec.{eqb, leb, ltb}
@@ -12,7 +12,6 @@ use Rattle.lists.specs.Bounds.{lower}
 use Rattle.lists.specs.Outcome.{accepted}
 use Rattle.lists.specs.Sort.{All, none, each}
 use Rattle.lists.proofs.All.{all_at, all_map}
-use Rattle.lists.proofs.Compare.{never}
 use Rattle.lists.proofs.Each.{all_placed}
 use Rattle.lists.proofs.Outcomes.{bind_inv, then_both, same_accepted}
 use Rattle.obj.specs.Records.{partial_at, origin_of, partial_numbered}
@@ -100,7 +99,7 @@ module _ (new old : Split) where
           let x = eqb-true a 1 e in
           let y = eqb-true b 1 f in
           let set : (joint_of new old).flags / 2 % 2 ≡ 1 = joint_bit ∙ rw (x, y) in
-          record { auto = λ _. joint_origin ∙ lower-none (p.auto e) (q.auto f); hand = λ z. absurd (never (sym z ∙ eq-eqb _ _ set)) }
+          record { auto = λ _. joint_origin ∙ lower-none (p.auto e) (q.auto f); hand = λ z. absurd (false≢true (sym z ∙ eq-eqb _ _ set)) }
       go true e false f =
           let n : b ≡ 0 = let z = eqb-false b 1 f in omega arith in
           let unset : (joint_of new old).flags / 2 % 2 ≡ 0 = joint_bit ∙ rw n (omega arith) in
@@ -122,13 +121,13 @@ originated_keeps = record { joint = λ new old e p q. joint_originated new old p
 
 -- a gap's split
 pub gap_originated : (x : Gap) (unit : ℕ) → Originated (gap_split x unit)
-gap_originated x unit = record { auto = λ _. refl; hand = λ e. absurd (never (sym e)) }
+gap_originated x unit = record { auto = λ _. refl; hand = λ e. absurd (false≢true (sym e)) }
 
 -- partial record k
 origin_by : (b : List ℕ) (k at : ℕ) → k < 65535 → (t : Bool) → eqb (get_or b (at + 16) 0 / 2 % 2) 1 ≡ t → Originated (partial_at (cond t 65535 k) b at)
 unfolding partial_at
-origin_by b k at h true e = record { auto = λ z. refl; hand = λ z. absurd (never (sym z ∙ e)) }
-origin_by b k at h false e = record { auto = λ z. absurd (never (sym e ∙ z)); hand = λ z. h }
+origin_by b k at h true e = record { auto = λ z. refl; hand = λ z. absurd (false≢true (sym z ∙ e)) }
+origin_by b k at h false e = record { auto = λ z. absurd (false≢true (sym e ∙ z)); hand = λ z. h }
 
 pub partial_originated : (b : List ℕ) (k at : ℕ) → k < 65535 → Originated (partial_numbered b k at)
 unfolding partial_numbered origin_of

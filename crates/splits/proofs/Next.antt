@@ -1,10 +1,9 @@
 -- From one row that passes to the next one, until there is none. Assumes nothing.
 use mathlib.Core.Path.{◌≡◌, sym, ◌∙◌}
-use mathlib.Core.Bool.{Bool, true, false}
+use mathlib.Core.Bool.{Bool, true, false, false≢true}
 use Prim.Native.Nat.{ℕ, ◌+◌, ◌-◌, ◌≤◌, ◌<◌}
 use native.Mathlib.Omega.{arith}
 use Rattle.std.specs.Prelude.{Option, Some, None, MatchOption, is_some, unwrap_or}
-use Rattle.lists.proofs.Compare.{never}
 use Rattle.obj.specs.declared.Split.{Split}
 use Rattle.splits.specs.Columns.{Columns, row_at}
 use Rattle.splits.specs.Questions.{NonePasses, FirstPlace}
@@ -31,7 +30,7 @@ none_before p c n at (Some i) h s = (s.past, omega (arith, s.small), s.none)
 -- there is none
 pub none_left : (p : Split → Bool) (c : Columns) (n at : ℕ) (r : Option ℕ) → is_some r ≡ false → FirstPlace p c at n r → NonePasses p c at n
 none_left p c n at None e none = none
-none_left p c n at (Some i) e s = absurd (never (sym e))
+none_left p c n at (Some i) e s = absurd (false≢true (sym e))
 
 -- columns of which each row passes where the other's does
 pub same_places : (p : Split → Bool) (c d : Columns) (at n : ℕ) → ((k : ℕ) → p (row_at c k) ≡ p (row_at d k)) → (r : Option ℕ) → FirstPlace p c at n r → FirstPlace p d at n r

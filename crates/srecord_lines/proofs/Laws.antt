@@ -13,12 +13,12 @@ use lib.Seq.{sets}
 use borrow.Author.Tests.{eqb-false, ne_eqb, ltb-true, leb-true, lt-ltb, not-true}
 use Rattle.std.specs.Int.{w32, to_be_bytes}
 use Rattle.std.specs.Prelude.{sum_by}
-use Rattle.lists.proofs.Both.{both}
+use Rattle.std.proofs.lemmas.Bool.{and_parts, and_from}
 use Rattle.lists.proofs.Stores.{sets_then}
 use Rattle.fields.specs.Fields.{big, bytes_of}
 use Rattle.names.specs.GapName.{digit, hexes}
 use Rattle.obj.specs.declared.Section.{Section}
-use Rattle.lists.proofs.Among.{same_test, and_true, some_by, some_member, range_member}
+use Rattle.lists.proofs.Among.{same_test, some_by, some_member, range_member}
 use Rattle.srecords.specs.Lines.{sum, checksum, counted, line_of, has_address, share_address}
 use Rattle.srecords.specs.Reader.{Has}
 use Rattle.srecords.proofs.Digits.{length-hexes}
@@ -94,8 +94,8 @@ line_is type address bytes =
 has : (x : ℕ) (s : Section) → has_address x s ≡ true → Has x s
 unfolding has_address
 has x s e =
-    let a = both _ _ e in
-    let b = both _ _ a.1 in
+    let a = and_parts _ _ e in
+    let b = and_parts _ _ a.1 in
     record { holds = eqb-false _ _ (not-true _ a.0); low = leb-true _ _ b.0; high = ltb-true _ _ b.1 }
 
 -- the tests that the code makes
@@ -111,11 +111,11 @@ share_is s t = same_test (meets s t) (share_address s t) there back
   where
     there : meets s t ≡ true → share_address s t ≡ true
     there e =
-        let a = both _ _ e in
-        let b = both _ _ a.0 in
-        let c = both _ _ b.0 in
-        let d = both _ _ c.0 in
-        let f = both _ _ d.0 in
+        let a = and_parts _ _ e in
+        let b = and_parts _ _ a.0 in
+        let c = and_parts _ _ b.0 in
+        let d = and_parts _ _ c.0 in
+        let f = and_parts _ _ d.0 in
         find (eqb-false _ _ (not-true _ f.0)) (eqb-false _ _ (not-true _ f.1)) (eqb-false _ _ (not-true _ d.1)) (eqb-false _ _ (not-true _ c.1))
         (ltb-true _ _ b.1) (ltb-true _ _ a.1) (dec_lt s.address t.address)
       where
@@ -123,19 +123,19 @@ share_is s t = same_test (meets s t) (share_address s t) there back
             → share_address s t ≡ true
         find p q m n u v (yes l) =
             some_by _ (range_member s.address s.size t.address (omega arith) v)
-            (and_true (has_address_lem t.address s (record { holds = p; low = omega arith; high = v })) (has_address_lem t.address t (record { holds = q; low = omega arith; high = omega arith })))
+            (and_from _ _ (has_address_lem t.address s (record { holds = p; low = omega arith; high = v })) (has_address_lem t.address t (record { holds = q; low = omega arith; high = omega arith })))
         find p q m n u v (no l) =
             some_by _ (range_member s.address s.size s.address (omega arith) (omega arith))
-            (and_true (has_address_lem s.address s (record { holds = p; low = omega arith; high = omega arith })) (has_address_lem s.address t (record { holds = q; low = omega arith; high = u })))
+            (and_from _ _ (has_address_lem s.address s (record { holds = p; low = omega arith; high = omega arith })) (has_address_lem s.address t (record { holds = q; low = omega arith; high = u })))
 
     back : share_address s t ≡ true → meets s t ≡ true
     back e =
         let r = some_member _ _ e in
-        let a = both _ _ r.2 in
+        let a = and_parts _ _ r.2 in
         let g = has r.0 s a.0 in
         let h = has r.0 t a.1 in
         let gl = g.low in let gh = g.high in let hl = h.low in let hh = h.high in
-        and_true (and_true (and_true (and_true (and_true (ap not (ne_eqb _ _ g.holds)) (ap not (ne_eqb _ _ h.holds)))
+        and_from _ _ (and_from _ _ (and_from _ _ (and_from _ _ (and_from _ _ (ap not (ne_eqb _ _ g.holds)) (ap not (ne_eqb _ _ h.holds)))
         (ap not (ne_eqb s.size 0 (λ z. omega arith)))) (ap not (ne_eqb t.size 0 (λ z. omega arith))))
         (lt-ltb s.address (t.address + t.size) (omega arith))) (lt-ltb t.address (s.address + s.size) (omega arith))
 

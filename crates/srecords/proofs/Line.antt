@@ -7,11 +7,11 @@ use native.Mathlib.Omega.{arith}
 use lib.ListN.{length, get_or, take, drop, length-append, get_or-append}
 use lib.Seq.{take_at, drop_at, get_or_at, drop-append-le}
 use borrow.Author.Tests.{eq-eqb, le-leb}
+use Rattle.std.proofs.lemmas.Bool.{and_from}
 use Rattle.lists.specs.Sort.{All, none, each}
 use Rattle.lists.proofs.All.{all_append}
 use Rattle.fields.specs.Fields.{big, number_at, bytes_of}
 use Rattle.fields.proofs.Laws.{number_at_same, length-bytes_of, number_of_bytes}
-use Rattle.lists.proofs.Among.{and_true}
 use Rattle.names.specs.GapName.{hexes}
 use Rattle.srecords.specs.Lines.{checksum, counted}
 use Rattle.srecords.specs.Reader.{read, bad, pairs, width_of, counts, line_in, read_line}
@@ -66,8 +66,8 @@ module _ (type address : ℕ) (bytes : List ℕ) (w : Wide type) (f : Fits addre
       let l = body_length in
       let g = front_length in
       let e = w.wide in
-      and_true (eq-eqb (length bytes + 5) (length body) (omega arith))
-      (and_true (le-leb (width_of type + 1) (length body) (omega arith))
+      and_from _ _ (eq-eqb (length bytes + 5) (length body) (omega arith))
+      (and_from _ _ (le-leb (width_of type + 1) (length body) (omega arith))
       (eq-eqb _ _
       (get_or_at front check [] 0 (length body - 1) (omega arith)
       ∙ ap (λ (x : List ℕ). checksum ((length bytes + 5) ∷ x)) (sym (take_at front (check ∷ []) (length body - 1) (omega arith))))))
@@ -111,6 +111,6 @@ module _ (type address : ℕ) (bytes : List ℕ) (w : Wide type) (f : Fits addre
   unfolding read_line counted
   line_read =
       ap (λ (t : Bool). cond t (line_in type (pairs (hexes (counted address bytes ++ (check ∷ []))))) bad)
-      (and_true (eq-eqb 83 83 refl) (and_true (le-leb _ _ w.low) (le-leb _ _ w.high)))
+      (and_from _ _ (eq-eqb 83 83 refl) (and_from _ _ (le-leb _ _ w.low) (le-leb _ _ w.high)))
       ∙ ap (line_in type) (pairs-hexes (counted address bytes ++ (check ∷ [])) all_small)
       ∙ body_read

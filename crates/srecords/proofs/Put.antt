@@ -9,9 +9,8 @@ use lib.Dec.{ltb, leb}
 use lib.ListN.{length, get_or, drop, length-take, length-drop}
 use lib.Seq.{get_or-take, get_or-drop}
 use borrow.Author.Tests.{le-leb, lt-leb, lt-ltb, le-ltb}
+use Rattle.std.proofs.lemmas.Bool.{and_from, and_right}
 use Rattle.lists.specs.Rows.{tabulate}
-use Rattle.lists.proofs.Compare.{and_fails}
-use Rattle.lists.proofs.Among.{and_true}
 use Rattle.srecords.specs.Lines.{S3}
 use Rattle.srecords.specs.Reader.{Line, is_data, puts, bytes_put}
 use Rattle.srecords.proofs.Text.{chunk, chunks}
@@ -46,15 +45,15 @@ module _ (address : ℕ) (bytes : List ℕ) (x : ℕ) where
 
   has : (i : ℕ) → address + 16 * i ≤ x → x < address + 16 * i + length (chunk address bytes i).bytes → puts x (chunk address bytes i) ≡ true
   unfolding puts
-  has i low high = and_true (and_true (le-leb 49 S3 (omega arith)) (le-leb S3 51 (omega arith))) (and_true (le-leb _ _ low) (lt-ltb _ _ high))
+  has i low high = and_from _ _ (and_from _ _ (le-leb 49 S3 (omega arith)) (le-leb S3 51 (omega arith))) (and_from _ _ (le-leb _ _ low) (lt-ltb _ _ high))
 
   low_not : (i : ℕ) → x < address + 16 * i → puts x (chunk address bytes i) ≡ false
   unfolding puts
-  low_not i h = and_fails (is_data (chunk address bytes i)) (ap (λ (t : Bool). t && ltb x (address + 16 * i + length (chunk address bytes i).bytes)) (lt-leb _ _ h))
+  low_not i h = and_right (is_data (chunk address bytes i)) _ (ap (λ (t : Bool). t && ltb x (address + 16 * i + length (chunk address bytes i).bytes)) (lt-leb _ _ h))
 
   high_not : (i : ℕ) → address + 16 * i + length (chunk address bytes i).bytes ≤ x → puts x (chunk address bytes i) ≡ false
   unfolding puts
-  high_not i h = and_fails (is_data (chunk address bytes i)) (and_fails (leb (address + 16 * i) x) (le-ltb _ _ h))
+  high_not i h = and_right (is_data (chunk address bytes i)) _ (and_right (leb (address + 16 * i) x) _ (le-ltb _ _ h))
 
   -- lines that start above put nothing there
   below : (i n : ℕ) → x < address + 16 * i → bytes_put (tabulate (chunk address bytes) i n) x ≡ []

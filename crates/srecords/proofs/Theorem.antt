@@ -1,20 +1,19 @@
 -- The theorem of (n): "A reader by the public definition gives back each section's joined bytes at its addresses", each once, and nothing else. Assumes nothing.
 use mathlib.Core.Path.{◌≡◌, refl, sym, ap, ap₂, subst, ◌∙◌}
 use mathlib.Core.List.{List, [], ◌∷◌, ◌++◌, append_assoc, append-nil, Memᴰ}
-use mathlib.Core.Bool.{true, false, not}
+use mathlib.Core.Bool.{true, false, not, false≢true}
 use Prim.Native.Nat.{ℕ, zero, suc, ◌+◌, ◌-◌, ◌≤◌, ◌<◌}
 use native.Mathlib.Omega.{arith}
 use native.Mathlib.Decide.{ℕ_discrete, dec_lt}
 use lib.ListN.{length, get_or}
 use borrow.Author.Tests.{ne_eqb, le-leb, lt-ltb}
+use Rattle.std.proofs.lemmas.Bool.{or_parts, and_from}
 use Rattle.lists.specs.Rows.{some}
 use Rattle.lists.specs.Sort.{All, none, each}
-use Rattle.lists.proofs.Compare.{never}
 use Rattle.lists.proofs.Each.{all_placed}
-use Rattle.lists.proofs.Tests.{or_false}
 use Rattle.obj.specs.declared.Section.{Section}
 use Rattle.join.specs.Join.{Part, nowhere, joined_at, joined_section, held_by}
-use Rattle.lists.proofs.Among.{and_true, some_by, none_member, range_member, at_member}
+use Rattle.lists.proofs.Among.{some_by, none_member, range_member, at_member}
 use Rattle.join.proofs.Members.{Byte, of, empty, joined_byte}
 use Rattle.join.proofs.Sizes.{joined_section-held, section_reads, held_by_is, held_by-none, listed}
 use Rattle.srecords.specs.Lines.{S7, section_lines, lines_from, lines_of, line_of, has_address, share_address, some_share}
@@ -92,13 +91,13 @@ text_read heads parts h f = from_read parts f 0 heads h (line_of S7 0 []) (last 
 
 pub has_address_lem : (x : ℕ) (s : Section) → Has x s → has_address x s ≡ true
 unfolding has_address
-has_address_lem x s h = and_true (ap not (ne_eqb _ _ h.holds)) (and_true (le-leb _ _ h.low) (lt-ltb _ _ h.high))
+has_address_lem x s h = and_from _ _ (ap not (ne_eqb _ _ h.holds)) (and_from _ _ (le-leb _ _ h.low) (lt-ltb _ _ h.high))
 
 -- two sections that share an address are found
 share_found : (x : ℕ) (s t : Section) → Has x s → Has x t → share_address s t ≡ true
 unfolding share_address
 share_found x s t a b =
-    some_by _ (range_member s.address s.size x a.low a.high) (and_true (has_address_lem x s a) (has_address_lem x t b))
+    some_by _ (range_member s.address s.size x a.low a.high) (and_from _ _ (has_address_lem x s a) (has_address_lem x t b))
 
 module _ (parts : List Part) (x : ℕ) where
   section_own : (n : ℕ) (head : Section) → Has x head → bytes_put (chunks head.address (joined_section parts n head)) x ≡ joined_at parts n x ∷ []
@@ -140,13 +139,13 @@ module _ (parts : List Part) (x : ℕ) where
   from_own m (head ∷ later) zero e h =
       put_append (chunks head.address (joined_section parts m head)) (data_from parts (suc m) later) x
       ∙ ap₂ (λ (a b : List ℕ). a ++ b) (section_own m head h)
-      (from_none (suc m) later (λ s i g. never (sym (none_member (share_address head) later (or_false (some (share_address head) later) (some_share later) e).0 s i) ∙ share_found x head s h g)))
+      (from_none (suc m) later (λ s i g. false≢true (sym (none_member (share_address head) later (or_parts (some (share_address head) later) (some_share later) e).0 s i) ∙ share_found x head s h g)))
       ∙ ap (λ (k : ℕ). joined_at parts k x ∷ []) (let z : m ≡ m + 0 = omega arith in z)
   from_own m (head ∷ later) (suc n) e h =
       put_append (chunks head.address (joined_section parts m head)) (data_from parts (suc m) later) x
       ∙ ap₂ (λ (a b : List ℕ). a ++ b)
-      (section_none m head (λ g. never (sym (none_member (share_address head) later (or_false (some (share_address head) later) (some_share later) e).0 (get_or later n nowhere) (at_member later n nowhere (listed later n h.holds))) ∙ share_found x head (get_or later n nowhere) g h)))
-      (from_own (suc m) later n (or_false (some (share_address head) later) (some_share later) e).1 h)
+      (section_none m head (λ g. false≢true (sym (none_member (share_address head) later (or_parts (some (share_address head) later) (some_share later) e).0 (get_or later n nowhere) (at_member later n nowhere (listed later n h.holds))) ∙ share_found x head (get_or later n nowhere) g h)))
+      (from_own (suc m) later n (or_parts (some (share_address head) later) (some_share later) e).1 h)
       ∙ ap (λ (k : ℕ). joined_at parts k x ∷ []) (let z : suc m + n ≡ m + suc n = omega arith in z)
 
 -- the S7 line puts nothing

@@ -8,6 +8,7 @@ use borrow.Author.Tests.{leb-false, lt-ltb, le-ltb, eq-eqb, ne_eqb}
 use lib.ListN.{length, length-append}
 use lib.Dec.{leb, ltb}
 use lib.Seq.{sets, length-sets}
+use Rattle.std.proofs.lemmas.Bool.{or_parts}
 use Rattle.lists.specs.Outcome.{accepted, refused}
 use native.Mathlib.Nat.{sub-zero}
 use Rattle.lists.specs.Rows.{tabulate, clear_from, first_from}
@@ -15,7 +16,6 @@ use Rattle.lists.proofs.First.{first_here, first_on, first_end}
 use Rattle.lists.proofs.Outcomes.{fails, passes}
 use Rattle.lists.proofs.Rows.{rest-cons, rest-none}
 use Rattle.lists.proofs.Stores.{sets-sets, sets_then}
-use Rattle.lists.proofs.Tests.{or_false}
 use Rattle.obj.specs.Answers.{place}
 use Rattle.names.specs.Names.{name_at, names_of}
 use Rattle.fields.specs.Fields.{enc16}
@@ -26,7 +26,7 @@ use Rattle.stage_names.specs.StageNames.{beyond, first_beyond, fit_check, ends_f
 
 -- a name that is not beyond is below the ceiling
 pub not_beyond : (most most_bytes : ℕ) (ends : List ℕ) (k : ℕ) → beyond most most_bytes ends k ≡ false → k + 1 ≤ most
-not_beyond most most_bytes ends k e = let q = or_false (leb most k) (ltb most_bytes (end_of ends k)) e in omega (arith, leb-false most k q.0)
+not_beyond most most_bytes ends k e = let q = or_parts (leb most k) (ltb most_bytes (end_of ends k)) e in omega (arith, leb-false most k q.0)
 
 -- ---- names put one after another
 module _ (x : List ℕ) (names : List (List ℕ)) where

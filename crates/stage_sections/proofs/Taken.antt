@@ -8,8 +8,9 @@ use native.Mathlib.Omega.{arith}
 use lib.ListN.{length, get_or, take, length-take}
 use lib.Seq.{get_or-take}
 use Rattle.std.specs.Prelude.{Result}
+use Rattle.std.proofs.lemmas.List.{get_or-map}
 use Rattle.lists.specs.Outcome.{accepted}
-use Rattle.lists.proofs.Rows.{get_d_map, has_place}
+use Rattle.lists.proofs.Rows.{has_place}
 use Rattle.obj.specs.Records.{section_at, stage_places}
 use Rattle.obj.specs.declared.Section.{Section}
 use Rattle.obj.specs.declared.Refusal.{Refusal}
@@ -66,7 +67,7 @@ module _ (ceiling : ℕ) (lengths places image b : List ℕ) (passed : image_che
   sections_passed = tables.image_sections lengths (image_places_of places) (length image) (stage_sections b) (length b / 15) image_passed
 
   head_is : (n : ℕ) → n < length b / 15 → head_of b (stage_places 15 (length b / 15)) n ≡ get_or (stage_sections b) n no_section
-  head_is n h = sym (get_d_map (section_at b) (stage_places 15 (length b / 15)) n 0 no_section (rw length-stage_places h))
+  head_is n h = sym (get_or-map (section_at b) (stage_places 15 (length b / 15)) n 0 no_section (rw length-stage_places h))
 
   pub few : length b / 15 ≤ ceiling
   few = (table_passed 15 ceiling b _ passed).1

@@ -14,11 +14,11 @@ use Rattle.lists.specs.Rows.{clear_from}
 use Rattle.lists.specs.Tables.{laid}
 use Rattle.lists.proofs.Clear.{clear_all}
 use Rattle.lists.proofs.Outcomes.{not_both, same_accepted}
-use Rattle.lists.proofs.Rows.{get_d_map}
 use Rattle.align.specs.Align.{bad_align}
 use Rattle.obj.specs.Answers.{word, meaning, outcome_word}
 use Rattle.obj.specs.Answers.{Answer}
 use Rattle.std.specs.Prelude.{Ok, Err, is_err}
+use Rattle.std.proofs.lemmas.List.{get_or-map}
 use Rattle.obj.specs.declared.Section.{Section}
 use Rattle.obj.specs.declared.Split.{Split}
 use Rattle.obj.specs.Records.{split_at, stage_places, split_width, partial_width}
@@ -70,7 +70,7 @@ loadable_of : (lengths b places : List ℕ) → AllHeld split_width b places →
 loadable_of lengths b places all e = record {
   held = held all;
   aligned = λ k h.
-      ap (λ (s : Split). bad_align s.alignment) (sym (get_d_map (split_at b) places k 0 no_split h))
+      ap (λ (s : Split). bad_align s.alignment) (sym (get_or-map (split_at b) places k 0 no_split h))
       ∙ partials_aligned lengths (splits_in b places) (length places) e k h;
 }
 

@@ -6,8 +6,8 @@ use mathlib.Core.List.{List}
 use mathlib.Core.Bool.{false}
 use native.Mathlib.Omega.{arith}
 use lib.ListN.{length, get_or}
+use Rattle.std.proofs.lemmas.List.{get_or-map}
 use Rattle.lists.specs.Outcome.{accepted}
-use Rattle.lists.proofs.Rows.{get_d_map}
 use Rattle.align.specs.Align.{bad_align}
 use Rattle.obj.specs.Records.{symbol_at, stage_places}
 use Rattle.obj.specs.declared.Section.{Section}
@@ -28,7 +28,7 @@ module _ (ceiling names : ℕ) (sections : List Section) (b : List ℕ) (passed 
 
   -- symbol i of the table
   symbol_is : (i : ℕ) → i < length b / 20 → symbol_of b (stage_places 20 (length b / 20)) i ≡ get_or (stage_symbols b) i no_symbol
-  symbol_is i h = sym (get_d_map (symbol_at b) (stage_places 20 (length b / 20)) i 0 no_symbol (rw length-stage_places h))
+  symbol_is i h = sym (get_or-map (symbol_at b) (stage_places 20 (length b / 20)) i 0 no_symbol (rw length-stage_places h))
 
   pub symbol_named : (i : ℕ) → i < length b / 20 → (symbol_of b (stage_places 20 (length b / 20)) i).name < names
   symbol_named i h = rw (symbol_is i h) (tables.symbols_name names sections (stage_symbols b) (length b / 20) let_passed i h)

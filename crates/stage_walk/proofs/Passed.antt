@@ -5,8 +5,9 @@ use mathlib.Core.List.{List}
 use native.Mathlib.Nat.{zero-add, mul-div-le}
 use native.Mathlib.Omega.{arith}
 use lib.ListN.{length, get_or, length-map}
+use Rattle.std.proofs.lemmas.List.{get_or-map}
 use Rattle.lists.specs.Outcome.{accepted}
-use Rattle.lists.proofs.Rows.{get_d_tabulate, get_d_map, length-tabulate, has_place}
+use Rattle.lists.proofs.Rows.{get_d_tabulate, length-tabulate, has_place}
 use Rattle.obj.specs.Records.{unit_at, split_at, stage_places, split_width}
 use Rattle.obj.specs.declared.Section.{Section}
 use Rattle.obj.specs.declared.Split.{Split}
@@ -51,7 +52,7 @@ module _ (lengths b : List ℕ) (passed : units_check 1024 lengths b ≡ accepte
   units_few = (table_passed 8 1024 b _ passed).1
 
   unit_is : (k : ℕ) → k < length b / 8 → unit_at b (get_or (stage_places 8 (length b / 8)) k 0) ≡ get_or (stage_units b) k no_unit
-  unit_is k h = sym (get_d_map (unit_at b) (stage_places 8 (length b / 8)) k 0 no_unit (rw length-stage_places h))
+  unit_is k h = sym (get_or-map (unit_at b) (stage_places 8 (length b / 8)) k 0 no_unit (rw length-stage_places h))
 
   pub units_listed : (places column : List ℕ) → places ≡ stage_places 8 (length b / 8) → length lengths ≤ length column → Listed b places column
   units_listed places column e long =

@@ -15,12 +15,13 @@ use Rattle.lists.proofs.All.{all_keep, all_sort, all_map, all_both}
 use Rattle.lists.proofs.Filter.{keep_passes}
 use Rattle.lists.proofs.Outcomes.{same_accepted, then_inv}
 use Rattle.lists.proofs.Rising.{numbers-below}
-use Rattle.lists.proofs.Both.{both, one_of_two}
+use Rattle.lists.proofs.Compare.{one_of_two}
 use Rattle.align.specs.Align.{bad_align}
 use Rattle.obj.specs.declared.Symbol.{Symbol}
 use Rattle.symbol_order.specs.Order.{in_section, symbols_of}
 use Rattle.std.specs.Prelude.{Option, Some, None}
 use Rattle.std.proofs.lemmas.Option.{none-some}
+use Rattle.std.proofs.lemmas.Bool.{and_parts}
 use Rattle.symbols.specs.Ranges.{sized, stripped, sized_unstripped, last_or, highest_of, symbols_between, backwards, last_below, last_in, highest_in}
 use Rattle.symbols.specs.Sound.{Sound, Inside}
 
@@ -61,8 +62,8 @@ module _ (symbol : ℕ → Symbol) (count n : ℕ) where
     in_found i e =
         let q = (then_inv 11 n start (backwards symbol count n start end) _ _ e).1 in
         let p = no_last i (kept-between (λ k. sized_unstripped false (symbol k))) (same_accepted q) in
-        let range = both _ _ p.1.1 in
-        let size = both (eqb (symbol i).size_known 1) (not (eqb (symbol i).size 0)) (both (sized (symbol i)) (not (stripped (symbol i))) p.0).0 in
+        let range = and_parts _ _ p.1.1 in
+        let size = and_parts (eqb (symbol i).size_known 1) (not (eqb (symbol i).size 0)) (and_parts (sized (symbol i)) (not (stripped (symbol i))) p.0).0 in
         record {
           there = p.1.0;
           low = leb-true _ _ range.0;

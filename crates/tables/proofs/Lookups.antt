@@ -7,9 +7,10 @@ use native.Mathlib.Nat.{zero-add, mul-le-mul_left, mul-suc}
 use native.Mathlib.Numerals.{add-one}
 use lib.ListN.{length, get_or, take, drop, set}
 use lib.Seq.{take-suc-set, length-take-le, take-append_seam}
+use Rattle.std.proofs.lemmas.List.{get_or-map}
 use Rattle.lists.specs.Sort.{All, each}
 use Rattle.lists.specs.Sort.{none as no_more}
-use Rattle.lists.proofs.Rows.{get_d_map, get_d_tabulate, length-tabulate, tabulate_more}
+use Rattle.lists.proofs.Rows.{get_d_tabulate, length-tabulate, tabulate_more}
 use Rattle.obj.specs.Records.{partial_at, partial_numbered, split_at, Held, stage_places, partial_width}
 use Rattle.obj.proofs.Laws.{length-stage_places, stage_place}
 use Rattle.tables.specs.Tables.{AllHeld}
@@ -21,7 +22,7 @@ held all k h = record { there = h; inside = all.each k h }
 
 -- what was read at a place is the record of the table
 pub found : {A : Type 0} {x : A} (f : ℕ → A) (places : List ℕ) (k : ℕ) (none : A) → k < length places → x ≡ f (get_or places k 0) → x ≡ get_or (map f places) k none
-found f places k none h e = e ∙ sym (get_d_map f places k 0 none h)
+found f places k none h e = e ∙ sym (get_or-map f places k 0 none h)
 
 -- as many partial splits as places
 pub length-partials_in : (b places : List ℕ) → length (partials_in b places) ≡ length places

@@ -6,6 +6,7 @@ use Prim.Native.Nat.{ℕ, zero, suc, ◌+◌, ◌≤◌, ◌<◌}
 use native.Mathlib.Omega.{arith}
 use lib.ListN.{length, get_or}
 use Rattle.lists.specs.Outcome.{Outcome, accepted, refused, ◌>>=◌}
+use Rattle.lists.proofs.Binds.{onward}
 use Rattle.obj.specs.declared.Section.{Section}
 use Rattle.obj.specs.declared.Split.{Split}
 use Rattle.sections.specs.Image.{Image}
@@ -16,12 +17,6 @@ use Rattle.trim.specs.Trim.{falls_of, carry_from, cut_section, cut_from, trimmed
 bytes_as : (image I J : List ℕ) (n : ℕ) (head : Section) → get_or I n 0 ≡ get_or J n 0 → bytes_of image I n head ≡ bytes_of image J n head
 unfolding bytes_of
 bytes_as image I J n head e = rw e
-
--- the same goes on
-onward : {A B : Type 0} (m : Outcome A) (f h : A → Outcome B) → ((a : A) → f a ≡ h a) → (m >>= f) ≡ (m >>= h)
-unfolding ◌>>=◌
-onward (accepted a) f h e = e a
-onward (refused number section address) f h e = refl
 
 module _ (g : Image) (heads head_places image I J : List ℕ) (same : (n : ℕ) → n < length head_places → get_or I n 0 ≡ get_or J n 0) where
   section_alike : (n : ℕ) (l : List Split) → n < length head_places

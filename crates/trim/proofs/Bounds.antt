@@ -14,7 +14,7 @@ use Rattle.lists.specs.Outcome.{accepted, ◌>>◌}
 use Rattle.lists.specs.Rows.{some, any_of, any_from}
 use Rattle.lists.specs.Sort.{All, none, each}
 use Rattle.lists.proofs.All.{all_at}
-use Rattle.lists.proofs.Tests.{none_of}
+use Rattle.lists.proofs.Tests.{none_of, none_of_six, none_of_four}
 use Rattle.lists.proofs.Outcomes.{same_accepted, then_inv, then_both, bind_inv}
 use Rattle.tables.specs.Records.{no_split, no_section, numbered, split_before, split_fault}
 use Rattle.tables.proofs.Laws.{partial_good, split_good}
@@ -147,25 +147,17 @@ module _ (bound : ℕ → ℕ) where
 
 -- ---- check 7 again
 
-six : (a b c d e f : Bool) → a ≡ false → b ≡ false → c ≡ false → d ≡ false → e ≡ false → f ≡ false → any_of (a ∷ b ∷ c ∷ d ∷ e ∷ f ∷ []) ≡ false
-unfolding any_of any_from
-six a b c d e f p q r s t u = rw (p, q, r, s, t, u)
-
-four : (a b c d : Bool) → a ≡ false → b ≡ false → c ≡ false → d ≡ false → any_of (a ∷ b ∷ c ∷ d ∷ []) ≡ false
-unfolding any_of any_from
-four a b c d p q r s = rw (p, q, r, s)
-
 -- a split with another end
 bad_end : (unit_len rename_len : ℕ) (s : Split) (end : ℕ) → split_bad unit_len rename_len s ≡ false → end ≤ 4026531840 → split_bad unit_len rename_len (with_end end s) ≡ false
 unfolding split_bad
 bad_end unit_len rename_len s end e h =
-    six _ _ _ _ _ _ (none_of _ 0 e) (none_of _ 1 e) (none_of _ 2 e) (none_of _ 3 e) (none_of _ 4 e) (le-ltb 4026531840 end h)
+    none_of_six _ _ _ _ _ _ (none_of _ 0 e) (none_of _ 1 e) (none_of _ 2 e) (none_of _ 3 e) (none_of _ 4 e) (le-ltb 4026531840 end h)
 
 misplaced_end : (sections : ℕ) (home : Section) (before other s : Split) (end : ℕ) → other.section ≡ before.section → other.start ≡ before.start
     → split_misplaced sections home before s ≡ false → end ≤ home.address + home.size → split_misplaced sections home other (with_end end s) ≡ false
 unfolding split_misplaced
 misplaced_end sections home before other s end p q e h =
-    four _ _ _ _ (none_of _ 0 e) (le-ltb (home.address + home.size) end h)
+    none_of_four _ _ _ _ (none_of _ 0 e) (le-ltb (home.address + home.size) end h)
     (ap (ltb s.section) p ∙ none_of _ 2 e)
     (ap₂ (λ (a b : ℕ). eqb s.section a && ltb s.start b) p q ∙ none_of _ 3 e)
 

@@ -14,7 +14,6 @@ use lib.ListN.{length, get_or, set, drop, length-append}
 use lib.Seq.{append_snoc, get_or-append_seam}
 use Rattle.lists.specs.Outcome.{Outcome, accepted, ◌>>◌}
 use Rattle.lists.specs.Rows.{some}
-use Rattle.lists.proofs.Both.{both}
 use Rattle.lists.proofs.Outcomes.{same_accepted, then_both, bind_inv, passes}
 use Rattle.lists.proofs.Binds.{bind_goes}
 use Rattle.align.specs.Align.{bad_align, align_up}
@@ -26,6 +25,7 @@ use Rattle.obj.specs.declared.Split.{Split}
 use Rattle.symbols.specs.Ranges.{last_in}
 use Rattle.symbols.specs.Sound.{Sound}
 use Rattle.std.specs.Prelude.{Option, Some, None}
+use Rattle.std.proofs.lemmas.Bool.{and_parts}
 use Rattle.symbols.proofs.Finds.{in_found}
 use Rattle.sections.specs.Image.{Image}
 use Rattle.sections.specs.Sections.{Sections}
@@ -155,7 +155,7 @@ module _ (symbol : ℕ → Symbol) (count : ℕ) where
     where
       go : (t : Bool) → (eqb y.section s.section && eqb y.start s.start) ≡ t → cond t (suc (alongside s l)) 0 ≡ 0
       go true q =
-          let p = both (eqb y.section s.section) (eqb y.start s.start) q in
+          let p = and_parts (eqb y.section s.section) (eqb y.start s.start) q in
           let passed = one_passed symbol count s.section s.end y (tail_passed symbol count s.section s.end y l e).0 in
           absurd (omega (arith, h, eqb-true y.start s.start p.1, passed.apart (eqb-true y.section s.section p.0)))
       go false q = refl

@@ -2,7 +2,7 @@
 -- bounded the ends of each section before. Assumes nothing.
 use mathlib.Core.Path.{◌≡◌, refl, sym, ap, ap₂, subst, ◌∙◌}
 use mathlib.Core.List.{List, [], ◌∷◌, map}
-use mathlib.Core.Bool.{Bool, true, false, cond, not, ◌&&◌}
+use mathlib.Core.Bool.{Bool, true, false, cond, not, ◌&&◌, false≢true}
 use mathlib.Core.Logic.{◌⊎◌, inl, inr}
 use Prim.Native.Nat.{ℕ, zero, suc, ◌+◌, ◌-◌, ◌≤◌, ◌<◌, suc-le-suc}
 use native.Mathlib.Nat.{le_of_suc-le-suc, not-suc-le-zero, add-suc, suc-add, add-zero}
@@ -11,10 +11,9 @@ use borrow.Author.Tests.{eq-eqb, eqb-true}
 use lib.Dec.{eqb, ltb}
 use lib.ListN.{length, get_or, set, drop, length-map, length-drop}
 use lib.Seq.{get_or-drop}
+use Rattle.std.proofs.lemmas.Bool.{and_parts, cases_lt}
 use Rattle.lists.specs.Outcome.{accepted}
 use Rattle.lists.specs.Rows.{some}
-use Rattle.lists.proofs.Both.{both}
-use Rattle.lists.proofs.Compare.{never, lt_or_ge}
 use Rattle.lists.proofs.Outcomes.{same_accepted, then_inv, bind_inv}
 use Rattle.tables.specs.Records.{no_split}
 use Rattle.obj.specs.declared.Split.{Split}
@@ -163,7 +162,7 @@ along_same s (y ∷ l) i h = go (eqb y.section s.section && eqb y.start s.start)
   where
     go : (t : Bool) → (eqb y.section s.section && eqb y.start s.start) ≡ t → (i : ℕ) → i < cond t (suc (alongside s l)) 0
         → ((j : ℕ) → j < alongside s l → SamePlace s (get_or l j no_split)) → SamePlace s (get_or (y ∷ l) i no_split)
-    go true e zero q ih = let p = both (eqb y.section s.section) (eqb y.start s.start) e in record { section = eqb-true _ _ p.0; start = eqb-true _ _ p.1 }
+    go true e zero q ih = let p = and_parts (eqb y.section s.section) (eqb y.start s.start) e in record { section = eqb-true _ _ p.0; start = eqb-true _ _ p.1 }
     go true e (suc j) q ih = ih j (le_of_suc-le-suc q)
     go false e j q ih = absurd (not-suc-le-zero q)
 
@@ -175,7 +174,7 @@ along_next s (y ∷ l) h e = go (eqb y.section s.section && eqb y.start s.start)
     go : (t : Bool) → (eqb y.section s.section && eqb y.start s.start) ≡ t → cond t (suc (alongside s l)) 0 < suc (length l)
         → SamePlace s (get_or (y ∷ l) (cond t (suc (alongside s l)) 0) no_split) → (alongside s l < length l → SamePlace s (get_or l (alongside s l) no_split) → ⊥) → ⊥
     go true q h e ih = ih (le_of_suc-le-suc h) e
-    go false q h e ih = never (sym q ∙ ap₂ (λ (a b : Bool). a && b) (eq-eqb _ _ e.section) (eq-eqb _ _ e.start))
+    go false q h e ih = false≢true (sym q ∙ ap₂ (λ (a b : Bool). a && b) (eq-eqb _ _ e.section) (eq-eqb _ _ e.start))
 
 module _ (l : List Split) (k : ℕ) (there : k < length l) where
   abbrev here : Split
@@ -217,7 +216,7 @@ module _ (l : List Split) (k : ℕ) (there : k < length l) where
       along_next here later (omega (arith, later_length)) (subst (λ (s : Split). SamePlace here s) (sym (later_at a)) (go next low same))
     where
       split : (a b : ℕ) → a ≤ b → (a ≡ b) ⊎ (a < b)
-      split a b h = pick (lt_or_ge a b)
+      split a b h = pick (cases_lt a b)
         where
           pick : (a < b) ⊎ (b ≤ a) → (a ≡ b) ⊎ (a < b)
           pick (inl p) = inr p

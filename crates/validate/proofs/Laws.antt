@@ -10,10 +10,10 @@ use native.Mathlib.Omega.{arith}
 use borrow.Author.Tests.{eq-eqb, eqb-false, ltb-false}
 use lib.Dec.{eqb, ltb}
 use lib.ListN.{length, get_or}
+use Rattle.std.proofs.lemmas.Bool.{or_parts, cases_lt}
 use Rattle.lists.specs.Outcome.{accepted}
-use Rattle.lists.proofs.Compare.{lt_or_ge}
 use Rattle.lists.proofs.Outcomes.{then_inv, then_both}
-use Rattle.lists.proofs.Tests.{or_false, and_false}
+use Rattle.lists.proofs.Tests.{and_false}
 use Rattle.obj.specs.declared.Symbol.{Symbol}
 use Rattle.obj.specs.declared.Split.{Split}
 use Rattle.splits.specs.Rising.{Rising}
@@ -36,7 +36,7 @@ module _ (symbol : ℕ → Symbol) (count : ℕ) where
       let b = then_inv 51 s.section s.start (eqb s.end 0 || ltb s.end s.start) _ _ a.1 in
       let c = then_inv 52 s.section s.start (ltb s.start (end_below symbol count s.section s.start)) _ _ b.1 in
       let d = then_inv 53 s.section s.start (ltb s.end (end_below symbol count s.section s.end)) _ _ c.1 in
-      let q = or_false (eqb s.end 0) (ltb s.end s.start) b.0 in
+      let q = or_parts (eqb s.end 0) (ltb s.end s.start) b.0 in
       record {
         apart = λ h. ltb-false s.start last (and_false (eqb s.section before) (ltb s.start last) a.0 (eq-eqb s.section before h));
         closed = let z = eqb-false s.end 0 q.0 in omega arith;
@@ -92,7 +92,7 @@ module _ (symbol : ℕ → Symbol) (count : ℕ) where
 
     -- THEOREM: of two splits of one section the earlier ends where the later starts, or before
     pub check_apart : Rising l → (i j : ℕ) → i < j → j < length l → (get_or l i d).section ≡ (get_or l j d).section → (get_or l i d).end ≤ (get_or l j d).start
-    check_apart r i j h q e = go (lt_or_ge (suc i) j)
+    check_apart r i j h q e = go (cases_lt (suc i) j)
       where
         go : (suc i < j) ⊎ (j ≤ suc i) → (get_or l i d).end ≤ (get_or l j d).start
         go (inl far) =

@@ -3,6 +3,7 @@
 use mathlib.Core.Path.{◌≡◌, refl, sym, ap, ◌∙◌}
 use mathlib.Core.List.{List}
 use Rattle.std.specs.Prelude.{Option, Some, None}
+use Rattle.std.proofs.lemmas.Bool.{and_parts}
 use Rattle.walk.specs.declared.Target.{Target}
 use mathlib.Core.Bool.{Bool, true, false, cond, not, ◌&&◌}
 use Prim.Native.Nat.{ℕ, ◌+◌, ◌-◌, ◌≤◌, ◌<◌}
@@ -13,7 +14,6 @@ use lib.Pow.{pow_pos}
 use borrow.Author.Tests.{lt-ltb, le-ltb, eq-eqb, ne_eqb, leb-true, ltb-true}
 use Rattle.lists.specs.Outcome.{Outcome, accepted, refused, refuse, ◌>>=◌, ◌>>◌}
 use Rattle.lists.proofs.Outcomes.{fails, passes}
-use Rattle.lists.proofs.Both.{both}
 use Rattle.align.specs.Align.{good_align}
 use Rattle.align.proofs.Theorems.{good_is}
 use Rattle.align.proofs.Laws.{good_parts}
@@ -37,9 +37,9 @@ module _ (sections : Sections) (n from to : ℕ) where
   -- a range inside the section starts and ends at or above the section's start
   pub inside_start : (h : Section) → inside h ≡ true → (h.address ≤ from) × (h.address ≤ to)
   inside_start h e =
-      let p = both (leb h.address from && ltb from (h.address + h.size)) (ltb h.address to && leb to (h.address + h.size)) e in
-      let low = leb-true h.address from (both (leb h.address from) (ltb from (h.address + h.size)) p.0).0 in
-      let high = ltb-true h.address to (both (ltb h.address to) (leb to (h.address + h.size)) p.1).0 in
+      let p = and_parts (leb h.address from && ltb from (h.address + h.size)) (ltb h.address to && leb to (h.address + h.size)) e in
+      let low = leb-true h.address from (and_parts (leb h.address from) (ltb from (h.address + h.size)) p.0).0 in
+      let high = ltb-true h.address to (and_parts (ltb h.address to) (leb to (h.address + h.size)) p.1).0 in
       (low, omega arith)
 
   pub between_none : (current : ℕ) → to ≤ from → accepted tt ≡ between_of sections n current from to

@@ -7,12 +7,11 @@ use native.Mathlib.Omega.{arith}
 use lib.Dec.{eqb, leb, ltb}
 use lib.ListN.{length}
 use borrow.Author.Tests.{lt-ltb, le-ltb, leb-true, leb-false, ltb-false}
+use Rattle.std.proofs.lemmas.Bool.{or_parts, and_parts}
 use Rattle.lists.specs.Rows.{keep_if}
 use Rattle.lists.specs.Sort.{All}
 use Rattle.lists.proofs.All.{all_map}
-use Rattle.lists.proofs.Both.{both}
 use Rattle.lists.proofs.Filter.{keep_passes}
-use Rattle.lists.proofs.Tests.{or_false}
 use Rattle.lists.specs.Outcome.{Outcome, accepted, refused, refuse, ◌>>◌}
 use Rattle.lists.proofs.Outcomes.{fails, passes}
 use Rattle.obj.specs.declared.Section.{Section}
@@ -179,7 +178,7 @@ full_test room made wanted wanted-relocs most t e f q =
 -- there is room for both
 pub room_left : (room made : Counts) (most : ℕ) → (ltb room.relocs most || leb room.pieces made.pieces) ≡ false → (most ≤ room.relocs) × (made.pieces < room.pieces)
 room_left room made most e =
-    let p = or_false (ltb room.relocs most) (leb room.pieces made.pieces) e in
+    let p = or_parts (ltb room.relocs most) (leb room.pieces made.pieces) e in
     (ltb-false room.relocs most p.0, leb-false room.pieces made.pieces p.1)
 
 -- a piece has its unit
@@ -191,7 +190,7 @@ piece_unit head n unit number alignment s = refl
 pub kept_above : (f : ℕ → ℕ) (start : ℕ) (p : ℕ → Bool) (l : List ℕ) {part : List ℕ} → part ≡ keep_if (λ i. leb start (f i) && p i) l → All (λ i. start ≤ f i) part
 kept_above f start p l e =
     subst (λ (m : List ℕ). All (λ i. start ≤ f i) m) (sym e)
-    (all_map (λ i q. leb-true start (f i) (both (leb start (f i)) (p i) q).0) (keep_passes (λ i. leb start (f i) && p i) l))
+    (all_map (λ i q. leb-true start (f i) (and_parts (leb start (f i)) (p i) q).0) (keep_passes (λ i. leb start (f i) && p i) l))
 
 -- what is asked backwards, by the numbers that were counted
 pub backwards_is : (t : Input) (n current unit alignment : ℕ) (s : Split) (out : Output) (fit : fits alignment current ≡ true) (part : List ℕ)

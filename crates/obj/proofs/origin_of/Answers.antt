@@ -1,6 +1,5 @@
 -- `obj::origin_of` meets its contract: the code's test is the definition's.
 use borrow.Author.Tests.{eq-eqb, ne_eqb}
-use borrow.Author.Rules.{rules}
 use Rattle.obj.specs.Records.{origin_of}
 use Rattle.obj.proofs.origin_of.Goals as goal
 

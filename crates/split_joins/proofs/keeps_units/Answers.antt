@@ -4,7 +4,7 @@ use mathlib.Core.Path.{sym, ◌∙◌}
 use Prim.Native.Nat.{ℕ}
 use native.Mathlib.Omega.{arith}
 use lib.ListN.{get_or}
-use Rattle.lists.proofs.Tests.{or_false}
+use Rattle.std.proofs.lemmas.Bool.{or_parts}
 use Rattle.splits.proofs.Blocks.{each_more}
 use Rattle.split_joins.specs.Joins.{Alone}
 use Rattle.split_joins.proofs.Apart.{alone_same, alone_none}
@@ -21,7 +21,7 @@ loop-i-preserved c =
       each_more (λ k. Alone u a.rows.now.splits.count a.rows.now.first a.rows.now.stop a.unit (u k)) a.rows.now.first l.i l.invariant.2
           (elim c.if-u-unit.branch [
             | then-u-unit+else-before-behind w ↦
-                let none = or_false w.has_unit-before.result w.has_unit-behind.result w.if-before-behind.false in
+                let none = or_parts w.has_unit-before.result w.has_unit-behind.result w.if-before-behind.false in
                 alone_none u a.rows.now.splits.count a.rows.now.first a.rows.now.stop a.unit (u l.i) (omega arith) (sym w.has_unit-before.ensures ∙ none.0) (sym w.has_unit-behind.ensures ∙ none.1)
             | else-u-unit w ↦ alone_same u a.rows.now.splits.count a.rows.now.first a.rows.now.stop a.unit (u l.i) (omega (arith, w.if-u-unit.false))
           ]),

@@ -1,8 +1,8 @@
 -- `units::number_units`: the name that was read is that of unit k, and has a place in the column. That the filled column has the length at each place
 -- is found only where the goal says so alone.
 use Rattle.std.proofs.Common.{◌≡◌, ℕ, length, get_or, sym, ap, ◌∙◌, arith, rules}
+use Rattle.std.proofs.lemmas.List.{get_or-map}
 use lib.ListN.{length-map}
-use Rattle.lists.proofs.Rows.{get_d_map}
 use Rattle.obj.specs.declared.Unit as units
 use Rattle.obj.specs.Records.{unit_at}
 use Rattle.units.specs.Units.{unit_names}
@@ -22,7 +22,7 @@ loop-k-preserved c =
     let named = c.requires.named c.loop-k.k c.loop-k-test.true in
     let read = c.from-name.ensures ∙ ap (λ (u : units.Unit). u.name) c.record.ensures in
     after_more _ _ _ _ c.loop-k.invariant (omega (arith, c.loop-k-test.true, e))
-    (read ∙ sym (get_d_map (λ (at : ℕ). (unit_at a.table.now.bytes.now at).name) a.table.now.places.now c.loop-k.k 0 0 c.loop-k-test.true))
+    (read ∙ sym (get_or-map (λ (at : ℕ). (unit_at a.table.now.bytes.now at).name) a.table.now.places.now c.loop-k.k 0 0 c.loop-k-test.true))
     (omega (arith, read, named, c.loop-k.auto.column))
 
 pub returns : goal.returns

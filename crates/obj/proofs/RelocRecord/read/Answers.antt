@@ -3,7 +3,6 @@ use mathlib.Core.Path.{◌∙◌}
 use mir.ValLaws.{to_z-of_z}
 use mir.Syntax.{w64}
 use Rattle.obj.proofs.Made.{reloc_made}
-use borrow.Author.Rules.{rules}
 use Rattle.obj.proofs.RelocRecord.read.Goals as goal
 
 pub returns : goal.returns

@@ -1,6 +1,5 @@
 -- `obj::read_section` meets its contract: each field is read at the offset that the definition gives it.
 use Rattle.obj.specs.Records.{section_at}
-use borrow.Author.Rules.{rules}
 use Rattle.obj.proofs.SectionRecord.read.Goals as goal
 
 pub returns : goal.returns

@@ -1,6 +1,5 @@
 -- `obj::read_split` meets its contract: the fields of a partial record, with the origin that stands behind them.
 use Rattle.obj.specs.Records.{split_at}
-use borrow.Author.Rules.{rules}
 use Rattle.obj.proofs.SplitRecord.read.Goals as goal
 
 pub returns : goal.returns

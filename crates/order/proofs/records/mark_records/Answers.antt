@@ -3,7 +3,7 @@ use mathlib.Core.Path.{◌≡◌, sym, ap, subst, ◌∙◌}
 use Prim.Native.Nat.{ℕ, ◌+◌, ◌-◌, ◌<◌}
 use native.Mathlib.Omega.{arith}
 use lib.ListN.{length, length-map, length-set}
-use Rattle.lists.proofs.Rows.{get_d_map}
+use Rattle.std.proofs.lemmas.List.{get_or-map}
 use Rattle.obj.specs.Records.{unit_at}
 use Rattle.obj.specs.declared.Unit as units
 use Rattle.tables.specs.Records.{units_in, no_unit}
@@ -20,7 +20,7 @@ loop-k-preserved c =
     let long = length-map a.unit_table.now.places.now (unit_at a.unit_table.now.bytes.now) in
     let same : l.k ≡ l.k - 1 + 1 = omega (arith, c.loop-k-test.true) in
     let is = ap (λ (u : units.Unit). u.name) c.record-u.ensures in
-    let at = get_d_map (unit_at a.unit_table.now.bytes.now) a.unit_table.now.places.now (l.k - 1) 0 no_unit low in (
+    let at = get_or-map (unit_at a.unit_table.now.bytes.now) a.unit_table.now.places.now (l.k - 1) 0 no_unit low in (
       omega arith,
       simp length-set l.invariant.1,
       marked_more us (l.k - 1) a.column.now l.column (omega arith)

@@ -3,7 +3,7 @@ use mathlib.Core.Path.{sym, ◌∙◌}
 use mathlib.Core.List.{[]}
 use Prim.Native.Nat.{◌<◌}
 use native.Mathlib.Omega.{arith}
-use Rattle.lists.proofs.Rows.{get_d_map}
+use Rattle.std.proofs.lemmas.List.{get_or-map}
 use Rattle.obj.specs.Records.{unit_at}
 use Rattle.tables.specs.Records.{no_unit}
 use Rattle.order.proofs.Marks.{by_auto, by_hand, by_record}
@@ -21,5 +21,5 @@ returns c =
     let a = s.args in
     let low : a.mark < 65534 = omega (arith, s.ranges, c.if-mark-eq-HAND.false, c.if-mark-eq-AUTO.false) in
     c.record.ensures
-    ∙ sym (get_d_map (unit_at a.unit_table.now.bytes.now) a.unit_table.now.places.now a.mark 0 no_unit (s.requires.1 low))
+    ∙ sym (get_or-map (unit_at a.unit_table.now.bytes.now) a.unit_table.now.places.now a.mark 0 no_unit (s.requires.1 low))
     ∙ sym (by_record [] _ _ _ c.if-mark-eq-AUTO.false c.if-mark-eq-HAND.false)
