@@ -1,12 +1,12 @@
 -- A number with one bit set is the power of two of its trailing zeros, and a power of two has one bit set. So a good alignment is known by its exponent.
 -- Assumes nothing.
 use mathlib.Core.Path.{◌≡◌, refl, sym, ap, ◌∙◌}
-use mathlib.Core.Bool.{true, false}
+use mathlib.Core.Bool.{Bool, true, false}
 use mathlib.Core.Logic.{◌≢◌}
 use Prim.Native.Nat.{ℕ, zero, suc, ◌+◌, ◌-◌, ◌*◌, ◌/◌, ◌%◌, ◌^◌, ◌≤◌, ◌<◌}
 use native.Mathlib.Nat.{add-zero, one-mul, pow-suc, div-mul-le_self, lt_of_not-le}
 use native.Mathlib.Omega.{arith}
-use borrow.Author.Tests.{eqb-true, leb-true, ne_eqb, not-false}
+use borrow.Author.Tests.{eqb-true, leb-true, ne_eqb, not-false, eqb-false}
 use lib.Dec.{eqb, leb}
 use lib.Count.{ones, ones_in, ones_step, ones_cat, count_trailing_zeros, under}
 use lib.Pow.{pow_pos, pow_mono}
@@ -67,6 +67,14 @@ good_parts a e =
 pub not_bad : (a : ℕ) → bad_align a ≡ false → a ≢ 0 → good_align a ≡ true
 unfolding bad_align
 not_bad a e h = not-false (good_align a) (sym (rw (ne_eqb a 0 h)) ∙ e)
+
+-- an alignment that is not bad has four bytes
+pub low_align : (a : ℕ) → bad_align a ≡ false → a < 4294967296
+low_align a e = go (eqb a 0) refl
+  where
+    go : (t : Bool) → eqb a 0 ≡ t → a < 4294967296
+    go true q = let z = eqb-true a 0 q in omega arith
+    go false q = let z = (good_parts a (not_bad a e (eqb-false a 0 q))).1 in omega arith
 
 module _ (a : ℕ) (good : good_align a ≡ true) where
   -- the exponent, as the code counts it

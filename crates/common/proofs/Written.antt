@@ -11,11 +11,12 @@ use lib.Seq.{get_or-set_same, get_or-set_other, get_or-take}
 use borrow.Author.Count.{below_more}
 use Rattle.lists.proofs.Rows.{get_d_tabulate}
 use Rattle.obj.specs.declared.Split.{Split}
+use Rattle.obj.specs.Nothing.{no_split}
 use Rattle.splits.specs.Columns.{Good, columns, row_of, row_at, rows}
 use Rattle.splits.specs.Updates.{with_common}
 use Rattle.splits.proofs.Rows.{good_row}
 use Rattle.common.specs.Common.{marked}
-use Rattle.common.specs.Records.{no_split, Kept}
+use Rattle.common.specs.Records.{Kept}
 use Rattle.std.proofs.lemmas.List.{take-map, get_or-map}
 use Rattle.lists.proofs.Mapping.{tabulate-take}
 

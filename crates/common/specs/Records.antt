@@ -2,11 +2,8 @@
 -- written back only its rest is stored; its start, end and unit still stand in their columns.
 use Rattle.std.specs.Prelude.{ℕ, ◌<◌, ◌≡◌, List, get_or}
 use Rattle.obj.specs.declared.Split.{Split}
+use Rattle.obj.specs.Nothing.{no_split}
 use Rattle.splits.specs.Columns.{Good, Columns}
-
--- what a table holds past its rows
-abbrev pub no_split : Split
-no_split = record { section = 0; start = 0; end = 0; unit = 0; alignment = 0; flags = 0; rename = 0; origin = 0 }
 
 -- the first n records have the start, end and unit that the columns have, and an alignment that is none or good
 pub record Kept (c : Columns) (table : List Split) (n : ℕ) : Type 0 where

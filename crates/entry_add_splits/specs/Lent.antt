@@ -3,7 +3,6 @@ use Rattle.std.specs.Prelude.{ℕ, List}
 use Rattle.lists.specs.Outcome.{Outcome}
 use Rattle.obj.specs.declared.Split.{Split}
 use Rattle.obj.specs.declared.Table.{Table}
-use Rattle.tables.specs.Tables.{AllHeld}
 use Rattle.tables.specs.Records.{sections_in}
 use Rattle.stage_splits.specs.StageSplits.{room_of}
 use Rattle.lent_tables.specs.declared.StageTables.{StageTables}
@@ -14,7 +13,3 @@ splits_outcome lengths heads lent size = from_splits lengths (sections_in heads.
 
 abbrev pub tables_outcome : StageTables → (size : ℕ) → Outcome (List Split)
 tables_outcome lent size = add_splits_of lent.name_ends.now lent.name_bytes.now lent.sections.now lent.splits.now lent.partials.now size
-
--- the records of the sections can be read
-abbrev pub HeadsHeld : (heads : Table) → Type 0
-HeadsHeld heads = AllHeld 15 heads.bytes.now heads.places.now

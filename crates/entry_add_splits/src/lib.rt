@@ -6,7 +6,8 @@ ghost use Rattle.std.specs.Prelude.{length};
 ghost use Rattle.stage_splits.specs.StageSplits.{Leaves};
 ghost use Rattle.stage_splits.specs.Output.{GivesIn, SameLent};
 ghost use Rattle.entry_add_splits.specs.Entry.{add_splits_of};
-ghost use Rattle.entry_add_splits.specs.Lent.{tables_outcome, splits_outcome, HeadsHeld};
+ghost use Rattle.tables.specs.Lent.{HeadsHeld};
+ghost use Rattle.entry_add_splits.specs.Lent.{tables_outcome, splits_outcome};
 
 use lent_tables::{NO_TABLES, StageTables};
 use name_table::NameArrays;

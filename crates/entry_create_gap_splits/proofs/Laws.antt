@@ -14,9 +14,9 @@ use Rattle.obj.specs.Answers.{Answer}
 use Rattle.std.specs.Prelude.{Ok, Err, true, false}
 use Rattle.std.specs.Result.{is_err}
 use Rattle.outputs.specs.Outputs.{halves, counts_of}
-use Rattle.splits.specs.Bytes.{table_bytes}
 use Rattle.stage_names.specs.StageNames.{ends_from, flat}
 use Rattle.stage_splits.specs.StageSplits.{said}
+use Rattle.stage_splits.proofs.Laws.{nothing-laid}
 use Rattle.gap_splits.specs.Entering.{Filled}
 use Rattle.stage_gaps.specs.StageGaps.{Laid, Gives}
 use Rattle.entry_create_gap_splits.specs.Entry.{Leaves}
@@ -34,10 +34,6 @@ no_ends size = zeros size
 no_bytes : (size : ℕ) → replicate size 0 ≡ laid size (flat [])
 unfolding flat
 no_bytes size = zeros size
-
-no_splits : (size : ℕ) → replicate size 0 ≡ laid size (table_bytes [])
-unfolding table_bytes
-no_splits size = zeros size
 
 no_counts : (size : ℕ) → replicate size 0 ≡ counts_of size (0 ∷ 0 ∷ 0 ∷ [])
 unfolding counts_of halves
@@ -85,7 +81,7 @@ module _ (o : Outcome Filled) (ends bytes out counts : List ℕ) where
         laid_out = record {
           ends = f ∙ clear_all 0 ends ∙ no_ends (length ends);
           bytes = g ∙ clear_all 0 bytes ∙ no_bytes (length bytes);
-          splits = h ∙ clear_all 0 out ∙ no_splits (length out);
+          splits = h ∙ clear_all 0 out ∙ nothing-laid (length out);
           counted = i ∙ clear_all 0 counts ∙ no_counts (length counts);
         };
       }

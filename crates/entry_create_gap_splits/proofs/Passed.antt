@@ -25,7 +25,7 @@ use Rattle.obj.proofs.Laws.{length-stage_places}
 use Rattle.fields.specs.Fields.{le16}
 use Rattle.names.specs.Names.{name_at, names_of}
 use Rattle.tables.specs.Tables.{records_check}
-use Rattle.tables.specs.Records.{sections_in, image_places_of, section_fault, no_section}
+use Rattle.tables.specs.Records.{sections_in, image_places_of, section_fault}
 use Rattle.tables.proofs.Laws as tables
 use Rattle.name_table.specs.NameTable.{start_of, end_of, name_in, stage_names, names_check}
 use Rattle.name_table.specs.Stored.{stage_lengths, name_starts, Stored, Readable}
@@ -34,10 +34,11 @@ use Rattle.stage_tables.specs.StageTables.{stage_sections, stage_splits, image_c
 use Rattle.stage_tables.proofs.Laws.{table_passed}
 use Rattle.stage_names.specs.StageNames.{names_room, bytes_room, beyond, first_beyond, fit_check, flat}
 use Rattle.stage_names.proofs.Fits.{not_beyond, flat_append}
-use Rattle.stage_sections.proofs.Laws.{bytes_as}
 use Rattle.sections.specs.Image.{Image, image_of}
 use Rattle.sections.specs.Sections.{head_of, sections_of}
+use Rattle.sections.proofs.Laws.{bytes_as}
 use Rattle.obj.specs.declared.Split.{Split}
+use Rattle.obj.specs.Nothing.{no_section}
 use Rattle.stage_splits.specs.StageSplits.{room_of}
 use Rattle.merge.specs.Merge.{Given, given}
 use Rattle.gap_columns.specs.Columns.{Gap}

@@ -18,13 +18,14 @@ use Rattle.std.specs.Prelude.{Result, Ok, Err}
 use Rattle.outputs.specs.Outputs.{store_count, store_counts}
 use Rattle.obj.specs.declared.Refusal.{Refusal}
 use Rattle.obj.specs.declared.Section.{Section}
-use Rattle.stage_names.specs.StageNames.{flat}
+use Rattle.stage_names.specs.StageNames.{flat, name_ends}
+use Rattle.stage_names.proofs.Fits.{long_halves}
 use Rattle.elf_file.specs.File.{header_table, count, header_of, taken, section_strings, entries_of, symbol_entries, symbol_strings, file_check}
 use Rattle.stage_tables.specs.StageTables.{stage_sections, symbols_check, image_check}
-use Rattle.number_names.specs.Numbers.{name_ends, names_in, Laid, Known}
+use Rattle.number_names.specs.Numbers.{names_in, Laid, Known}
 use Rattle.name_table.specs.Stored.{stage_lengths, Stored}
 use Rattle.name_table.specs.NameTable.{names_check}
-use Rattle.number_names.proofs.Laid.{names_back, count_back, length-name_ends}
+use Rattle.number_names.proofs.Laid.{names_back, count_back}
 use Rattle.import.specs.Import.{Rooms, Tables, names_of, tables_of, tables_check, import_of}
 use Rattle.import_names.specs.Numbered.{NumberedAll}
 use Rattle.number_names.specs.declared.Count.{Count}
@@ -209,7 +210,7 @@ module _ (file : List ℕ) (room : Rooms) where
 -- names that were numbered lie in the table
 pub numbered-laid : {o : Outcome (List (List ℕ))} {ends₀ bytes₀ ends bytes : List ℕ} {r : Count} (n : NumberedAll o ends₀ bytes₀ ends bytes r) → Laid n.names (take (2 * r.names) ends) (take r.used bytes)
 numbered-laid {o} {ends₀} {bytes₀} {ends} {bytes} {r} n =
-    let long = length-name_ends n.names in record {
+    let long = long_halves 0 n.names in record {
       ends_are = front ends₀ (name_ends n.names) n.ends_are (omega (arith, long, n.counted)) n.ends_fit;
       bytes_are = front bytes₀ (flat n.names) n.bytes_are n.sum n.bytes_fit;
       small = omega (arith, n.sum, n.small);

@@ -10,11 +10,12 @@ use Rattle.obj.specs.Answers.{outcome_word}
 use Rattle.obj.specs.Answers.{Answer}
 use Rattle.std.specs.Prelude.{Result, Ok, Err}
 use Rattle.obj.specs.declared.Section.{Section}
-use Rattle.join.specs.Join.{Part, held, join_of}
+use Rattle.join.specs.Join.{held, join_of}
 use Rattle.join.proofs.Sizes.{length-joined}
 use Rattle.join_pieces.specs.Joins.{Joins}
 use Rattle.kept_output.specs.Kept.{Leaves, sized_of, Settles}
 use Rattle.obj.specs.declared.Refusal.{Refusal}
+use Rattle.obj.specs.Parts.{Part}
 use Rattle.entry_join_pieces.specs.Entry.{Writes}
 
 -- ---- the joiner's outcome

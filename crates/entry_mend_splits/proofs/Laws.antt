@@ -14,7 +14,7 @@ use Rattle.obj.specs.declared.Section.{Section}
 use Rattle.obj.specs.declared.Split.{Split}
 use Rattle.obj.proofs.Laws.{length-stage_places}
 use Rattle.tables.specs.Tables.{main_ceilings, records_check, AllHeld}
-use Rattle.tables.specs.Records.{sections_in, no_section, section_fault}
+use Rattle.tables.specs.Records.{sections_in, section_fault}
 use Rattle.tables.proofs.Lookups.{held}
 use Rattle.tables.proofs.Laws.{sections_end}
 use Rattle.name_table.specs.NameTable.{names_check}
@@ -27,6 +27,7 @@ use Rattle.mend.specs.Steps.{LowHeads, Mends, line_bytes}
 use Rattle.std.specs.Prelude.{Result}
 use Rattle.std.proofs.lemmas.List.{get_or-map}
 use Rattle.obj.specs.declared.Refusal.{Refusal}
+use Rattle.obj.specs.Nothing.{no_section}
 use Rattle.mend_outputs.specs.Outputs.{Laid, Gives, Stores}
 use Rattle.mend_outputs.proofs.Laws.{stored_gives}
 use Rattle.entry_mend_splits.specs.Entry.{from_splits, NamesTaken}

@@ -1,14 +1,15 @@
 -- What an accepted call gives, over its lent bytes. The front of the output goes straight into the next entry: it passes the checks of a split table, the check of the
 -- splits answers neither 50 nor 51 of it, and mending it again gives it back. A list that passes both rules comes back unchanged. Assumes nothing.
 use mathlib.Core.Path.{◌≡◌, sym, ap, ap₂, subst, ◌∙◌}
-use mathlib.Core.List.{List, [], ◌++◌, map, append-nil}
+use mathlib.Core.List.{List, [], map}
 use Prim.Native.Nat.{ℕ, ◌*◌, ◌/◌, ◌≤◌, ◌<◌}
 use native.Mathlib.Omega.{arith}
-use lib.ListN.{length, get_or, take, drop, length-map, drop_of_length-le}
-use lib.Seq.{sets, take-append_seam}
+use lib.ListN.{length, get_or, take, drop, length-map}
+use lib.Seq.{take-append_seam}
 use Rattle.lists.specs.Outcome.{Outcome, accepted, ◌>>◌}
 use Rattle.lists.specs.Sort.{All}
 use Rattle.lists.proofs.Outcomes.{then_both}
+use Rattle.lists.proofs.Stores.{sets-itself}
 use Rattle.tables.specs.Tables.{main_ceilings, records_check}
 use Rattle.tables.specs.Records.{section_fault, split_fault}
 use Rattle.tables.proofs.Lookups.{split_origins}
@@ -26,16 +27,9 @@ use Rattle.mend_laws.specs.Passing.{PassesBoth}
 use Rattle.mend_laws.proofs.Laws.{mend_passes, mend_twice, mend_fields, mend_keeps, mend_inv}
 use Rattle.mend_laws.proofs.Tables.{mend_table, length_mended}
 use Rattle.mend_outputs.specs.Outputs.{split_bytes, written, Leaves}
-use Rattle.mend_outputs.proofs.Counts.{at_front}
 use Rattle.obj.specs.Records.{stage_places, split_width}
 use Rattle.entry_mend_splits.specs.Entry.{mend_splits_of}
 use Rattle.entry_mend_splits.proofs.Bytes.{bytes_back, bytes_pass, mended_origins}
-
--- bytes laid over themselves
-over_itself : (b : List ℕ) → sets b 0 b ≡ b
-over_itself b =
-    let h : length b ≤ length b = omega arith in
-    at_front b b h ∙ ap (λ (l : List ℕ). b ++ l) (drop_of_length-le b h) ∙ append-nil b
 
 module _ (ends bytes sections : List ℕ) where
   -- what follows the checks of names and sections
@@ -111,12 +105,12 @@ module _ (ends bytes sections : List ℕ) where
     -- the mended table's records, taken again
     records_pass : OfBytes → (ceiling : ℕ) → length m.splits ≤ ceiling → splits_check ceiling (stage_lengths ends bytes) (stage_sections sections) (split_bytes m) ≡ accepted tt
     records_pass small ceiling h =
-        ap (splits_check ceiling (stage_lengths ends bytes) (stage_sections sections)) (sym (over_itself (split_bytes m)))
+        ap (splits_check ceiling (stage_lengths ends bytes) (stage_sections sections)) (sym (sets-itself (split_bytes m)))
         ∙ bytes_pass (stage_lengths ends bytes) few_names (stage_sections sections) few_sections m.splits table_good (origins small) (split_bytes m) ceiling (length-table_bytes m.splits) h
 
     records_back : OfBytes → stage_splits (split_bytes m) ≡ m.splits
     records_back small =
-        ap stage_splits (sym (over_itself (split_bytes m)))
+        ap stage_splits (sym (sets-itself (split_bytes m)))
         ∙ bytes_back (stage_lengths ends bytes) few_names (stage_sections sections) few_sections m.splits table_good (origins small) (split_bytes m) (length-table_bytes m.splits)
 
     -- THEOREM: "touches no other field"

@@ -2,7 +2,6 @@
 use Rattle.std.specs.Prelude.{ℕ, List}
 use Rattle.lists.specs.Outcome.{Outcome}
 use Rattle.obj.specs.declared.Table.{Table}
-use Rattle.tables.specs.Tables.{AllHeld}
 use Rattle.tables.specs.Records.{sections_in}
 use Rattle.stage_splits.specs.StageSplits.{room_of}
 use Rattle.mend.specs.Mend.{Mended}
@@ -14,7 +13,3 @@ splits_outcome lengths heads splits size room =
 
 abbrev pub sections_outcome : (lengths sections splits : List ℕ) → (size room : ℕ) → Outcome Mended
 sections_outcome lengths sections splits size room = from_sections lengths sections splits (room_of size) room
-
--- the records of the sections can be read
-abbrev pub HeadsHeld : (heads : Table) → Type 0
-HeadsHeld heads = AllHeld 15 heads.bytes.now heads.places.now

@@ -10,7 +10,8 @@ ghost use Rattle.mend_outputs.specs.Outputs.{Leaves};
 ghost use Rattle.entry_mend_splits.specs.Entry.{mend_splits_of, NamesTaken};
 ghost use Rattle.stage_splits.specs.Output.{SameLent};
 ghost use Rattle.mend_outputs.specs.Lent.{GivesIn};
-ghost use Rattle.entry_mend_splits.specs.Lent.{splits_outcome, sections_outcome, HeadsHeld};
+ghost use Rattle.tables.specs.Lent.{HeadsHeld};
+ghost use Rattle.entry_mend_splits.specs.Lent.{splits_outcome, sections_outcome};
 
 use mend::{fill_section_ends, mend_table};
 use mend_outputs::{finish, give_mended};

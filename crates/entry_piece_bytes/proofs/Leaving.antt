@@ -10,17 +10,13 @@ use lib.Seq.{sets, sets-eq}
 use Rattle.lists.specs.Outcome.{accepted}
 use Rattle.lists.specs.Rows.{clear_from}
 use Rattle.lists.specs.Tables.{laid}
-use Rattle.lists.proofs.Clear.{clear_all}
+use Rattle.lists.proofs.Clear.{clear_all, cleared}
 use Rattle.fields.specs.Fields.{enc32}
 use Rattle.obj.specs.Answers.{word, outcome_word, meaning}
 use Rattle.obj.specs.declared.Refusal.{Refusal}
 use Rattle.std.specs.Prelude.{Result, Ok, Err}
 use Rattle.entry_piece_bytes.specs.declared.Place.{Place}
 use Rattle.entry_piece_bytes.specs.Entry.{place_bytes, Leaves}
-
--- nothing stands in a cleared output
-cleared : (out : List ℕ) → clear_from 0 0 out ≡ laid (length out) []
-cleared out = clear_all 0 out ∙ ap (λ (n : ℕ). replicate n 0) (sym (sub-zero (length out)))
 
 -- the bytes of a place
 abbrev pub both : Place → List ℕ

@@ -1,11 +1,10 @@
 -- The questions over tables that passed: what each of the code's answers is to the definition, and that the columns of the code ask what the lent tables do.
--- For readers of the contracts: `no_splits` and `end_answer_lem` say what `end_for_section` answers without its empty split table. Assumes nothing.
+-- For readers of the contracts: `no_splits_pass` of stage_tables and `end_answer_lem` say what `end_for_section` answers without its empty split table. Assumes nothing.
 use Prim.Native.Nat.{ℕ, ◌/◌, ◌<◌, ◌≤◌}
 use mathlib.Core.Path.{◌≡◌, refl, sym, ap, ◌∙◌}
-use mathlib.Core.List.{List, []}
+use mathlib.Core.List.{List}
 use mathlib.Core.Bool.{Bool, true, false}
-use native.Mathlib.Omega.{arith}
-use borrow.Author.Tests.{le-leb, lt-leb, le-ltb, leb-false}
+use borrow.Author.Tests.{le-leb, lt-leb, leb-false}
 use lib.Dec.{leb}
 use lib.ListN.{length, get_or}
 use Rattle.lists.specs.Outcome.{Outcome, accepted, refused, ◌>>◌, ◌>>=◌}
@@ -14,16 +13,15 @@ use Rattle.obj.specs.Records.{stage_places, split_width}
 use Rattle.obj.specs.declared.Section.{Section}
 use Rattle.obj.specs.declared.Split.{Split}
 use Rattle.obj.proofs.Laws.{length-stage_places}
-use Rattle.tables.specs.Tables.{main_ceilings, size_check}
-use Rattle.tables.specs.Records.{image_places_of, split_fault}
+use Rattle.tables.specs.Tables.{main_ceilings}
+use Rattle.tables.specs.Records.{image_places_of}
 use Rattle.tables.specs.Records as records
-use Rattle.tables.proofs.Laws.{records_pass}
 use Rattle.name_table.specs.NameTable.{names_check}
 use Rattle.name_table.specs.Stored.{name_starts, stage_lengths}
 use Rattle.name_table.proofs.Laws.{length-stage_lengths}
-use Rattle.stage_tables.specs.StageTables.{stage_sections, stage_splits, image_check, symbols_check, splits_check, table_check}
+use Rattle.stage_tables.specs.StageTables.{stage_sections, image_check, symbols_check, splits_check}
+use Rattle.stage_tables.proofs.Laws.{no_splits_pass}
 use Rattle.sections.specs.Image.{Image, image_of}
-use Rattle.stage_sections.proofs.Laws.{bytes_as}
 use Rattle.sections.specs.Sections.{Sections, sections_of, head_of}
 use Rattle.sections.specs.Ends.{splitting_end, end_meaning}
 use Rattle.sections.specs.Alignment.{Chosen, chosen, alignment_from, alignment_meaning}
@@ -35,6 +33,7 @@ use Rattle.obj.specs.declared.Refusal.{Refusal}
 use Rattle.std.specs.Prelude.{Result, Ok, Err, MatchResult}
 use Rattle.std.specs.Result.{IsErrAnd}
 use Rattle.std.proofs.lemmas.Result.{err_from_is_err_and}
+use Rattle.sections.proofs.Laws.{bytes_as}
 use Rattle.entry_questions.specs.declared.Question.{Question}
 use Rattle.entry_questions.specs.declared.Question.TheVariants as questions
 use Rattle.entry_questions.specs.Entry.{end_of, alignment_at, question_of, image_in, sections_in, split_in, split_of, answer_of, end_answer}
@@ -159,18 +158,6 @@ module _ (ends bytes heads image places symbols splits : List ℕ) (question : Q
 
 -- ---- `end_for_section` takes no splits
 
--- an empty table is of good size
-no_records : (c : ℕ) → size_check split_width c 0 ≡ accepted tt
-unfolding size_check
-no_records c = passes 1 0 _ _ _ refl ∙ passes 2 0 c _ _ (le-ltb c 0 (omega arith))
-
--- an empty split table passes every check
-pub no_splits : (c : ℕ) (lengths : List ℕ) (heads : List Section) → splits_check c lengths heads [] ≡ accepted tt
-unfolding table_check
-no_splits c lengths heads =
-    sym (then_goes (refl {a = size_check split_width c 0}) _ (no_records c))
-    ∙ records_pass (split_fault lengths heads (stage_splits [])) 0 (λ k h. absurd (omega (arith, h)))
-
 -- so it answers for names, sections with their bytes, symbols, and then the end
 pub end_answer_lem : (ends bytes sections places image symbols : List ℕ) (section : ℕ)
     → end_answer ends bytes sections places image symbols section
@@ -187,4 +174,4 @@ end_answer_lem ends bytes sections places image symbols section =
       image_check main_ceilings.sections (stage_lengths ends bytes) places (length image) sections
       symbols_check main_ceilings.symbols (length ends / 2) (stage_sections sections) symbols
       rest)
-    (sym (then_goes refl end (no_splits main_ceilings.splits (stage_lengths ends bytes) (stage_sections sections))))
+    (sym (then_goes refl end (no_splits_pass main_ceilings.splits (stage_lengths ends bytes) (stage_sections sections))))

@@ -2,7 +2,6 @@
 use Prim.Native.Nat.{ℕ, zero, suc, ◌-◌, ◌<◌, ◌≤◌}
 use mathlib.Core.Path.{◌≡◌, sym, ap, ◌∙◌}
 use mathlib.Core.List.{List, [], ◌∷◌}
-use native.Mathlib.Nat.{sub-zero}
 use native.Mathlib.Omega.{arith}
 use borrow.Author.Tests.{le-leb, lt-leb}
 use lib.ListN.{length, replicate}
@@ -10,16 +9,12 @@ use lib.Seq.{sets}
 use Rattle.lists.specs.Outcome.{accepted}
 use Rattle.lists.specs.Rows.{clear_from}
 use Rattle.lists.specs.Tables.{laid}
-use Rattle.lists.proofs.Clear.{clear_all}
+use Rattle.lists.proofs.Clear.{clear_all, cleared}
 use Rattle.fields.specs.Fields.{enc32}
 use Rattle.obj.specs.Answers.{word, outcome_word, meaning}
 use Rattle.obj.specs.declared.Refusal.{Refusal}
 use Rattle.std.specs.Prelude.{Result, Ok, Err}
 use Rattle.entry_questions.specs.Entry.{number_bytes, Leaves}
-
--- nothing stands in a cleared output
-cleared : (out : List ℕ) → clear_from 0 0 out ≡ laid (length out) []
-cleared out = clear_all 0 out ∙ ap (λ (n : ℕ). replicate n 0) (sym (sub-zero (length out)))
 
 -- four bytes at the front of a cleared output
 four_laid : (n a b c d : ℕ) → 4 ≤ n → sets (replicate n 0) 0 (a ∷ b ∷ c ∷ d ∷ []) ≡ laid n (a ∷ b ∷ c ∷ d ∷ [])

@@ -10,8 +10,9 @@ use Rattle.lists.specs.Outcome.{accepted}
 use Rattle.obj.specs.Records.{split_at, stage_places, split_width}
 use Rattle.obj.specs.declared.Section.{Section}
 use Rattle.obj.proofs.Laws.{length-stage_places}
+use Rattle.obj.specs.Nothing.{no_split}
 use Rattle.tables.specs.Tables.{records_check}
-use Rattle.tables.specs.Records.{no_split, split_fault}
+use Rattle.tables.specs.Records.{split_fault}
 use Rattle.tables.proofs.Laws.{splits_section}
 use Rattle.tables.proofs.Lookups.{held, stage_held}
 use Rattle.stage_tables.specs.StageTables.{stage_splits, splits_check}

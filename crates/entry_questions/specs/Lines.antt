@@ -12,7 +12,7 @@ use Rattle.tables.specs.Tables.{main_ceilings}
 use Rattle.tables.specs.Records as records
 use Rattle.stage_tables.specs.StageTables.{symbols_check, splits_check}
 use Rattle.sections.specs.Image.{image_of}
-use Rattle.sections.specs.Sections.{Sections, sections_of, Kept, Heads}
+use Rattle.sections.specs.Sections.{Sections, Kept, Heads, sections_lent}
 use Rattle.sections.specs.declared.Obj.{Obj}
 use Rattle.entry_questions.specs.declared.Question.{Question}
 use Rattle.entry_questions.specs.Entry.{question_of, answer_of, split_of, split_in}
@@ -25,10 +25,6 @@ from_symbols name_bytes name_places name_lengths heads sections symbols splits q
   symbols_check main_ceilings.symbols (length name_lengths) heads symbols
   splits_check main_ceilings.splits name_lengths heads splits
   question_of (image_of symbols (stage_places 20 (length symbols / 20)) name_bytes name_places name_lengths) sections (length splits / split_width) (split_in splits) question
-
--- the sections with their bytes
-abbrev pub sections_lent : (heads image : Table) → Sections
-sections_lent heads image = sections_of heads.bytes.now heads.places.now image.bytes.now image.places.now
 
 abbrev pub from_symbols_in : Names → (heads image : Table) → StageTables → Question → Outcome ℕ
 from_symbols_in n heads image t question =

@@ -5,10 +5,10 @@
 ghost use Rattle.std.specs.Prelude.{◌≡◌, length};
 ghost use Rattle.obj.specs.Answers.{meaning, word};
 ghost use Rattle.sections.specs.Image.{image_in, TablesIn};
-ghost use Rattle.sections.specs.Sections.{head_in};
+ghost use Rattle.sections.specs.Sections.{head_in, sections_lent};
 ghost use Rattle.name_table.specs.Columns.{ReadableIn};
 ghost use Rattle.entry_questions.specs.Entry.{end_of, alignment_at, end_answer, alignment_answer, Leaves};
-ghost use Rattle.entry_questions.specs.Lines.{answer_in, from_symbols_in, sections_lent, split_at_in, KeptIn, HeadsIn, HomesIn};
+ghost use Rattle.entry_questions.specs.Lines.{answer_in, from_symbols_in, split_at_in, KeptIn, HeadsIn, HomesIn};
 
 use fields::put32;
 use lent_tables::{NO_TABLES, StageTables};

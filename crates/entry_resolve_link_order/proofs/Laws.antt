@@ -23,12 +23,13 @@ use Rattle.obj.specs.declared.Split.{Split}
 use Rattle.obj.specs.declared.Section.{Section}
 use Rattle.obj.specs.declared.Unit as units
 use Rattle.obj.proofs.Laws.{length-stage_places}
+use Rattle.obj.specs.Nothing.{no_section, no_split, no_unit}
 use Rattle.outputs.specs.Outputs.{store_count, store_counts}
 use Rattle.outputs.proofs.Laws.{laid-after, counts_stored}
 use Rattle.names.specs.Names.{name_at, names_of}
 use Rattle.names.specs.Fixed.{is_pointer_list}
 use Rattle.tables.specs.Tables.{records_check}
-use Rattle.tables.specs.Records.{no_section, no_split, no_unit, sections_in, units_in, section_fault, split_fault, unit_fault}
+use Rattle.tables.specs.Records.{sections_in, units_in, section_fault, split_fault, unit_fault}
 use Rattle.tables.proofs.Laws as tables
 use Rattle.name_table.specs.NameTable.{name_in, stage_names, names_check}
 use Rattle.name_table.specs.Stored.{Stored, Readable, name_starts, name_lengths, stage_lengths}
@@ -38,11 +39,12 @@ use Rattle.stage_tables.proofs.Laws.{table_passed, taken_places, taken-count, ta
 use Rattle.stage_splits.specs.StageSplits.{Taken}
 use Rattle.splits.specs.Columns.{Columns, rows, row_at}
 use Rattle.toposort.specs.Search.{End}
+use Rattle.toposort.specs.Sorting.{nodes_left}
 use Rattle.link_graph.specs.Columns.{pointers_in}
 use Rattle.link_graph.proofs.Rows.{row_at_lem}
 use Rattle.order.specs.declared.Unlinked.{Unlinked}
 use Rattle.order.specs.declared.Unlinked.TheVariants.{Refused}
-use Rattle.order.specs.LinkOrder.{link_order, nodes_left, records_of}
+use Rattle.order.specs.LinkOrder.{link_order, records_of}
 use Rattle.order.specs.Bytes.{units_bytes}
 use Rattle.order.specs.Columns.{kept, answer_of, Resolves, SplitsTaken, UnitsTaken}
 use Rattle.order.proofs.Errors.{refused_as}

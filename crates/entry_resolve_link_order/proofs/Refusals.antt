@@ -3,7 +3,7 @@
 use Prim.Native.Nat.{ℕ, ◌/◌, ◌%◌, ◌≤◌, ◌<◌}
 use mathlib.Core.Path.{◌≡◌, refl, sym, ap, ◌∙◌}
 use mathlib.Core.List.{List, [], ◌∷◌}
-use mathlib.Core.Bool.{Bool, true, false, cond, not}
+use mathlib.Core.Bool.{Bool, true, false, not}
 use native.Mathlib.Nat.{zero-add}
 use native.Mathlib.Omega.{arith}
 use borrow.Author.Tests.{ltb-true}
@@ -18,12 +18,14 @@ use Rattle.obj.specs.Answers.{place}
 use Rattle.obj.specs.declared.Section.{Section}
 use Rattle.tables.specs.Tables.{size_check, first_fault, records_check}
 use Rattle.faults.specs.Faults.{section_bad, split_bad, split_misplaced, unit_bad}
-use Rattle.tables.specs.Records.{numbered, no_section, no_split, no_unit, split_before, section_fault, split_fault, unit_fault}
+use Rattle.tables.specs.Records.{numbered, split_before, section_fault, split_fault, unit_fault}
 use Rattle.tables.proofs.Laws.{size_passed}
-use Rattle.name_table.specs.NameTable.{name_cut, name_wrong, name_fault, names_check}
+use Rattle.name_table.specs.NameTable.{name_fault, names_check}
+use Rattle.name_table.proofs.Laws.{name_few}
 use Rattle.stage_tables.specs.StageTables.{table_check, stage_sections, stage_splits, stage_units, sections_check, splits_check, units_check}
 use Rattle.obj.specs.Records.{split_width}
 use Rattle.obj.proofs.Laws.{place_small}
+use Rattle.obj.specs.Nothing.{no_section, no_split, no_unit}
 
 abbrev pub Low : {A : Type 0} → Outcome A → Type 0
 Low (accepted a) = Unit {0}
@@ -78,15 +80,6 @@ numbered_small : (number : ℕ) (t : Bool) → number ≤ 8 → numbered number 
 numbered_small number true h = h
 numbered_small number false h = omega arith
 
-name_small : (ends bytes : List ℕ) (k : ℕ) → name_fault ends bytes k ≤ 8
-unfolding name_fault
-name_small ends bytes k = by_tests (name_cut ends bytes k) (name_wrong ends bytes k)
-  where
-    by_tests : (s t : Bool) → cond s 1 (cond t 3 0) ≤ 8
-    by_tests true t = omega arith
-    by_tests false true = omega arith
-    by_tests false false = omega arith
-
 section_small : (lengths b : List ℕ) (k : ℕ) → section_fault lengths (stage_sections b) k ≤ 8
 unfolding section_fault
 section_small lengths b k =
@@ -109,7 +102,7 @@ pub low_names : (ends bytes : List ℕ) → Low (names_check 4096 ends bytes)
 unfolding names_check
 low_names ends bytes =
     low_then (size_check 2 4096 (length ends)) (records_check (name_fault ends bytes) (length ends / 2)) (low_size 2 4096 (length ends) (omega arith))
-    (λ e. low_records (name_fault ends bytes) (length ends / 2) (name_small ends bytes) (size_passed 2 4096 (length ends) e).1)
+    (λ e. low_records (name_fault ends bytes) (length ends / 2) (name_few ends bytes) (size_passed 2 4096 (length ends) e).1)
 
 pub low_sections : (lengths b : List ℕ) → Low (sections_check 64 lengths b)
 low_sections lengths b = low_table 15 64 b (section_fault lengths (stage_sections b)) (section_small lengths b) (omega arith)

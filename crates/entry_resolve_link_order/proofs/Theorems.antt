@@ -26,8 +26,9 @@ use Rattle.obj.specs.Records.{split_at, unit_at, stage_places, split_width}
 use Rattle.obj.specs.declared.Split.{Split}
 use Rattle.obj.specs.declared.Unit as units
 use Rattle.obj.proofs.Laws.{length-stage_places}
+use Rattle.obj.specs.Nothing.{no_split, no_unit}
 use Rattle.outputs.specs.Outputs.{counts_of}
-use Rattle.tables.specs.Records.{no_split, no_unit, split_fault, unit_fault}
+use Rattle.tables.specs.Records.{split_fault, unit_fault}
 use Rattle.tables.specs.Tables.{records_check}
 use Rattle.tables.proofs.Laws as tables
 use Rattle.name_table.specs.NameTable.{names_check}
@@ -36,6 +37,7 @@ use Rattle.name_table.proofs.Laws.{length-stage_lengths, names_passed}
 use Rattle.stage_tables.specs.StageTables.{stage_sections, stage_splits, stage_units, sections_check, splits_check, units_check}
 use Rattle.stage_tables.proofs.Laws.{table_passed}
 use Rattle.toposort.specs.Search.{End, all, cyclic}
+use Rattle.toposort.specs.Sorting.{nodes_left}
 use Rattle.order_numbers.specs.Numbers.{has_order, twice, order_twice}
 use Rattle.symbol_order.specs.Keys.{rank_of}
 use Rattle.symbol_order.proofs.Ranks.{unit_fits, rank_same}
@@ -44,11 +46,11 @@ use Rattle.link_graph.specs.Joined.{InOrder, HasCycle, IsCycle}
 use Rattle.link_graph.proofs.Nodes.{in_counted}
 use Rattle.link_graph.proofs.Graph.{in_at}
 use Rattle.link_graph.proofs.Joined.{BySection, place_of}
-use Rattle.order.specs.LinkOrder.{link_order, nodes_left, first_record, hand_of, made_unit, record_of, records_of}
+use Rattle.order.specs.LinkOrder.{link_order, first_record, hand_of, made_unit, record_of, records_of}
 use Rattle.order.specs.Bytes.{units_bytes, Fits}
 use Rattle.order.specs.Columns.{said_of}
 use Rattle.order.proofs.Bytes.{length-units_bytes, units_back}
-use Rattle.order.proofs.Stage.{length_records, own_name as record_named}
+use Rattle.order.proofs.Stage.{length_records, own_name}
 use Rattle.order.proofs.Theorems.{units_at, Ways, number_twice, no_room, ordered, on_cycle, ways}
 use Rattle.entry_resolve_link_order.specs.Entry.{given_in, resolve_of, Leaves, units_read, names_read, Records, Accepted, Shown, Good}
 use Rattle.entry_resolve_link_order.proofs.Refusals.{Low, low_names, low_sections, low_splits, low_units}
@@ -168,10 +170,6 @@ module _ (ends bytes sections splits us : List ℕ) (p : Passed ends bytes secti
         has_order = omega (arith, yes-no.1);
         order = subst (λ (u : units.Unit). SFits w32 u.order) (sym at) (unit_fits us (get_or (stage_places 8 (length us / 8)) k 0));
       }
-
--- a unit's record has its name
-pub own_name : (S : List Split) (U : List units.Unit) (v : ℕ) → (record_of S U v).name ≡ v
-own_name S U v = record_named S U v
 
 -- ---- the records read back from the table
 

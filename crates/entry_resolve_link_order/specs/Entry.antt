@@ -9,17 +9,18 @@ use Rattle.obj.specs.Answers.{outcome_word}
 use Rattle.obj.specs.Records.{unit_at}
 use Rattle.obj.specs.declared.Split.{Split}
 use Rattle.obj.specs.declared.Unit as units
+use Rattle.obj.specs.Nothing.{no_section, no_unit}
 use Rattle.outputs.specs.Outputs.{counts_of}
 use Rattle.names.specs.Fixed.{is_pointer_list}
 use Rattle.tables.specs.Tables.{main_ceilings}
-use Rattle.tables.specs.Records.{no_section, no_unit}
 use Rattle.name_table.specs.NameTable.{name_in, names_check}
 use Rattle.name_table.specs.Stored.{stage_lengths}
 use Rattle.stage_tables.specs.StageTables.{stage_sections, stage_splits, stage_units, sections_check, splits_check, units_check}
 use Rattle.toposort.specs.Search.{End}
+use Rattle.toposort.specs.Sorting.{nodes_left}
 use Rattle.link_graph.specs.Graph.{Given, nodes}
 use Rattle.link_graph.specs.Joined.{InOrder, IsCycle}
-use Rattle.order.specs.LinkOrder.{link_order, nodes_left, record_of, records_of}
+use Rattle.order.specs.LinkOrder.{link_order, record_of, records_of}
 use Rattle.order.specs.Bytes.{units_bytes}
 use Rattle.order.specs.Columns.{said_of}
 

@@ -17,6 +17,7 @@ use Rattle.pieces.specs.Pieces.{pieces_in, symbols_in, relocs_in, piece_width}
 use Rattle.pieces.specs.declared.Counts.{Counts}
 use Rattle.stage_walk.specs.Room.{room_in}
 use Rattle.stage_walk.proofs.Room.{room_low, room_pieces, room_12, room_8}
+use Rattle.stage_walk.specs.Lines.{none}
 use Rattle.run.specs.Run.{Result, Ended}
 use Rattle.run.specs.Answers.{ran_in, Names, Units, Within}
 use Rattle.run.specs.declared.Ran.{Ran}
@@ -26,7 +27,7 @@ use Rattle.order.specs.declared.Unlinked.{Unlinked}
 use Rattle.order.specs.declared.Unlinked.TheVariants.{Refused, Cycle}
 use Rattle.run_file.specs.RunFile.{Holds}
 use Rattle.run_outputs.specs.Laid.{Sizes, Laid}
-use Rattle.run_outputs.specs.Kept.{none, kept_by, word_of, left_in, Fits, OutputFits}
+use Rattle.run_outputs.specs.Kept.{kept_by, word_of, left_in, Fits, OutputFits}
 use Rattle.entry_split_file.specs.Entry.{left_by, word_by, Leaves}
 
 -- ---- nothing

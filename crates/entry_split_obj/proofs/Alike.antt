@@ -8,7 +8,7 @@ use mathlib.Core.Bool.{cond}
 use lib.Dec.{ltb}
 use lib.ListN.{length, get_or}
 use Rattle.lists.specs.Rows.{keep_if}
-use Rattle.lists.specs.Outcome.{Outcome, accepted, refused, ◌>>=◌}
+use Rattle.lists.specs.Outcome.{Outcome, accepted, ◌>>=◌}
 use Rattle.lists.proofs.Binds.{onward}
 use Rattle.obj.specs.declared.Reloc.{Reloc}
 use Rattle.obj.specs.declared.Split.{Split}
@@ -16,9 +16,9 @@ use Rattle.sections.specs.Image.{Image}
 use Rattle.sections.specs.Bytes.{bytes_of}
 use Rattle.sections.specs.Ends.{splitting_end}
 use Rattle.sections.specs.Sections.{head_of, sections_of}
+use Rattle.sections.proofs.Laws.{bytes_as}
 use Rattle.splits.specs.Questions.{within, next_start}
 use Rattle.pieces.specs.declared.Counts.{Counts}
-use Rattle.stage_sections.proofs.Laws.{bytes_as}
 use Rattle.walk.specs.Walk.{Input, Output, given, on_aligned, on_kept, on_split, walk_splits, walk_section, walk_sections, walk, nothing}
 use Rattle.walk.specs.Giving.{input_of}
 

@@ -11,7 +11,7 @@ use Rattle.obj.specs.Records.{reloc_at, stage_places}
 use Rattle.obj.specs.declared.Section.{Section}
 use Rattle.obj.specs.declared.Reloc.{Reloc}
 use Rattle.obj.proofs.Laws.{length-stage_places}
-use Rattle.tables.specs.Records.{no_reloc}
+use Rattle.obj.specs.Nothing.{no_reloc}
 use Rattle.tables.proofs.Laws as tables
 use Rattle.tables.proofs.Lookups.{stage_held}
 use Rattle.stage_tables.specs.StageTables.{stage_relocs, relocs_check}

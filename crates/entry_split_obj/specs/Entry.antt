@@ -21,8 +21,7 @@ use Rattle.pieces.specs.declared.Counts.{Counts}
 use Rattle.walk.specs.Walk.{Input, Output, nothing, walk}
 use Rattle.walk.specs.Giving.{input_of}
 
--- ---- the tables as the walk sees them
-
+-- ---- the tables as the walk sees them; entry_questions has both definitions of its own, since no crate that both list has the names and the sections
 abbrev pub image_in : (ends bytes symbols : List ℕ) → Image
 image_in ends bytes symbols =
     image_of symbols (stage_places 20 (length symbols / 20)) bytes (name_starts ends (length ends / 2)) (stage_lengths ends bytes)

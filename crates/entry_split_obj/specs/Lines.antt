@@ -10,12 +10,12 @@ use Rattle.lent_tables.specs.declared.StageTables.{StageTables}
 use Rattle.tables.specs.Tables.{main_ceilings}
 use Rattle.stage_tables.specs.StageTables.{symbols_check, relocs_check}
 use Rattle.sections.specs.Image.{image_of}
-use Rattle.sections.specs.Sections.{Sections}
+use Rattle.sections.specs.Sections.{Sections, sections_lent}
 use Rattle.relocs.specs.Relocs.{reloc_of}
 use Rattle.pieces.specs.declared.Counts.{Counts}
 use Rattle.pieces.specs.Pieces.{piece_width}
 use Rattle.walk.specs.Walk.{Output}
-use Rattle.stage_walk.specs.Lines.{from_splits, heads_in, sections_lent, none}
+use Rattle.stage_walk.specs.Lines.{from_splits, heads_in, none}
 use Rattle.entry_split_obj.specs.Entry.{Sizes, split_obj_of}
 
 -- ---- the definition, from one table on

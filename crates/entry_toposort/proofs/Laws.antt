@@ -19,10 +19,10 @@ use Rattle.std.specs.Prelude.{Result, Ok, Err}
 use Rattle.outputs.specs.Outputs.{halves, store_count, store_counts}
 use Rattle.outputs.proofs.Laws.{length-halves, laid-after, counts_stored}
 use Rattle.toposort.specs.Search.{Graph, End}
-use Rattle.toposort.specs.Sorting.{sort_of, meaning, kept, Sorts, answer_of}
+use Rattle.toposort.specs.Sorting.{sort_of, meaning, kept, Sorts, answer_of, nodes_left}
 use Rattle.toposort.specs.declared.Unsorted.{Unsorted}
 use Rattle.toposort.specs.declared.Unsorted.TheVariants.{Cycle, NoNode, Short}
-use Rattle.entry_toposort.specs.Entry.{starts_of, goals_of, graph_of, toposort_of, word_of, nodes_of, Room, Ends, Leaves}
+use Rattle.entry_toposort.specs.Entry.{starts_of, goals_of, graph_of, toposort_of, word_of, Room, Ends, Leaves}
 
 -- what an answer leaves is what its outcome says
 said : (r : Result ℕ Unsorted) (t : List ℕ) (o : Outcome End) → meaning r t ≡ o → word (answer_of r) ≡ word_of o
@@ -31,11 +31,11 @@ said (Err (Cycle k)) t o e = ap word_of e
 said (Err (NoNode i)) t o e = ap word_of e
 said (Err Short) t o e = ap word_of e
 
-left : (r : Result ℕ Unsorted) (t : List ℕ) (o : Outcome End) → meaning r t ≡ o → take (kept r) t ≡ nodes_of o
-left (Ok n) t o e = ap nodes_of e
-left (Err (Cycle k)) t o e = ap nodes_of e
-left (Err (NoNode i)) t o e = ap nodes_of e
-left (Err Short) t o e = ap nodes_of e
+left : (r : Result ℕ Unsorted) (t : List ℕ) (o : Outcome End) → meaning r t ≡ o → take (kept r) t ≡ nodes_left o
+left (Ok n) t o e = ap nodes_left e
+left (Err (Cycle k)) t o e = ap nodes_left e
+left (Err (NoNode i)) t o e = ap nodes_left e
+left (Err Short) t o e = ap nodes_left e
 
 -- a table of more bytes than 1,024 nodes take is as good as one of 1,024
 same_room : (g : Graph) (size room : ℕ) → g.count ≤ 1024 → Room size room → sort_of g room ≡ sort_of g (size / 2)
@@ -59,7 +59,7 @@ pub sorted_ends : (g : Graph) (size room : ℕ) (r : Result ℕ Unsorted) (part 
     → after ≡ sets before 0 (halves (take k (part ++ rest))) → Ends (sort_of g (size / 2)) r before after
 sorted_ends g size room r part rest before after k few w long s e f =
     let means : meaning r part ≡ sort_of g (size / 2) = s.means ∙ same_room g size room few w in
-    let nodes : take k (part ++ rest) ≡ nodes_of (sort_of g (size / 2)) =
+    let nodes : take k (part ++ rest) ≡ nodes_left (sort_of g (size / 2)) =
     front_is part rest room k s.long (omega (arith, s.room)) ∙ ap (λ (i : ℕ). take i part) e ∙ left r part _ means in
     record {
       said = said r part _ means;
@@ -84,15 +84,15 @@ pub leaves : (o : Outcome End) (r : Result ℕ Unsorted) (k : ℕ) (before after
     → Leaves o (length before) (length counts) answer out counted
 unfolding store_counts
 leaves o r k before after counts answer out counted w is a b c =
-    let long : 2 * k ≡ length (halves (nodes_of o)) = omega (arith, length-halves (nodes_of o), w.counted) in
+    let long : 2 * k ≡ length (halves (nodes_left o)) = omega (arith, length-halves (nodes_left o), w.counted) in
     record {
       said = a ∙ w.said;
       nodes =
           b ∙ ap (clear_from 0 (2 * k)) w.front
-          ∙ laid-after before (halves (nodes_of o)) (2 * k) long (omega (arith, w.room));
+          ∙ laid-after before (halves (nodes_left o)) (2 * k) long (omega (arith, w.room));
       counted =
           c ∙ ap₂ (λ (k : ℕ) (l : List ℕ). store_count 0 k l) (is ∙ w.counted) (clear_all 0 counts)
-          ∙ counts_stored (length counts) (length (nodes_of o) ∷ []);
+          ∙ counts_stored (length counts) (length (nodes_left o) ∷ []);
     }
 
 -- the outputs after a refusal: nothing is left

@@ -20,9 +20,9 @@ use Rattle.obj.proofs.Laws.{place_small}
 use Rattle.outputs.specs.Outputs.{halves, counts_of}
 use Rattle.toposort.specs.Search.{Graph, End, all, cyclic, lost, searched}
 use Rattle.toposort.specs.Answers.{Edge, Path, Closes, IsCycle, IsOrder, HasCycle, Right}
-use Rattle.toposort.specs.Sorting.{Within, Sound, sort_of}
+use Rattle.toposort.specs.Sorting.{Within, Sound, sort_of, nodes_left}
 use Rattle.toposort.proofs.Theorems.{Gives, no_node, too_short, answer, sorted_right, searched_right, cycle_iff}
-use Rattle.entry_toposort.specs.Entry.{starts_of, goals_of, graph_of, toposort_of, word_of, nodes_of, nodes_in, Good, Leaves}
+use Rattle.entry_toposort.specs.Entry.{starts_of, goals_of, graph_of, toposort_of, word_of, nodes_in, Good, Leaves}
 use Rattle.entry_toposort.proofs.Laws.{many_nodes, cut_edges, many_edges, table_sorted}
 
 -- ---- the nodes read back from the table
@@ -106,7 +106,7 @@ module _ (nodes : ℕ) (edges : List ℕ) (size : ℕ) where
 
 -- what a way that ends with word 0, and one that ends with 61, leaves in the node table
 ordered_of : (nodes : ℕ) (edges : List ℕ) (size : ℕ) (o : Outcome End) → Ways nodes edges size o → word_of o ≡ 0
-    → (l : List ℕ) × (nodes_of o ≡ l) × IsOrder (graph_of nodes edges) l × (nodes ≤ 1024)
+    → (l : List ℕ) × (nodes_left o ≡ l) × IsOrder (graph_of nodes edges) l × (nodes ≤ 1024)
 ordered_of nodes edges size o nodes_many e = absurd (omega arith)
 ordered_of nodes edges size o edges_cut e = absurd (omega arith)
 ordered_of nodes edges size o edges_many e = absurd (omega arith)
@@ -115,13 +115,13 @@ ordered_of nodes edges size o (sorted w (too_short s h)) e = absurd (omega arith
 ordered_of nodes edges size o (sorted w (answer s h r iff)) e = by_end (searched (graph_of nodes edges)) r e
   where
     by_end : (x : End) → Right (graph_of nodes edges) x → word_of (accepted x) ≡ 0
-        → (l : List ℕ) × (nodes_of (accepted x) ≡ l) × IsOrder (graph_of nodes edges) l × (nodes ≤ 1024)
+        → (l : List ℕ) × (nodes_left (accepted x) ≡ l) × IsOrder (graph_of nodes edges) l × (nodes ≤ 1024)
     by_end (all l) q z = (l, refl, q, s.nodes)
     by_end (cyclic l) q z = absurd (omega arith)
     by_end lost q z = absurd q
 
 cycle_of : (nodes : ℕ) (edges : List ℕ) (size : ℕ) (o : Outcome End) → Ways nodes edges size o → word_of o ≡ refusal_word 61 0 0
-    → (l : List ℕ) × (nodes_of o ≡ l) × IsCycle (graph_of nodes edges) l × Sound (graph_of nodes edges)
+    → (l : List ℕ) × (nodes_left o ≡ l) × IsCycle (graph_of nodes edges) l × Sound (graph_of nodes edges)
 cycle_of nodes edges size o nodes_many e = absurd (omega arith)
 cycle_of nodes edges size o edges_cut e = absurd (omega (arith, place_small (length edges / 4)))
 cycle_of nodes edges size o edges_many e = absurd (omega arith)
@@ -130,7 +130,7 @@ cycle_of nodes edges size o (sorted w (too_short s h)) e = absurd (omega arith)
 cycle_of nodes edges size o (sorted w (answer s h r iff)) e = by_end (searched (graph_of nodes edges)) r e
   where
     by_end : (x : End) → Right (graph_of nodes edges) x → word_of (accepted x) ≡ refusal_word 61 0 0
-        → (l : List ℕ) × (nodes_of (accepted x) ≡ l) × IsCycle (graph_of nodes edges) l × Sound (graph_of nodes edges)
+        → (l : List ℕ) × (nodes_left (accepted x) ≡ l) × IsCycle (graph_of nodes edges) l × Sound (graph_of nodes edges)
     by_end (all l) q z = absurd (omega arith)
     by_end (cyclic l) q z = (l, refl, q, s)
     by_end lost q z = absurd q

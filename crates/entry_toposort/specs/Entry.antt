@@ -10,7 +10,7 @@ use Rattle.fields.specs.Fields.{le16}
 use Rattle.obj.specs.Answers.{refusal_word, word, place}
 use Rattle.outputs.specs.Outputs.{halves, counts_of}
 use Rattle.toposort.specs.Search.{Graph, End, all, cyclic, lost}
-use Rattle.toposort.specs.Sorting.{sort_of, kept, carried, answer_of}
+use Rattle.toposort.specs.Sorting.{sort_of, kept, carried, answer_of, nodes_left}
 use Rattle.toposort.specs.declared.Unsorted.{Unsorted}
 use Rattle.std.specs.Prelude.{Result}
 
@@ -43,18 +43,11 @@ word_of (accepted (cyclic l)) = refusal_word 61 0 0
 word_of (accepted lost) = 0
 word_of (refused number section address) = refusal_word number section address
 
--- the nodes that are left in the table: the order, or "61 cycle, left in the unit table"
-abbrev pub nodes_of : Outcome End → List ℕ
-nodes_of (accepted (all l)) = l
-nodes_of (accepted (cyclic l)) = l
-nodes_of (accepted lost) = []
-nodes_of (refused number section address) = []
-
 -- the answer, and every byte of the two outputs: "zeros after", all zeros after another refusal
 pub record Leaves (o : Outcome End) (size counts_size answer : ℕ) (out counts : List ℕ) : Type 0 where
   pub said : answer ≡ word_of o
-  pub nodes : out ≡ laid size (halves (nodes_of o))
-  pub counted : counts ≡ counts_of counts_size (length (nodes_of o) ∷ [])
+  pub nodes : out ≡ laid size (halves (nodes_left o))
+  pub counted : counts ≡ counts_of counts_size (length (nodes_left o) ∷ [])
 
 -- the first n nodes of a node table, as a caller reads them
 unfoldable pub nodes_in : List ℕ → ℕ → List ℕ
@@ -85,8 +78,8 @@ pub record Checked (nodes : ℕ) (edges : List ℕ) : Type 0 where
 -- before the clearing: the word, the number of nodes, and the nodes at the front
 pub record Ends (o : Outcome End) (r : Result ℕ Unsorted) (before after : List ℕ) : Type 0 where
   pub said : word (answer_of r) ≡ word_of o
-  pub counted : kept r ≡ length (nodes_of o)
-  pub front : after ≡ sets before 0 (halves (nodes_of o))
+  pub counted : kept r ≡ length (nodes_left o)
+  pub front : after ≡ sets before 0 (halves (nodes_left o))
   pub room : 2 * kept r ≤ length before
   pub few : kept r ≤ 1024
   pub small : carried r ≤ 2048

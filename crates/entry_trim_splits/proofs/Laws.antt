@@ -15,7 +15,7 @@ use Rattle.obj.specs.declared.Section.{Section}
 use Rattle.obj.specs.declared.Split.{Split}
 use Rattle.obj.proofs.Laws.{length-stage_places}
 use Rattle.tables.specs.Tables.{records_check}
-use Rattle.tables.specs.Records.{sections_in, image_places_of, split_fault, no_split}
+use Rattle.tables.specs.Records.{sections_in, image_places_of, split_fault}
 use Rattle.tables.proofs.Laws.{splits_section, splits_partials, partials_end}
 use Rattle.name_table.specs.NameTable.{stage_names}
 use Rattle.name_table.specs.Stored.{stage_lengths, name_lengths, name_starts}
@@ -26,6 +26,7 @@ use Rattle.sections.specs.Image.{Image, image_of}
 use Rattle.sections.specs.Sections.{Sections, sections_of}
 use Rattle.splits.specs.Columns.{Columns, row_at, rows}
 use Rattle.obj.specs.declared.Refusal.{Refusal}
+use Rattle.obj.specs.Nothing.{no_split}
 use Rattle.stage_splits.specs.StageSplits.{room_of, Laid, Gives}
 use Rattle.stage_splits.proofs.Laws.{gives_refused, gives_laid, gives_said, gives_as, gives_goes}
 use Rattle.trim.specs.Trim.{trimmed}

@@ -4,8 +4,8 @@ use Rattle.lists.specs.Outcome.{Outcome}
 use Rattle.obj.specs.declared.Split.{Split}
 use Rattle.obj.specs.declared.Table.{Table}
 use Rattle.names.specs.declared.Names.{Names}
-use Rattle.tables.specs.Tables.{AllHeld}
 use Rattle.tables.specs.Records.{sections_in}
+use Rattle.tables.specs.Lent.{HeadsHeld}
 use Rattle.sections.specs.declared.Obj.{Obj}
 use Rattle.sections.specs.Image.{image_in}
 use Rattle.sections.specs.Sections.{sections_of, Kept}
@@ -34,11 +34,7 @@ tables_outcome lent size =
 
 -- ---- the sections that passed
 
--- their records can be read
-abbrev pub HeadsHeld : (heads : Table) → Type 0
-HeadsHeld heads = AllHeld 15 heads.bytes.now heads.places.now
-
--- .. and their heads, names and bytes belong together
+-- their records can be read, and their heads, names and bytes belong together
 pub record HeadedIn (heads image : Table) (names : Names) : Type 0 where
   pub all : HeadsHeld heads
   pub kept : Kept heads.bytes.now heads.places.now image.bytes.now image.places.now names.places.now

@@ -11,7 +11,8 @@ ghost use Rattle.stage_splits.specs.StageSplits.{Leaves};
 ghost use Rattle.stage_splits.specs.Output.{GivesIn, SameLent};
 ghost use Rattle.sections.specs.Sections.{KeptIn};
 ghost use Rattle.entry_trim_splits.specs.Entry.{trim_of};
-ghost use Rattle.entry_trim_splits.specs.Lent.{tables_outcome, splits_outcome, symbols_outcome, sections_outcome, HeadsHeld, HeadedIn};
+ghost use Rattle.tables.specs.Lent.{HeadsHeld};
+ghost use Rattle.entry_trim_splits.specs.Lent.{tables_outcome, splits_outcome, symbols_outcome, sections_outcome, HeadedIn};
 
 use lent_tables::{NO_TABLES, StageTables};
 use name_table::NameArrays;

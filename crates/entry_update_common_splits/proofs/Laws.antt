@@ -26,10 +26,10 @@ use Rattle.obj.specs.declared.Refusal.{Refusal}
 use Rattle.obj.specs.declared.Section.{Section}
 use Rattle.obj.specs.declared.Split.{Split}
 use Rattle.obj.proofs.Laws.{length-stage_places}
+use Rattle.obj.specs.Nothing.{no_section}
 use Rattle.names.specs.Names.{name_at}
 use Rattle.names.specs.Fixed.{is_bss}
 use Rattle.names.proofs.Laws.{name_there}
-use Rattle.tables.specs.Records.{no_section}
 use Rattle.tables.proofs.Lookups.{held}
 use Rattle.tables.proofs.Laws.{sections_named}
 use Rattle.tables.specs.Tables.{main_ceilings}

@@ -4,7 +4,6 @@ use Rattle.lists.specs.Outcome.{Outcome}
 use Rattle.obj.specs.declared.Split.{Split}
 use Rattle.obj.specs.declared.Table.{Table}
 use Rattle.names.specs.declared.Names.{Names}
-use Rattle.tables.specs.Tables.{AllHeld}
 use Rattle.tables.specs.Records.{sections_in}
 use Rattle.common.specs.Sections.{bss_numbers}
 use Rattle.lent_tables.specs.declared.StageTables.{StageTables}
@@ -25,7 +24,3 @@ update_with ends bytes sections splits (Some start) size = update_of ends bytes 
 
 abbrev pub tables_outcome : StageTables → (given : Option ℕ) → (size : ℕ) → Outcome (List Split)
 tables_outcome lent given size = update_with lent.name_ends.now lent.name_bytes.now lent.sections.now lent.splits.now given size
-
--- the records of the sections can be read
-abbrev pub HeadsHeld : (heads : Table) → Type 0
-HeadsHeld heads = AllHeld 15 heads.bytes.now heads.places.now

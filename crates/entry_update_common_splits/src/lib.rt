@@ -8,7 +8,8 @@ ghost use Rattle.stage_splits.specs.StageSplits.{Leaves};
 ghost use Rattle.stage_splits.specs.Output.{GivesIn, SameLent};
 ghost use Rattle.common.specs.Sections.{SectionsIn};
 ghost use Rattle.entry_update_common_splits.specs.Entry.{update_of};
-ghost use Rattle.entry_update_common_splits.specs.Lent.{tables_outcome, splits_outcome, sections_outcome, HeadsHeld};
+ghost use Rattle.tables.specs.Lent.{HeadsHeld};
+ghost use Rattle.entry_update_common_splits.specs.Lent.{tables_outcome, splits_outcome, sections_outcome};
 
 use common::update_common_records;
 use lent_tables::{NO_TABLES, StageTables};

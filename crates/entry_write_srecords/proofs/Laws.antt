@@ -7,16 +7,17 @@ use lib.ListN.{length}
 use Rattle.lists.specs.Outcome.{accepted}
 use Rattle.lists.proofs.Each.{all_placed}
 use Rattle.lists.proofs.Outcomes.{then_both, then_inv, same_accepted}
-use Rattle.tables.specs.Records.{section_fault, no_section}
+use Rattle.tables.specs.Records.{section_fault}
 use Rattle.tables.proofs.Laws.{sections_end}
 use Rattle.name_table.specs.Stored.{stage_lengths}
 use Rattle.stage_tables.specs.StageTables.{stage_sections}
 use Rattle.stage_tables.proofs.Laws.{table_passed, length_sections}
 use Rattle.obj.specs.declared.Section.{Section}
-use Rattle.join.specs.Join.{Part}
-use Rattle.srecords.specs.Lines.{write_of}
+use Rattle.obj.specs.Nothing.{no_section}
+use Rattle.obj.specs.Parts.{Part}
+use Rattle.srecords.specs.Lines.{write_of, Ended}
 use Rattle.head_tables.specs.HeadTables.{head_tables}
-use Rattle.write_srecords.specs.Along.{room_along, Ended}
+use Rattle.write_srecords.specs.Along.{room_along}
 use Rattle.write_srecords.proofs.Laws.{room_is}
 
 -- "end above 0xF0000000" is 4

@@ -13,14 +13,15 @@ use Rattle.lists.proofs.Rising.{numbers-below}
 use Rattle.obj.specs.Records.{section_at, stage_places}
 use Rattle.obj.specs.declared.Section.{Section}
 use Rattle.obj.proofs.Laws.{length-stage_places}
+use Rattle.obj.specs.Nothing.{no_section}
 use Rattle.names.specs.Names.{name_at}
 use Rattle.names.specs.Fixed.{is_bss, is_pointer_list}
-use Rattle.tables.specs.Records.{no_section, image_places_of}
+use Rattle.tables.specs.Records.{image_places_of}
 use Rattle.name_table.specs.NameTable.{name_in, stage_names}
 use Rattle.name_table.specs.Stored.{name_starts, stage_lengths}
 use Rattle.name_table.proofs.Laws.{stage_name}
 use Rattle.stage_tables.specs.StageTables.{stage_sections}
-use Rattle.stage_names.specs.StageNames.{flat}
+use Rattle.stage_names.specs.StageNames.{flat, name_ends}
 use Rattle.load.specs.Load.{Loaded, names_in}
 use Rattle.sections.specs.Bytes as section_bytes_lem
 use Rattle.sections.specs.Image.{image_of}
@@ -33,7 +34,7 @@ use Rattle.gap_splits.specs.Entering.{bytes_of}
 use Rattle.loaded.specs.Tables.{image_from, sections_from, Usable}
 use Rattle.loaded.proofs.Laws.{section_named}
 use Rattle.stages_alike.specs.Alike.{SameImages, SameSections, SameRelocs}
-use Rattle.file_tables.specs.Tables.{ends_of, tables_of}
+use Rattle.file_tables.specs.Tables.{tables_of}
 use Rattle.file_tables.proofs.Records.{sections_count, section_is, sections_back, symbols_count, symbol_is, reloc_is, places_back}
 use Rattle.file_tables.proofs.Names.{name_count, name_in_lem, name_at_lem}
 use Rattle.file_tables.proofs.Checks.{names_more, name_still}
@@ -46,17 +47,17 @@ relocs_same u = record { each = λ i h. sym (reloc_is u i h) }
 module _ {file : List ℕ} {t : Loaded} (u : Usable file t) (names more : List (List ℕ)) (extends : names ≡ names_in file t ++ more) (short : bytes_of names ≤ 65535) where
   -- a name of the file, in the name table
   pub name_same : (k : ℕ) → k < length t.names
-      → name_at file t.names t.lengths k ≡ name_at (flat names) (name_starts (ends_of names) (length (ends_of names) / 2)) (stage_lengths (ends_of names) (flat names)) k
+      → name_at file t.names t.lengths k ≡ name_at (flat names) (name_starts (name_ends names) (length (name_ends names) / 2)) (stage_lengths (name_ends names) (flat names)) k
   name_same k h = sym (name_at_lem names short k (omega (arith, names_more u names more extends)) ∙ name_still u names more extends k h)
 
-  pub name_in_same : (k : ℕ) → k < length t.names → name_at file t.names t.lengths k ≡ name_in (ends_of names) (flat names) k
+  pub name_in_same : (k : ℕ) → k < length t.names → name_at file t.names t.lengths k ≡ name_in (name_ends names) (flat names) k
   name_in_same k h = sym (name_in_lem names short k (omega (arith, names_more u names more extends)) ∙ name_still u names more extends k h)
 
   -- ---- the symbols
   -- THEOREM: the tables have the file's symbols, and their names
   pub images_same : SameImages (image_from file t)
       (image_of (tables_of file t).symbols (stage_places 20 (length (tables_of file t).symbols / 20)) (flat names)
-      (name_starts (ends_of names) (length (ends_of names) / 2)) (stage_lengths (ends_of names) (flat names)))
+      (name_starts (name_ends names) (length (name_ends names) / 2)) (stage_lengths (name_ends names) (flat names)))
   images_same = record {
     counts = sym (length-stage_places 20 (length (tables_of file t).symbols / 20) ∙ symbols_count u);
     symbols = λ i h. sym (symbol_is u i h);
@@ -68,7 +69,7 @@ module _ {file : List ℕ} {t : Loaded} (u : Usable file t) (names more : List (
   -- THEOREM: .. and its sections, with their bytes and names
   pub sections_same : SameSections (image_from file t)
       (image_of (tables_of file t).symbols (stage_places 20 (length (tables_of file t).symbols / 20)) (flat names)
-      (name_starts (ends_of names) (length (ends_of names) / 2)) (stage_lengths (ends_of names) (flat names)))
+      (name_starts (name_ends names) (length (name_ends names) / 2)) (stage_lengths (name_ends names) (flat names)))
       (sections_from file t)
       (sections_of (tables_of file t).sections (stage_places 15 (length (tables_of file t).sections / 15)) file (image_places_of (tables_of file t).places))
   sections_same = record {
@@ -85,14 +86,14 @@ module _ {file : List ℕ} {t : Loaded} (u : Usable file t) (names more : List (
   -- THEOREM: the same sections are those of pointer lists
   pub pointers_same : (k : ℕ) → k < length t.sections
       → pointers_in file t.sections file t.names t.lengths k
-      ≡ is_pointer_list (name_in (ends_of names) (flat names) (get_or (stage_sections (tables_of file t).sections) k no_section).name)
+      ≡ is_pointer_list (name_in (name_ends names) (flat names) (get_or (stage_sections (tables_of file t).sections) k no_section).name)
   pointers_same k h =
       ap is_pointer_list (name_in_same (head_of file t.sections k).name (section_named u k h))
-      ∙ ap (λ (s : Section). is_pointer_list (name_in (ends_of names) (flat names) s.name)) (sym (head_same k h))
+      ∙ ap (λ (s : Section). is_pointer_list (name_in (name_ends names) (flat names) s.name)) (sym (head_same k h))
 
   -- THEOREM: the same sections are named `.bss`
   pub bss_same : bss_in file t.names t.lengths file t.sections
-      ≡ bss_sections (λ k. is_bss (get_or (stage_names (ends_of names) (flat names) (length (ends_of names) / 2)) (get_or (stage_sections (tables_of file t).sections) k no_section).name []))
+      ≡ bss_sections (λ k. is_bss (get_or (stage_names (name_ends names) (flat names) (length (name_ends names) / 2)) (get_or (stage_sections (tables_of file t).sections) k no_section).name []))
       (length (tables_of file t).sections / 15)
   unfolding bss_sections bss_at
   bss_same =
@@ -100,13 +101,13 @@ module _ {file : List ℕ} {t : Loaded} (u : Usable file t) (names more : List (
       ∙ ap (bss_sections stage_bss) (sym (sections_count u))
     where
       stage_bss : ℕ → Bool
-      stage_bss k = is_bss (get_or (stage_names (ends_of names) (flat names) (length (ends_of names) / 2)) (get_or (stage_sections (tables_of file t).sections) k no_section).name [])
+      stage_bss k = is_bss (get_or (stage_names (name_ends names) (flat names) (length (name_ends names) / 2)) (get_or (stage_sections (tables_of file t).sections) k no_section).name [])
 
       bss_at_lem : (k : ℕ) → k < length t.sections → is_bss (name_at file t.names t.lengths (head_of file t.sections k).name) ≡ stage_bss k
       bss_at_lem k h =
           let q = section_named u k h in
           ap is_bss
           (name_in_same (head_of file t.sections k).name q
-          ∙ sym (stage_name (ends_of names) (flat names) (length (ends_of names) / 2) (head_of file t.sections k).name
+          ∙ sym (stage_name (name_ends names) (flat names) (length (name_ends names) / 2) (head_of file t.sections k).name
           (omega (arith, q, names_more u names more extends, name_count names))))
-          ∙ ap (λ (s : Section). is_bss (get_or (stage_names (ends_of names) (flat names) (length (ends_of names) / 2)) s.name [])) (sym (head_same k h))
+          ∙ ap (λ (s : Section). is_bss (get_or (stage_names (name_ends names) (flat names) (length (name_ends names) / 2)) s.name [])) (sym (head_same k h))

@@ -9,21 +9,22 @@ use mathlib.Core.Logic.{◌⊎◌, inl, inr}
 use native.Mathlib.Omega.{arith}
 use borrow.Author.Tests.{lt-ltb, le-ltb, ltb-false, leb-false}
 use lib.Dec.{eqb, ltb, leb}
-use lib.ListN.{length, get_or, drop, length-append, length-drop, get_or-append}
-use lib.Seq.{get_or-append_seam, length-take-le}
+use lib.ListN.{length, get_or, drop, length-append, length-drop}
+use lib.Seq.{length-take-le}
 use Rattle.std.proofs.lemmas.Bool.{or_parts, cases_lt}
 use Rattle.lists.specs.Outcome.{accepted, refuse, ◌>>◌}
 use Rattle.lists.specs.Rows.{any_of, any_from, some}
 use Rattle.lists.proofs.All.{all_map}
 use Rattle.lists.proofs.Outcomes.{same_accepted, then_inv, bind_inv}
-use Rattle.names.specs.Names.{name_at, same_name, number_of, outside, name_bad}
-use Rattle.names.specs.Index.{Different}
+use Rattle.names.specs.Names.{name_at, number_of, outside, name_bad}
 use Rattle.names.specs.Fixed.{codes}
 use Rattle.names.specs.GapName.{digit, decimal2, hex8, without_dots, gap_name}
-use Rattle.names.proofs.Laws.{number_le, number_none, other_sym}
+use Rattle.names.proofs.Laws.{number_le}
+use Rattle.names.proofs.Gaps.{gap_short}
 use Rattle.obj.specs.declared.Split.{Split}
 use Rattle.tables.specs.Tables.{main_ceilings}
 use Rattle.load.specs.Load.{Loaded, names_in, load_of}
+use Rattle.load.proofs.Growth.{different_more}
 use Rattle.sections.specs.Image.{Image}
 use Rattle.sections.specs.Sections.{Sections, head_of}
 use Rattle.merge.specs.Merge.{Given}
@@ -80,15 +81,6 @@ dots_inside (b ∷ name) e = go (eqb b 46) (dots_inside name (or_parts (outside 
     go true ih = ih
     go false ih = e
 
-dots_short : (name : List ℕ) → length (without_dots name) ≤ length name
-unfolding without_dots
-dots_short [] = omega arith
-dots_short (b ∷ name) = go (eqb b 46) (dots_short name)
-  where
-    go : (t : Bool) → length (without_dots name) ≤ length name → length (cond t (without_dots name) (b ∷ name)) ≤ length (b ∷ name)
-    go true h = omega arith
-    go false h = omega arith
-
 front_inside : some outside (codes "auto_") ≡ false
 unfolding some codes
 front_inside = refl
@@ -104,10 +96,6 @@ gap_inside section address name e =
     (some-append outside (decimal2 section) _ (decimal_inside section)
     (some-append outside (codes "_") _ bar_inside (some-append outside (hex8 address) _ (hex_inside address) (some-append outside (codes "_") _ bar_inside (dots_inside name e)))))
 
-gap_short : (section address : ℕ) (name : List ℕ) → length (gap_name section address name) ≤ 17 + length name
-unfolding gap_name codes decimal2 hex8
-gap_short section address name = omega (arith, dots_short name)
-
 -- THEOREM: a gap's name is good where its section's is, and is not above 64 bytes
 pub gap_good : (section address : ℕ) (name : List ℕ) → name_bad name ≡ false → length name ≤ 64 → name_bad (gap_name section address name) ≡ false
 unfolding name_bad any_of any_from
@@ -116,15 +104,6 @@ gap_good section address name e h =
     rw (le-ltb 128 (length (gap_name section address name)) (omega (arith, gap_short section address name)), gap_inside section address name q.1)
 
 -- ---- a name comes
-
-different_more : (names : List (List ℕ)) (x : List ℕ) → Different names → number_of names x ≡ length names → Different (names ++ (x ∷ []))
-different_more names x d new j k p h = go (cases_lt k (length names))
-  where
-    go : (k < length names) ⊎ (length names ≤ k) → same_name (get_or (names ++ (x ∷ [])) j []) (get_or (names ++ (x ∷ [])) k []) ≡ false
-    go (inl q) = rw (get_or-append names (x ∷ []) [] j (omega arith), get_or-append names (x ∷ []) [] k q) (d j k p q)
-    go (inr q) =
-        let e : k ≡ length names = omega (arith, length-append names (x ∷ [])) in
-        rw (e, get_or-append_seam names x [] [], get_or-append names (x ∷ []) [] j (omega arith)) (other_sym x (get_or names j []) (number_none names x new j (omega arith)))
 
 good_more : (names : List (List ℕ)) (x : List ℕ) → ((y : List ℕ) → Memᴰ y names → name_bad y ≡ false) → name_bad x ≡ false
     → (y : List ℕ) → Memᴰ y (names ++ (x ∷ [])) → name_bad y ≡ false

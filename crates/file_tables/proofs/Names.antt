@@ -16,7 +16,6 @@ use Rattle.lists.proofs.Binds.{after_goes}
 use Rattle.lists.proofs.Rows.{get_d_tabulate}
 use Rattle.fields.specs.Fields.{le16, enc16}
 use Rattle.outputs.specs.Outputs.{halves}
-use Rattle.outputs.proofs.Laws.{length-halves}
 use Rattle.names.specs.Names.{name_at, number_of}
 use Rattle.names.proofs.Laws.{none_number, other_sym}
 use Rattle.tables.specs.Tables.{size_check}
@@ -25,25 +24,17 @@ use Rattle.tables.proofs.Laws.{records_pass}
 use Rattle.name_table.specs.NameTable.{start_of, end_of, name_in, stage_names, name_cut, name_wrong, name_fault, names_check}
 use Rattle.name_table.specs.Stored.{name_starts, name_lengths, stage_lengths}
 use Rattle.name_table.proofs.Laws.{length-stage_names, stage_name}
-use Rattle.stage_names.specs.StageNames.{beyond, fit_check, ends_from, flat}
+use Rattle.stage_names.specs.StageNames.{beyond, fit_check, ends_from, flat, name_ends}
 use native.Mathlib.Numerals.{add-one}
-use Rattle.stage_names.proofs.Fits.{Fitting, fitting, fits_on, fit_all}
+use Rattle.stage_names.proofs.Fits.{Fitting, fitting, fits_on, fit_all, length_ends, long_halves}
 use Rattle.stage_gaps.proofs.Laws.{flat_bytes}
 use Rattle.gap_splits.specs.Entering.{bytes_of}
-use Rattle.file_tables.specs.Tables.{ends_of, Clean}
+use Rattle.file_tables.specs.Tables.{Clean}
 
 -- ---- how many
 
-length_ends : (at : ℕ) (names : List (List ℕ)) → length (ends_from at names) ≡ length names
-unfolding ends_from
-length_ends at [] = refl
-length_ends at (x ∷ names) = ap suc (length_ends (at + length x) names)
-
-pub length-ends_of : (names : List (List ℕ)) → length (ends_of names) ≡ 2 * length names
-length-ends_of names = length-halves (ends_from 0 names) ∙ ap (λ (n : ℕ). 2 * n) (length_ends 0 names)
-
-pub name_count : (names : List (List ℕ)) → length (ends_of names) / 2 ≡ length names
-name_count names = let e = length-ends_of names in omega arith
+pub name_count : (names : List (List ℕ)) → length (name_ends names) / 2 ≡ length names
+name_count names = let e = long_halves 0 names in omega arith
 
 -- ---- where they lie
 
@@ -92,70 +83,70 @@ part_at (x ∷ names) extra (suc k) h =
 
 -- ---- what is read of names that end within 65,535 bytes
 module _ (names : List (List ℕ)) (short : bytes_of names ≤ 65535) where
-  end_is : (k : ℕ) → k < length names → end_of (ends_of names) k ≡ bytes_before names (suc k)
+  end_is : (k : ℕ) → k < length names → end_of (name_ends names) k ≡ bytes_before names (suc k)
   end_is k h =
       let e : get_or (ends_from 0 names) k 0 ≡ bytes_before names (suc k) = end_at 0 names k h ∙ zero-add (bytes_before names (suc k)) in
       half_at (ends_from 0 names) k (omega (arith, length_ends 0 names)) (omega (arith, e, before_le names (suc k))) ∙ e
 
-  start_is : (k : ℕ) → k ≤ length names → start_of (ends_of names) k ≡ bytes_before names k
+  start_is : (k : ℕ) → k ≤ length names → start_of (name_ends names) k ≡ bytes_before names k
   unfolding start_of bytes_of
   start_is zero h = refl
-  start_is (suc k) h = rw (ne_eqb (suc k) 0 (λ e. omega arith)) (ap (λ (m : ℕ). le16 (ends_of names) m) (let e : 2 * suc k - 2 ≡ 2 * k = omega arith in e) ∙ end_is k h)
+  start_is (suc k) h = rw (ne_eqb (suc k) 0 (λ e. omega arith)) (ap (λ (m : ℕ). le16 (name_ends names) m) (let e : 2 * suc k - 2 ≡ 2 * k = omega arith in e) ∙ end_is k h)
 
   -- ---- they fit
   module _ (most most_bytes : ℕ) (few : length names ≤ most) (small : bytes_of names ≤ most_bytes) where
-    not_beyond : (k : ℕ) → k < length names → beyond most most_bytes (ends_of names) k ≡ false
-    not_beyond k q = rw (lt-leb most k (omega arith), le-ltb most_bytes (end_of (ends_of names) k) (omega (arith, end_is k q, before_le names (suc k))))
+    not_beyond : (k : ℕ) → k < length names → beyond most most_bytes (name_ends names) k ≡ false
+    not_beyond k q = rw (lt-leb most k (omega arith), le-ltb most_bytes (end_of (name_ends names) k) (omega (arith, end_is k q, before_le names (suc k))))
 
-    all_fit : (i : ℕ) → i ≤ length (ends_of names) / 2 → Fitting most most_bytes (ends_of names) i
-    all_fit zero h = fitting most most_bytes (ends_of names)
+    all_fit : (i : ℕ) → i ≤ length (name_ends names) / 2 → Fitting most most_bytes (name_ends names) i
+    all_fit zero h = fitting most most_bytes (name_ends names)
     all_fit (suc i) h =
-        let q : i < length (ends_of names) / 2 = omega arith in
-        rw add-one at (fits_on most most_bytes (ends_of names) (all_fit i (omega arith)) q (not_beyond i (omega (arith, q, name_count names))))
+        let q : i < length (name_ends names) / 2 = omega arith in
+        rw add-one at (fits_on most most_bytes (name_ends names) (all_fit i (omega arith)) q (not_beyond i (omega (arith, q, name_count names))))
 
     -- THEOREM: names within the ceilings fit
-    pub fits_pass : fit_check most most_bytes (ends_of names) ≡ accepted tt
+    pub fits_pass : fit_check most most_bytes (name_ends names) ≡ accepted tt
     fits_pass =
-        sym (fit_all most most_bytes (ends_of names) {i = length (ends_of names) / 2} (omega (arith, length-ends_of names)) (all_fit (length (ends_of names) / 2) (omega arith)) (omega arith))
+        sym (fit_all most most_bytes (name_ends names) {i = length (name_ends names) / 2} (omega (arith, long_halves 0 names)) (all_fit (length (name_ends names) / 2) (omega arith)) (omega arith))
 
 -- ---- the names, with any bytes behind theirs
 module _ (names : List (List ℕ)) (short : bytes_of names ≤ 65535) (extra : List ℕ) where
   -- THEOREM: name k is read back
-  pub name_behind : (k : ℕ) → k < length names → name_in (ends_of names) (flat names ++ extra) k ≡ get_or names k []
+  pub name_behind : (k : ℕ) → k < length names → name_in (name_ends names) (flat names ++ extra) k ≡ get_or names k []
   unfolding name_in
   name_behind k h =
-      let e : end_of (ends_of names) k - start_of (ends_of names) k ≡ length (get_or names k []) =
+      let e : end_of (name_ends names) k - start_of (name_ends names) k ≡ length (get_or names k []) =
       omega (arith, end_is names short k h, start_is names short k (omega arith), before_more names k h) in
       ap₂ (λ (n m : ℕ). take n (drop m (flat names ++ extra))) e (start_is names short k (omega arith)) ∙ part_at names extra k h
 
   -- .. and so are the first n
-  pub first_behind : (n : ℕ) → n ≤ length names → stage_names (ends_of names) (flat names ++ extra) n ≡ take n names
+  pub first_behind : (n : ℕ) → n ≤ length names → stage_names (name_ends names) (flat names ++ extra) n ≡ take n names
   first_behind n h =
-      ext_get_or [] (stage_names (ends_of names) (flat names ++ extra) n) (take n names)
-      (length-stage_names (ends_of names) (flat names ++ extra) n ∙ sym (length-take-le n names h))
+      ext_get_or [] (stage_names (name_ends names) (flat names ++ extra) n) (take n names)
+      (length-stage_names (name_ends names) (flat names ++ extra) n ∙ sym (length-take-le n names h))
       (λ i q.
-      let k : i < n = omega (arith, q, length-stage_names (ends_of names) (flat names ++ extra) n) in
-      stage_name (ends_of names) (flat names ++ extra) n i k ∙ name_behind i (omega arith) ∙ sym (get_or-take n names i [] k))
+      let k : i < n = omega (arith, q, length-stage_names (name_ends names) (flat names ++ extra) n) in
+      stage_name (name_ends names) (flat names ++ extra) n i k ∙ name_behind i (omega arith) ∙ sym (get_or-take n names i [] k))
 
   -- THEOREM: all names are read back, and their lengths
-  pub names_behind : stage_names (ends_of names) (flat names ++ extra) (length (ends_of names) / 2) ≡ names
-  names_behind = ap (stage_names (ends_of names) (flat names ++ extra)) (name_count names) ∙ first_behind (length names) (omega arith) ∙ take-length names
+  pub names_behind : stage_names (name_ends names) (flat names ++ extra) (length (name_ends names) / 2) ≡ names
+  names_behind = ap (stage_names (name_ends names) (flat names ++ extra)) (name_count names) ∙ first_behind (length names) (omega arith) ∙ take-length names
 
-  pub lengths_behind : stage_lengths (ends_of names) (flat names ++ extra) ≡ map length names
+  pub lengths_behind : stage_lengths (name_ends names) (flat names ++ extra) ≡ map length names
   unfolding name_lengths
   lengths_behind = ap (map length) names_behind
 
   -- THEOREM: name k is found by its place and length
   pub at_behind : (k : ℕ) → k < length names
-      → name_at (flat names ++ extra) (name_starts (ends_of names) (length (ends_of names) / 2)) (stage_lengths (ends_of names) (flat names ++ extra)) k ≡ get_or names k []
+      → name_at (flat names ++ extra) (name_starts (name_ends names) (length (name_ends names) / 2)) (stage_lengths (name_ends names) (flat names ++ extra)) k ≡ get_or names k []
   unfolding name_at name_starts
   at_behind k h =
-      let starts : get_or (name_starts (ends_of names) (length (ends_of names) / 2)) k 0 ≡ bytes_before names k =
-      get_d_tabulate (start_of (ends_of names)) 0 (length (ends_of names) / 2) k 0 (omega (arith, name_count names))
-      ∙ ap (start_of (ends_of names)) (zero-add k)
+      let starts : get_or (name_starts (name_ends names) (length (name_ends names) / 2)) k 0 ≡ bytes_before names k =
+      get_d_tabulate (start_of (name_ends names)) 0 (length (name_ends names) / 2) k 0 (omega (arith, name_count names))
+      ∙ ap (start_of (name_ends names)) (zero-add k)
       ∙ start_is names short k (omega arith)
       in
-      let size : get_or (stage_lengths (ends_of names) (flat names ++ extra)) k 0 ≡ length (get_or names k []) =
+      let size : get_or (stage_lengths (name_ends names) (flat names ++ extra)) k 0 ≡ length (get_or names k []) =
       ap (λ (l : List ℕ). get_or l k 0) lengths_behind ∙ get_or-map length names k [] 0 h in
       ap₂ (λ (n m : ℕ). take n (drop m (flat names ++ extra))) size starts ∙ part_at names extra k h
 
@@ -167,14 +158,14 @@ name_stands (x ∷ names) (suc k) h = Memᴰ.tail (name_stands names k (le_of_su
 
 -- ---- the check of names that a table may hold
 module _ (names : List (List ℕ)) (c : Clean names) (extra : List ℕ) where
-  not_cut : (k : ℕ) → k < length names → name_cut (ends_of names) (flat names ++ extra) k ≡ false
+  not_cut : (k : ℕ) → k < length names → name_cut (name_ends names) (flat names ++ extra) k ≡ false
   unfolding name_cut any_of any_from
   not_cut k h =
       let e = end_is names c.short k h in
       let s = start_is names c.short k (omega arith) in
       rw (
-        le-ltb (end_of (ends_of names) k) (start_of (ends_of names) k) (omega (arith, e, s, before_more names k h)),
-        le-ltb (length (flat names ++ extra)) (end_of (ends_of names) k) (omega (arith, e, before_le names (suc k), flat_bytes names, length-append (flat names) extra)),
+        le-ltb (end_of (name_ends names) k) (start_of (name_ends names) k) (omega (arith, e, s, before_more names k h)),
+        le-ltb (length (flat names ++ extra)) (end_of (name_ends names) k) (omega (arith, e, before_le names (suc k), flat_bytes names, length-append (flat names) extra)),
       )
 
   -- it is none of those before it
@@ -188,7 +179,7 @@ module _ (names : List (List ℕ)) (c : Clean names) (extra : List ℕ) where
         long,
       )
 
-  not_wrong : (k : ℕ) → k < length names → name_wrong (ends_of names) (flat names ++ extra) k ≡ false
+  not_wrong : (k : ℕ) → k < length names → name_wrong (name_ends names) (flat names ++ extra) k ≡ false
   unfolding name_wrong any_of any_from
   not_wrong k h =
       rw (
@@ -198,17 +189,17 @@ module _ (names : List (List ℕ)) (c : Clean names) (extra : List ℕ) where
         le-ltb (number_of (take k names) (get_or names k [])) k (new k h),
       )
 
-  no_fault : (k : ℕ) → k < length names → name_fault (ends_of names) (flat names ++ extra) k ≡ 0
+  no_fault : (k : ℕ) → k < length names → name_fault (name_ends names) (flat names ++ extra) k ≡ 0
   unfolding name_fault
   no_fault k h = rw (not_cut k h, not_wrong k h)
 
   -- THEOREM: the name table passes, under any ceiling that the names are within
-  pub pass_behind : (ceiling : ℕ) → length names ≤ ceiling → names_check ceiling (ends_of names) (flat names ++ extra) ≡ accepted tt
+  pub pass_behind : (ceiling : ℕ) → length names ≤ ceiling → names_check ceiling (name_ends names) (flat names ++ extra) ≡ accepted tt
   unfolding names_check
   pass_behind ceiling h =
-      after_goes (size_check 2 ceiling (length (ends_of names))) _
-      (sym (size_good 2 ceiling (length (ends_of names)) (omega (arith, length-ends_of names)) (omega (arith, name_count names))))
-      ∙ records_pass (name_fault (ends_of names) (flat names ++ extra)) (length (ends_of names) / 2) (λ k q. no_fault k (omega (arith, q, name_count names)))
+      after_goes (size_check 2 ceiling (length (name_ends names))) _
+      (sym (size_good 2 ceiling (length (name_ends names)) (omega (arith, long_halves 0 names)) (omega (arith, name_count names))))
+      ∙ records_pass (name_fault (name_ends names) (flat names ++ extra)) (length (name_ends names) / 2) (λ k q. no_fault k (omega (arith, q, name_count names)))
 
 -- ---- with nothing behind them
 module _ (names : List (List ℕ)) where
@@ -216,19 +207,19 @@ module _ (names : List (List ℕ)) where
   alone f e = ap f (sym (append-nil (flat names))) ∙ e
 
   module _ (short : bytes_of names ≤ 65535) where
-    pub name_in_lem : (k : ℕ) → k < length names → name_in (ends_of names) (flat names) k ≡ get_or names k []
-    name_in_lem k h = alone (λ b. name_in (ends_of names) b k) (name_behind names short [] k h)
+    pub name_in_lem : (k : ℕ) → k < length names → name_in (name_ends names) (flat names) k ≡ get_or names k []
+    name_in_lem k h = alone (λ b. name_in (name_ends names) b k) (name_behind names short [] k h)
 
-    pub all_back : stage_names (ends_of names) (flat names) (length (ends_of names) / 2) ≡ names
-    all_back = alone (λ b. stage_names (ends_of names) b (length (ends_of names) / 2)) (names_behind names short [])
+    pub all_back : stage_names (name_ends names) (flat names) (length (name_ends names) / 2) ≡ names
+    all_back = alone (λ b. stage_names (name_ends names) b (length (name_ends names) / 2)) (names_behind names short [])
 
-    pub lengths_back : stage_lengths (ends_of names) (flat names) ≡ map length names
-    lengths_back = alone (stage_lengths (ends_of names)) (lengths_behind names short [])
+    pub lengths_back : stage_lengths (name_ends names) (flat names) ≡ map length names
+    lengths_back = alone (stage_lengths (name_ends names)) (lengths_behind names short [])
 
     pub name_at_lem : (k : ℕ) → k < length names
-        → name_at (flat names) (name_starts (ends_of names) (length (ends_of names) / 2)) (stage_lengths (ends_of names) (flat names)) k ≡ get_or names k []
-    name_at_lem k h = alone (λ b. name_at b (name_starts (ends_of names) (length (ends_of names) / 2)) (stage_lengths (ends_of names) b) k) (at_behind names short [] k h)
+        → name_at (flat names) (name_starts (name_ends names) (length (name_ends names) / 2)) (stage_lengths (name_ends names) (flat names)) k ≡ get_or names k []
+    name_at_lem k h = alone (λ b. name_at b (name_starts (name_ends names) (length (name_ends names) / 2)) (stage_lengths (name_ends names) b) k) (at_behind names short [] k h)
 
   -- "4,096 names"
-  pub names_pass : Clean names → names_check 4096 (ends_of names) (flat names) ≡ accepted tt
-  names_pass c = alone (names_check 4096 (ends_of names)) (pass_behind names c [] 4096 c.few)
+  pub names_pass : Clean names → names_check 4096 (name_ends names) (flat names) ≡ accepted tt
+  names_pass c = alone (names_check 4096 (name_ends names)) (pass_behind names c [] 4096 c.few)

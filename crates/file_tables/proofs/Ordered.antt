@@ -19,12 +19,13 @@ use Rattle.lists.proofs.Rows.{has_place}
 use Rattle.obj.specs.Records.{unit_at, stage_places}
 use Rattle.obj.specs.declared.Split.{Split}
 use Rattle.obj.specs.declared.Unit as units
+use Rattle.obj.specs.Nothing.{no_split, no_unit}
 use Rattle.faults.specs.Faults.{unit_bad}
-use Rattle.tables.specs.Records.{sections_in, units_in, no_split, no_unit, split_fault, unit_fault}
+use Rattle.tables.specs.Records.{sections_in, units_in, split_fault, unit_fault}
 use Rattle.tables.proofs.Laws.{records_pass, splits_partials, partials_named, unit_good}
 use Rattle.name_table.specs.Stored.{stage_lengths}
 use Rattle.stage_tables.specs.StageTables.{stage_units, units_check}
-use Rattle.stage_names.specs.StageNames.{flat}
+use Rattle.stage_names.specs.StageNames.{flat, name_ends}
 use Rattle.units.specs.Units.{unit_names}
 use Rattle.symbol_order.proofs.Ranks.{unit_fits}
 use Rattle.link_graph.specs.Graph.{units_of, nodes}
@@ -38,7 +39,7 @@ use Rattle.load.specs.Load.{Loaded, names_in}
 use Rattle.load.proofs.Laws.{name_known, good_units}
 use Rattle.loaded.specs.Tables.{Usable}
 use Rattle.loaded.proofs.Laws.{few_names}
-use Rattle.file_tables.specs.Tables.{ends_of, Clean}
+use Rattle.file_tables.specs.Tables.{Clean}
 use Rattle.file_tables.proofs.Checks.{unit_faultless, unit_none}
 use Rattle.file_tables.proofs.Written.{units_table_back, unit_names-written, units_table_passes}
 use Rattle.file_tables.proofs.Stages.{stage_order_pass}
@@ -150,7 +151,7 @@ module _ {file : List ℕ} {t : Loaded} (u : Usable file t) (names more : List (
   stage_ordered-names = ordered-names (map length names) few_lengths rows (units_in file t.units) rows_named file_fits file_faultless l inside
 
   pub stage_ordered_pass : (ceiling : ℕ) → length l ≤ ceiling
-      → units_check ceiling (stage_lengths (ends_of names) (flat names)) (units_bytes (records_of rows (units_in file t.units) l)) ≡ accepted tt
+      → units_check ceiling (stage_lengths (name_ends names) (flat names)) (units_bytes (records_of rows (units_in file t.units) l)) ≡ accepted tt
   stage_ordered_pass ceiling few =
       stage_order_pass names c (records_of rows (units_in file t.units) l)
       (ordered_fit (map length names) few_lengths rows (units_in file t.units) rows_named file_fits file_faultless l inside)

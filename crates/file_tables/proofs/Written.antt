@@ -3,28 +3,27 @@
 use Prim.Native.Nat.{ℕ, ◌*◌, ◌/◌, ◌≤◌, ◌<◌}
 use mathlib.Core.Path.{◌≡◌, refl, sym, ap, ◌∙◌}
 use mathlib.Core.Bool.{Bool, true, false}
-use mathlib.Core.List.{List, [], ◌++◌, append-nil, map, map-id, map-map}
-use native.Mathlib.Nat.{zero-add, not-suc-le-zero}
+use mathlib.Core.List.{List, [], append-nil, map, map-id, map-map}
 use native.Mathlib.Omega.{arith}
 use borrow.Author.Tests.{eqb-true, eqb-false}
 use lib.Dec.{eqb}
-use lib.ListN.{length, get_or, drop}
-use lib.Seq.{sets, sets-eq, drop-length}
+use lib.ListN.{length, get_or}
 use Rattle.lists.specs.Outcome.{accepted}
-use Rattle.lists.specs.Rows.{tabulate}
 use Rattle.lists.specs.Sort.{All}
 use Rattle.lists.proofs.All.{all_at}
 use Rattle.lists.proofs.Parts.{tabulate-map, tabulate_list}
 use Rattle.lists.proofs.Rows.{has_place}
-use Rattle.align.specs.Align.{bad_align}
-use Rattle.align.proofs.Laws.{good_parts, not_bad}
+use Rattle.lists.proofs.Stores.{sets-itself}
+use Rattle.align.proofs.Laws.{low_align}
 use Rattle.obj.specs.Records.{unit_at, stage_places, split_width}
 use Rattle.obj.specs.declared.Section.{Section}
 use Rattle.obj.specs.declared.Split.{Split}
 use Rattle.obj.specs.declared.Unit as units
-use Rattle.tables.specs.Records.{splits_in, units_in, no_split, no_unit, split_fault, unit_fault}
+use Rattle.obj.specs.Nothing.{no_split, no_unit}
+use Rattle.tables.specs.Records.{splits_in, units_in, split_fault, unit_fault}
 use Rattle.tables.proofs.Laws.{records_pass, splits_partials, splits_section, partials_named, partials_renamed, partials_aligned, partials_flags, partials_start, partials_end}
 use Rattle.stage_tables.specs.StageTables.{table_check, stage_splits, stage_units, splits_check, units_check}
+use Rattle.stage_tables.proofs.Laws.{no_splits}
 use Rattle.splits.specs.Bytes.{table_bytes, Fits}
 use Rattle.splits.proofs.Bytes.{length-table_bytes, splits_back}
 use Rattle.units.specs.Units.{unit_names}
@@ -34,27 +33,12 @@ use Rattle.file_tables.proofs.Checks.{table_passes}
 
 -- ---- splits
 
--- bytes that are stored over themselves
-stored_over : (b : List ℕ) → sets b 0 b ≡ b
-stored_over b =
-    sets-eq b b 0 (omega arith)
-    ∙ ap (λ (n : ℕ). b ++ drop n b) (zero-add (length b))
-    ∙ ap (λ (l : List ℕ). b ++ l) (drop-length b)
-    ∙ append-nil b
-
 -- THEOREM: the rows that were written are read back
 pub rows_read : (rows : List Split) → ((k : ℕ) → k < length rows → Fits (get_or rows k no_split)) → stage_splits (table_bytes rows) ≡ rows
 rows_read rows fits =
     ap (λ (n : ℕ). splits_in (table_bytes rows) (stage_places split_width n)) (let e : length (table_bytes rows) / split_width ≡ length rows = omega (arith, length-table_bytes rows) in e)
-    ∙ ap (λ (b : List ℕ). splits_in b (stage_places split_width (length rows))) (sym (stored_over (table_bytes rows)))
+    ∙ ap (λ (b : List ℕ). splits_in b (stage_places split_width (length rows))) (sym (sets-itself (table_bytes rows)))
     ∙ splits_back (table_bytes rows) rows (omega (arith, length-table_bytes rows)) no_split fits
-
-low_align : (a : ℕ) → bad_align a ≡ false → a < 4294967296
-low_align a e = go (eqb a 0) refl
-  where
-    go : (t : Bool) → eqb a 0 ≡ t → a < 4294967296
-    go true q = let z = eqb-true a 0 q in omega arith
-    go false q = let z = (good_parts a (not_bad a e (eqb-false a 0 q))).1 in omega arith
 
 module _ (lengths : List ℕ) (sections : List Section) (rows : List Split) (few_names : length lengths ≤ 65536) (few_sections : length sections ≤ 65536)
     (faultless : (k : ℕ) → k < length rows → split_fault lengths sections rows k ≡ 0) (origins : All (λ s. s.origin < 65536) rows) where
@@ -90,14 +74,6 @@ module _ (lengths : List ℕ) (sections : List Section) (rows : List Split) (few
       ap (λ (l : List Split). table_check split_width ceiling (table_bytes rows) (split_fault lengths sections l)) split_table_back
       ∙ table_passes split_width ceiling (table_bytes rows) (split_fault lengths sections rows) (length rows) (omega (arith, length-table_bytes rows))
       (omega (arith, length-table_bytes rows)) few faultless
-
--- a table without splits
-pub no_splits_back : stage_splits [] ≡ []
-unfolding stage_places tabulate
-no_splits_back = refl
-
-pub no_splits_pass : (ceiling : ℕ) (lengths : List ℕ) (sections : List Section) → splits_check ceiling lengths sections [] ≡ accepted tt
-no_splits_pass ceiling lengths sections = table_passes split_width ceiling [] (split_fault lengths sections (stage_splits [])) 0 refl refl (omega arith) (λ k h. absurd (not-suc-le-zero h))
 
 -- ---- units
 

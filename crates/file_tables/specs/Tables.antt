@@ -6,8 +6,6 @@ use mathlib.Core.List.{List, [], ◌∷◌, ◌++◌, Memᴰ}
 use Rattle.fields.specs.Fields.{enc32}
 use Rattle.names.specs.Names.{name_bad}
 use Rattle.names.specs.Index.{Different}
-use Rattle.outputs.specs.Outputs.{halves}
-use Rattle.stage_names.specs.StageNames.{ends_from}
 use Rattle.load.specs.Load.{Loaded}
 use Rattle.loaded.specs.Tables.{byte_places}
 use Rattle.gap_splits.specs.Entering.{bytes_of}
@@ -22,10 +20,6 @@ records_at width file (at ∷ places) = take width (drop at file) ++ records_at 
 unfoldable pub words : List ℕ → List ℕ
 words [] = []
 words (x ∷ l) = enc32 x ++ words l
-
--- where these names end, two bytes each; their bytes are `flat` of stage_names
-abbrev pub ends_of : List (List ℕ) → List ℕ
-ends_of names = halves (ends_from 0 names)
 
 -- the tables but names
 pub record Tables : Type 0 where

@@ -19,7 +19,7 @@ use Rattle.lists.proofs.Filter.{keep_nothing}
 use Rattle.lists.proofs.Outcomes.{same_accepted, then_inv, bind_inv}
 use Rattle.obj.specs.declared.Section.{Section}
 use Rattle.obj.specs.declared.Split.{Split}
-use Rattle.tables.specs.Records.{no_split}
+use Rattle.obj.specs.Nothing.{no_split}
 use Rattle.tables.proofs.Laws as table-laws
 use Rattle.names.specs.Names.{number_of}
 use Rattle.splits.specs.Questions.{of_unit}

@@ -3,7 +3,6 @@
 use mathlib.Core.Path.{◌≡◌, refl, sym, ap, ◌∙◌}
 use mathlib.Core.List.{List, [], ◌++◌, map, map-append, append-nil, append_assoc}
 use mathlib.Core.Logic.{◌⊎◌, inl, inr}
-use mathlib.Core.Bool.{false}
 use Prim.Native.Nat.{ℕ, ◌≤◌, ◌<◌}
 use native.Mathlib.Omega.{arith}
 use lib.ListN.{length, get_or, get_or-append, get_or-eq_default, get_or-map}
@@ -13,10 +12,10 @@ use Rattle.lists.specs.Rows.{any_of, any_from}
 use Rattle.lists.specs.Sort.{All}
 use Rattle.lists.proofs.All.{all_any, all_map}
 use Rattle.lists.proofs.Outcomes.{bind_inv}
-use Rattle.align.specs.Align.{bad_align}
 use Rattle.obj.specs.declared.Section.{Section}
 use Rattle.obj.specs.declared.Split.{Split}
-use Rattle.tables.specs.Records.{no_split, split_fault, sections_in}
+use Rattle.obj.specs.Nothing.{no_split}
+use Rattle.tables.specs.Records.{split_fault, sections_in}
 use Rattle.tables.proofs.Laws as table-laws
 use Rattle.sections.specs.Image.{Image}
 use Rattle.sections.specs.Sections.{Sections, sections_of, Kept}
@@ -32,6 +31,7 @@ use Rattle.gap_splits.specs.Entering.{Filled, Ceilings, gap_split, unit_name, fi
 use Rattle.create_gap_splits.specs.Create.{name_in, gaps_filled}
 use Rattle.gap_laws.specs.Good.{Faultless, Below, Within}
 use Rattle.gap_laws.proofs.Named.{name_long, Gives, named_gives, Comes, filled_keeps}
+use Rattle.splits.proofs.Alignment.{none_not_bad}
 
 -- ---- names that are added
 module _ (lengths more : List ℕ) where
@@ -76,15 +76,11 @@ pub record Low (x : Gap) : Type 0 where
 pub low_of : (sections : Sections) → Below sections → (x : Gap) → Lies sections x → Low x
 low_of sections b x l = let e : x.end ≤ 4026531840 = omega (arith, l.within, b x.section l.there) in record { start = omega (arith, l.forward); end = e }
 
-no_alignment : bad_align 0 ≡ false
-unfolding bad_align
-no_alignment = refl
-
 gap_sound : (names : List (List ℕ)) (unit : ℕ) (x : Gap) → 0 < length (get_or names unit []) → Low x → Sound (map length names) (gap_split x unit)
 gap_sound names unit x h l = record {
   named = let e : get_or (map length names) unit 0 ≡ length (get_or names unit []) = get_or-map length names unit [] in omega arith;
   renamed = λ n. absurd (n refl);
-  aligned = no_alignment;
+  aligned = none_not_bad;
   flags = omega arith;
   start = l.start;
   end = l.end;

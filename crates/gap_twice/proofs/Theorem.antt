@@ -17,11 +17,12 @@ use Rattle.lists.proofs.Outcomes.{bind_inv}
 use Rattle.lists.proofs.Rows.{has_place}
 use Rattle.obj.specs.declared.Section.{Section}
 use Rattle.obj.specs.declared.Split.{Split}
+use Rattle.obj.specs.Nothing.{no_split}
+use Rattle.obj.specs.Order.{NotBelow}
 use Rattle.names.specs.Names.{same_name}
 use Rattle.names.specs.Fixed.{codes}
 use Rattle.names.specs.GapName.{gap_name}
 use Rattle.names.proofs.Laws.{same_equal}
-use Rattle.tables.specs.Records.{no_split, NotBelow}
 use Rattle.tables.proofs.Laws as table-laws
 use Rattle.sections.specs.Image.{Image}
 use Rattle.sections.specs.Sections.{Sections}

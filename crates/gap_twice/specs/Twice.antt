@@ -4,8 +4,8 @@
 use Rattle.std.specs.Prelude.{ℕ, ◌*◌, ◌+◌, ◌≤◌, ◌<◌, ◌≡◌, ◌⊎◌, List, [], ◌∷◌, map, Bool, true, false, ◌&&◌, eqb, length, get_or}
 use Rattle.lists.specs.Sort.{All, merge_by}
 use Rattle.obj.specs.declared.Split.{Split}
+use Rattle.obj.specs.Nothing.{no_split}
 use Rattle.names.specs.Fixed.{codes}
-use Rattle.tables.specs.Records.{no_split}
 use Rattle.sections.specs.Image.{Image}
 use Rattle.sections.specs.Sections.{Sections}
 use Rattle.gap_columns.specs.Columns.{Gap}

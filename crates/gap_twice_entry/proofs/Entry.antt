@@ -15,9 +15,10 @@ use Rattle.obj.specs.Records.{section_at, symbol_at, stage_places, split_width}
 use Rattle.obj.specs.declared.Section.{Section}
 use Rattle.obj.specs.declared.Split.{Split}
 use Rattle.obj.proofs.Laws.{length-stage_places}
+use Rattle.obj.specs.Nothing.{no_section, no_symbol}
 use Rattle.names.specs.Names.{name_at}
 use Rattle.tables.specs.Tables.{records_check}
-use Rattle.tables.specs.Records.{no_section, no_symbol, image_places_of, section_fault, split_fault}
+use Rattle.tables.specs.Records.{image_places_of, section_fault, split_fault}
 use Rattle.tables.proofs.Laws as table-laws
 use Rattle.tables.proofs.Lookups.{split_origins}
 use Rattle.name_table.specs.NameTable.{stage_names, names_check}
@@ -25,7 +26,7 @@ use Rattle.name_table.specs.Stored.{name_starts, name_lengths, stage_lengths}
 use Rattle.name_table.proofs.Laws.{length-stage_names}
 use Rattle.stage_tables.specs.StageTables.{stage_sections, stage_symbols, stage_splits, image_check, symbols_check, splits_check}
 use Rattle.stage_tables.proofs.Laws.{table_passed, length_sections, length_splits}
-use Rattle.stage_names.specs.StageNames.{names_room, bytes_room, fit_check, flat}
+use Rattle.stage_names.specs.StageNames.{names_room, bytes_room, fit_check, flat, name_ends}
 use Rattle.stage_gaps.proofs.Laws.{flat_bytes}
 use Rattle.sections.specs.Image.{Image, image_of}
 use Rattle.sections.specs.Sections.{Sections, sections_of}
@@ -40,7 +41,7 @@ use Rattle.entry_create_gap_splits.specs.Entry.{gap_splits_of}
 use Rattle.entry_create_gap_splits.proofs.Passed.{names_end, names_room_lem, bytes_room_lem, fit_few, fit_end}
 use Rattle.gap_laws.specs.Good.{Faultless, Below, Within}
 use Rattle.gap_laws.proofs.Tables as gap-tables
-use Rattle.file_tables.specs.Tables.{ends_of, Clean}
+use Rattle.file_tables.specs.Tables.{Clean}
 use Rattle.file_tables.proofs.Names.{name_count, names_behind, lengths_behind, at_behind, fits_pass, name_stands, pass_behind}
 use Rattle.file_tables.proofs.Filled.{clean_filled}
 use Rattle.file_tables.proofs.Written.{split_table_back, split_table_passes}
@@ -222,7 +223,7 @@ module _ (c : Call) (t' : Filled) (e : outcome c ≡ accepted t') where
 
   module _ (extra : List ℕ) where
     abbrev ends' : List ℕ
-    ends' = ends_of t'.names
+    ends' = name_ends t'.names
 
     abbrev bytes' : List ℕ
     bytes' = flat t'.names ++ extra
@@ -257,7 +258,7 @@ module _ (c : Call) (t' : Filled) (e : outcome c ≡ accepted t') where
     -- THEOREM (document 02, (k), over the entry's definition): the tables that the entry left, handed to it again with the same sections and symbols and outputs of no
     -- smaller ceilings, are accepted and come back as they are
     pub entry_again : OfBytes → Needed (list_of c) → (ends_size' bytes_size' size' : ℕ) → NoSmaller c.ends_size c.bytes_size c.size ends_size' bytes_size' size'
-        → gap_splits_of (ends_of t'.names) (flat t'.names ++ extra) sections places image symbols (table_bytes t'.rows) ends_size' bytes_size' size' ≡ accepted t'
+        → gap_splits_of (name_ends t'.names) (flat t'.names ++ extra) sections places image symbols (table_bytes t'.rows) ends_size' bytes_size' size' ≡ accepted t'
     unfolding gap_splits_of
     entry_again small needed ends_size' bytes_size' size' w =
         after_goes _ _ (fits_pass t'.names names_clean.short (names_room ends_size') (bytes_room bytes_size') (omega (arith, within-after.few, w.names)) (omega (arith, within-after.short, w.bytes)))

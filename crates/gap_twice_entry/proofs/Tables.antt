@@ -10,9 +10,10 @@ use Rattle.lists.specs.Outcome.{accepted}
 use Rattle.lists.proofs.Rows.{has_place}
 use Rattle.obj.specs.declared.Section.{Section}
 use Rattle.obj.specs.declared.Symbol.{Symbol}
+use Rattle.obj.specs.Nothing.{no_section, no_symbol}
 use Rattle.faults.specs.Faults.{section_bad, symbol_bad}
 use Rattle.faults.proofs.Laws as record-laws
-use Rattle.tables.specs.Records.{no_section, no_symbol, section_fault, image_fault, symbol_fault, image_places_of}
+use Rattle.tables.specs.Records.{section_fault, image_fault, symbol_fault, image_places_of}
 use Rattle.tables.proofs.Laws as table-laws
 use Rattle.stage_tables.specs.StageTables.{stage_sections, stage_symbols, table_check, image_check, symbols_check}
 use Rattle.stage_tables.proofs.Laws.{table_passed}

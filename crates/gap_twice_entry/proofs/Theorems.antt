@@ -13,14 +13,13 @@ use Rattle.obj.specs.Answers.{outcome_word}
 use Rattle.outputs.specs.Outputs.{halves, counts_of}
 use Rattle.splits.specs.Bytes.{table_bytes}
 use Rattle.splits.proofs.Bytes.{length-table_bytes}
-use Rattle.stage_names.specs.StageNames.{flat}
+use Rattle.stage_names.specs.StageNames.{flat, name_ends}
+use Rattle.stage_names.proofs.Fits.{long_halves}
 use Rattle.stage_splits.proofs.Laws.{room_low}
 use Rattle.stage_gaps.proofs.Laws.{flat_bytes}
 use Rattle.stage_gaps.specs.StageGaps.{filled_of, Laid}
 use Rattle.gap_splits.specs.Entering.{Filled}
 use Rattle.entry_create_gap_splits.specs.Entry.{gap_splits_of}
-use Rattle.file_tables.specs.Tables.{ends_of}
-use Rattle.file_tables.proofs.Names.{length-ends_of}
 use Rattle.gap_twice.specs.Twice.{Premises, Needed}
 use Rattle.obj.specs.Records.{split_width}
 use Rattle.gap_twice_entry.specs.Calls.{Call, outcome, list_of, Left, ends_counted, splits_counted, again, Unchanged}
@@ -52,8 +51,8 @@ module _ (c : Call) (r : Left c) (whole : 6 ≤ c.counts_size) (t : Filled) (e :
 
   -- ---- the second call
 
-  ends_are : ends_counted r.counts r.ends ≡ ends_of t.names
-  ends_are = ap₂ (λ (n : ℕ) (l : List ℕ). take (2 * n) l) counts_read.0 laid_out.ends ∙ take_at (ends_of t.names) _ (2 * length t.names) (length-ends_of t.names)
+  ends_are : ends_counted r.counts r.ends ≡ name_ends t.names
+  ends_are = ap₂ (λ (n : ℕ) (l : List ℕ). take (2 * n) l) counts_read.0 laid_out.ends ∙ take_at (name_ends t.names) _ (2 * length t.names) (long_halves 0 t.names)
 
   splits_are : splits_counted r.counts r.splits ≡ table_bytes t.rows
   splits_are = ap₂ (λ (n : ℕ) (l : List ℕ). take (split_width * n) l) counts_read.2 laid_out.splits ∙ take_at (table_bytes t.rows) _ (split_width * length t.rows) (length-table_bytes t.rows)
@@ -67,7 +66,7 @@ module _ (c : Call) (r : Left c) (whole : 6 ≤ c.counts_size) (t : Filled) (e :
   again_accepted : ((i : ℕ) → get_or c.splits i 0 < 256) → Needed (list_of c) → (m : ℕ) → le16 r.counts 2 ≤ m → outcome (again c r m) ≡ accepted t
   again_accepted small needed m h =
       ap₂ (λ (l s : List ℕ). gap_splits_of l (take m r.bytes) c.sections c.places c.image c.symbols s c.ends_size c.bytes_size c.size) ends_are splits_are
-      ∙ ap (λ (b : List ℕ). gap_splits_of (ends_of t.names) b c.sections c.places c.image c.symbols (table_bytes t.rows) c.ends_size c.bytes_size c.size) (bytes_are m h)
+      ∙ ap (λ (b : List ℕ). gap_splits_of (name_ends t.names) b c.sections c.places c.image c.symbols (table_bytes t.rows) c.ends_size c.bytes_size c.size) (bytes_are m h)
       ∙ entry_again c t e _ small needed c.ends_size c.bytes_size c.size (record { names = omega arith; bytes = omega arith; splits = omega arith })
 
   same_bytes : ((i : ℕ) → get_or c.splits i 0 < 256) → Needed (list_of c) → (m : ℕ) → le16 r.counts 2 ≤ m → (s : Left (again c r m)) → Unchanged c (again c r m) r s

@@ -12,7 +12,7 @@ use Rattle.tables.specs.Records.{section_fault}
 use Rattle.name_table.specs.Stored.{stage_lengths}
 use Rattle.stage_tables.specs.StageTables.{stage_sections}
 use Rattle.stage_tables.proofs.Laws.{table_passed}
-use Rattle.join.specs.Join.{Part}
+use Rattle.obj.specs.Parts.{Part}
 use Rattle.piece_records.specs.Records.{parts_at, parts_of, Whole}
 use Rattle.piece_records.proofs.Laws.{counted_whole}
 use Rattle.head_tables.specs.HeadTables.{head_tables, counted}

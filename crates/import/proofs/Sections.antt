@@ -16,7 +16,7 @@ use Rattle.lists.proofs.Mapping.{numbers_all}
 use Rattle.lists.proofs.Rows.{length-tabulate, get_d_tabulate}
 use Rattle.lists.proofs.Some.{some_false}
 use Rattle.lists.proofs.Tests.{none_of, and_false}
-use Rattle.tables.specs.Records.{no_section, no_symbol}
+use Rattle.obj.specs.Nothing.{no_section, no_symbol}
 use Rattle.elf.specs.Elf.{symbol_entry_at, no_section_header}
 use Rattle.elf.specs.declared.SectionHeader.{SectionHeader}
 use Rattle.elf.specs.declared.SymbolEntry.{SymbolEntry}

@@ -13,22 +13,26 @@ use Rattle.lists.specs.Outcome.{Outcome, accepted, refused, refuse, ◌>>◌, �
 use Rattle.lists.proofs.Outcomes.{bind_inv}
 use Rattle.lists.proofs.Rows.{length-tabulate}
 use Rattle.lists.proofs.Tests.{none_of}
+use Rattle.lists.specs.Bounds.{Bytes}
 use Rattle.fields.specs.Fields.{le32}
 use Rattle.obj.specs.Answers.{place}
 use Rattle.obj.specs.declared.Section.{Section}
 use Rattle.obj.specs.declared.Symbol.{Symbol}
+use Rattle.obj.specs.Nothing.{no_section, no_symbol}
 use Rattle.faults.specs.Faults.{section_bad, symbol_bad}
 use Rattle.names.specs.Names.{number_of}
 use Rattle.tables.specs.Tables.{size_check, first_fault, records_check}
-use Rattle.tables.specs.Records.{no_section, no_symbol, image_places_of, bytes_cut, section_fault, image_fault, symbol_fault}
+use Rattle.tables.specs.Records.{image_places_of, bytes_cut, section_fault, image_fault, symbol_fault}
+use Rattle.tables.proofs.Laws.{bss_not_cut}
 use Rattle.name_table.specs.NameTable.{start_of, end_of, name_cut, name_wrong, name_fault, names_check}
 use Rattle.name_table.proofs.Laws.{names_passed}
-use Rattle.stage_names.specs.StageNames.{flat}
+use Rattle.stage_names.specs.StageNames.{flat, name_ends}
+use Rattle.stage_names.proofs.Fits.{long_halves}
 use Rattle.stage_tables.specs.StageTables.{stage_sections, stage_symbols, table_check, image_check, symbols_check}
 use Rattle.elf_file.specs.File.{header_table, taken, no_bits, section_strings, file_check}
 use Rattle.elf_file.proofs.Laws.{Passed, file_passed}
-use Rattle.number_names.specs.Numbers.{Room, no_place, enter_name, enter_names, name_ends, Laid}
-use Rattle.number_names.proofs.Laid.{length-name_ends, count_back, start_back, end_back}
+use Rattle.number_names.specs.Numbers.{Room, no_place, enter_name, enter_names, Laid}
+use Rattle.number_names.proofs.Laid.{count_back, start_back, end_back}
 use Rattle.number_names.proofs.Laws.{enter_cases, flat_more}
 use Rattle.import_rows.specs.Rows.{kind_of, head_of, place_of, sections_table, places_table, symbols_table}
 use Rattle.import_rows.proofs.Laws.{long_sections, long_places, long_symbols}
@@ -36,8 +40,7 @@ use Rattle.import.specs.Import.{Rooms, names_of, tables_of, tables_check, import
 use Rattle.import.proofs.Sections.{taken_inside, made_of, sections_count, places_count, section_is, place_is}
 use Rattle.import_names.proofs.Laws.{names-within}
 use Rattle.entry_import_elf.specs.Entry.{rooms_of}
-use Rattle.import_laws.proofs.Theorems.{bss_not_cut}
-use Rattle.import_laws.proofs.ReadBack.{Bytes, sections_read, places_read}
+use Rattle.import_laws.proofs.ReadBack.{sections_read, places_read}
 
 -- ---- outcomes that are no refusal with 1
 
@@ -171,7 +174,7 @@ module _ (names : List (List ℕ)) (small : length (flat names) < 65536) where
   not_names : NotOne (names_check 4096 (name_ends names) (flat names))
   unfolding names_check
   not_names =
-      not_then _ _ (not_size 2 4096 (length (name_ends names)) (omega (arith, length-name_ends names)))
+      not_then _ _ (not_size 2 4096 (length (name_ends names)) (omega (arith, long_halves 0 names)))
       (λ _. not_records (name_fault (name_ends names) (flat names)) (length (name_ends names) / 2) (λ k h. not_name k (omega (arith, h, count_back laid))))
 
 -- ---- the sections and symbols
@@ -226,7 +229,7 @@ unfolding tables_check tables_of
 not_tables file names room p small bytes =
     not_then _ _ (not_names names small)
     (λ passed.
-    let few : length names ≤ 4096 = omega (arith, (names_passed 4096 (name_ends names) (flat names) passed).few, length-name_ends names) in
+    let few : length names ≤ 4096 = omega (arith, (names_passed 4096 (name_ends names) (flat names) passed).few, long_halves 0 names) in
     not_then _ _ (not_line 2 0 room.sections _ (λ z. omega arith))
     (λ _. not_then _ _ (not_image file names p few bytes _)
     (λ _. not_then _ _ (not_line 2 0 room.symbols _ (λ z. omega arith))

@@ -16,14 +16,17 @@ use Rattle.lists.proofs.Rows.{get_d_tabulate}
 use Rattle.lists.specs.Outcome.{accepted}
 use Rattle.lists.proofs.Mapping.{tabulate-take}
 use Rattle.lists.proofs.Parts.{tabulate-map}
+use Rattle.lists.specs.Bounds.{Bytes}
 use Rattle.fields.specs.Fields.{le16, le32, enc32, little}
 use Rattle.fields.proofs.Laws.{round16, round32, number_at_same, le16_is, le32_is}
 use Rattle.obj.specs.Records.{section_at, symbol_at, stage_places}
 use Rattle.obj.specs.declared.Section.{Section}
 use Rattle.obj.specs.declared.Symbol.{Symbol}
-use Rattle.tables.specs.Records.{no_section, no_symbol, image_places_of}
+use Rattle.obj.specs.Nothing.{no_section, no_symbol}
+use Rattle.tables.specs.Records.{image_places_of}
 use Rattle.stage_tables.specs.StageTables.{stage_sections, stage_symbols}
-use Rattle.stage_names.specs.StageNames.{flat}
+use Rattle.stage_names.specs.StageNames.{flat, name_ends}
+use Rattle.stage_names.proofs.Fits.{long_halves}
 use Rattle.stage_tables.proofs.Laws.{table_passed}
 use Rattle.name_table.specs.NameTable.{names_check}
 use Rattle.name_table.proofs.Laws.{names_passed}
@@ -32,8 +35,6 @@ use Rattle.big_endian.specs.BigEndian.{be32}
 use Rattle.elf.specs.Elf.{header_at, section_header_at, symbol_entry_at}
 use Rattle.elf.specs.Strings.{string_at}
 use Rattle.elf_file.specs.File.{outside, bytes_in, header_table, header_of, no_bits, taken, section_strings, symbol_table, symbol_strings}
-use Rattle.number_names.specs.Numbers.{name_ends}
-use Rattle.number_names.proofs.Laid.{length-name_ends}
 use Rattle.import.specs.Import.{Rooms, Tables, tables_of, tables_check, import_of}
 use Rattle.import.proofs.Sections.{made_of, symbol_bytes, sections_count, places_count, section_is, place_is, symbols_count, symbol_is}
 use Rattle.import_laws.proofs.Theorems.{accepted_import}
@@ -158,10 +159,6 @@ symbols_back l f =
 
 -- ---- a file of bytes
 
--- each byte is below 256
-abbrev pub Bytes : List ℕ → Type 0
-Bytes l = (k : ℕ) → get_or l k 0 < 256
-
 small_drop : (n : ℕ) (l : List ℕ) → Bytes l → Bytes (drop n l)
 small_drop zero l b = b
 small_drop (suc n) [] b = b
@@ -260,7 +257,7 @@ module _ (file : List ℕ) (room : Rooms) (t : Tables) (e : import_of file room 
   few_names =
       let a = accepted_import file room t e in
       let p = then_both (names_check 4096 (name_ends t.names) (flat t.names)) _ tt a.passed in
-      omega (arith, (names_passed 4096 (name_ends t.names) (flat t.names) p.0).few, length-name_ends t.names)
+      omega (arith, (names_passed 4096 (name_ends t.names) (flat t.names) p.0).few, long_halves 0 t.names)
 
   few_sections : length t.sections ≤ 64
   unfolding tables_check

@@ -6,7 +6,7 @@ use mathlib.Core.Bool.{true, false}
 use Prim.Native.Nat.{ℕ, ◌+◌, ◌-◌, ◌/◌, ◌%◌, ◌≤◌, ◌<◌, zero-le}
 use native.Mathlib.Omega.{arith}
 use native.Mathlib.Nat.{mod-eq_of_lt, div-eq_of_lt}
-use borrow.Author.Tests.{le-ltb, eq-eqb}
+use borrow.Author.Tests.{le-ltb}
 use lib.ListN.{length, get_or, take, drop}
 use Rattle.lists.specs.Rows.{first_from}
 use Rattle.lists.specs.Outcome.{accepted, refuse, ◌>>◌}
@@ -14,15 +14,14 @@ use Rattle.lists.proofs.Binds.{after_goes}
 use Rattle.lists.proofs.Outcomes.{then_both, then_inv, bind_inv, same_accepted}
 use Rattle.obj.specs.declared.Section.{Section}
 use Rattle.obj.specs.Records.{split_width}
+use Rattle.obj.specs.Nothing.{no_section}
 use Rattle.tables.specs.Tables.{size_check, first_fault, records_check}
-use Rattle.tables.specs.Records.{no_section, bytes_cut}
 use Rattle.name_table.specs.NameTable.{names_check}
 use Rattle.stage_tables.specs.StageTables.{table_check}
-use Rattle.stage_names.specs.StageNames.{flat}
+use Rattle.stage_names.specs.StageNames.{flat, name_ends}
 use Rattle.entry_check_tables.specs.Entry as entry
 use Rattle.elf_file.specs.File.{bytes_in, section_bytes, header_table, taken, no_bits, section_strings, file_check}
 use Rattle.elf_file.proofs.Laws.{file_passed}
-use Rattle.number_names.specs.Numbers.{name_ends}
 use Rattle.import_rows.specs.Rows.{kind_of, head_of, place_of, sections_table, places_table, symbols_table}
 use Rattle.import.proofs.Sections.{taken_inside, made_of, sections_count, places_count, section_is, place_is}
 use Rattle.import.specs.Import.{Rooms, Tables, names_of, tables_of, tables_check, import_of}
@@ -113,8 +112,3 @@ module _ (file : List ℕ) (room : Rooms) (t : Tables) (e : import_of file room 
         let place : get_or t.places j 0 ≡ (made_of file j).offset = place_made ∙ rw q in
         ap₂ (λ (n at : ℕ). take n (drop at file)) (ap (λ (s : Section). s.size) section_made) place
         ∙ sym (rw (le-ltb (length file) ((made_of file j).offset + (made_of file j).size) (section_inside q)))
-
--- of a section of kind 3 no bytes are asked: whatever its place and size, and whatever the image, it isn't cut
-pub bss_not_cut : (places : List ℕ) (image k : ℕ) (s : Section) → s.kind ≡ 3 → bytes_cut places image k s ≡ false
-unfolding bytes_cut
-bss_not_cut places image k s e = rw (eq-eqb s.kind 3 e)

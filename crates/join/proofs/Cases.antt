@@ -5,7 +5,8 @@ use mathlib.Core.List.{List, [], ◌∷◌, map}
 use Rattle.lists.specs.Outcome.{Outcome, accepted, refused, refuse, ◌>>◌}
 use Rattle.lists.specs.Rows.{tabulate, some, any_of, any_from}
 use Rattle.obj.specs.declared.Section.{Section}
-use Rattle.join.specs.Join.{Part, covers, addresses, outside, differ_at, differ, joined_at, joined_section, joined_from, held_by, held, join_of}
+use Rattle.obj.specs.Parts.{Part}
+use Rattle.join.specs.Join.{covers, addresses, outside, differ_at, differ, joined_at, joined_section, joined_from, held_by, held, join_of}
 
 abbrev section : (kind address size : ℕ) → Section
 section kind address size = record { name = 0; kind = kind; address = address; size = size; offset = 0 }

@@ -16,8 +16,9 @@ use Rattle.lists.proofs.Stores.{get_or-sets_other, get_or-sets_at}
 use Rattle.names.specs.Names.{same_name}
 use Rattle.names.proofs.Laws.{same_self, same_equal}
 use Rattle.obj.specs.declared.Section.{Section}
+use Rattle.obj.specs.Parts.{Part}
 use Rattle.lists.proofs.Among.{same_test, none_member, none_by}
-use Rattle.join.specs.Join.{Part, nowhere, home_of, outside, byte_of, differ, joined, held}
+use Rattle.join.specs.Join.{nowhere, home_of, outside, byte_of, differ, joined, held}
 use Rattle.join.specs.Laying.{spot_of, laid_over, unlike, some_unlike}
 use Rattle.join.proofs.Members.{Lies, apart, meets, joined_is, joined_empty}
 use Rattle.join.proofs.Sizes.{Inside, inside, Place, between, one_section, place_of, joined_reads, length-joined, spot-fits}

@@ -8,7 +8,8 @@ use lib.ListN.{length}
 use borrow.Author.Tests.{eq-eqb, eqb-true, eqb-false, ltb-true, leb-true, lt-ltb, le-leb, not-true}
 use Rattle.std.proofs.lemmas.Bool.{and_parts, and_from}
 use Rattle.lists.proofs.Among.{some_by, some_member, range_member, member_range}
-use Rattle.join.specs.Join.{Part, covers, byte_of, addresses, differ_at, differ, joined_at}
+use Rattle.obj.specs.Parts.{Part}
+use Rattle.join.specs.Join.{covers, byte_of, addresses, differ_at, differ, joined_at}
 
 -- ---- where a piece lies
 

@@ -10,8 +10,9 @@ use Rattle.lists.specs.Outcome.{Outcome, accepted, refuse, ◌>>◌}
 use Rattle.lists.proofs.Outcomes.{fails, passes}
 use Rattle.lists.proofs.Parts.{tabulate_same}
 use Rattle.obj.specs.declared.Section.{Section}
+use Rattle.obj.specs.Parts.{Part}
 use Rattle.lists.proofs.Among.{Among, some_members, same_test, perm_among}
-use Rattle.join.specs.Join.{Part, outside, differ, joined_at, joined_section, joined_from, joined, held, join_of}
+use Rattle.join.specs.Join.{outside, differ, joined_at, joined_section, joined_from, joined, held, join_of}
 use Rattle.join.proofs.Members.{Apart, apart, apart-differ, Byte, of, empty, joined_byte, joined_is, joined_empty}
 
 module _ (s t : List Part) (sub : Among s t) (sup : Among t s) where

@@ -15,7 +15,8 @@ use Rattle.lists.specs.Rows.{tabulate}
 use Rattle.lists.proofs.Rows.{length-tabulate, get_d_tabulate}
 use Rattle.lists.proofs.Tests.{none_of}
 use Rattle.obj.specs.declared.Section.{Section}
-use Rattle.join.specs.Join.{Part, nowhere, home_of, outside, joined_at, joined_section, joined_from, joined, held_by, held}
+use Rattle.obj.specs.Parts.{Part}
+use Rattle.join.specs.Join.{nowhere, home_of, outside, joined_at, joined_section, joined_from, joined, held_by, held}
 use Rattle.join.specs.Laying.{spot_of}
 
 -- ---- a piece that isn't 82

@@ -6,12 +6,7 @@ use Rattle.std.specs.Prelude.{ℕ, suc, ◌+◌, ◌-◌, List, [], ◌∷◌, �
 use Rattle.lists.specs.Outcome.{Outcome, accepted, refuse, ◌>>◌}
 use Rattle.lists.specs.Rows.{tabulate, some, any_of}
 use Rattle.obj.specs.declared.Section.{Section}
-
--- "each a record of kind 7 ..: section 2, address 4, its bytes"
-pub record Part : Type 0 where
-  pub section : ℕ
-  pub address : ℕ
-  pub bytes : List ℕ
+use Rattle.obj.specs.Parts.{Part}
 
 -- ---- a piece at an address
 

@@ -18,8 +18,10 @@ use Rattle.obj.specs.Records.{section_at, stage_places}
 use Rattle.obj.specs.Answers.{outcome_word}
 use Rattle.obj.specs.declared.Section.{Section}
 use Rattle.obj.proofs.Laws.{length-stage_places}
+use Rattle.obj.specs.Nothing.{no_section}
+use Rattle.obj.specs.Parts.{Part}
 use Rattle.tables.specs.Tables.{records_check}
-use Rattle.tables.specs.Records.{image_places_of, section_fault, no_section}
+use Rattle.tables.specs.Records.{image_places_of, section_fault}
 use Rattle.tables.proofs.Laws.{image_sections, sections_end}
 use Rattle.name_table.specs.NameTable.{names_check}
 use Rattle.name_table.specs.Stored.{stage_lengths}
@@ -28,21 +30,22 @@ use Rattle.stage_tables.proofs.Laws.{table_passed}
 use Rattle.sections.specs.Sections.{Sections}
 use Rattle.pieces.specs.declared.Piece.{Piece}
 use Rattle.walk.specs.Walk.{Output, start_in}
-use Rattle.restore.specs.Restoring.{returned}
+use Rattle.restore.specs.Restoring.{returned, part_of}
 use Rattle.restore.proofs.Walked.{pieces_room}
 use Rattle.entry_split_obj.specs.Entry.{split_obj_of, output_of}
+use Rattle.stage_walk.proofs.Room.{room_low}
 use Rattle.restore_entry.specs.Tables.{Spot, spot}
 use Rattle.restore_entry.specs.Entry.{Call, Run, outcome, lent, input, pieces_of}
 use Rattle.restore_entry.proofs.Tables.{input_checked, head_is, sections_few}
-use Rattle.restore_entry.proofs.Entry.{accepts, passed, few, held_is}
+use Rattle.restore_entry.proofs.Entry.{accepts, passed, held_is}
 use Rattle.restore_entry.proofs.Bytes.{pieces_read}
-use Rattle.join.specs.Join.{Part, joined, held, join_of}
+use Rattle.join.specs.Join.{joined, held, join_of}
 use Rattle.lists.proofs.Among.{perm_among}
 use Rattle.join.proofs.Order.{order_free}
 use Rattle.join.proofs.Sizes.{length-joined}
 use Rattle.piece_records.specs.Records.{parts_of, records_of, Fits}
 use Rattle.piece_records.proofs.Written.{read_back}
-use Rattle.join_restores.specs.Restoring.{heads_of, of_bytes, part_in, parts_of_walk}
+use Rattle.join_restores.specs.Restoring.{heads_of, of_bytes, parts_of_walk}
 use Rattle.join_restores.proofs.Theorem.{part_from, joins_back}
 use Rattle.head_tables.specs.HeadTables.{head_tables}
 use Rattle.kept_output.specs.Kept.{output_of as left_of, size_of, Leaves}
@@ -86,9 +89,9 @@ part_by sections s =
 parts_by : (sections : Sections) (ps : List Piece) → parts_of_walk sections ps ≡ map (part_by sections) (keep_if (λ s. not (eqb (sections.head s.section).kind 3)) (map spot ps))
 parts_by sections ps = two (keep_if (of_bytes sections) ps) ∙ ap (map (part_by sections)) (map_keep spot (λ s. not (eqb (sections.head s.section).kind 3)) ps)
   where
-    two : (l : List Piece) → map (part_in sections) l ≡ map (part_by sections) (map spot l)
+    two : (l : List Piece) → map (part_of sections) l ≡ map (part_by sections) (map spot l)
     two [] = refl
-    two (p ∷ l) = ap (λ (x : List Part). part_in sections p ∷ x) (two l)
+    two (p ∷ l) = ap (λ (x : List Part). part_of sections p ∷ x) (two l)
 
 parts_same : (sections : Sections) (ps qs : List Piece) → map spot ps ≡ map spot qs → parts_of_walk sections ps ≡ parts_of_walk sections qs
 parts_same sections ps qs e =
@@ -164,10 +167,10 @@ module _ (r : Run) (parts : List Part) (order : Permᴰ parts (parts_of_walk (in
   few_parts : length parts ≤ 1024
   few_parts =
       let a = perm_length walk_order in
-      let b = length-map (keep_if (of_bytes (input r).sections) out.pieces) (part_in (input r).sections) in
+      let b = length-map (keep_if (of_bytes (input r).sections) out.pieces) (part_of (input r).sections) in
       let d = length-kept (of_bytes (input r).sections) out.pieces in
       let e = pieces_room (input r) out (passed r).walked in
-      let f = few 1024 piece_width c.sizes.pieces in
+      let f = room_low 1024 c.sizes.pieces piece_width in
       omega arith
 
   -- THEOREM J1: the pieces of an accepted call of `split_obj`, of sections that hold bytes and in any order, are accepted by `join_pieces` wherever the output is long

@@ -6,7 +6,8 @@ use Rattle.stage_tables.specs.StageTables.{stage_sections}
 use Rattle.walk.specs.Walk.{start_in, splitting_end_in}
 use Rattle.restore.specs.Restoring.{byte_at, Plain}
 use Rattle.restore_entry.specs.Entry.{Run, input}
-use Rattle.join.specs.Join.{Part, joined, held}
+use Rattle.obj.specs.Parts.{Part}
+use Rattle.join.specs.Join.{joined, held}
 use Rattle.piece_records.specs.Records.{records_of}
 use Rattle.entry_join_pieces.specs.Entry.{join_pieces}
 

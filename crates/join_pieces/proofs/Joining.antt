@@ -15,7 +15,8 @@ use Rattle.obj.specs.Answers.{meaning}
 use Rattle.obj.specs.Answers.{Answer}
 use Rattle.std.specs.Prelude.{Ok, Err}
 use Rattle.obj.specs.declared.Section.{Section}
-use Rattle.join.specs.Join.{Part, outside, differ, joined, held, join_of}
+use Rattle.obj.specs.Parts.{Part}
+use Rattle.join.specs.Join.{outside, differ, joined, held, join_of}
 use Rattle.join.specs.Laying.{laid_over, some_unlike}
 use Rattle.join.proofs.Sizes.{length-joined}
 use Rattle.join.proofs.Law.{laying_finds, laying_joins, laying_keeps, laid-length}

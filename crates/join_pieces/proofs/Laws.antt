@@ -13,7 +13,8 @@ use Rattle.lists.specs.Rows.{any_of, any_from}
 use Rattle.obj.specs.Records.{section_at, stage_places}
 use Rattle.obj.specs.declared.Section.{Section}
 use Rattle.obj.proofs.Laws.{length-stage_places, stage_place}
-use Rattle.join.specs.Join.{Part, nowhere, home_of, outside, held_by, held}
+use Rattle.obj.specs.Parts.{Part}
+use Rattle.join.specs.Join.{nowhere, home_of, outside, held_by, held}
 use Rattle.join.proofs.Sizes.{held_suc, inside, listed}
 use Rattle.names.specs.Names.{same_name}
 use Rattle.join.specs.Laying.{spot_of, laid_over}

@@ -4,7 +4,7 @@ use mathlib.Core.List.{List}
 use mathlib.Core.Bool.{Bool, true, false}
 use Prim.Native.Nat.{ℕ, ◌+◌, ◌-◌, ◌≤◌, ◌<◌}
 use Rattle.lists.specs.Rows.{some}
-use Rattle.join.specs.Join.{Part}
+use Rattle.obj.specs.Parts.{Part}
 use Rattle.piece_records.specs.Records.{part_at, next_at, parts_at, Whole}
 use Rattle.piece_records.proofs.Laws.{parts-start, whole_start, whole_turn, none_turn, some_hit, some_miss, some_ended}
 use Rattle.join_pieces.specs.Joins.{Among}

@@ -3,8 +3,9 @@ use Rattle.std.specs.Prelude.{ℕ, ◌*◌, ◌≤◌, ◌≡◌, List, ◌++◌
 use Rattle.lists.specs.Outcome.{Outcome, accepted, ◌>>=◌}
 use Rattle.obj.specs.Answers.{meaning}
 use Rattle.obj.specs.Answers.{Answer}
+use Rattle.obj.specs.Parts.{Part}
 use Rattle.lists.specs.Rows.{some}
-use Rattle.join.specs.Join.{Part, held}
+use Rattle.join.specs.Join.{held}
 use Rattle.stage_tables.specs.StageTables.{stage_sections}
 use Rattle.piece_records.specs.Records.{part_at, parts_at, Lying}
 

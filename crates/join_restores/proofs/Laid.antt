@@ -12,7 +12,8 @@ use lib.Seq.{sets}
 use borrow.Author.Tests.{eqb-true}
 use Rattle.lists.specs.Rows.{keep_if}
 use Rattle.lists.proofs.Stores.{get_or-sets_other}
-use Rattle.restore.specs.Restoring.{Part, laid_on}
+use Rattle.obj.specs.Parts.{Part}
+use Rattle.restore.specs.Restoring.{laid_on}
 
 -- no part of section n stands at place k
 pub laid_uncovered : (n start : ℕ) (under : List ℕ) (ps : List Part) (k : ℕ)

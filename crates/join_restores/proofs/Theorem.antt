@@ -15,19 +15,20 @@ use Rattle.lists.specs.Rows.{some, any_of, any_from}
 use Rattle.lists.proofs.Outcomes.{passes, same_accepted}
 use Rattle.lists.proofs.Rows.{get_d_tabulate}
 use Rattle.obj.specs.declared.Section.{Section}
+use Rattle.obj.specs.Parts.{Part}
 use Rattle.pieces.specs.declared.Piece.{Piece}
 use Rattle.walk.specs.Walk.{Input, Output, walk, start_in, splitting_end_in}
 use Rattle.restore.specs.Restoring as restoring
 use Rattle.restore.specs.Restoring.{bytes_in, part_of, byte_at, Plain, Checked, Inside, Restored}
-use Rattle.restore.proofs.Parts.{part_agrees}
 use Rattle.restore.proofs.Walked.{pieces_from}
 use Rattle.restore.proofs.Theorems.{restores, inside}
-use Rattle.join.specs.Join.{Part, nowhere, outside, byte_of, differ, joined_at, held, join_of}
+use Rattle.join.specs.Join.{nowhere, outside, byte_of, differ, joined_at, held, join_of}
 use Rattle.lists.proofs.Among.{none_by, perm_among}
 use Rattle.join.proofs.Members.{Lies, apart, Byte, of, empty, joined_byte}
 use Rattle.join.proofs.Sizes.{Place, below-held, joined_reads}
 use Rattle.lists.proofs.Among.{all_find}
-use Rattle.join_restores.specs.Restoring.{heads_of, of_bytes, part_in, parts_of_walk, JoinsBack}
+use Rattle.lists.proofs.Parts.{get_or-part}
+use Rattle.join_restores.specs.Restoring.{heads_of, of_bytes, parts_of_walk, JoinsBack}
 use Rattle.join_restores.proofs.Laid.{laid_uncovered, map_member, member_map, keep_member, member_keep}
 
 module _ (t : Input) (out : Output) (checked : Checked t) (walked : walk t ≡ accepted out) where
@@ -49,14 +50,14 @@ module _ (t : Input) (out : Output) (checked : Checked t) (walked : walk t ≡ a
       let f = all_find q (pieces_from t out walked) m in
       record { is = m; listed = f.0; holds = d; lies = inside t checked q f.0 d f.1 }
 
-  pub part_from : (p : Part) → Memᴰ p (parts_of_walk t.sections out.pieces) → (q : Piece) × Known q × (p ≡ part_in t.sections q)
+  pub part_from : (p : Part) → Memᴰ p (parts_of_walk t.sections out.pieces) → (q : Piece) × Known q × (p ≡ part_of t.sections q)
   part_from p m =
-      let r = member_map (part_in t.sections) _ m in
+      let r = member_map (part_of t.sections) _ m in
       let k = member_keep (of_bytes t.sections) out.pieces r.1 in
       (r.0, piece_of r.0 k.0 (eqb-false _ _ (not-true _ k.1)), r.2)
 
   -- it is no 82
-  not_outside : (q : Piece) → Known q → outside heads (part_in t.sections q) ≡ false
+  not_outside : (q : Piece) → Known q → outside heads (part_of t.sections q) ≡ false
   unfolding outside any_of any_from
   not_outside q w =
       let i = w.lies in
@@ -68,18 +69,18 @@ module _ (t : Input) (out : Output) (checked : Checked t) (walked : walk t ≡ a
       (le-ltb ((t.sections.head q.section).address + (t.sections.head q.section).size) (q.address + length (bytes_in t.sections q)) (omega arith)))
 
   -- its byte is the section's own
-  own_byte : (q : Piece) → Known q → (n x : ℕ) → Lies n x (part_in t.sections q) → byte_of x (part_in t.sections q) ≡ byte_at t.sections n x
+  own_byte : (q : Piece) → Known q → (n x : ℕ) → Lies n x (part_of t.sections q) → byte_of x (part_of t.sections q) ≡ byte_at t.sections n x
   own_byte q w n x l =
       let i = w.lies in
       let low = i.low in
       let whole = i.whole in
       let at = q.address - start_in t.sections q.section in
-      part_agrees (t.sections.bytes q.section) at (at + q.size - at) (x - q.address) (omega arith)
+      get_or-part (t.sections.bytes q.section) at (at + q.size - at) (x - q.address) 0 (omega arith)
       ∙ ap (λ (k : ℕ). get_or (t.sections.bytes q.section) k 0) (let z : at + (x - q.address) ≡ x - start_in t.sections q.section = omega arith in z)
       ∙ ap (λ (m : ℕ). byte_at t.sections m x) l.of
 
   module _ (parts : List Part) (order : Permᴰ parts (parts_of_walk t.sections out.pieces)) where
-    from : (p : Part) → Memᴰ p parts → (q : Piece) × Known q × (p ≡ part_in t.sections q)
+    from : (p : Part) → Memᴰ p parts → (q : Piece) × Known q × (p ≡ part_of t.sections q)
     from p m = part_from p (perm_among order p m)
 
     none-outside : some (outside heads) parts ≡ false
@@ -109,21 +110,21 @@ module _ (t : Input) (out : Output) (checked : Checked t) (walked : walk t ≡ a
         k : ℕ
         k = x - start_in t.sections n
 
-        free : ((p : Part) → Memᴰ p parts → Lies n x p → ⊥) → (p : restoring.Part) → Memᴰ p (restoring.parts t.sections out.pieces) → p.section ≡ n
+        free : ((p : Part) → Memᴰ p parts → Lies n x p → ⊥) → (p : Part) → Memᴰ p (restoring.parts t.sections out.pieces) → p.section ≡ n
             → p.address - start_in t.sections n ≤ k → k < p.address - start_in t.sections n + length p.bytes → ⊥
         free f p m s a b =
             let v = member_map (part_of t.sections) out.pieces m in
             let q = v.0 in
             let e = v.2 in
-            let home : q.section ≡ n = ap (λ (y : restoring.Part). y.section) (sym e) ∙ s in
+            let home : q.section ≡ n = ap (λ (y : Part). y.section) (sym e) ∙ s in
             let d : (t.sections.head q.section).kind ≢ 3 = λ z. plain.holds (ap (λ (m : ℕ). (t.sections.head m).kind) (sym home) ∙ z) in
             let w = piece_of q v.1 d in
             let start : start_in t.sections q.section ≡ start_in t.sections n = ap (start_in t.sections) home in
-            let at : p.address ≡ q.address = ap (λ (y : restoring.Part). y.address) e in
-            let size : length p.bytes ≡ length (bytes_in t.sections q) = ap (λ (y : restoring.Part). length y.bytes) e in
+            let at : p.address ≡ q.address = ap (λ (y : Part). y.address) e in
+            let size : length p.bytes ≡ length (bytes_in t.sections q) = ap (λ (y : Part). length y.bytes) e in
             let below = w.lies.low in
-            f (part_in t.sections q)
-            (perm_among (Permᴰ.symm order) _ (map_member (part_in t.sections) (keep_member (of_bytes t.sections) v.1 (ap not (ne_eqb _ _ d)))))
+            f (part_of t.sections q)
+            (perm_among (Permᴰ.symm order) _ (map_member (part_of t.sections) (keep_member (of_bytes t.sections) v.1 (ap not (ne_eqb _ _ d)))))
             (record { of = home; low = omega arith; high = omega arith })
 
         go : {b : ℕ} → Byte parts n x b → b ≡ byte_at t.sections n x

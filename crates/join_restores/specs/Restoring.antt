@@ -4,11 +4,12 @@ use Rattle.std.specs.Prelude.{ℕ, ◌+◌, ◌-◌, ◌≤◌, ◌<◌, ◌≡�
 use Rattle.lists.specs.Outcome.{accepted}
 use Rattle.lists.specs.Rows.{tabulate, keep_if}
 use Rattle.obj.specs.declared.Section.{Section}
+use Rattle.obj.specs.Parts.{Part}
 use Rattle.sections.specs.Sections.{Sections}
 use Rattle.pieces.specs.declared.Piece.{Piece}
 use Rattle.walk.specs.Walk.{Input, start_in, splitting_end_in}
-use Rattle.restore.specs.Restoring.{bytes_in, byte_at, Plain}
-use Rattle.join.specs.Join.{Part, joined, held, join_of}
+use Rattle.restore.specs.Restoring.{byte_at, Plain, part_of}
+use Rattle.join.specs.Join.{joined, held, join_of}
 
 -- the heads of the sections that were walked, by number
 abbrev pub heads_of : Sections → List Section
@@ -18,13 +19,9 @@ heads_of sections = tabulate sections.head 0 sections.count
 abbrev pub of_bytes : Sections → Piece → Bool
 of_bytes sections p = not (eqb (sections.head p.section).kind 3)
 
--- a piece as a record of kind 7 has it: "section 2, address 4, its bytes"
-abbrev pub part_in : Sections → Piece → Part
-part_in sections p = record { section = p.section; address = p.address; bytes = bytes_in sections p }
-
 -- "the walk's pieces of such sections"
 abbrev pub parts_of_walk : Sections → List Piece → List Part
-parts_of_walk sections pieces = map (part_in sections) (keep_if (of_bytes sections) pieces)
+parts_of_walk sections pieces = map (part_of sections) (keep_if (of_bytes sections) pieces)
 
 -- what joining these parts gives
 pub record JoinsBack (t : Input) (room : ℕ) (parts : List Part) : Type 0 where

@@ -11,6 +11,7 @@ use lib.Dec.{ltb}
 use lib.ListN.{length, get_or, take, drop, length-append, get_or-append}
 use Rattle.names.specs.GapName.{digit}
 use Rattle.names.proofs.Gaps.{part_to_end}
+use Rattle.names.proofs.HexDigits.{digit_below}
 use Rattle.std.proofs.Common.{◌^◌, lit<}
 use Rattle.std.specs.Fmt as fmt
 use Rattle.std.proofs.lemmas.Fmt.{AppendsLastDigit, decimal_from_appends, length-decimal-le}
@@ -64,9 +65,6 @@ digits-below (suc most) k n h = go (ltb n 10) refl (λ j. digits-below most j (n
         rw e (omega arith)
 
 -- ---- what std writes
-
-digit_below : (n : ℕ) → n < 10 → digit n ≡ 48 + n
-digit_below n h = rw (lt-ltb n 10 h) refl
 
 appended : AppendsLastDigit digits
 appended = record {

@@ -22,7 +22,8 @@ use Rattle.lists.proofs.Sort.{length_sort}
 use Rattle.lists.proofs.Rising.{numbers-below}
 use Rattle.obj.specs.declared.Split.{Split}
 use Rattle.obj.specs.declared.Unit as units
-use Rattle.tables.specs.Records.{no_split, units_in}
+use Rattle.obj.specs.Nothing.{no_split}
+use Rattle.tables.specs.Records.{units_in}
 use Rattle.order_numbers.specs.Numbers.{has_order, ordered, ordered_numbers}
 use Rattle.symbol_order.specs.Keys.{rank_of, unit_of}
 use Rattle.order_numbers.proofs.Records.{ordered_records, length-ordered}

@@ -3,7 +3,7 @@
 use Prim.Native.Nat.{ℕ, zero, suc, ◌+◌, ◌-◌, ◌≤◌, ◌<◌, zero-le, suc-le-suc}
 use mathlib.Core.Path.{◌≡◌, refl, sym, ap, ap₂, subst, ◌∙◌}
 use mathlib.Core.List.{List, [], ◌∷◌, ◌++◌, map}
-use mathlib.Core.Bool.{Bool, true, false, not, ◌&&◌, ◌||◌, false≢true}
+use mathlib.Core.Bool.{Bool, true, false, not, ◌&&◌, false≢true}
 use mathlib.Core.Logic.{inl, inr}
 use native.Mathlib.Nat.{not-suc-le-zero, suc-add}
 use native.Mathlib.Omega.{arith}
@@ -13,7 +13,7 @@ use lib.ListN.{length, get_or, length-map, length-append, get_or-append}
 use lib.Seq.{get_or-append-add}
 use Rattle.std.proofs.lemmas.Bool.{and_right}
 use Rattle.std.proofs.lemmas.List.{get_or-map}
-use Rattle.lists.specs.Rows.{keep_if, tabulate, any_of, any_from}
+use Rattle.lists.specs.Rows.{keep_if, tabulate}
 use Rattle.lists.specs.Sort.{All, none, each}
 use Rattle.lists.specs.Members.{In}
 use Rattle.lists.proofs.All.{all_map, all_keep, all_append, all_both, all_at}
@@ -34,8 +34,6 @@ use Rattle.link_graph.proofs.Graph.{all_mapped, unit_in}
 -- the splits lie by section
 abbrev pub BySection : List Split → Type 0
 BySection splits = (i j : ℕ) → i ≤ j → j < length splits → (split_at splits i).section ≤ (split_at splits j).section
-
--- ---- four tests
 
 -- ---- neighbours
 module _ (g : Given) (lies : BySection g.splits) where

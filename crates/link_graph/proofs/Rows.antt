@@ -14,7 +14,7 @@ use Rattle.lists.specs.Rows.{any_of, any_from}
 use Rattle.lists.specs.Sort.{All, none, each}
 use Rattle.lists.proofs.Rows.{get_d_tabulate, length-tabulate}
 use Rattle.obj.specs.declared.Split.{Split}
-use Rattle.tables.specs.Records.{no_split}
+use Rattle.obj.specs.Nothing.{no_split}
 use Rattle.splits.specs.Columns.{Columns, rows, row_at}
 use Rattle.splits.proofs.Rows.{row_unit}
 use Rattle.splits.specs.Questions.{is_common}

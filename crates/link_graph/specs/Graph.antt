@@ -7,7 +7,7 @@ use Rattle.std.specs.Prelude.{ℕ, ◌+◌, ◌-◌, List, [], ◌∷◌, ◌++�
 use Rattle.lists.specs.Rows.{tabulate, keep_if, first_in, any_of}
 use Rattle.obj.specs.declared.Split.{Split}
 use Rattle.obj.specs.declared.Unit as units
-use Rattle.tables.specs.Records.{no_split}
+use Rattle.obj.specs.Nothing.{no_split}
 use Rattle.order_numbers.specs.Numbers.{ordered}
 use Rattle.toposort.specs.Search.{Graph}
 use Rattle.splits.specs.Questions.{is_common}

@@ -11,6 +11,7 @@ use Rattle.names.specs.Fixed.{codes}
 use Rattle.names.specs.GapName.{hex8}
 use Rattle.obj.specs.declared.Symbol.{Symbol}
 use Rattle.obj.specs.declared.Reloc.{Reloc}
+use Rattle.obj.specs.Nothing.{no_symbol, no_reloc}
 use Rattle.lines.specs.Lines.{digits, signed_decimal, shown, line}
 use Rattle.listing.specs.Listing.{Run, sum_by, figures, piece_lines, sym_lines, reloc_lines, unit_lines, units_lines, listing}
 
@@ -18,12 +19,6 @@ use Rattle.listing.specs.Listing.{Run, sum_by, figures, piece_lines, sym_lines, 
 unfoldable pub text : List String → List ℕ
 text [] = []
 text (l ∷ later) = codes l ++ (10 ∷ text later)
-
-abbrev pub no_symbol : Symbol
-no_symbol = record { name = 0; section = 0; address = 0; size = 0; size_known = 0; kind = 0; flags = 0; alignment = 0 }
-
-abbrev pub no_reloc : Reloc
-no_reloc = record { section = 0; address = 0; kind = 0; target = 0; addend = pos 0; «module» = 0 }
 
 abbrev pub example : Run
 example = record {

@@ -1,11 +1,12 @@
 -- Clearing a table from a place on, `clear_from`. Assumes nothing.
-use mathlib.Core.Path.{◌≡◌, refl, ap, ◌∙◌}
+use mathlib.Core.Path.{◌≡◌, refl, ap, ◌∙◌, sym}
 use mathlib.Core.List.{List, [], ◌∷◌, ◌++◌}
 use Prim.Native.Nat.{ℕ, zero, suc, ◌-◌, ◌≤◌}
 use native.Mathlib.Nat.{sub-zero, suc-sub-suc, le_of_suc-le-suc, not-suc-le-zero}
 use native.Mathlib.Omega.{arith}
 use lib.ListN.{length, take, replicate}
 use Rattle.lists.specs.Rows.{clear_from}
+use Rattle.lists.specs.Tables.{laid}
 
 -- ---- clearing the rest of an output
 module _ {A : Type 0} (z : A) where
@@ -25,3 +26,7 @@ module _ {A : Type 0} (z : A) where
   clear_is zero l = clear_all l ∙ rw sub-zero
   clear_is (suc k) [] = let e : 0 - suc k ≡ 0 = omega arith in rw e
   clear_is (suc k) (x ∷ l) = ap (λ (t : List A). x ∷ t) (clear_is k l ∙ rw suc-sub-suc)
+
+-- nothing stands in a cleared output
+pub cleared : (out : List ℕ) → clear_from 0 0 out ≡ laid (length out) []
+cleared out = clear_all 0 out ∙ ap (λ (n : ℕ). replicate n 0) (sym (sub-zero (length out)))

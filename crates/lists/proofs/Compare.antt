@@ -4,8 +4,8 @@ use mathlib.Core.Bool.{Bool, true, false, cond, ◌&&◌}
 use mathlib.Core.Logic.{◌⊎◌, inl, inr}
 use Prim.Native.Nat.{ℕ, ◌≤◌, ◌<◌, max}
 use native.Mathlib.Omega.{arith}
-use lib.Dec.{leb, ltb}
-use borrow.Author.Tests.{le-leb, lt-leb, ltb-true, ltb-false}
+use lib.Dec.{leb, ltb, eqb}
+use borrow.Author.Tests.{le-leb, lt-leb, ltb-true, ltb-false, ne_eqb}
 use Rattle.std.proofs.lemmas.Bool.{cases_lt}
 use Rattle.lists.specs.Bounds.{lower, higher}
 
@@ -64,3 +64,7 @@ module _ (a b most : ℕ) (p : a ≤ most) (q : b ≤ most) where
       go : (t : Bool) → cond t b a ≤ most
       go true = q
       go false = p
+
+-- a number above 0 is not 0
+pub above-eqb : (n : ℕ) → 0 < n → eqb n 0 ≡ false
+above-eqb n h = ne_eqb n 0 (λ e. omega arith)

@@ -4,7 +4,8 @@ use mathlib.Core.List.{List, [], ◌∷◌, ◌++◌, map}
 use Prim.Native.Nat.{ℕ, zero, suc, ◌+◌, ◌-◌, ◌≤◌, ◌<◌, suc-le-suc}
 use native.Mathlib.Nat.{zero-add, suc-add, add-suc}
 use native.Mathlib.Omega.{arith}
-use lib.ListN.{length, get_or}
+use lib.ListN.{length, get_or, take, drop}
+use lib.Seq.{get_or-take, get_or-drop}
 use Rattle.lists.specs.Rows.{tabulate}
 use Rattle.lists.proofs.Rows.{rest-cons, rest-none, tabulate_ext}
 
@@ -65,3 +66,7 @@ module _ {A B : Type 0} (h : A → B) where
 
   pub tabulate_list : (f : ℕ → B) (l : List A) (d : A) → ((k : ℕ) → k < length l → f k ≡ h (get_or l k d)) → tabulate f 0 (length l) ≡ map h l
   tabulate_list f l d e = from_list f 0 l d (λ k q. ap f (zero-add k) ∙ e k q)
+
+-- what stands in a part of a list
+pub get_or-part : {A : Type 0} (l : List A) (at n k : ℕ) (d : A) → k < n → get_or (take n (drop at l)) k d ≡ get_or l (at + k) d
+get_or-part l at n k d h = get_or-take n (drop at l) k d h ∙ get_or-drop at l k d

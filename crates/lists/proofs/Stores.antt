@@ -1,12 +1,12 @@
 -- Runs of stores, `sets` of `lib.Seq`: what is read back within the run and beside it. Assumes nothing.
 use mathlib.Core.Path.{◌≡◌, refl, sym, ap, ◌∙◌}
-use mathlib.Core.List.{List, [], ◌∷◌, ◌++◌, append_assoc}
+use mathlib.Core.List.{List, [], ◌∷◌, ◌++◌, append_assoc, append-nil}
 use Prim.Native.Nat.{ℕ, zero, suc, ◌+◌, ◌-◌, ◌≤◌, ◌<◌, zero-le, suc-le-suc}
-use native.Mathlib.Nat.{le_of_suc-le-suc, not-suc-le-zero, add-zero, add-suc, suc-add}
+use native.Mathlib.Nat.{le_of_suc-le-suc, not-suc-le-zero, add-zero, add-suc, suc-add, zero-add}
 use native.Mathlib.Omega.{arith}
 use lib.ListN.{length, get_or, take, drop, set, length-set, length-drop, take-append-drop}
 use mathlib.Core.Logic.{◌≢◌}
-use lib.Seq.{drop-set-lt, take-nil, sets, sets-eq, length-take-le, take-append-le, take-append_seam, drop-append-le, drop_at, get_or-set_other, get_or-set_same}
+use lib.Seq.{drop-set-lt, take-nil, sets, sets-eq, length-take-le, take-append-le, take-append_seam, drop-append-le, drop_at, get_or-set_other, get_or-set_same, drop-length}
 
 -- ---- runs of stores
 module _ {A : Type 0} where
@@ -75,3 +75,11 @@ drop-take (suc i) (suc n) (x ∷ l) = drop-take i n l ∙ ap (λ (k : ℕ). take
 pub drop-sets : {A : Type 0} (l : List A) (i : ℕ) (vs : List A) (n : ℕ) → i + length vs ≤ n → drop n (sets l i vs) ≡ drop n l
 drop-sets l i [] n h = refl
 drop-sets l i (v ∷ vs) n h = drop-sets (set l i v) (suc i) vs n (omega arith) ∙ drop-set-lt n l i v (omega arith)
+
+-- what is stored over itself
+pub sets-itself : {A : Type 0} (l : List A) → sets l 0 l ≡ l
+sets-itself {A} l =
+    sets-eq l l 0 (omega arith)
+    ∙ ap (λ (n : ℕ). l ++ drop n l) (zero-add (length l))
+    ∙ ap (λ (s : List A). l ++ s) (drop-length l)
+    ∙ append-nil l

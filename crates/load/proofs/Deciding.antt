@@ -17,12 +17,13 @@ use Rattle.obj.specs.declared.Reloc.{Reloc}
 use Rattle.obj.specs.declared.Split.{Split}
 use Rattle.obj.specs.declared.Unit as units
 use Rattle.obj.specs.Records.{section_at, symbol_at, reloc_at, partial_at, unit_at, partial_width}
+use Rattle.obj.specs.Nothing.{no_section}
 use Rattle.names.specs.Names.{names_of, name_bad, Named}
 use Rattle.names.specs.Index.{Indexed, Sought}
 use Rattle.names.proofs.Laws.{part_is}
 use Rattle.faults.specs.Faults.{section_bad, symbol_bad, reloc_bad, split_bad, unit_bad}
 use Rattle.tables.specs.declared.Counts.{Counts, Counts as Ceilings}
-use Rattle.tables.specs.Records.{sections_in, relocs_in, no_section, floor_from}
+use Rattle.tables.specs.Records.{sections_in, relocs_in, floor_from}
 use Rattle.load.specs.Load.{Loaded, names_in, repeated, name_number, section_length, section_number, symbol_number, reloc_number, split_number, unit_number, kind_number, record_number}
 use Rattle.load.specs.Columns.{part, tables_in, floors_in, Counted, Ready, Readable}
 use Rattle.load.specs.Reading.{SameColumns}

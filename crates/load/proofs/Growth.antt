@@ -17,12 +17,13 @@ use Rattle.obj.specs.declared.Symbol.{Symbol}
 use Rattle.obj.specs.declared.Reloc.{Reloc}
 use Rattle.obj.specs.declared.Split.{Split}
 use Rattle.obj.specs.declared.Unit as units
+use Rattle.obj.specs.Nothing.{no_section, no_reloc}
 use Rattle.names.specs.Names.{name_at, names_of, name_bad, same_name, number_of}
 use Rattle.names.specs.Index.{Different}
 use Rattle.names.proofs.Laws.{other_sym, number_none, length-names}
 use Rattle.faults.specs.Faults.{section_bad, symbol_bad, reloc_bad, split_bad, unit_bad}
 use Rattle.faults.proofs.Laws as record-laws
-use Rattle.tables.specs.Records.{no_section, no_reloc, floor_from}
+use Rattle.tables.specs.Records.{floor_from}
 use Rattle.tables.proofs.Floors.{floor_more}
 use Rattle.load.specs.Good.{SectionGood, SymbolGood, RelocGood, SplitGood, UnitGood, AllGood, NamesGood, Rising}
 
@@ -269,7 +270,7 @@ names-none file = record {
 }
 
 module _ (names : List (List ℕ)) (x : List ℕ) (all : Different names) (new : number_of names x ≡ length names) where
-  different_more : Different (names ++ (x ∷ []))
+  pub different_more : Different (names ++ (x ∷ []))
   different_more j k p h = by_test (ltb k (length names)) refl
     where
       by_test : (b : Bool) → ltb k (length names) ≡ b → same_name (get_or (names ++ (x ∷ [])) j []) (get_or (names ++ (x ∷ [])) k []) ≡ false

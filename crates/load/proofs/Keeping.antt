@@ -16,13 +16,14 @@ use Rattle.std.specs.Prelude.{Option, is_some, ltb}
 use Rattle.std.proofs.lemmas.List.{get_or-map}
 use Rattle.lists.proofs.Tests.{none_of}
 use Rattle.obj.specs.Records.{section_at, reloc_at}
+use Rattle.obj.specs.Nothing.{no_section, no_reloc}
 use Rattle.names.specs.Names.{number_of, name_bad}
 use Rattle.names.specs.Index.{InBucket, Sought}
 use Rattle.names.proofs.Indexes.{indexed_entered, sought_asked, sought_new}
 use Rattle.names.proofs.Laws.{length-names}
 use Rattle.faults.proofs.Laws.{reloc_section, reloc_inside}
 use Rattle.tables.specs.declared.Counts.{Counts, Counts as Ceilings}
-use Rattle.tables.specs.Records.{relocs_in, no_section, no_reloc, floor_from}
+use Rattle.tables.specs.Records.{relocs_in, floor_from}
 use Rattle.tables.proofs.Floors.{Floors, floors_more}
 use Rattle.load.specs.Load.{Loaded, names_in, repeated, name_number, kind_number, with_record}
 use Rattle.load.specs.Columns.{tables_in, floors_in, one_more, slot_of, Allowed, Few, Counted, RelocFits, Tabled, Ready, Kept}

@@ -15,6 +15,7 @@ use Rattle.lists.proofs.Outcomes.{not_both, same_accepted, then_inv}
 use Rattle.lists.proofs.Rows.{has_place}
 use Rattle.fields.specs.Fields.{le16, le32}
 use Rattle.obj.specs.Records.{section_at, symbol_at, reloc_at, partial_at, partial_numbered, unit_at, partial_width}
+use Rattle.obj.specs.Nothing.{no_section, no_symbol, no_reloc, no_split, no_unit}
 use Rattle.lists.proofs.Tests.{none_of}
 use Rattle.names.specs.Names.{name_at, names_of, number_of, name_bad, Named}
 use Rattle.names.specs.Index.{Different}
@@ -23,11 +24,16 @@ use Rattle.faults.proofs.Laws.{reloc_above}
 use Rattle.tables.specs.declared.Counts.{Counts as Ceilings}
 use Rattle.tables.specs.Tables.{AllHeld}
 use Rattle.tables.proofs.Lookups.{partial_is}
-use Rattle.tables.specs.Records.{sections_in, symbols_in, relocs_in, partials_in, units_in, no_section, no_symbol, no_reloc, no_split, no_unit, floor_from}
+use Rattle.tables.specs.Records.{sections_in, symbols_in, relocs_in, partials_in, units_in, floor_from}
 use Rattle.load.specs.Load.{Loaded, nothing, names_in, repeated, with_record, record_number, load_from, load_of}
 use Rattle.load.specs.Good.{SectionGood, SymbolGood, RelocGood, SplitGood, UnitGood, Good}
 use Rattle.load.proofs.Numbers.{NewName, PassedSection, PassedSymbol, PassedReloc, PassedSplit, PassedUnit, Passed, again, name, section, symbol, reloc, split, unit, record_passed}
 use Rattle.load.proofs.Growth.{section_good, symbol_good, reloc_good, split_good, unit_good, section_lengths, split_lengths, unit_lengths, symbol_names, symbol_sections, reloc_sections, reloc_symbols, all_still, all_more, all_none, rising_none, rising_more, names-none, named_more}
+
+-- as many names as have a place
+pub length-names_in : (file : List ℕ) (t : Loaded) → length (names_in file t) ≡ length t.names
+unfolding names_in
+length-names_in file t = length-names file t.names t.lengths (length t.names)
 
 -- ---- nothing is loaded
 pub good_nothing : (c : Ceilings) (file : List ℕ) → Good c file nothing

@@ -10,10 +10,11 @@ use lib.Dec.{eqb, ltb, leb}
 use lib.ListN.{length, get_or, take, drop}
 use Rattle.fields.specs.Fields.{le16, le32}
 use Rattle.obj.specs.Records.{section_at, symbol_at, reloc_at, partial_at, unit_at, partial_width}
+use Rattle.obj.specs.Nothing.{no_section}
 use Rattle.names.specs.Names.{name_bad}
 use Rattle.faults.specs.Faults.{section_bad, symbol_bad, reloc_bad, split_bad, unit_bad}
 use Rattle.tables.specs.declared.Counts.{Counts as Ceilings}
-use Rattle.tables.specs.Records.{sections_in, relocs_in, floor_from, no_section}
+use Rattle.tables.specs.Records.{sections_in, relocs_in, floor_from}
 use Rattle.load.specs.Load.{Loaded, repeated, name_number, section_length, section_number, symbol_number, reloc_number, split_number, unit_number, kind_number, record_number}
 
 -- "1, 2, then its kind's number": none of the three

@@ -182,7 +182,7 @@ starts c file places lengths heads chain e ready = rw e (ready, going_starts c f
 err_same : {T E : Type 0} {a b : E} → ◌≡◌ {A = Result T E} (Err a) (Err b) → a ≡ b
 err_same e = cc
 
-ok_same : {T E : Type 0} {a b : T} → ◌≡◌ {A = Result T E} (Ok a) (Ok b) → a ≡ b
+pub ok_same : {T E : Type 0} {a b : T} → ◌≡◌ {A = Result T E} (Ok a) (Ok b) → a ≡ b
 ok_same e = cc
 
 not_ok : {T E : Type 0} {a : T} {b : E} → ◌≡◌ {A = Result T E} (Err b) (Ok a) → ⊥

@@ -8,10 +8,11 @@ use Rattle.obj.specs.declared.Reloc.{Reloc}
 use Rattle.obj.specs.declared.Split.{Split}
 use Rattle.obj.specs.declared.Unit as units
 use Rattle.obj.specs.Records.{section_at, symbol_at, reloc_at, partial_at, unit_at, partial_width}
+use Rattle.obj.specs.Nothing.{no_section, no_reloc}
 use Rattle.names.specs.Names.{name_at, names_of, name_bad}
 use Rattle.names.specs.Index.{Different}
 use Rattle.tables.specs.declared.Counts.{Counts as Ceilings}
-use Rattle.tables.specs.Records.{sections_in, relocs_in, no_section, no_reloc, floor_from}
+use Rattle.tables.specs.Records.{sections_in, relocs_in, floor_from}
 use Rattle.load.specs.Load.{Loaded}
 
 -- ---- one record; `lengths` are the lengths of the names, 0 of an unknown one

@@ -6,10 +6,11 @@ use Rattle.std.specs.Prelude.{ℕ, zero, suc, ◌+◌, List, [], ◌∷◌, ◌+
 use Rattle.lists.specs.Outcome.{Outcome, accepted, refused, refuse, ◌>>◌}
 use Rattle.fields.specs.Fields.{le16, le32}
 use Rattle.obj.specs.Records.{section_at, symbol_at, reloc_at, partial_at, unit_at, partial_width}
+use Rattle.obj.specs.Nothing.{no_section}
 use Rattle.names.specs.Names.{names_of, number_of, name_bad}
 use Rattle.faults.specs.Faults.{section_bad, symbol_bad, reloc_bad, split_bad, unit_bad}
 use Rattle.tables.specs.declared.Counts.{Counts as Ceilings}
-use Rattle.tables.specs.Records.{sections_in, relocs_in, floor_from, no_section}
+use Rattle.tables.specs.Records.{sections_in, relocs_in, floor_from}
 
 -- what has been loaded: where the payloads of each kind's records start; of the names also their lengths
 pub record Loaded : Type 0 where

@@ -9,9 +9,10 @@ use Rattle.std.proofs.lemmas.List.{get_or-map}
 use Rattle.align.specs.Align.{bad_align}
 use Rattle.obj.specs.Records.{reloc_at}
 use Rattle.obj.specs.declared.Split.{Split}
+use Rattle.obj.specs.Nothing.{no_reloc}
 use Rattle.names.specs.Names.{Named}
 use Rattle.tables.specs.Tables.{AllHeld}
-use Rattle.tables.specs.Records.{relocs_in, no_reloc}
+use Rattle.tables.specs.Records.{relocs_in}
 use Rattle.tables.proofs.Lookups.{partial_is}
 use Rattle.load.specs.Load.{Loaded}
 use Rattle.load.proofs.Laws.{name_known, names-named, good_splits, held_sections, held_units}

@@ -12,6 +12,7 @@ use Rattle.splits.specs.Bytes.{table_bytes}
 use Rattle.kept_output.specs.Kept.{output_of, kept_of}
 use Rattle.mend.specs.Mend.{Mended}
 use Rattle.obj.specs.declared.Refusal.{Refusal}
+use Rattle.stage_splits.specs.StageSplits.{said}
 
 -- the mended table's records
 abbrev pub split_bytes : Mended → List ℕ
@@ -41,14 +42,9 @@ pub record Laid (out lines counts out' lines' counts' : List ℕ) (m : Mended) :
   pub lined : lines' ≡ output_of lines (accepted m.lines)
   pub counted : counts' ≡ output_of counts (accepted (count_bytes (length counts) m))
 
--- an outcome, whatever it carries
-abbrev pub answer_of : {A : Type 0} → Outcome A → Outcome (Unit {0})
-answer_of (accepted a) = accepted tt
-answer_of (refused number section address) = refused number section address
-
 -- what was answered, and what holds of an accepted value; after a refusal the outputs are still to be cleared
 pub record Gives {A : Type 0} (o : Outcome A) (a : Answer) (P : A → Type 0) : Type 0 where
-  pub answered : meaning a ≡ answer_of o
+  pub answered : meaning a ≡ said o
   pub given : (x : A) → o ≡ accepted x → P x
 
 -- the answer to a mending

@@ -15,7 +15,7 @@ use Rattle.lists.proofs.Parts.{tabulate_all}
 use Rattle.lists.proofs.Outcomes.{fails, passes}
 use Rattle.obj.specs.declared.Split.{Split}
 use Rattle.obj.specs.Records.{section_at}
-use Rattle.tables.specs.Records.{sections_in, no_section}
+use Rattle.tables.specs.Records.{sections_in}
 use Rattle.splits.specs.Columns.{Good, Columns, row_at, rows}
 use Rattle.splits.specs.Questions.{is_auto, of_unit, from_hit, Hit, NextHit, Meets}
 use Rattle.splits.specs.declared.Met.{Met}
@@ -24,6 +24,7 @@ use Rattle.merge.specs.Merge.{Given, given, section_end, Step, keep, push, join,
 use Rattle.merge.specs.Answers.{decided, HandsGood}
 use Rattle.std.specs.Prelude.{Result, Ok, Err, Option, Some, None, is_some}
 use Rattle.obj.specs.declared.Refusal.{Refusal}
+use Rattle.obj.specs.Nothing.{no_section}
 use Rattle.std.specs.Prelude.{min, max}
 use Rattle.std.proofs.lemmas.Bool.Decides.{nat_tests}
 use Rattle.std.proofs.lemmas.List.{get_or-map}

@@ -18,15 +18,17 @@ use Rattle.lists.proofs.Each.{all_placed}
 use Rattle.align.specs.Align.{bad_align}
 use Rattle.obj.specs.declared.Section.{Section}
 use Rattle.obj.specs.declared.Split.{Split}
+use Rattle.obj.specs.Nothing.{no_section, no_split}
+use Rattle.obj.specs.Order.{NotBelow}
 use Rattle.faults.specs.Faults.{split_bad, split_misplaced}
 use Rattle.faults.proofs.Laws as record-laws
 use Rattle.tables.specs.Tables.{records_check}
-use Rattle.tables.specs.Records.{no_section, no_split, partial_fault, split_before, split_fault}
+use Rattle.tables.specs.Records.{partial_fault, split_before, split_fault}
 use Rattle.tables.proofs.Laws as table-laws
-use Rattle.splits.specs.Rising.{NotBelow, Rising}
+use Rattle.splits.specs.Rising.{Rising}
 use Rattle.splits.proofs.Rising.{rising_at, rising_of}
 use Rattle.lists.specs.Bounds.{lower, higher}
-use Rattle.lists.proofs.Compare.{higher-most, lower-most}
+use Rattle.lists.proofs.Compare.{higher-most, lower-most, above-eqb}
 use Rattle.merge.specs.Merge.{Given, given, section_end, joint_of, merge_one, merge_all}
 use Rattle.merge.specs.Kept.{Inside, Keeps}
 use Rattle.merge.proofs.Decisions.{bit_product}
@@ -57,22 +59,18 @@ module _ (lengths : List ℕ) where
     end = record-laws.split_end _ _ s e;
   }
 
-  -- a length that is not 0
-  some-length : (n : ℕ) → 0 < n → eqb n 0 ≡ false
-  some-length n h = ne_eqb n 0 (λ e. omega arith)
-
   -- its rename, if it has one
   rename_good : (s : Split) → Sound lengths s → (not (eqb s.rename 65535) && eqb (get_or lengths s.rename 0) 0) ≡ false
   rename_good s q = go (eqb s.rename 65535) refl
     where
       go : (t : Bool) → eqb s.rename 65535 ≡ t → (not t && eqb (get_or lengths s.rename 0) 0) ≡ false
       go true e = refl
-      go false e = some-length _ (q.renamed (eqb-false s.rename 65535 e))
+      go false e = above-eqb _ (q.renamed (eqb-false s.rename 65535 e))
 
   pub sound_good : (s : Split) → Sound lengths s → bad s ≡ false
   unfolding split_bad any_of any_from
   sound_good s q =
-      rw (some-length (get_or lengths s.unit 0) q.named, rename_good s q, q.aligned, le-ltb 7 s.flags q.flags, le-ltb 4026531840 s.start q.start, le-ltb 4026531840 s.end q.end)
+      rw (above-eqb (get_or lengths s.unit 0) q.named, rename_good s q, q.aligned, le-ltb 7 s.flags q.flags, le-ltb 4026531840 s.start q.start, le-ltb 4026531840 s.end q.end)
 
 -- ---- what a merge keeps of a split
 

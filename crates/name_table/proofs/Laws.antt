@@ -274,3 +274,13 @@ readable ends bytes places lengths heads chain n s =
 
     measured : length (take n lengths) ≡ n
     measured = length-take-le _ _ s.named.measured
+
+-- a name's fault is 0 or the number of a refusal of names
+pub name_few : (ends bytes : List ℕ) (k : ℕ) → name_fault ends bytes k ≤ 8
+unfolding name_fault
+name_few ends bytes k = by_tests (name_cut ends bytes k) (name_wrong ends bytes k)
+  where
+    by_tests : (s t : Bool) → cond s 1 (cond t 3 0) ≤ 8
+    by_tests true t = omega arith
+    by_tests false true = omega arith
+    by_tests false false = omega arith

@@ -1,7 +1,7 @@
 -- The name of a gap's unit: the dots at the front of a section's name, and the stores that write the name. Assumes nothing.
 use mathlib.Core.Path.{◌≡◌, refl, sym, ap, ap₂, ◌∙◌}
 use mathlib.Core.List.{List, [], ◌∷◌, ◌++◌}
-use mathlib.Core.Bool.{Bool, true, false}
+use mathlib.Core.Bool.{Bool, true, false, cond}
 use Prim.Native.Nat.{ℕ, zero, suc, ◌+◌, ◌-◌, ◌/◌, ◌%◌, ◌≤◌, ◌<◌, suc-le-suc}
 use native.Mathlib.Nat.{le_of_suc-le-suc, not-suc-le-zero, zero-lt-suc}
 use native.Mathlib.Omega.{arith}
@@ -28,6 +28,20 @@ is_dot b h = go (eqb b 46) refl
     go : (t : Bool) → eqb b 46 ≡ t → t ≡ true
     go true e = refl
     go false e = absurd (h (eqb-false b 46 e))
+
+-- a name without them, and a gap's name, are not longer
+dots_short : (name : List ℕ) → length (without_dots name) ≤ length name
+unfolding without_dots
+dots_short [] = omega arith
+dots_short (b ∷ name) = go (eqb b 46) (dots_short name)
+  where
+    go : (t : Bool) → length (without_dots name) ≤ length name → length (cond t (without_dots name) (b ∷ name)) ≤ length (b ∷ name)
+    go true h = omega arith
+    go false h = omega arith
+
+pub gap_short : (section address : ℕ) (name : List ℕ) → length (gap_name section address name) ≤ 17 + length name
+unfolding gap_name codes decimal2 hex8
+gap_short section address name = omega (arith, dots_short name)
 
 -- the first byte that is no dot stands at k
 pub dots_found : (name : List ℕ) (k : ℕ) → k < length name → (get_or name k 0 ≡ 46 → ⊥) → ((j : ℕ) → j < k → (get_or name j 0 ≡ 46 → ⊥) → ⊥)

@@ -1,4 +1,5 @@
 -- The digits of bytes, byte by byte, and those of a number's four bytes, the highest first, which are its eight digits. Assumes nothing.
+use borrow.Author.Tests.{lt-ltb}
 use mathlib.Core.Path.{◌≡◌, refl, sym, ap, ◌∙◌}
 use mathlib.Core.List.{List, [], ◌∷◌}
 use Prim.Native.Nat.{ℕ, ◌+◌, ◌*◌, ◌/◌, ◌%◌, ◌<◌}
@@ -8,7 +9,11 @@ use lib.ListN.{length, get_or, drop}
 use lib.Seq.{sets, drop-cons}
 use Rattle.std.specs.Int.{w32, to_be_bytes}
 use Rattle.lists.proofs.Stores.{sets-sets}
-use Rattle.names.specs.GapName.{hex8, hexes}
+use Rattle.names.specs.GapName.{hex8, hexes, digit}
+
+-- a digit below ten
+pub digit_below : (d : ℕ) → d < 10 → digit d ≡ 48 + d
+digit_below d h = rw (lt-ltb _ _ h)
 
 -- a turn of the loop that writes them
 pub hexes_turn : (out bytes : List ℕ) (at i : ℕ) → i < length bytes

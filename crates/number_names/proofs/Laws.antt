@@ -15,27 +15,27 @@ use Rattle.lists.proofs.Stores.{sets_then, take-sets, part-below-sets}
 use Rattle.lists.proofs.Tests.{none_of}
 use Rattle.fields.specs.Fields.{enc16}
 use Rattle.outputs.specs.Outputs.{halves}
-use Rattle.stage_names.specs.StageNames.{ends_from, flat}
-use Rattle.stage_names.proofs.Fits.{flat_append}
+use Rattle.stage_names.specs.StageNames.{ends_from, flat, name_ends}
+use Rattle.stage_names.proofs.Fits.{flat_append, long_halves}
 use Rattle.names.specs.Names.{number_of}
 use Rattle.names.specs.Index.{Sought, InBucket}
 use Rattle.names.proofs.Laws.{number_le}
 use Rattle.names.proofs.Indexes.{sought_asked, indexed_entered}
 use Rattle.name_table.specs.NameTable.{name_in}
-use Rattle.number_names.specs.Numbers.{Room, no_place, enter_name, enter_names, name_ends, Laid, Known, Held, Within, Whole, Short, Entered, Going, InTable, Fits, Standing, names_in}
+use Rattle.number_names.specs.Numbers.{Room, no_place, enter_name, enter_names, Laid, Known, Held, Within, Whole, Short, Entered, Going, InTable, Fits, Standing, names_in}
 use Rattle.std.specs.Prelude.{Result, Ok, Err, Option, is_some}
 use Rattle.obj.specs.declared.Refusal.{Refusal}
 use Rattle.number_names.specs.Tables.{SameTable}
 use Rattle.number_names.specs.declared.Count.{Count}
 use Rattle.number_names.specs.declared.table.NumberedNames.{NumberedNames}
-use Rattle.number_names.proofs.Laid.{name_back, start_back, end_back, names_back, count_back, length-name_ends}
+use Rattle.number_names.proofs.Laid.{name_back, start_back, end_back, names_back, count_back}
 
 -- ---- the names that are known, asked one by one
 
 module _ {names : List (List ℕ)} {ends bytes heads chain : List ℕ} (known : Known names ends bytes heads chain) (k : ℕ) (h : k < length names) where
   pub known_lies : InTable ends bytes k
   known_lies = record {
-    there = omega (arith, h, ap length known.laid.ends_are, length-name_ends names);
+    there = omega (arith, h, ap length known.laid.ends_are, long_halves 0 names);
     rising = start_back known.laid k h;
     within = end_back known.laid k h;
   }
@@ -63,7 +63,7 @@ flat_more names x = flat_append names (x ∷ []) ∙ ap (λ (l : List ℕ). flat
 
 module _ {names : List (List ℕ)} {ends₀ bytes₀ ends bytes heads chain : List ℕ} {n used : ℕ} (h : Held names ends₀ bytes₀ ends bytes heads chain n used) where
   long : length (name_ends names) ≡ 2 * n
-  long = length-name_ends names ∙ ap (λ (k : ℕ). 2 * k) (sym h.counted)
+  long = long_halves 0 names ∙ ap (λ (k : ℕ). 2 * k) (sym h.counted)
 
   -- they are as long as what was lent
   pub held_ends : length ends ≡ length ends₀

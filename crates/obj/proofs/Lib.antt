@@ -1,3 +1,4 @@
 pub mod Made
 pub mod Laws
 pub mod Errors
+pub mod Order

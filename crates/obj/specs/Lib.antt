@@ -1,2 +1,5 @@
 pub mod Records
 pub mod Answers
+pub mod Nothing
+pub mod Order
+pub mod Parts

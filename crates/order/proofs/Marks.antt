@@ -14,13 +14,13 @@ use lib.Seq.{get_or-set_same, get_or-set_other}
 use Rattle.std.proofs.lemmas.List.{drop_more}
 use Rattle.std.proofs.lemmas.Bool.{and_right}
 use Rattle.lists.specs.Rows.{tabulate, first_in, some}
-use Rattle.lists.specs.Sort.{All, none, each}
+use Rattle.lists.specs.Sort.{All}
 use Rattle.lists.proofs.All.{all_map, all_at}
 use Rattle.lists.proofs.SomeRows.{some_more}
 use Rattle.lists.proofs.Ranks.{map_same}
 use Rattle.obj.specs.declared.Split.{Split}
 use Rattle.obj.specs.declared.Unit as units
-use Rattle.tables.specs.Records.{no_unit}
+use Rattle.obj.specs.Nothing.{no_unit}
 use Rattle.splits.specs.Questions.{is_auto}
 use Rattle.link_graph.specs.Graph.{nodes}
 use Rattle.order.specs.LinkOrder.{hand_of, first_record, made_unit, record_of, records_of}

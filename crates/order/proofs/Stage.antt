@@ -19,18 +19,18 @@ use Rattle.lists.proofs.Rows.{length-tabulate}
 use Rattle.obj.specs.Answers.{meaning}
 use Rattle.obj.specs.declared.Split.{Split}
 use Rattle.obj.specs.declared.Unit as units
+use Rattle.obj.specs.Nothing.{no_split, no_unit}
 use Rattle.std.specs.Prelude.{Result, Ok, Err, MatchResult}
 use Rattle.std.specs.Result.{IsErrAnd, ForErr}
 use Rattle.std.proofs.lemmas.Result.{err_from_is_err_and}
 use Rattle.std.proofs.lemmas.List.{get_or-map}
 use Rattle.toposort.specs.Search.{Graph, End, all, cyclic, lost, searched}
 use Rattle.toposort.specs.Sorting as sorting
-use Rattle.toposort.specs.Sorting.{sort_of, kept, Sorts, Within, Sound, answer_of}
+use Rattle.toposort.specs.Sorting.{sort_of, kept, Sorts, Within, Sound, answer_of, nodes_left}
 use Rattle.toposort.specs.Answers.{Edge, Path, Closes, Right}
 use Rattle.toposort.specs.declared.Unsorted.{Unsorted}
 use Rattle.toposort.specs.declared.Unsorted.TheVariants.{Cycle, NoNode, Short}
 use Rattle.toposort.proofs.Theorems.{Gives, no_node, too_short, answer, sorted_right}
-use Rattle.tables.specs.Records.{no_split, no_unit}
 use Rattle.splits.specs.Columns.{Columns, rows, row_at}
 use Rattle.order_numbers.specs.Numbers.{ordered, order_twice}
 use Rattle.link_graph.specs.Graph.{Given, UnitEdge, units_of, node_of, has_node, nodes, split_at, chained, links, edges, graph_of}
@@ -42,7 +42,7 @@ use Rattle.link_graph.proofs.Graph.{same_edges}
 use Rattle.order.specs.declared.Unlinked.{Unlinked}
 use Rattle.order.specs.declared.Unlinked.TheVariants.{Refused}
 use Rattle.order.specs.Columns as stage
-use Rattle.order.specs.LinkOrder.{link_order, nodes_left, first_record, hand_of, made_unit, record_of, records_of}
+use Rattle.order.specs.LinkOrder.{link_order, first_record, hand_of, made_unit, record_of, records_of}
 use Rattle.order.specs.Bytes.{units_bytes}
 use Rattle.order.specs.Columns.{said_of, Room, Resolves}
 

@@ -33,7 +33,7 @@ pub data Ways (g : Given) (room : ℕ) : Outcome End → Type 0 where
   on_cycle : (l : List ℕ) → IsCycle g (units_at g l) → ((v : ℕ) → In v l → v < length (nodes g.splits)) → Ways g room (accepted (cyclic l))
 
 -- an order is no cycle
-differ : (l m : List ℕ) → ◌≡◌ {A = End} (all l) (cyclic m) → ⊥
+pub differ : (l m : List ℕ) → ◌≡◌ {A = End} (all l) (cyclic m) → ⊥
 differ l m e = let z : ◌≡◌ {A = ℕ} 0 1 = cc in omega arith
 
 module _ (g : Given) (lies : BySection g.splits) (few_splits : length g.splits ≤ 1024) (few_units : length g.units ≤ 1024) (room : ℕ) where

@@ -8,13 +8,14 @@ use Rattle.obj.specs.Answers.{Answer, meaning}
 use Rattle.obj.specs.declared.Refusal.{Refusal}
 use Rattle.obj.specs.declared.Split.{Split}
 use Rattle.obj.specs.declared.Unit as units
-use Rattle.tables.specs.Records.{no_unit}
+use Rattle.obj.specs.Nothing.{no_unit}
 use Rattle.order_numbers.specs.Numbers.{Whole}
 use Rattle.symbol_order.specs.Keys.{unit_of}
 use Rattle.splits.specs.Columns.{Columns}
 use Rattle.toposort.specs.Search.{End, all, cyclic, lost}
 use Rattle.toposort.specs.Sorting as sorting
 use Rattle.toposort.specs.declared.Unsorted.{Unsorted}
+use Rattle.toposort.specs.Sorting.{nodes_left}
 use Rattle.link_graph.specs.Columns.{Splits, UnitsBelow}
 use Rattle.link_graph.specs.Tables.{given_of, NamesBelow, Graphed}
 use Rattle.link_graph.specs.declared.link_tables.LinkTables.{LinkTables}
@@ -22,7 +23,7 @@ use Rattle.link_graph.specs.declared.link_tables.LinkGraph.{LinkGraph}
 use Rattle.order.specs.declared.Unlinked.{Unlinked}
 use Rattle.order.specs.declared.Unlinked.TheVariants.{Refused, Cycle}
 use Rattle.order.specs.Bytes.{units_bytes}
-use Rattle.order.specs.LinkOrder.{first_record, hand_of, made_unit, nodes_left, records_of}
+use Rattle.order.specs.LinkOrder.{first_record, hand_of, made_unit, records_of}
 
 -- ---- answers
 

@@ -4,16 +4,16 @@
 -- The graph is that of crate link_graph, the search that of crate toposort, both on nodes: a node is the place of a unit in `nodes`.
 -- What a right order and a cycle of units are, without graph and search: link_graph's specs/Joined.antt; that the order is right, the cycle real, and a cycle
 -- shown exactly if there is one: proofs/Theorems.antt.
-use Rattle.std.specs.Prelude.{ℕ, List, [], map, Bool, cond, not, ◌&&◌, length, get_or, eqb, ltb, pos}
+use Rattle.std.specs.Prelude.{ℕ, List, map, Bool, cond, not, ◌&&◌, length, get_or, eqb, ltb, pos}
 use Rattle.lists.specs.Rows.{first_in, some}
-use Rattle.lists.specs.Outcome.{Outcome, accepted, refused, refuse, ◌>>◌}
+use Rattle.lists.specs.Outcome.{Outcome, refuse, ◌>>◌}
 use Rattle.obj.specs.declared.Split.{Split}
 use Rattle.obj.specs.declared.Unit as units
-use Rattle.tables.specs.Records.{no_unit}
+use Rattle.obj.specs.Nothing.{no_unit}
 use Rattle.splits.specs.Questions.{is_auto}
 use Rattle.order_numbers.specs.Numbers.{order_twice}
 use Rattle.link_graph.specs.Graph.{Given, nodes, graph_of}
-use Rattle.toposort.specs.Search.{End, all, cyclic, lost}
+use Rattle.toposort.specs.Search.{End}
 use Rattle.toposort.specs.Sorting.{sort_of}
 
 -- the nodes in order, or on a cycle, for a unit table with room for so many records
@@ -23,13 +23,6 @@ link_order g room = do
   refuse 60 0 0 (order_twice g.units)
   -- "62 edge from or to no node" cannot come (`joins_nodes`), "76 unit table shorter than the nodes", "61 cycle"
   sort_of (graph_of g) room
-
--- the nodes that are left: the order, or "61 cycle, left in the unit table" (a search never ends lost: toposort's `searched_right`)
-abbrev pub nodes_left : Outcome End → List ℕ
-nodes_left (accepted (all l)) = l
-nodes_left (accepted (cyclic l)) = l
-nodes_left (accepted lost) = []
-nodes_left (refused number section address) = []
 
 -- ---- the unit records of the nodes
 

@@ -8,7 +8,7 @@ use Rattle.lists.specs.Sort.{sort_by}
 use Rattle.lists.proofs.Parts.{tabulate_list, tabulate-map}
 use Rattle.lists.proofs.Sort.{map_sort}
 use Rattle.symbol_order.specs.Order.{numbers}
-use Rattle.join.specs.Join.{Part}
+use Rattle.obj.specs.Parts.{Part}
 use Rattle.piece_records.specs.Records.{part_at, next_at, parts_at, Lying, Whole}
 use Rattle.piece_order.specs.Order.{starts_at, part_in, key_of, order_in, Placed}
 

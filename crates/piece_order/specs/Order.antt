@@ -3,7 +3,7 @@
 use Rattle.std.specs.Prelude.{ℕ, zero, suc, ◌<◌, List, [], ◌∷◌, length, get_or}
 use Rattle.lists.specs.Sort.{sort_by}
 use Rattle.symbol_order.specs.Order.{key, numbers}
-use Rattle.join.specs.Join.{Part}
+use Rattle.obj.specs.Parts.{Part}
 use Rattle.piece_records.specs.Records.{part_at, next_at, Lying}
 
 -- where each of so many records from `at` on starts

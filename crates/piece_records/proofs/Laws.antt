@@ -15,7 +15,7 @@ use Rattle.lists.proofs.Outcomes.{then_inv, same_accepted, not_both, fails, pass
 use Rattle.lists.specs.Rows.{any_of, some}
 use Rattle.lists.proofs.Tests.{none_of}
 use Rattle.fields.specs.Fields.{le16, le32}
-use Rattle.join.specs.Join.{Part}
+use Rattle.obj.specs.Parts.{Part}
 use Rattle.piece_records.specs.Records.{part_at, next_at, record_bad, count_from, parts_at, Lying, Whole}
 
 -- that records are whole is a fact, which a struct can keep

@@ -13,7 +13,7 @@ use Rattle.lists.specs.Sort.{All, none, each}
 use Rattle.lists.proofs.Binds.{bind_goes}
 use Rattle.fields.specs.Fields.{little, le16, le32}
 use Rattle.fields.proofs.Laws.{number_at_same, le16_is, le32_is, round16, round32}
-use Rattle.join.specs.Join.{Part}
+use Rattle.obj.specs.Parts.{Part}
 use Rattle.piece_records.specs.Records.{part_at, next_at, record_bad, count_from, parts_at, parts_of, record_of, records_of, Fits}
 use Rattle.piece_records.proofs.Laws.{count_on, count_end}
 

@@ -6,7 +6,7 @@ use Rattle.std.specs.Prelude.{ℕ, zero, suc, ◌+◌, ◌-◌, ◌≤◌, ◌<�
 use Rattle.lists.specs.Outcome.{Outcome, accepted, refused, refuse, ◌>>=◌, ◌>>◌}
 use Rattle.lists.specs.Rows.{any_of}
 use Rattle.fields.specs.Fields.{le16, le32, enc16, enc32}
-use Rattle.join.specs.Join.{Part}
+use Rattle.obj.specs.Parts.{Part}
 use Rattle.piece_records.specs.declared.PieceHead.{PieceHead}
 
 -- ---- a record at a place

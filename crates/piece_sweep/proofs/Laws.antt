@@ -17,7 +17,8 @@ use Rattle.lists.proofs.All.{all_sort}
 use Rattle.lists.proofs.Rising.{numbers-below}
 use Rattle.names.specs.Names.{same_name}
 use Rattle.names.proofs.Laws.{same_self, same_equal}
-use Rattle.join.specs.Join.{Part, byte_of, addresses, differ_at, differ}
+use Rattle.obj.specs.Parts.{Part}
+use Rattle.join.specs.Join.{byte_of, addresses, differ_at, differ}
 use Rattle.piece_sweep.specs.Sweep.{end_of, unequal, farther, sweep_from, sweep}
 use Rattle.lists.proofs.Among.{same_test, some_by, some_member, range_member, member_range}
 use Rattle.join.proofs.Members.{Lies, lies, lies_covers}

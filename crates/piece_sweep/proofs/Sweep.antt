@@ -14,7 +14,8 @@ use borrow.Author.Tests.{eq-eqb, ne_eqb, le-leb, lt-leb}
 use Rattle.std.proofs.lemmas.Bool.{false_from_ne_true, and_from}
 use Rattle.lists.specs.Sort.{All, Sorted, sort_by, insert_key}
 use Rattle.lists.proofs.Sort.{sorted_sort}
-use Rattle.join.specs.Join.{Part, byte_of, covers, addresses, differ_at, differ}
+use Rattle.obj.specs.Parts.{Part}
+use Rattle.join.specs.Join.{byte_of, covers, addresses, differ_at, differ}
 use Rattle.piece_order.specs.Order.{key_of}
 use Rattle.piece_sweep.specs.Sweep.{end_of, unequal, farther, sweep_from, sweep, sweep_all}
 use Rattle.lists.proofs.Among.{some_by, none_member, range_member, perm_among, all_find}

@@ -1,6 +1,6 @@
 -- Where two pieces of one section both lie: from the higher start to the lower end. That comparing these bytes asks `unequal`: `overlap_is` of proofs/Laws.antt.
 use Rattle.std.specs.Prelude.{ℕ, ◌-◌, ◌≤◌, min, max, ◌≡◌, List, take, drop}
-use Rattle.join.specs.Join.{Part}
+use Rattle.obj.specs.Parts.{Part}
 use Rattle.piece_records.specs.Records.{part_at, Lying}
 use Rattle.piece_sweep.specs.Sweep.{end_of}
 

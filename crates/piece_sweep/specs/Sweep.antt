@@ -3,7 +3,8 @@
 use Rattle.std.specs.Prelude.{ℕ, ◌+◌, List, [], ◌∷◌, Bool, false, cond, ◌&&◌, ◌||◌, eqb, leb, length}
 use Rattle.lists.specs.Rows.{some}
 use Rattle.lists.specs.Sort.{sort_by}
-use Rattle.join.specs.Join.{Part, addresses, differ_at}
+use Rattle.obj.specs.Parts.{Part}
+use Rattle.join.specs.Join.{addresses, differ_at}
 use Rattle.piece_order.specs.Order.{key_of}
 
 abbrev pub end_of : Part → ℕ

@@ -1,39 +1,19 @@
 -- The three output tables: their records are read back as they were written, a record more is one more at the end of what is read, and a table's first
 -- bytes are its records' bytes. All three by the laws of Tables.antt. Assumes nothing.
-use mathlib.Core.Path.{◌≡◌, refl, sym, ap, ◌∙◌}
+use mathlib.Core.Path.{◌≡◌, refl}
 use mathlib.Core.List.{List, [], ◌∷◌, ◌++◌}
 use Prim.Native.Nat.{ℕ, ◌+◌, ◌*◌, ◌≤◌, ◌<◌}
 use native.Mathlib.Omega.{arith}
 use lib.ListN.{length, get_or, take, drop}
 use lib.Seq.{sets}
 use Rattle.lists.proofs.Rows.{length-tabulate}
-use Rattle.fields.specs.Fields.{le16, le32, le64, little}
-use Rattle.fields.proofs.Laws.{le16_is, le32_is, le64_is, number_at_same, round16, round32, round64}
+use Rattle.fields.proofs.Laws.{round16, round32, round64}
+use Rattle.fields.proofs.Alike.{first16, field16, field32, field64}
 use Rattle.pieces.specs.Pieces.{piece_at, symbol_at, reloc_at, piece_head, piece_bytes, symbol_bytes, reloc_bytes, pieces_in, symbols_in, relocs_in, packed, FitsPiece, FitsSymbol, FitsReloc, piece_width}
 use Rattle.pieces.specs.declared.Piece.{Piece}
 use Rattle.pieces.specs.declared.PieceSymbol.{PieceSymbol}
 use Rattle.pieces.specs.declared.PieceReloc.{PieceReloc}
 use Rattle.pieces.proofs.Tables.{record_more, packed-table, parts_join, bytes16, bytes32, bytes64}
-
--- ---- fields of records whose w bytes are the same
-module _ (w : ℕ) (b c : List ℕ) (i j : ℕ) (same : (k : ℕ) → k < w → get_or b (i + k) 0 ≡ get_or c (j + k) 0) where
-  field : (at width k : ℕ) → at + width ≤ w → k < width → get_or b (i + at + k) 0 ≡ get_or c (j + at + k) 0
-  field at width k h q =
-      ap (λ (m : ℕ). get_or b m 0) (let e : i + at + k ≡ i + (at + k) = omega arith in e)
-      ∙ same (at + k) (omega arith)
-      ∙ ap (λ (m : ℕ). get_or c m 0) (let e : j + (at + k) ≡ j + at + k = omega arith in e)
-
-  field16 : (at : ℕ) → at + 2 ≤ w → le16 b (i + at) ≡ le16 c (j + at)
-  field16 at h = le16_is b (i + at) ∙ number_at_same little 2 b c (i + at) (j + at) (λ k q. field at 2 k h q) ∙ sym (le16_is c (j + at))
-
-  field32 : (at : ℕ) → at + 4 ≤ w → le32 b (i + at) ≡ le32 c (j + at)
-  field32 at h = le32_is b (i + at) ∙ number_at_same little 4 b c (i + at) (j + at) (λ k q. field at 4 k h q) ∙ sym (le32_is c (j + at))
-
-  field64 : (at : ℕ) → at + 8 ≤ w → le64 b (i + at) ≡ le64 c (j + at)
-  field64 at h = le64_is b (i + at) ∙ number_at_same little 8 b c (i + at) (j + at) (λ k q. field at 8 k h q) ∙ sym (le64_is c (j + at))
-
-  first16 : 2 ≤ w → le16 b i ≡ le16 c j
-  first16 h = le16_is b i ∙ number_at_same little 2 b c i j (λ k q. same k (omega arith)) ∙ sym (le16_is c j)
 
 -- ---- a reader looks at its record's bytes only
 pub piece_same : (b c : List ℕ) (i j : ℕ) → ((k : ℕ) → k < piece_width → get_or b (i + k) 0 ≡ get_or c (j + k) 0) → piece_at b i ≡ piece_at c j

@@ -1,7 +1,7 @@
 -- The relocations of a section, and those of them in a range: `relocations.range` of util/split.rs. Relocations are numbers here: relocation i is the record
 -- at place i of a table. A section's relocations stand in table order, which is by address: "6 relocation: .. not above the section's last".
 -- A range may be asked backwards: "11 start above end, asked of a section that has such records" (DECISIONS.md, 23).
-use Rattle.std.specs.Prelude.{ℕ, ◌+◌, ◌≤◌, ◌<◌, ◌≡◌, List, Bool, ◌&&◌, eqb, leb, ltb, length, get_or, take}
+use Rattle.std.specs.Prelude.{ℕ, ◌+◌, ◌≤◌, ◌<◌, ◌≡◌, List, Bool, ◌&&◌, eqb, leb, ltb, length, get_or}
 use Rattle.lists.specs.Rows.{keep_if, some}
 use Rattle.lists.specs.Sort.{Sorted, All}
 use Rattle.obj.specs.declared.Reloc.{Reloc}
@@ -52,10 +52,3 @@ address_of b places i = (reloc_of b places i).address
 pub record Ordered (b places part : List ℕ) : Type 0 where
   pub readable : Readable b places part
   pub sorted : Sorted (address_of b places) part
-
--- ---- what the functions give
-
--- the first r numbers of a column are this list; it is no longer than the table
-pub record Leads (column list places : List ℕ) (r : ℕ) : Type 0 where
-  pub small : r ≤ length places
-  pub is : take r column ≡ list

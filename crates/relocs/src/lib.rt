@@ -5,7 +5,8 @@ ghost use Rattle.std.specs.Prelude.{◌≡◌, ◌<◌, length, get_or};
 ghost use Rattle.lists.specs.Rows.{keep_if};
 ghost use Rattle.lists.specs.Sort.{between};
 ghost use Rattle.obj.specs.Records.{Held};
-ghost use Rattle.relocs.specs.Relocs.{reloc_of, relocs_of, address_of, Whole, Room, Readable, Ordered, Leads};
+ghost use Rattle.relocs.specs.Relocs.{reloc_of, relocs_of, address_of, Whole, Room, Readable, Ordered};
+ghost use Rattle.symbol_order.specs.Order.{Leads};
 
 use fields::number;
 use obj::{Reloc, Table};

@@ -6,7 +6,7 @@ use mathlib.Core.Bool.{Bool, cond}
 use native.Mathlib.Omega.{arith}
 use borrow.Author.Tests.{lt-ltb}
 use Rattle.lists.specs.Outcome.{Outcome, accepted, ◌>>=◌}
-use Rattle.lists.specs.Sort.{All, each}
+use Rattle.lists.specs.Sort.{All}
 use Rattle.lists.proofs.Binds.{bind_goes}
 use Rattle.lists.proofs.All.{all_first, all_rest}
 use Rattle.obj.specs.declared.Split.{Split}

@@ -17,13 +17,15 @@ use Rattle.lists.specs.Rows.{keep_if}
 use Rattle.lists.specs.Sort.{All, none, each}
 use Rattle.lists.proofs.All.{all_map, all_keep, all_both}
 use Rattle.lists.proofs.Outcomes.{then_inv, bind_inv, same_accepted}
+use Rattle.lists.proofs.Parts.{get_or-part}
 use Rattle.obj.specs.declared.Split.{Split}
+use Rattle.obj.specs.Parts.{Part}
 use Rattle.sections.specs.Bytes.{zero_between}
 use Rattle.splits.specs.Questions.{within, is_common, is_skipped, next_start}
 use Rattle.pieces.specs.declared.Piece.{Piece}
 use Rattle.walk.specs.Walk.{Input, Output, splitting_end_in, piece_of, on_split, walk_splits, walk_section}
-use Rattle.restore.specs.Restoring.{Part, returned, part_of, parts, laid_on, laid}
-use Rattle.restore.proofs.Parts.{sets_right, part_agrees, zero_at}
+use Rattle.restore.specs.Restoring.{returned, part_of, parts, laid_on, laid}
+use Rattle.restore.proofs.Parts.{sets_right, zero_at}
 use Rattle.restore.proofs.Steps.{Reached, From, split_adds, split_gave}
 use Rattle.restore.proofs.Walked.{reached_all}
 
@@ -110,13 +112,13 @@ module _ (t : Input) (n : ℕ) where
       long = length-take (i + m - i) (drop i bytes) ∙ ap (λ (x : ℕ). min (i + m - i) x) (length-drop i bytes)
 
       agree : (j : ℕ) → j < length vs → get_or vs j 0 ≡ get_or bytes (i + j) 0
-      agree j h = part_agrees bytes i (i + m - i) j (omega (arith, long))
+      agree j h = get_or-part bytes i (i + m - i) j 0 (omega (arith, long))
 
       -- between the split and the next one the section has zeros
       empty : s.end ≤ start + k → start + k < next → get_or bytes k 0 ≡ 0
       empty a b =
           ap (λ (x : ℕ). get_or bytes x 0) (omega arith)
-          ∙ sym (part_agrees bytes (s.end - start) (next - start - (s.end - start)) (start + k - s.end) (omega arith))
+          ∙ sym (get_or-part bytes (s.end - start) (next - start - (s.end - start)) (start + k - s.end) 0 (omega arith))
           ∙ zero_at (take (next - start - (s.end - start)) (drop (s.end - start) bytes)) (start + k - s.end) (between (omega arith))
 
       go : start + k < next → Dec (start + k < s.start) → Dec (start + k < s.end) → Dec (k < length bytes)

@@ -3,12 +3,12 @@ use Prim.Native.Nat.{ℕ, zero, suc, ◌+◌, ◌≤◌, ◌<◌}
 use mathlib.Core.Path.{◌≡◌, refl, sym, ap, ◌∙◌}
 use mathlib.Core.List.{List, [], ◌∷◌, Memᴰ}
 use mathlib.Core.Logic.{◌⊎◌, inl, inr}
-use mathlib.Core.Bool.{Bool, true, false, cond, ◌&&◌, false≢true}
+use mathlib.Core.Bool.{Bool, true, false, ◌&&◌, false≢true}
 use native.Mathlib.Omega.{arith}
 use native.Mathlib.Decide.{ℕ_discrete}
 use lib.Dec.{eqb}
-use lib.ListN.{length, get_or, set, take, drop, length-set}
-use lib.Seq.{sets, get_or-set_same, get_or-set_other, get_or-take, get_or-drop}
+use lib.ListN.{length, get_or, set, length-set}
+use lib.Seq.{sets, get_or-set_same, get_or-set_other}
 use borrow.Author.Tests.{eqb-true}
 use Rattle.std.proofs.lemmas.Bool.{and_parts, cond-false}
 use Rattle.lists.specs.Sort.{All, none, each}
@@ -33,10 +33,6 @@ sets_right own (v ∷ vs) under i k r h c =
         inl (rw e (get_or-set_same under i v 0 (rw e at h) ∙ r 0 (omega arith) ∙ ap (λ (x : ℕ). get_or own x 0) (omega arith)))
     go (no n) (inl e) = inl (get_or-set_other under i k v 0 n ∙ e)
     go (no n) (inr d) = inr (omega arith, omega arith)
-
--- a part of `own` agrees with it
-pub part_agrees : (own : List ℕ) (i m j : ℕ) → j < m → get_or (take m (drop i own)) j 0 ≡ get_or own (i + j) 0
-part_agrees own i m j h = get_or-take m (drop i own) j 0 h ∙ get_or-drop i own j 0
 
 -- a list of zeros has a zero everywhere
 pub zero_at : (l : List ℕ) (k : ℕ) → all_zero l ≡ true → get_or l k 0 ≡ 0

@@ -14,12 +14,13 @@ use Rattle.lists.proofs.All.{all_map}
 use Rattle.lists.proofs.Outcomes.{bind_inv, same_accepted}
 use Rattle.obj.specs.declared.Section.{Section}
 use Rattle.obj.specs.declared.Split.{Split}
+use Rattle.obj.specs.Parts.{Part}
 use Rattle.sections.proofs.Kept.{end_within}
 use Rattle.pieces.specs.declared.Piece.{Piece}
 use Rattle.walk.specs.Walk.{Input, Output, start_in, end_in, splitting_end_in, on_split, walk_section, walk_sections, walk, nothing}
 use Rattle.splits.specs.Questions.{is_common, is_skipped}
 use Rattle.lists.proofs.Among.{all_find}
-use Rattle.restore.specs.Restoring.{Part, bytes_in, parts, laid_on, laid, byte_at, Plain, Checked, Inside, Restored, Alike}
+use Rattle.restore.specs.Restoring.{bytes_in, parts, laid_on, laid, byte_at, Plain, Checked, Inside, Restored, Alike}
 use Rattle.restore.proofs.Steps.{Reached, From}
 use Rattle.restore.proofs.Walked.{section_keeps, sections_keep, pieces_from}
 use Rattle.restore.proofs.Laying.{laid-length, other_keeps, Right, section_right}

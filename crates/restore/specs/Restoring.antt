@@ -8,6 +8,7 @@ use Rattle.lists.specs.Outcome.{accepted}
 use Rattle.lists.specs.Sort.{All}
 use Rattle.align.specs.Align.{bad_align}
 use Rattle.obj.specs.declared.Section.{Section}
+use Rattle.obj.specs.Parts.{Part}
 use Rattle.symbols.specs.Sound.{Sound}
 use Rattle.sections.specs.Sections.{Sections}
 use Rattle.pieces.specs.declared.Piece.{Piece}
@@ -15,12 +16,6 @@ use Rattle.walk.specs.Walk.{Input, start_in, end_in, splitting_end_in}
 use Rattle.splits.specs.Questions.{is_common, is_skipped}
 
 -- ---- a piece with its bytes
-
--- "alike in .. section, address and bytes": what of a piece is compared
-pub record Part : Type 0 where
-  pub section : ℕ
-  pub address : ℕ
-  pub bytes : List ℕ
 
 -- "A piece's bytes are a returned part of the section's bytes": what `piece_bytes` returns of a section's bytes, counted from the section's start
 abbrev pub returned : (bytes : List ℕ) → (from to : ℕ) → List ℕ

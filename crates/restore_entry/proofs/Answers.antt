@@ -15,13 +15,15 @@ use Rattle.obj.specs.declared.Symbol.{Symbol}
 use Rattle.obj.specs.declared.Reloc.{Reloc}
 use Rattle.obj.specs.declared.Split.{Split}
 use Rattle.obj.specs.declared.Unit as units
-use Rattle.tables.specs.Records.{no_section, no_symbol, no_reloc, no_split, no_unit, image_places_of, bytes_cut, floor_from, split_before, section_fault, image_fault, symbol_fault, reloc_fault_above, reloc_fault, split_fault, unit_fault}
+use Rattle.tables.specs.Records.{image_places_of, bytes_cut, floor_from, split_before, section_fault, image_fault, symbol_fault, reloc_fault_above, reloc_fault, split_fault, unit_fault}
 use Rattle.faults.specs.Faults.{section_bad, symbol_bad, reloc_bad, split_bad, split_misplaced, unit_bad}
 use Rattle.tables.specs.Tables.{size_check, first_fault, records_check}
-use Rattle.name_table.specs.NameTable.{name_cut, name_wrong, name_fault, names_check}
+use Rattle.name_table.specs.NameTable.{name_fault, names_check}
+use Rattle.name_table.proofs.Laws.{name_few}
 use Rattle.stage_tables.specs.StageTables.{stage_sections, stage_symbols, stage_relocs, stage_splits, stage_units, table_check, image_check, symbols_check, relocs_check, splits_check, units_check}
 use Rattle.restore.proofs.Refusals.{Says, says_then}
 use Rattle.obj.specs.Records.{split_width}
+use Rattle.obj.specs.Nothing.{no_section, no_symbol, no_reloc, no_split, no_unit}
 
 -- 1 to 8
 pub record Table (number section address : ℕ) : Type 0 where
@@ -82,10 +84,6 @@ one_of number false h = omega arith
 first_of : (number rest : ℕ) (t : Bool) → number ≤ 8 → rest ≤ 8 → cond t number rest ≤ 8
 first_of number rest true h q = h
 first_of number rest false h q = q
-
-name_few : (ends bytes : List ℕ) (k : ℕ) → name_fault ends bytes k ≤ 8
-unfolding name_fault
-name_few ends bytes k = first_of 1 _ (name_cut ends bytes k) (omega arith) (one_of 3 (name_wrong ends bytes k) (omega arith))
 
 image_few : (lengths places : List ℕ) (image : ℕ) (sections : List Section) (k : ℕ) → image_fault lengths places image sections k ≤ 8
 unfolding image_fault section_fault

@@ -9,7 +9,7 @@ use Rattle.lists.specs.Outcome.{accepted}
 use Rattle.lists.specs.Sort.{All}
 use Rattle.obj.specs.declared.Section.{Section}
 use Rattle.obj.proofs.Laws.{length-stage_places}
-use Rattle.tables.specs.Records.{no_section}
+use Rattle.obj.specs.Nothing.{no_section}
 use Rattle.stage_tables.proofs.Laws.{length_sections}
 use Rattle.pieces.specs.declared.Piece.{Piece}
 use Rattle.walk.specs.Walk.{Output, start_in, splitting_end_in}

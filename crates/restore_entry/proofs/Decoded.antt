@@ -15,7 +15,8 @@ use Rattle.pieces.specs.declared.Piece.{Piece}
 use Rattle.pieces.specs.Pieces.{piece_at, piece_head, piece_bytes, pieces_in, packed, piece_width}
 use Rattle.pieces.proofs.Laws.{length-piece_bytes}
 use Rattle.walk.specs.Walk.{Input, start_in}
-use Rattle.restore.specs.Restoring.{Part, part_of, parts, returned, laid, Inside, Restored}
+use Rattle.obj.specs.Parts.{Part}
+use Rattle.restore.specs.Restoring.{part_of, parts, returned, laid, Inside, Restored}
 use Rattle.restore_entry.specs.Tables.{Spot, spot}
 
 -- ---- a record after others

@@ -4,11 +4,9 @@ use Prim.Native.Nat.{ℕ, zero, suc, ◌-◌, ◌/◌, ◌≤◌, ◌<◌}
 use mathlib.Core.Path.{◌≡◌, refl, sym, ap, ◌∙◌, subst}
 use mathlib.Core.List.{List, [], ◌∷◌}
 use mathlib.Core.Logic.{◌↔◌, ◌≢◌}
-use mathlib.Core.Bool.{Bool, true, false, cond}
+use mathlib.Core.Bool.{false}
 use native.Mathlib.Omega.{arith}
-use lib.Dec.{ltb}
 use lib.ListN.{length, take}
-use borrow.Author.Tests.{ltb-true}
 use Rattle.lists.specs.Outcome.{Outcome, accepted, refused, ◌>>◌}
 use Rattle.lists.specs.Sort.{All}
 use Rattle.lists.specs.Tables.{laid}
@@ -39,6 +37,7 @@ use Rattle.restore.proofs.Refusals.{Says, says_of, walk-numbers}
 use Rattle.restore.proofs.Alignments as alignments
 use Rattle.restore.proofs.Nobits as nobits
 use Rattle.outputs.specs.Room.{room_for}
+use Rattle.stage_walk.proofs.Room.{room_low}
 use Rattle.entry_split_obj.specs.Entry.{split_obj_of, output_of}
 use Rattle.splits.specs.Questions.{is_skipped}
 use Rattle.restore_entry.specs.Tables.{input_in, Accepted, SameTables}
@@ -81,15 +80,6 @@ says P f c walked =
 numbers : (c : Call) → Says (λ number section address. 0 < number) (outcome c)
 numbers c = says (λ number section address. 0 < number) (λ number section address q. q.least) c (walk-numbers (input_in (lent c)))
 
--- at most 1,024 pieces
-pub few : (ceiling width size : ℕ) → room_for ceiling width size ≤ ceiling
-unfolding room_for
-few ceiling width size = go (ltb (size / width) ceiling) refl
-  where
-    go : (b : Bool) → ltb (size / width) ceiling ≡ b → cond b (size / width) ceiling ≤ ceiling
-    go true e = omega (arith, ltb-true (size / width) ceiling e)
-    go false e = omega arith
-
 -- the first count
 first_count : (size k : ℕ) (l : List ℕ) → 2 ≤ size → k < 65536 → le16 (counts_of size (k ∷ l)) 0 ≡ k
 unfolding counts_of halves
@@ -120,7 +110,7 @@ module _ (r : Run) where
   pub counted : 2 ≤ c.sizes.counts → le16 r.counts 0 ≡ count r
   counted h =
       ap (λ (l : List ℕ). le16 l 0) r.leaves.left.counted
-      ∙ first_count c.sizes.counts (count r) _ h (omega (arith, pieces_room (input r) (output_of o) passed.walked, few 1024 piece_width c.sizes.pieces))
+      ∙ first_count c.sizes.counts (count r) _ h (omega (arith, pieces_room (input r) (output_of o) passed.walked, room_low 1024 c.sizes.pieces piece_width))
 
   pub held_is : tables.held (lent c) (output_of o) passed c.sizes.pieces ≡ pieces_of r
   held_is = ap (λ (l : List ℕ). pieces_in l (count r)) (sym r.leaves.left.pieces_are)

@@ -7,7 +7,7 @@ use mathlib.Core.Logic.{◌≢◌}
 use mathlib.Core.Bool.{Bool, true, false, cond}
 use native.Mathlib.Omega.{arith}
 use native.Mathlib.Decide.{ℕ_discrete}
-use borrow.Author.Tests.{eq-eqb, ltb-true}
+use borrow.Author.Tests.{ltb-true}
 use lib.Dec.{ltb}
 use lib.ListN.{length}
 use Rattle.lists.specs.Outcome.{Outcome, refuse, ◌>>◌}
@@ -16,6 +16,7 @@ use Rattle.obj.specs.Records.{stage_places}
 use Rattle.obj.specs.declared.Section.{Section}
 use Rattle.tables.specs.Tables.{first_fault, records_check, size_check}
 use Rattle.tables.specs.Records.{image_places_of, bytes_cut, section_fault, image_fault}
+use Rattle.tables.proofs.Laws.{bss_not_cut}
 use Rattle.stage_tables.specs.StageTables.{stage_sections, table_check, image_check}
 use Rattle.sections.specs.Sections.{head_of}
 use Rattle.restore_entry.proofs.Tables.{head_is}
@@ -42,11 +43,6 @@ module _ (f g : ℕ → ℕ) where
 
 -- ---- sections in two images
 
--- a section of kind 3 is never cut
-nobits_whole : (places : List ℕ) (image k : ℕ) (s : Section) → s.kind ≡ 3 → bytes_cut places image k s ≡ false
-unfolding bytes_cut
-nobits_whole places image k s e = rw (eq-eqb s.kind 3 e)
-
 module _ (sections places image places' image' : List ℕ) where
   abbrev head : ℕ → Section
   head = head_of sections (stage_places 15 (length sections / 15))
@@ -58,7 +54,7 @@ module _ (sections places image places' image' : List ℕ) where
 
   cut_alike : Both → (k : ℕ) → k < length sections / 15 → Dec ((head k).kind ≡ 3)
       → bytes_cut (image_places_of places) (length image) k (head k) ≡ bytes_cut (image_places_of places') (length image') k (head k)
-  cut_alike same k h (yes e) = nobits_whole (image_places_of places) (length image) k (head k) e ∙ sym (nobits_whole (image_places_of places') (length image') k (head k) e)
+  cut_alike same k h (yes e) = bss_not_cut (image_places_of places) (length image) k (head k) e ∙ sym (bss_not_cut (image_places_of places') (length image') k (head k) e)
   cut_alike same k h (no d) = same k h d
 
   fault_alike : Both → (lengths : List ℕ) (k : ℕ) → k < length sections / 15

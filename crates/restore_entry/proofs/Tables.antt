@@ -17,8 +17,9 @@ use Rattle.obj.specs.Records.{section_at, stage_places, split_width}
 use Rattle.obj.specs.declared.Section.{Section}
 use Rattle.obj.specs.declared.Split.{Split}
 use Rattle.obj.proofs.Laws.{length-stage_places}
+use Rattle.obj.specs.Nothing.{no_section, no_split}
 use Rattle.tables.specs.Tables.{records_check}
-use Rattle.tables.specs.Records.{image_places_of, no_section, no_split, image_fault, partial_fault, split_fault}
+use Rattle.tables.specs.Records.{image_places_of, image_fault, partial_fault, split_fault}
 use Rattle.tables.proofs.Laws.{image_bytes, splits_section, splits_in_section, splits_partials, partials_aligned, partials_end}
 use Rattle.stage_tables.specs.StageTables.{stage_sections, stage_splits}
 use Rattle.stage_tables.proofs.Laws.{table_passed, length_sections, length_splits}

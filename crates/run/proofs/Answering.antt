@@ -22,7 +22,8 @@ use Rattle.loaded.proofs.Laws.{few_units}
 use Rattle.names.specs.Append.{Columns as Beside}
 use Rattle.splits.specs.Columns.{Columns, rows, row_at}
 use Rattle.toposort.specs.Search.{End, all}
-use Rattle.order.specs.LinkOrder.{link_order, nodes_left}
+use Rattle.toposort.specs.Sorting.{nodes_left}
+use Rattle.order.specs.LinkOrder.{link_order}
 use Rattle.order.specs.Columns.{said_of, kept, answer_of, NotCycle, Resolves}
 use Rattle.gap_splits.specs.Added.{added}
 use Rattle.gap_splits.specs.Answers as entering

@@ -11,13 +11,13 @@ use Rattle.lists.specs.Sort.{All, none}
 use Rattle.lists.specs.Outcome.{Outcome, accepted, refused}
 use Rattle.lists.proofs.Outcomes.{fails, passes}
 use Rattle.toposort.specs.Search.{End, all, cyclic, lost, searched}
-use Rattle.toposort.specs.Sorting.{sort_of, Within}
+use Rattle.toposort.specs.Sorting.{sort_of, Within, nodes_left}
 use Rattle.toposort.specs.Answers.{Right}
 use Rattle.toposort.proofs.Theorems.{Gives, no_node, too_short, answer, sorted_right}
 use Rattle.order_numbers.specs.Numbers.{order_twice}
 use Rattle.link_graph.specs.Graph.{Given, UnitEdge, node_of, nodes, edges, graph_of}
 use Rattle.link_graph.proofs.Graph.{length-nodes, length-edges}
-use Rattle.order.specs.LinkOrder.{link_order, nodes_left}
+use Rattle.order.specs.LinkOrder.{link_order}
 use Rattle.order.proofs.Stage.{left_inside}
 
 -- these are nodes

@@ -9,7 +9,7 @@ use lib.ListN.{length}
 use Rattle.lists.specs.Sort.{All}
 use Rattle.lists.proofs.All.{all_at}
 use Rattle.lists.proofs.Rows.{get_d_tabulate, length-tabulate}
-use Rattle.tables.specs.Records.{no_split}
+use Rattle.obj.specs.Nothing.{no_split}
 use Rattle.load.specs.Load.{Loaded}
 use Rattle.load.proofs.Laws.{name_known}
 use Rattle.loaded.specs.Tables.{Usable}

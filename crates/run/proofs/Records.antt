@@ -23,18 +23,20 @@ use Rattle.lists.proofs.Stores.{take-sets}
 use Rattle.obj.specs.Records.{unit_at, stage_places}
 use Rattle.obj.specs.declared.Split.{Split}
 use Rattle.obj.specs.declared.Unit as units
-use Rattle.tables.specs.Records.{no_split, no_unit, units_in}
+use Rattle.obj.specs.Nothing.{no_split, no_unit}
+use Rattle.tables.specs.Records.{units_in}
 use Rattle.load.specs.Load.{Loaded}
 use Rattle.load.proofs.Laws.{name_known, good_units}
 use Rattle.loaded.specs.Tables.{Usable}
 use Rattle.loaded.proofs.Laws.{few_names}
 use Rattle.toposort.specs.Search.{End}
+use Rattle.toposort.specs.Sorting.{nodes_left}
 use Rattle.symbol_order.proofs.Ranks.{unit_fits}
 use Rattle.link_graph.specs.Graph.{units_of, nodes}
 use Rattle.link_graph.proofs.Nodes.{in_counted}
 use Rattle.link_graph.proofs.Graph.{in_at}
 use Rattle.link_graph.proofs.Joined.{place_of}
-use Rattle.order.specs.LinkOrder.{nodes_left, first_record, hand_of, made_unit, record_of, records_of}
+use Rattle.order.specs.LinkOrder.{first_record, hand_of, made_unit, record_of, records_of}
 use Rattle.order.specs.Bytes.{units_bytes, Fits}
 use Rattle.order.specs.Columns.{kept, Resolves}
 use Rattle.std.specs.Prelude.{Result}

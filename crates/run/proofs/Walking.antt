@@ -11,7 +11,6 @@ use Rattle.obj.specs.Records.{unit_at, stage_places}
 use Rattle.obj.specs.declared.Split.{Split}
 use Rattle.obj.specs.declared.Unit as units
 use Rattle.obj.proofs.Laws.{length-stage_places, stage_place}
-use Rattle.tables.specs.Records.{no_unit}
 use Rattle.loaded.specs.Tables.{byte_places, tables_with}
 use Rattle.loaded.proofs.Laws.{tables-ordered, symbols_sound, sections_kept, relocs_whole, relocs_rising, few_relocs}
 use Rattle.sections.specs.Image.{Image, image_of}
@@ -24,6 +23,7 @@ use Rattle.pieces.specs.declared.lent.PieceTables.{PieceTables}
 use Rattle.std.specs.Prelude.{Result}
 use Rattle.std.proofs.lemmas.List.{get_or-map}
 use Rattle.obj.specs.declared.Refusal.{Refusal}
+use Rattle.obj.specs.Nothing.{no_unit}
 use Rattle.split_obj.specs.Loop.{Ready}
 use Rattle.stage_walk.specs.Lines.{walk_of, Gives}
 use Rattle.stage_walk.proofs.Lines.{gives_as}

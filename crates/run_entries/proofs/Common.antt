@@ -12,8 +12,9 @@ use Rattle.lists.specs.Rows.{any_of, any_from}
 use Rattle.lists.proofs.Outcomes.{bind_inv, same_accepted}
 use Rattle.obj.specs.declared.Section.{Section}
 use Rattle.obj.specs.declared.Split.{Split}
+use Rattle.obj.specs.Nothing.{no_section, no_split}
 use Rattle.faults.specs.Faults.{split_misplaced}
-use Rattle.tables.specs.Records.{no_split, no_section, split_before, split_fault}
+use Rattle.tables.specs.Records.{split_before, split_fault}
 use Rattle.tables.proofs.Laws.{partial_good, split_good}
 use Rattle.splits.specs.Updates.{with_common}
 use Rattle.merge.proofs.Tables.{Sound, sound_of, sound_good}

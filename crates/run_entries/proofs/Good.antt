@@ -11,8 +11,9 @@ use Rattle.lists.proofs.Each.{all_placed}
 use Rattle.align.specs.Align.{bad_align}
 use Rattle.obj.specs.declared.Section.{Section}
 use Rattle.obj.specs.declared.Split.{Split}
+use Rattle.obj.specs.Nothing.{no_section, no_split}
 use Rattle.tables.specs.Tables.{records_check}
-use Rattle.tables.specs.Records.{no_section, no_split, split_fault}
+use Rattle.tables.specs.Records.{split_fault}
 use Rattle.tables.proofs.Laws.{partial_good, split_good, records_pass, splits_section, splits_in_section, splits_rise}
 use Rattle.merge.proofs.Tables.{Sound, sound_of}
 use Rattle.link_graph.proofs.Joined.{BySection}

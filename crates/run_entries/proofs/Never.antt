@@ -16,8 +16,9 @@ use Rattle.lists.proofs.Outcomes.{same_accepted}
 use Rattle.obj.specs.declared.Split.{Split}
 use Rattle.obj.specs.declared.Unit as units
 use Rattle.obj.specs.Records.{section_at, partial_at, partial_numbered}
+use Rattle.obj.specs.Nothing.{no_split}
 use Rattle.tables.specs.Tables.{main_ceilings}
-use Rattle.tables.specs.Records.{no_split, sections_in, partials_in, units_in}
+use Rattle.tables.specs.Records.{sections_in, partials_in, units_in}
 use Rattle.tables.proofs.Lookups.{partial_is, length-partials_in}
 use Rattle.load.specs.Load.{Loaded, load_of, names_in}
 use Rattle.load.proofs.Laws.{good_splits}

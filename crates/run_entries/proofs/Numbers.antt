@@ -18,11 +18,12 @@ use Rattle.obj.specs.Records.{section_at, symbol_at, reloc_at, partial_at, unit_
 use Rattle.obj.specs.declared.Section.{Section}
 use Rattle.obj.specs.declared.Symbol.{Symbol}
 use Rattle.obj.specs.declared.Split.{Split}
+use Rattle.obj.specs.Nothing.{no_section}
 use Rattle.names.specs.Names.{name_bad, number_of}
 use Rattle.names.specs.Fixed.{is_pointer_list}
 use Rattle.faults.specs.Faults.{section_bad, symbol_bad, reloc_bad, split_bad, unit_bad}
 use Rattle.tables.specs.declared.Counts as tables
-use Rattle.tables.specs.Records.{sections_in, relocs_in, floor_from, no_section}
+use Rattle.tables.specs.Records.{sections_in, relocs_in, floor_from}
 use Rattle.load.specs.Load.{Loaded, nothing, section_length, repeated, name_number, section_number, symbol_number, reloc_number, split_number, unit_number, kind_number, with_record, record_number, load_from, load_of}
 use Rattle.symbols.specs.Ranges.{stripped, symbols_between, highest_in}
 use Rattle.sections.specs.Image.{Image}

@@ -15,8 +15,9 @@ use Rattle.lists.proofs.Parts.{tabulate-map, tabulate_list}
 use Rattle.obj.specs.Records.{unit_at}
 use Rattle.obj.specs.declared.Section.{Section}
 use Rattle.obj.specs.declared.Split.{Split}
+use Rattle.obj.specs.Nothing.{no_split}
 use Rattle.names.specs.Names.{name_at, names_of}
-use Rattle.tables.specs.Records.{sections_in, partials_in, no_split, partial_fault}
+use Rattle.tables.specs.Records.{sections_in, partials_in, partial_fault}
 use Rattle.tables.proofs.Lookups.{length-partials_in}
 use Rattle.load.specs.Load.{Loaded, names_in}
 use Rattle.load.proofs.Laws.{good_splits}

@@ -16,7 +16,7 @@ use Rattle.obj.specs.declared.Split.{Split}
 use Rattle.obj.specs.declared.Unit as units
 use Rattle.tables.specs.Records.{sections_in, units_in, image_places_of}
 use Rattle.name_table.specs.Stored.{stage_lengths, name_starts}
-use Rattle.stage_names.specs.StageNames.{flat, names_room, bytes_room}
+use Rattle.stage_names.specs.StageNames.{flat, names_room, bytes_room, name_ends}
 use Rattle.load.specs.Load.{Loaded, names_in}
 use Rattle.loaded.specs.Tables.{image_from, sections_from, Usable}
 use Rattle.sections.specs.Image.{Image, image_of}
@@ -49,7 +49,7 @@ use Rattle.stages_alike.proofs.Validate.{validate_alike}
 use Rattle.stages_alike.proofs.Trim.{trim_alike}
 use Rattle.stages_alike.proofs.Order.{link_alike}
 use Rattle.stages_alike.proofs.Walk.{walk_alike}
-use Rattle.file_tables.specs.Tables.{tables_of, ends_of, Clean}
+use Rattle.file_tables.specs.Tables.{tables_of, Clean}
 use Rattle.file_tables.proofs.Records.{sections_back, symbols_count, relocs_count, partials_back, units_back}
 use Rattle.file_tables.proofs.Names.{all_back, fits_pass, names_pass}
 use Rattle.file_tables.proofs.Checks.{relocs_pass}
@@ -66,7 +66,8 @@ use Rattle.entry_split_obj.specs.Entry.{input_in, split_obj_of}
 use Rattle.lists.specs.Bounds.{lower}
 use Rattle.run_entries.specs.Entries.{ends_size, bytes_size, units_left, walk_entry}
 use Rattle.run_entries.proofs.Good.{Good, sections_there}
-use Rattle.run_entries.proofs.Tables.{rows_back, splits_pass, none_pass, none_back}
+use Rattle.stage_tables.proofs.Laws.{no_splits}
+use Rattle.run_entries.proofs.Tables.{rows_back, splits_pass, none_pass}
 use Rattle.run_entries.proofs.Rooms.{names_room_lem, bytes_room_lem}
 
 -- ---- the stages with the file's names
@@ -79,19 +80,19 @@ module _ {file : List ℕ} {t : Loaded} (u : Usable file t) (clean : Clean (name
 
   -- THEOREM: `add_splits` is the merge
   pub add_is : (names : Ceilings)
-      → add_splits_of (ends_of (names_in file t)) (flat (names_in file t)) (tables_of file t).sections [] (tables_of file t).partials size ≡ table.merged file t (room_of size) names
+      → add_splits_of (name_ends (names_in file t)) (flat (names_in file t)) (tables_of file t).sections [] (tables_of file t).partials size ≡ table.merged file t (room_of size) names
   unfolding add_splits_of table.merged
   add_is names =
       after_goes _ _ (names_pass N clean)
       ∙ after_goes _ _ (stage_sections_pass u N [] none_more clean)
       ∙ after_goes _ _ (none_pass u clean (room_of size))
       ∙ after_goes _ _ (stage_partials_pass u N [] none_more clean)
-      ∙ λ k. merge_all (given (sections_back u k) (room_of size)) (none_back k) (partials_back u k)
+      ∙ λ k. merge_all (given (sections_back u k) (room_of size)) (no_splits k) (partials_back u k)
 
   module _ {rows : List Split} (good : Good (sections_in file t.sections) (room_of size) (names_in file t) rows) where
     -- THEOREM: `update_common_splits` with no start is the marking of common
     pub update_is : (names : Ceilings)
-        → update_of (ends_of (names_in file t)) (flat (names_in file t)) (tables_of file t).sections (table_bytes rows) 0 0 size ≡ table.with_common file t (room_of size) names rows
+        → update_of (name_ends (names_in file t)) (flat (names_in file t)) (tables_of file t).sections (table_bytes rows) 0 0 size ≡ table.with_common file t (room_of size) names rows
     unfolding update_of table.with_common
     update_is names =
         after_goes _ _ (names_pass N clean)
@@ -101,7 +102,7 @@ module _ {file : List ℕ} {t : Loaded} (u : Usable file t) (clean : Clean (name
 
     -- THEOREM: `create_gap_splits` is the filling of gaps, with the names' ceilings that the run has
     pub gaps_is : (lent-ends lent-bytes : ℕ)
-        → gap_splits_of (ends_of (names_in file t)) (flat (names_in file t)) (tables_of file t).sections (tables_of file t).places file (tables_of file t).symbols (table_bytes rows)
+        → gap_splits_of (name_ends (names_in file t)) (flat (names_in file t)) (tables_of file t).sections (tables_of file t).places file (tables_of file t).symbols (table_bytes rows)
         (ends_size (names_in file t) lent-ends) (bytes_size (names_in file t) lent-bytes) size
         ≡ table.with_gaps file t (room_of size)
         (ceilings (names_in file t) (lower (4096 - length (names_in file t)) (lent-ends / 2)) (lower (65535 - bytes_of (names_in file t)) lent-bytes)) rows
@@ -123,7 +124,7 @@ module _ {file : List ℕ} {t : Loaded} (u : Usable file t) (clean : Clean (name
         I : Image
         I =
             image_of (tables_of file t).symbols (stage_places 20 (length (tables_of file t).symbols / 20)) (flat N)
-            (name_starts (ends_of N) (length (ends_of N) / 2)) (stage_lengths (ends_of N) (flat N))
+            (name_starts (name_ends N) (length (name_ends N) / 2)) (stage_lengths (name_ends N) (flat N))
 
         S : Sections
         S = sections_of (tables_of file t).sections (stage_places 15 (length (tables_of file t).sections / 15)) file (image_places_of (tables_of file t).places)
@@ -133,7 +134,7 @@ module _ {file : List ℕ} {t : Loaded} (u : Usable file t) (names more : List (
   abbrev I : Image
   I =
       image_of (tables_of file t).symbols (stage_places 20 (length (tables_of file t).symbols / 20)) (flat names)
-      (name_starts (ends_of names) (length (ends_of names) / 2)) (stage_lengths (ends_of names) (flat names))
+      (name_starts (name_ends names) (length (name_ends names) / 2)) (stage_lengths (name_ends names) (flat names))
 
   abbrev S : Sections
   S = sections_of (tables_of file t).sections (stage_places 15 (length (tables_of file t).sections / 15)) file (image_places_of (tables_of file t).places)
@@ -145,7 +146,7 @@ module _ {file : List ℕ} {t : Loaded} (u : Usable file t) (names more : List (
 
     -- THEOREM: `validate_splits` is the check
     pub validate_is : room ≤ 1024
-        → validate_of (ends_of names) (flat names) (tables_of file t).sections (tables_of file t).symbols (table_bytes rows)
+        → validate_of (name_ends names) (flat names) (tables_of file t).sections (tables_of file t).symbols (table_bytes rows)
         ≡ validate (image_from file t).symbol (image_from file t).count rows
     unfolding validate_of
     validate_is low =
@@ -158,7 +159,7 @@ module _ {file : List ℕ} {t : Loaded} (u : Usable file t) (names more : List (
 
     -- THEOREM: `trim_splits` is the trim
     pub trim_is : (size : ℕ) → room ≤ room_of size
-        → trim_of (ends_of names) (flat names) (tables_of file t).sections (tables_of file t).places file (tables_of file t).symbols (table_bytes rows) size
+        → trim_of (name_ends names) (flat names) (tables_of file t).sections (tables_of file t).places file (tables_of file t).symbols (table_bytes rows) size
         ≡ trimmed (image_from file t) (sections_from file t) rows
     unfolding trim_of
     trim_is size low =
@@ -171,21 +172,21 @@ module _ {file : List ℕ} {t : Loaded} (u : Usable file t) (names more : List (
 
     -- THEOREM: `resolve_link_order` is the link order
     pub resolve_is : (size : ℕ) → room ≤ 1024
-        → resolve_of (ends_of names) (flat names) (tables_of file t).sections (table_bytes rows) (tables_of file t).units size ≡ link_order (linked file t rows) (size / 8)
+        → resolve_of (name_ends names) (flat names) (tables_of file t).sections (table_bytes rows) (tables_of file t).units size ≡ link_order (linked file t rows) (size / 8)
     unfolding resolve_of
     resolve_is size low =
         after_goes _ _ (names_pass names clean)
         ∙ after_goes _ _ (stage_sections_pass u names more extends clean)
         ∙ after_goes _ _ (splits_pass u clean good 1024 low)
         ∙ after_goes _ _ (stage_units_pass u names more extends clean)
-        ∙ sym (link_alike (linked file t rows) (given_in (ends_of names) (flat names) (tables_of file t).sections (table_bytes rows) (tables_of file t).units)
+        ∙ sym (link_alike (linked file t rows) (given_in (name_ends names) (flat names) (tables_of file t).sections (table_bytes rows) (tables_of file t).units)
         (sym (rows_back u clean good)) (sym (units_back u)) (all_map (λ s h. pointers_same u names more extends clean.short s.section h) there) (size / 8))
 
     -- ---- the walk
     module _ (low : room ≤ 1024) (output : Counts) (l : List ℕ) (inside : (v : ℕ) → In v l → v < length (nodes rows)) (few : length l ≤ 1024) where
       -- THEOREM: `split_obj` with the unit table that the link order left is the walk
       pub walk_is :
-          split_obj_of (ends_of names) (flat names) (tables_of file t).sections (tables_of file t).places file (tables_of file t).symbols (tables_of file t).relocations
+          split_obj_of (name_ends names) (flat names) (tables_of file t).sections (tables_of file t).places file (tables_of file t).symbols (tables_of file t).relocations
           (table_bytes rows) (units_bytes (records_of rows (units_in file t.units) l)) output
           ≡ walked file t output rows (records_of rows (units_in file t.units) l)
       unfolding split_obj_of walked
@@ -199,7 +200,7 @@ module _ {file : List ℕ} {t : Loaded} (u : Usable file t) (names more : List (
           ∙ sym (walk_alike
           (input_of (image_from file t) (sections_from file t) (reloc_of file t.relocations) (length t.relocations) rows
           (map (λ (x : units.Unit). x.name) (records_of rows (units_in file t.units) l)) output)
-          (input_in (ends_of names) (flat names) (tables_of file t).sections (tables_of file t).places file (tables_of file t).symbols (tables_of file t).relocations
+          (input_in (name_ends names) (flat names) (tables_of file t).sections (tables_of file t).places file (tables_of file t).symbols (tables_of file t).relocations
           (table_bytes rows) (units_bytes (records_of rows (units_in file t.units) l)) output)
           (images_same u names more extends clean.short) (sections_same u names more extends clean.short) (relocs_same u) (sym (relocs_count u))
           (sym (rows_back u clean good)) (sym (stage_ordered-names u names more extends clean rows good.faultless l inside)) refl)
@@ -219,7 +220,7 @@ module _ {file : List ℕ} {t : Loaded} (u : Usable file t) (names more : List (
         let room = room_in sizes.pieces sizes.symbols sizes.relocs in
         let same = left_same sizes l in
         let few : length l ≤ 1024 = omega (arith, order.long, length-map l (λ v. get_or (nodes rows) v 0), length-nodes rows, good.few, low) in
-        let walks = ap (λ (us : List units.Unit). split_obj_of (ends_of names) (flat names) (tables_of file t).sections (tables_of file t).places file (tables_of file t).symbols
+        let walks = ap (λ (us : List units.Unit). split_obj_of (name_ends names) (flat names) (tables_of file t).sections (tables_of file t).places file (tables_of file t).symbols
         (tables_of file t).relocations (table_bytes rows) (units_bytes us) room) same
         ∙ walk_is low room l inside few in
         λ k. walks k >>= λ out. accepted (done (record { added = drop (length (names_in file t)) names; splits = rows; units = same k; output = out }))

@@ -11,7 +11,7 @@ use Rattle.obj.specs.declared.Section.{Section}
 use Rattle.obj.specs.declared.Split.{Split}
 use Rattle.tables.specs.Tables.{main_ceilings}
 use Rattle.tables.specs.Records.{sections_in}
-use Rattle.stage_names.specs.StageNames.{flat}
+use Rattle.stage_names.specs.StageNames.{flat, name_ends}
 use Rattle.load.specs.Load.{Loaded, load_of, names_in}
 use Rattle.loaded.specs.Tables.{image_from, sections_from, Usable}
 use Rattle.loaded.proofs.Bytes.{loaded_usable}
@@ -30,7 +30,7 @@ use Rattle.run.specs.Run.{Rooms, Ended, linked, on_order, ordered_and_walked, st
 use Rattle.run_file.specs.RunFile.{rooms_in}
 use Rattle.run_outputs.specs.Laid.{Sizes}
 use Rattle.stages_alike.proofs.Lists.{bind_when}
-use Rattle.file_tables.specs.Tables.{tables_of, ends_of, Clean}
+use Rattle.file_tables.specs.Tables.{tables_of, Clean}
 use Rattle.file_tables.proofs.Clean.{clean_loaded}
 use Rattle.file_tables.proofs.Filled.{clean_run}
 use Rattle.entry_validate_splits.specs.Entry.{validate_of}
@@ -117,12 +117,12 @@ module _ (file : List ℕ) (t : Loaded) (accepts : load_of main_ceilings file �
   -- the entries from the link order on, and from the check on
   abbrev from_order : (names : List (List ℕ)) → List Split → Outcome Ended
   from_order names rows =
-      resolve_of (ends_of names) (flat names) (tables_of file t).sections (table_bytes rows) (tables_of file t).units sizes.units >>= walk_entry file t sizes names rows
+      resolve_of (name_ends names) (flat names) (tables_of file t).sections (table_bytes rows) (tables_of file t).units sizes.units >>= walk_entry file t sizes names rows
 
   abbrev from_check : Filled → Outcome Ended
   from_check full =
-      validate_of (ends_of full.names) (flat full.names) (tables_of file t).sections (tables_of file t).symbols (table_bytes full.rows)
-      >> (trim_of (ends_of full.names) (flat full.names) (tables_of file t).sections (tables_of file t).places file (tables_of file t).symbols (table_bytes full.rows)
+      validate_of (name_ends full.names) (flat full.names) (tables_of file t).sections (tables_of file t).symbols (table_bytes full.rows)
+      >> (trim_of (name_ends full.names) (flat full.names) (tables_of file t).sections (tables_of file t).places file (tables_of file t).symbols (table_bytes full.rows)
       sizes.splits
       >>= from_order full.names)
 

@@ -8,7 +8,7 @@ use Rattle.obj.specs.declared.Split.{Split}
 use Rattle.obj.specs.declared.Unit as units
 use Rattle.tables.specs.Tables.{main_ceilings}
 use Rattle.stage_tables.specs.StageTables.{stage_splits, stage_units}
-use Rattle.stage_names.specs.StageNames.{flat}
+use Rattle.stage_names.specs.StageNames.{flat, name_ends}
 use Rattle.load.specs.Load.{Loaded, load_of, names_in}
 use Rattle.splits.specs.Bytes.{table_bytes}
 use Rattle.gap_splits.specs.Entering.{bytes_of}
@@ -18,7 +18,7 @@ use Rattle.order.specs.Bytes.{units_bytes}
 use Rattle.stage_walk.specs.Room.{room_in}
 use Rattle.run.specs.Run.{Ended, done, cycle}
 use Rattle.run_outputs.specs.Laid.{Sizes}
-use Rattle.file_tables.specs.Tables.{tables_of, ends_of}
+use Rattle.file_tables.specs.Tables.{tables_of}
 use Rattle.entry_add_splits.specs.Entry.{add_splits_of}
 use Rattle.entry_update_common_splits.specs.Entry.{update_of}
 use Rattle.entry_create_gap_splits.specs.Entry.{gap_splits_of}
@@ -48,7 +48,7 @@ module _ (file : List ℕ) (t : Loaded) (sizes : Sizes) where
   -- "walks (`split_obj`, ..)", with all names, in an order that was found; "61 cycle, left in the unit table"
   unfoldable pub walk_entry : (names : List (List ℕ)) → (rows : List Split) → End → Outcome Ended
   walk_entry names rows (all nodes) = do
-    out ← split_obj_of (ends_of names) (flat names) (tables_of file t).sections (tables_of file t).places file (tables_of file t).symbols (tables_of file t).relocations
+    out ← split_obj_of (name_ends names) (flat names) (tables_of file t).sections (tables_of file t).places file (tables_of file t).symbols (tables_of file t).relocations
         (table_bytes rows) (units_bytes (units_left rows nodes)) (room_in sizes.pieces sizes.symbols sizes.relocs)
     accepted (done (record { added = drop (length (names_in file t)) names; splits = rows; units = units_left rows nodes; output = out }))
   walk_entry names rows (cyclic nodes) = accepted (cycle (units_left rows nodes))
@@ -59,19 +59,19 @@ module _ (file : List ℕ) (t : Loaded) (sizes : Sizes) where
   unfoldable pub stage_entries : Outcome Ended
   stage_entries = do
     -- "merges the partial splits in file order (`add_split`)", into a table that has none
-    merged ← add_splits_of (ends_of (names_in file t)) (flat (names_in file t)) (tables_of file t).sections [] (tables_of file t).partials sizes.splits
+    merged ← add_splits_of (name_ends (names_in file t)) (flat (names_in file t)) (tables_of file t).sections [] (tables_of file t).partials sizes.splits
     -- "marks common (`update_common_splits` with no start)"
-    common ← update_of (ends_of (names_in file t)) (flat (names_in file t)) (tables_of file t).sections (table_bytes merged) 0 0 sizes.splits
+    common ← update_of (name_ends (names_in file t)) (flat (names_in file t)) (tables_of file t).sections (table_bytes merged) 0 0 sizes.splits
     -- "fills gaps (`create_gap_splits`)"
-    full ← gap_splits_of (ends_of (names_in file t)) (flat (names_in file t)) (tables_of file t).sections (tables_of file t).places file (tables_of file t).symbols
+    full ← gap_splits_of (name_ends (names_in file t)) (flat (names_in file t)) (tables_of file t).sections (tables_of file t).places file (tables_of file t).symbols
         (table_bytes common) (ends_size (names_in file t) sizes.ends) (bytes_size (names_in file t) sizes.bytes) sizes.splits
     -- "checks (`validate_splits`)"
-    validate_of (ends_of full.names) (flat full.names) (tables_of file t).sections (tables_of file t).symbols (table_bytes full.rows)
+    validate_of (name_ends full.names) (flat full.names) (tables_of file t).sections (tables_of file t).symbols (table_bytes full.rows)
     -- "trims (..)"
-    rows ← trim_of (ends_of full.names) (flat full.names) (tables_of file t).sections (tables_of file t).places file (tables_of file t).symbols
+    rows ← trim_of (name_ends full.names) (flat full.names) (tables_of file t).sections (tables_of file t).places file (tables_of file t).symbols
         (table_bytes full.rows) sizes.splits
     -- "orders (`resolve_link_order`, `toposort`)"
-    end ← resolve_of (ends_of full.names) (flat full.names) (tables_of file t).sections (table_bytes rows) (tables_of file t).units sizes.units
+    end ← resolve_of (name_ends full.names) (flat full.names) (tables_of file t).sections (table_bytes rows) (tables_of file t).units sizes.units
     -- "and walks"
     walk_entry full.names rows end
 

@@ -2,16 +2,11 @@
 -- added. Assumes nothing.
 use mathlib.Core.Path.{◌≡◌}
 use mathlib.Core.List.{List}
-use Prim.Native.Nat.{ℕ, ◌≤◌}
+use Prim.Native.Nat.{ℕ}
 use native.Mathlib.Omega.{arith}
 use lib.ListN.{length}
-use Rattle.splits.specs.Columns.{columns, Long}
 use Rattle.gap_splits.specs.Added.{beside, Stand}
 use Rattle.gap_splits.proofs.Naming.{stand_none}
-
-pub rows_long : {starts ends units rest : List ℕ} {room : ℕ} → room ≤ 1024 → length starts ≡ 1024 → length ends ≡ 1024 → length units ≡ 1024 → length rest ≡ 1024
-    → Long (columns starts ends units rest) room
-rows_long h s e u r = record { starts = omega (arith, h, s); ends = omega (arith, h, e); units = omega (arith, h, u); rest = omega (arith, h, r) }
 
 pub names_stand : {bytes places lengths : List ℕ} → length bytes ≡ 65535 → length places ≡ 4096 → length lengths ≡ 4096 → Stand (beside bytes places lengths) 0 0 4096 65535
 names_stand b p l =

@@ -2,11 +2,8 @@
 -- an answer is what its stages left. Assumes nothing.
 use Prim.Native.Nat.{ℕ, zero, suc, ◌+◌, ◌-◌, ◌≤◌, ◌<◌}
 use mathlib.Core.Path.{◌≡◌, refl, sym, ap, subst, ◌∙◌}
-use mathlib.Core.Bool.{Bool, true, false, cond}
 use mathlib.Core.List.{List, []}
 use native.Mathlib.Omega.{arith}
-use borrow.Author.Tests.{ltb-true, ltb-false}
-use lib.Dec.{ltb}
 use lib.ListN.{length, get_or, drop, length-drop}
 use lib.Seq.{length-take-le}
 use Rattle.lists.specs.Outcome.{Outcome, ◌>>=◌}
@@ -14,8 +11,8 @@ use Rattle.lists.specs.Rows.{tabulate}
 use Rattle.obj.specs.declared.Split.{Split}
 use Rattle.names.specs.Names.{name_at, names_of}
 use Rattle.names.specs.Append.{Packed, Columns as Beside}
-use Rattle.names.proofs.Laws.{length-names}
 use Rattle.load.specs.Load.{Loaded, names_in}
+use Rattle.load.proofs.Laws.{length-names_in}
 use Rattle.loaded.specs.Tables.{tables_with, Usable}
 use Rattle.loaded.proofs.Laws.{all_named, measured}
 use Rattle.gap_splits.specs.Entering.{Filled, bytes_of}
@@ -36,9 +33,6 @@ use Rattle.run_room.proofs.Sums.{sum_turn, sum-none}
 use Rattle.lists.specs.Bounds.{lower}
 use Rattle.lists.proofs.Compare.{lower-first, lower-second}
 use Rattle.run_file.specs.RunFile.{rooms_in, Holds}
-
--- ---- the lower of two
-module _ (a b : ℕ) where
 
 -- ---- the bytes of the file's names
 module _ (file places lengths : List ℕ) (inside : (k : ℕ) → k < length lengths → get_or places k 0 + get_or lengths k 0 ≤ length file) where
@@ -63,16 +57,12 @@ module _ {file : List ℕ} {t : Loaded} (u : Usable file t) where
       ap (λ (n : ℕ). bytes_of (tabulate (name_at file t.names t.lengths) 0 n)) (sym (measured u))
       ∙ bytes_from file t.names t.lengths (λ k h. (all_named u).inside k (omega (arith, h, measured u))) (length t.lengths) 0 (omega arith)
 
-  pub names-count : length (names_in file t) ≡ length t.names
-  unfolding names_in
-  names-count = length-names file t.names t.lengths (length t.names)
-
   -- the room for names
   pub names_room_lem : (most most_bytes cap units : ℕ) (output : Counts) {a b : ℕ} → a ≡ lower (4096 - length t.names) most → b ≡ lower (65535 - sum t.lengths) most_bytes
       → ceilings (names_in file t) a b ≡ (rooms_in file most most_bytes cap units output t).names
   unfolding rooms_in
   names_room_lem most most_bytes cap units output {a} {b} p q =
-      λ d. ceilings (names_in file t) ((p ∙ ap (λ (n : ℕ). lower (4096 - n) most) (sym names-count)) d) ((q ∙ ap (λ (n : ℕ). lower (65535 - n) most_bytes) (sym names_bytes)) d)
+      λ d. ceilings (names_in file t) ((p ∙ ap (λ (n : ℕ). lower (4096 - n) most) (sym (length-names_in file t))) d) ((q ∙ ap (λ (n : ℕ). lower (65535 - n) most_bytes) (sym names_bytes)) d)
 
 -- ---- the stages
 module _ (file names' lengths sections symbols relocs partials units : List ℕ) where

@@ -5,7 +5,7 @@ use mathlib.Core.Path.{◌≡◌, refl, sym, ap, subst, ◌∙◌}
 use mathlib.Core.Bool.{Bool, true, false, cond}
 use mathlib.Core.List.{List, [], ◌∷◌, ◌++◌, append_assoc, append-nil}
 use native.Mathlib.Omega.{arith}
-use lib.Dec.{eqb, ltb}
+use lib.Dec.{ltb}
 use lib.ListN.{length, get_or, drop, length-append, length-drop}
 use lib.Seq.{drop_at, length-take-le}
 use Rattle.lists.specs.Outcome.{accepted, refuse, ◌>>◌}
@@ -14,12 +14,11 @@ use Rattle.lists.proofs.All.{all_append, all_at, all_map}
 use Rattle.lists.proofs.Outcomes.{bind_inv, then_inv, same_accepted}
 use Rattle.obj.specs.declared.Split.{Split}
 use Rattle.names.specs.Names.{name_at, number_of}
-use Rattle.names.specs.Fixed.{codes}
-use Rattle.names.specs.GapName.{without_dots, decimal2, hex8, gap_name}
 use Rattle.names.specs.Append.{Columns as Beside, Packed}
 use Rattle.names.proofs.Laws.{length-names, name_there}
+use Rattle.names.proofs.Gaps.{gap_short}
 use Rattle.load.specs.Load.{Loaded, names_in}
-use Rattle.load.proofs.Laws.{names_short}
+use Rattle.load.proofs.Laws.{names_short, length-names_in}
 use Rattle.loaded.specs.Tables.{image_from, sections_from, Usable}
 use Rattle.loaded.proofs.Laws.{measured}
 use Rattle.merge.specs.Merge.{Given}
@@ -31,20 +30,6 @@ use Rattle.create_gap_splits.specs.Create.{gaps_filled}
 use Rattle.run_splits.specs.Table.{with_gaps, split_table}
 use Rattle.run_splits.proofs.Needs.{section_short}
 use Rattle.listing.specs.Tables.{Spelled, Known}
-
--- ---- the name of a gap's unit
-dots_short : (name : List ℕ) → length (without_dots name) ≤ length name
-unfolding without_dots
-dots_short [] = omega arith
-dots_short (b ∷ name) = go (eqb b 46) (dots_short name)
-  where
-    go : (t : Bool) → length (without_dots name) ≤ length name → length (cond t (without_dots name) (b ∷ name)) ≤ length (b ∷ name)
-    go true h = omega arith
-    go false h = omega arith
-
-pub gap_short : (section address : ℕ) (name : List ℕ) → length (gap_name section address name) ≤ 17 + length name
-unfolding gap_name codes decimal2 hex8
-gap_short section address name = omega (arith, dots_short name)
 
 -- ---- names are only added
 
@@ -116,14 +101,9 @@ module _ {file : List ℕ} {t : Loaded} (u : Usable file t) where
       let d = bind_inv _ _ _ c.2 in
       subst (λ (f : Filled). Longer (names_in file t) f.names) (same_accepted d.2) (gaps_longer room names b.0 c.0 c.1)
 
-  -- as many as have a place
-  pub names-count : length (names_in file t) ≡ length t.names
-  unfolding names_in
-  names-count = length-names file t.names t.lengths (length t.names)
-
   -- the file's are not more
   pub names_more : {names : List (List ℕ)} → Longer (names_in file t) names → length t.names ≤ length names
-  names_more w = let a = ap length w.is ∙ length-append (names_in file t) w.more in omega (arith, a, names-count)
+  names_more w = let a = ap length w.is ∙ length-append (names_in file t) w.more in omega (arith, a, length-names_in file t)
 
   -- ---- the names that were added, in their columns
   module _ (names : List (List ℕ)) (w : Longer (names_in file t) names) (c : Beside) (n used : ℕ) (packed : Packed c.bytes c.places c.lengths n used)
@@ -136,7 +116,7 @@ module _ {file : List ℕ} {t : Loaded} (u : Usable file t) where
     names_are =
         let a = ap length w.is ∙ length-append (names_in file t) w.more in
         let b = ap length added_is in
-        omega (arith, a, b, names-count, length-names c.bytes c.places c.lengths n)
+        omega (arith, a, b, length-names_in file t, length-names c.bytes c.places c.lengths n)
 
     name_short : (k : ℕ) → k < n → length (name_at c.bytes c.places c.lengths k) ≤ 128
     name_short k h =

@@ -13,7 +13,8 @@ use Rattle.lists.proofs.Rows.{get_d_tabulate, length-tabulate}
 use Rattle.obj.specs.Records.{unit_at, stage_places}
 use Rattle.obj.specs.declared.Unit as units
 use Rattle.obj.proofs.Laws.{length-stage_places, stage_place}
-use Rattle.tables.specs.Records.{units_in, no_unit}
+use Rattle.obj.specs.Nothing.{no_unit}
+use Rattle.tables.specs.Records.{units_in}
 use Rattle.names.specs.Append.{Columns as Beside, Packed}
 use Rattle.load.specs.Load.{Loaded, names_in}
 use Rattle.loaded.specs.Tables.{Usable}

@@ -1,38 +1,24 @@
 -- The units in link order: each record has the name of its node, a unit of the splits, so that it is one of the names where theirs are.
 -- Assumes nothing.
 use Prim.Native.Nat.{ℕ, zero, suc, ◌<◌, ◌≤◌}
-use mathlib.Core.Path.{◌≡◌, refl, subst}
+use mathlib.Core.Path.{◌≡◌, subst}
 use mathlib.Core.Bool.{Bool, true, false, cond}
 use mathlib.Core.List.{List, [], ◌∷◌, ◌++◌}
 use native.Mathlib.Omega.{arith}
-use borrow.Author.Tests.{eqb-true, ltb-true}
-use lib.Dec.{eqb, ltb}
 use lib.ListN.{length, get_or}
 use Rattle.lists.specs.Outcome.{Outcome, accepted}
-use Rattle.lists.specs.Rows.{some}
 use Rattle.lists.specs.Sort.{All, none, each}
 use Rattle.lists.proofs.All.{all_append, all_map, all_any}
-use Rattle.lists.proofs.FirstIn.{first_in_passes}
 use Rattle.lists.proofs.Outcomes.{then_inv}
 use Rattle.obj.specs.declared.Split.{Split}
 use Rattle.obj.specs.declared.Unit as units
-use Rattle.tables.specs.Records.{no_unit}
 use Rattle.toposort.specs.Search.{End, all}
+use Rattle.toposort.specs.Sorting.{nodes_left}
 use Rattle.link_graph.specs.Graph.{Given, has_node, counted, nodes, graph_of}
 use Rattle.link_graph.proofs.Graph.{all_mapped}
 use Rattle.link_graph.proofs.Units.{graph_within}
-use Rattle.order.specs.LinkOrder.{link_order, nodes_left, hand_of, made_unit, first_record, record_of, records_of}
-use Rattle.order.proofs.Stage.{left_inside}
-
--- a unit's record has its name
-pub record_named : (splits : List Split) (us : List units.Unit) (unit : ℕ) → (record_of splits us unit).name ≡ unit
-unfolding record_of
-record_named splits us unit = go (ltb (first_record us unit) (length us)) refl
-  where
-    go : (b : Bool) → ltb (first_record us unit) (length us) ≡ b
-        → (cond b (get_or us (first_record us unit) no_unit) (made_unit unit (cond (some (hand_of unit) splits) 0 1))).name ≡ unit
-    go true e = eqb-true _ _ (first_in_passes (λ (u : units.Unit). eqb u.name unit) us no_unit (ltb-true _ _ e))
-    go false e = refl
+use Rattle.order.specs.LinkOrder.{link_order, record_of, records_of}
+use Rattle.order.proofs.Stage.{left_inside, own_name}
 
 -- without splits there are no nodes, and so none is left
 no_nodes : (us : List units.Unit) (pointers : ℕ → Bool) (room : ℕ) (l : List ℕ) → length us ≤ 1024
@@ -72,7 +58,7 @@ module _ (n : ℕ) where
   units_below splits us pointers room l few p e = all_mapped (λ v. record_of splits us (get_or (nodes splits) v 0)) (go splits p e)
     where
       named : (splits : List Split) → All (λ s. s.unit < n) splits → 0 < n → (v : ℕ) → (record_of splits us (get_or (nodes splits) v 0)).name < n
-      named splits p h v = omega (arith, record_named splits us (get_or (nodes splits) v 0), get_or-below v h (nodes-below splits p))
+      named splits p h v = omega (arith, own_name splits us (get_or (nodes splits) v 0), get_or-below v h (nodes-below splits p))
 
       go : (splits : List Split) → All (λ s. s.unit < n) splits → link_order (record { splits = splits; units = us; pointers = pointers }) room ≡ accepted (all l)
           → All (λ v. (record_of splits us (get_or (nodes splits) v 0)).name < n) l

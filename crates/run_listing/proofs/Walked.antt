@@ -13,7 +13,6 @@ use Rattle.lists.specs.Sort.{All, none, each}
 use Rattle.lists.proofs.All.{all_append, all_keep, all_sort}
 use Rattle.lists.proofs.Outcomes.{same_accepted}
 use Rattle.lists.proofs.Rising.{numbers-below}
-use Rattle.obj.specs.declared.Symbol.{Symbol}
 use Rattle.obj.specs.declared.Split.{Split}
 use Rattle.symbol_order.specs.Order.{symbols_of}
 use Rattle.relocs.proofs.Laws.{relocs_there}
@@ -22,6 +21,7 @@ use Rattle.pieces.specs.declared.PieceSymbol.{PieceSymbol}
 use Rattle.pieces.specs.declared.PieceReloc.{PieceReloc}
 use Rattle.pieces.specs.Questions.{count_of, has}
 use Rattle.walk.specs.Walk.{Input, Output, passed_over, entry_of, add_symbol, add_symbols, split_symbols, add_relocs, split_relocs, piece_of, given, on_kept, on_split, walk, nothing}
+use Rattle.walk.proofs.Adding.{entry_symbol}
 use Rattle.restore.proofs.Steps.{Reached, split_inv, kept_inv}
 use Rattle.restore.proofs.Walked.{sections_keep}
 use Rattle.splits.specs.Questions.{is_common, is_skipped}
@@ -34,15 +34,6 @@ pub record Below (names count most : ℕ) (o : Output) : Type 0 where
   pub relocs : All (λ r. r.relocation < most) o.relocs
 
 -- ---- symbols
-
--- an entry has its symbol's number
-pub entry_symbol : (unit place : ℕ) (s : Split) (i : ℕ) (y : Symbol) → (entry_of unit place s i y).symbol ≡ i
-unfolding entry_of
-entry_symbol unit place s i y = either (is_common s) _ _ refl refl
-  where
-    either : (b : Bool) (a c : PieceSymbol) → a.symbol ≡ i → c.symbol ≡ i → (cond b a c).symbol ≡ i
-    either true a c p q = p
-    either false a c p q = q
 
 module _ (image : Image) (unit place : ℕ) (s : Split) where
   symbol_below : (i : ℕ) → i < image.count → (out : List PieceSymbol) → All (λ y. y.symbol < image.count) out

@@ -12,6 +12,7 @@ use Rattle.tables.specs.declared.Counts.{Counts, Counts as Ceilings}
 use Rattle.tables.specs.Tables.{main_ceilings}
 use Rattle.load.specs.Load.{Loaded, load_of}
 use Rattle.load.specs.Columns.{part, tables_in, loaded_as, Room, Ready, Loads}
+use Rattle.load.proofs.Turns.{ok_same}
 use Rattle.loaded.specs.Tables.{byte_places, Usable}
 use Rattle.loaded.proofs.Bytes.{loaded_usable}
 use Rattle.loaded.proofs.Laws.{few_symbols, places_small, symbols_whole, order_room}
@@ -81,9 +82,6 @@ module _ (file : List ℕ) (r : Result Counts Refusal) (n : Counts) (places leng
         order_is = q.is;
         small = omega (arith, q.small, few_symbols usable, h);
       }
-
-ok_same : {T E : Type 0} {a b : T} → ◌≡◌ {A = Result T E} (Ok a) (Ok b) → a ≡ b
-ok_same e = cc
 
 -- the file is loaded, and its places and its order are there
 pub all_prepared : (file : List ℕ) {o : Outcome Loaded} (r : Result Counts Refusal) (p : Prepared) (places lengths heads chain : List ℕ) → Loads main_ceilings file o r places lengths heads chain

@@ -1,7 +1,7 @@
 -- What the entry's ends rest on: names put at the front of their tables, counts stored one after another, and what an answer of the run keeps is what its outcome leaves.
 -- Assumes nothing.
-use Prim.Native.Nat.{ℕ, suc, ◌+◌, ◌*◌, ◌≤◌}
-use mathlib.Core.Path.{◌≡◌, refl, sym, ap, ◌∙◌}
+use Prim.Native.Nat.{ℕ, ◌*◌, ◌≤◌}
+use mathlib.Core.Path.{◌≡◌, sym, ap, ◌∙◌}
 use mathlib.Core.List.{List, [], ◌∷◌}
 use native.Mathlib.Omega.{arith}
 use lib.ListN.{length, replicate, length-map}
@@ -9,9 +9,10 @@ use Rattle.lists.specs.Rows.{clear_from}
 use Rattle.lists.specs.Tables.{laid}
 use Rattle.lists.proofs.Clear.{clear_all}
 use Rattle.outputs.specs.Outputs.{halves, counts_of, store_count, store_counts}
-use Rattle.outputs.proofs.Laws.{length-halves, laid-after, counts_stored}
+use Rattle.outputs.proofs.Laws.{laid-after, counts_stored}
 use Rattle.gap_splits.specs.Entering.{bytes_of}
 use Rattle.stage_names.specs.StageNames.{ends_from, flat, Put}
+use Rattle.stage_names.proofs.Fits.{long_halves}
 use Rattle.lists.proofs.Rows.{length-tabulate}
 use Rattle.obj.specs.Records.{unit_at, stage_places}
 use Rattle.obj.proofs.Laws.{length-stage_places}
@@ -28,16 +29,11 @@ use Rattle.run_outputs.specs.Kept.{listed}
 
 -- ---- names
 
-length_ends : (at : ℕ) (names : List (List ℕ)) → length (ends_from at names) ≡ length names
-unfolding ends_from
-length_ends at [] = refl
-length_ends at (x ∷ names) = ap suc (length_ends (at + length x) names)
-
 -- names put at the front, and zeros after them
 module _ (names : List (List ℕ)) (e₀ b₀ e₁ b₁ : List ℕ) {r : ℕ} (p : Put names 0 0 e₀ b₀ e₁ b₁ r) where
   pub ends_laid : {e₂ : List ℕ} {n : ℕ} → n ≡ length names → 2 * n ≤ length e₀ → e₂ ≡ clear_from 0 (2 * n) e₁ → e₂ ≡ laid (length e₀) (halves (ends_from 0 names))
   ends_laid {e₂} {n} q h e =
-      let long = length-halves (ends_from 0 names) ∙ ap (λ (k : ℕ). 2 * k) (length_ends 0 names) in
+      let long = long_halves 0 names in
       e ∙ ap (clear_from 0 (2 * n)) p.ended ∙ laid-after e₀ (halves (ends_from 0 names)) (2 * n) (omega (arith, long, q)) (omega (arith, long, q, h))
 
   pub bytes_laid : {b₂ : List ℕ} {n : ℕ} → n ≡ bytes_of names → n ≤ length b₀ → b₂ ≡ clear_from 0 n b₁ → b₂ ≡ laid (length b₀) (flat names)

@@ -18,9 +18,7 @@ use Rattle.std.specs.Prelude.{Ok, Err}
 use Rattle.std.specs.Prelude as std
 use Rattle.obj.specs.Records.{split_width}
 use Rattle.run_outputs.specs.Laid.{Sizes}
-
-abbrev pub none : Counts
-none = record { pieces = 0; symbols = 0; relocs = 0 }
+use Rattle.stage_walk.specs.Lines.{none}
 
 -- how many records an answer keeps in each table
 abbrev pub kept_by : std.Result Ran Unlinked → Ran

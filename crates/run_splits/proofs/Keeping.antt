@@ -16,14 +16,14 @@ use Rattle.lists.proofs.Each.{all_placed}
 use Rattle.lists.proofs.Outcomes.{bind_inv, then_inv, then_both, same_accepted}
 use Rattle.obj.specs.Records.{section_at}
 use Rattle.obj.specs.declared.Split.{Split}
-use Rattle.tables.specs.Records.{sections_in, partials_in, no_split}
+use Rattle.obj.specs.Nothing.{no_split}
+use Rattle.tables.specs.Records.{sections_in, partials_in}
 use Rattle.tables.proofs.Lookups.{length-partials_in}
 use Rattle.load.specs.Load.{Loaded, names_in}
-use Rattle.load.proofs.Laws.{name_known, good_splits}
+use Rattle.load.proofs.Laws.{name_known, good_splits, length-names_in}
 use Rattle.loaded.specs.Tables.{image_from, sections_from, Usable}
 use Rattle.splits.specs.Updates.{with_common}
 use Rattle.names.specs.Names.{number_of}
-use Rattle.names.proofs.Laws.{length-names}
 use Rattle.trim.proofs.Ends.{trim_keeps, same_length, same_row}
 use Rattle.merge.specs.Merge.{Given, given, joint_of, section_end}
 use Rattle.merge.specs.Kept.{Inside, Keeps}
@@ -36,7 +36,6 @@ use Rattle.gaps.proofs.Inside.{found_lies}
 use Rattle.gap_splits.specs.Entering.{Filled, Ceilings, Named, full, named, gap_split, unit_name, entered, filled}
 use Rattle.create_gap_splits.specs.Create.{gaps_filled}
 use Rattle.loaded.proofs.Laws.{section_below}
-use Rattle.lists.specs.Bounds.{higher}
 use Rattle.lists.proofs.Compare.{higher-most}
 use Rattle.run_splits.specs.Table as table
 use Rattle.run_splits.specs.Table.{Fine, Homed}
@@ -59,10 +58,6 @@ fine_more h p = record { section = p.section; end = p.end; unit = omega (arith, 
 
 fine_all : {sections names more : ℕ} → names ≤ more → {l : List Split} → All (Fine sections names) l → All (Fine sections more) l
 fine_all h q = all_map (λ s p. fine_more h p) q
-
-names-count : (file : List ℕ) (t : Loaded) → length (names_in file t) ≡ length t.names
-unfolding names_in
-names-count file t = length-names file t.names t.lengths (length t.names)
 
 module _ {file : List ℕ} {t : Loaded} (u : Usable file t) (room : ℕ) (names : Ceilings) where
   abbrev sections : ℕ
@@ -179,6 +174,6 @@ module _ {file : List ℕ} {t : Loaded} (u : Usable file t) (room : ℕ) (names 
       let b = bind_inv _ _ _ a.2 in
       let c = bind_inv _ _ _ b.2 in
       let d = bind_inv _ _ _ c.2 in
-      let known = subst (λ (n : ℕ). All (Fine sections n) a.0) (sym (names-count file t)) (merged_fine a.0 a.1) in
+      let known = subst (λ (n : ℕ). All (Fine sections n) a.0) (sym (length-names_in file t)) (merged_fine a.0 a.1) in
       subst (λ (f : Filled). All (Homed sections (length f.names)) f.rows) (same_accepted d.2)
       (checked_homed (length c.0.names) c.0.rows d.0 (gaps_fine b.0 c.0 (common_fine _ a.0 b.0 known b.1) c.1) d.1)

@@ -13,8 +13,8 @@ use Rattle.lists.proofs.Outcomes.{bind_inv}
 use Rattle.lists.proofs.Rows.{get_d_tabulate, length-tabulate}
 use Rattle.names.specs.Names.{name_at}
 use Rattle.obj.specs.declared.Split.{Split}
+use Rattle.obj.specs.Nothing.{no_split}
 use Rattle.names.proofs.Laws.{length-names}
-use Rattle.tables.specs.Records.{no_split}
 use Rattle.load.specs.Load.{Loaded, names_in}
 use Rattle.loaded.specs.Tables.{byte_places, Usable}
 use Rattle.loaded.proofs.Laws.{few_sections, few_symbols, all_named, section_named, sections_kept, sections_heads}

@@ -15,15 +15,17 @@ use Rattle.lists.specs.Sort.{All}
 use Rattle.lists.specs.Members.{In}
 use Rattle.lists.proofs.All.{all_at, all_map}
 use Rattle.lists.proofs.Outcomes.{bind_inv}
+use Rattle.lists.specs.Bounds.{Bytes}
 use Rattle.fields.specs.Fields.{le16, enc16}
 use Rattle.fields.proofs.Laws.{round16}
 use Rattle.obj.specs.Answers.{refusal_word}
 use Rattle.obj.specs.Records.{section_at, unit_at, stage_places, split_width}
 use Rattle.obj.specs.declared.Split.{Split}
 use Rattle.obj.specs.declared.Unit as units
+use Rattle.obj.specs.Nothing.{no_split, no_unit}
 use Rattle.outputs.specs.Outputs.{halves, counts_of}
 use Rattle.tables.specs.Tables.{main_ceilings}
-use Rattle.tables.specs.Records.{splits_in, no_split, no_unit}
+use Rattle.tables.specs.Records.{splits_in}
 use Rattle.load.specs.Load.{Loaded, names_in, load_of}
 use Rattle.load.proofs.Laws.{name_known, good_units}
 use Rattle.loaded.specs.Tables.{Usable}
@@ -48,7 +50,7 @@ use Rattle.run.specs.Run.{Ended, done, cycle, stages, run_of}
 use Rattle.run_listing.proofs.Ended.{Finished, finished}
 use Rattle.entry_resolve_link_order.proofs.Theorems.{node_split, own_fits}
 use Rattle.entry_split_file.specs.Entry.{split_file_of, left_by}
-use Rattle.run_theorems.specs.Run.{Call, loaded_by, tables, section_heads, unit_records, rooms_for, rooms, result, split_count, splits_of, given_by, Bytes}
+use Rattle.run_theorems.specs.Run.{Call, loaded_by, tables, section_heads, unit_records, rooms_for, rooms, result, split_count, splits_of, given_by}
 use Rattle.split_origins.proofs.Originated.{origin_fits}
 use Rattle.run_entries.proofs.Good.{Good}
 use Rattle.run_entries.proofs.Rows as rows-laws

@@ -14,16 +14,17 @@ use Rattle.lists.specs.Members.{In}
 use Rattle.lists.specs.Tables.{laid}
 use Rattle.lists.proofs.Outcomes.{bind_inv, not_both, same_accepted}
 use Rattle.lists.proofs.Binds.{bind_goes}
+use Rattle.lists.specs.Bounds.{Bytes}
 use Rattle.fields.specs.Fields.{le16}
 use Rattle.obj.specs.Answers.{refusal_word, outcome_word}
 use Rattle.obj.specs.declared.Split.{Split}
 use Rattle.obj.specs.declared.Unit as units
+use Rattle.obj.specs.Nothing.{no_unit}
 use Rattle.outputs.specs.Outputs.{halves, counts_of}
 use Rattle.stage_names.specs.StageNames.{ends_from, flat}
 use Rattle.splits.specs.Bytes.{table_bytes}
 use Rattle.pieces.specs.Pieces.{piece_bytes, symbol_bytes, reloc_bytes, packed}
 use Rattle.tables.specs.Tables.{main_ceilings}
-use Rattle.tables.specs.Records.{no_unit}
 use Rattle.load.specs.Load.{names_in, load_of}
 use Rattle.toposort.specs.Search.{End, all, cyclic, lost}
 use Rattle.order_numbers.specs.Numbers.{has_order, order_twice}
@@ -33,8 +34,8 @@ use Rattle.link_graph.specs.Joined.{InOrder, HasCycle, IsCycle}
 use Rattle.link_graph.proofs.Graph.{length-nodes}
 use Rattle.order.specs.LinkOrder.{link_order, record_of, records_of}
 use Rattle.order.specs.Bytes.{units_bytes}
-use Rattle.order.proofs.Stage.{length_records}
-use Rattle.order.proofs.Theorems.{units_at, Ways, number_twice, no_room, ordered, on_cycle}
+use Rattle.order.proofs.Stage.{length_records, own_name}
+use Rattle.order.proofs.Theorems.{units_at, Ways, number_twice, no_room, ordered, on_cycle, differ}
 use Rattle.walk.specs.Walk.{Output}
 use Rattle.restore.proofs.Refusals.{Says}
 use Rattle.run_splits.specs.Table.{split_table}
@@ -43,9 +44,9 @@ use Rattle.run_listing.proofs.Ended.{Finished}
 use Rattle.run_file.specs.RunFile.{rooms_in}
 use Rattle.entry_split_file.specs.Entry.{split_file_of, left_by, word_by}
 use Rattle.entry_resolve_link_order.specs.Entry.{names_read, Records}
-use Rattle.entry_resolve_link_order.proofs.Theorems.{records_names, names_read_lem, own_records, not_twice, closed, own_name}
+use Rattle.entry_resolve_link_order.proofs.Theorems.{records_names, names_read_lem, own_records, not_twice, closed}
 use Rattle.symbol_order.specs.Keys.{rank_of}
-use Rattle.run_theorems.specs.Run.{Call, tables, unit_records, rooms, result, unit_count, split_count, given_by, HoldsTable, InLinkOrder, Tabled, Orderly, Walks, OnCycle, Bytes}
+use Rattle.run_theorems.specs.Run.{Call, tables, unit_records, rooms, result, unit_count, split_count, given_by, HoldsTable, InLinkOrder, Tabled, Orderly, Walks, OnCycle}
 use Rattle.run_entries.specs.Numbers.{staging}
 use Rattle.run_entries.proofs.Numbers.{Can}
 use Rattle.run_entries.proofs.Never.{walked_can}
@@ -240,9 +241,6 @@ not_ended e = let z : ◌≡◌ {A = ℕ} 0 1 = cc in omega arith
 same_cyclic : (l m : List ℕ) → ◌≡◌ {A = End} (cyclic l) (cyclic m) → l ≡ m
 same_cyclic l m e = cc
 
-not_all : (l m : List ℕ) → ◌≡◌ {A = End} (all l) (cyclic m) → ⊥
-not_all l m e = let z : ◌≡◌ {A = ℕ} 0 1 = cc in omega arith
-
 -- what was left after a cycle
 pub record Looped (c : Call) (us : List units.Unit) : Type 0 where
   pub table : Tabled c
@@ -258,7 +256,7 @@ module _ (c : Call) (us : List units.Unit) (t : Tabled c) where
   on_end (all l) o w q e = let b = bind_inv _ _ _ e in absurd (not_ended (same_accepted b.2))
   on_end (cyclic l) o (number_twice z) q e = absurd (not_both q)
   on_end (cyclic l) o (no_room z h) q e = absurd (not_both q)
-  on_end (cyclic l) o (ordered h m r inside acyclic) q e = absurd (not_all m l (same_accepted q))
+  on_end (cyclic l) o (ordered h m r inside acyclic) q e = absurd (differ m l (same_accepted q))
   on_end (cyclic l) o (on_cycle m x inside) q e =
       let same : m ≡ l = same_cyclic m l (same_accepted q) in
       record {
@@ -286,7 +284,8 @@ nothing-laid : (size : ℕ) → laid size [] ≡ replicate size 0
 nothing-laid size = ap (λ (k : ℕ). replicate {A = ℕ} k 0) (let e : size - 0 ≡ size = omega arith in e)
 
 -- THEOREM (T1.3): a call that is refused with 61 leaves in its unit output a cycle of joined units of the run's split table, none twice, each by its own record; zeros follow,
--- the fourth count is their number, and all other outputs are zeros
+-- the fourth count is their number, and all other outputs are zeros. What is lent as a file is bytes, as each slice of `u8` is: of other numbers a section's number of
+-- "20 no section" could be read that makes its word that of 61
 pub shown_cycle : (c : Call) → Bytes c.file → c.word ≡ refusal_word 61 0 0 → OnCycle c
 unfolding halves ends_from flat table_bytes packed
 shown_cycle c b e =

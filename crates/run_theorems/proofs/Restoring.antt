@@ -15,7 +15,7 @@ use Rattle.fields.specs.Fields.{le16}
 use Rattle.obj.specs.Records.{section_at}
 use Rattle.obj.specs.declared.Section.{Section}
 use Rattle.obj.specs.declared.Split.{Split}
-use Rattle.tables.specs.Records.{no_section, no_split}
+use Rattle.obj.specs.Nothing.{no_section, no_split}
 use Rattle.loaded.specs.Tables.{image_from, sections_from, byte_places, Usable}
 use Rattle.loaded.proofs.Laws.{sections_kept, symbols_sound, few_sections}
 use Rattle.relocs.specs.Relocs.{reloc_of}

@@ -9,9 +9,10 @@ use Rattle.obj.specs.Records.{stage_places, split_width}
 use Rattle.obj.specs.declared.Section.{Section}
 use Rattle.obj.specs.declared.Split.{Split}
 use Rattle.obj.specs.declared.Unit as units
+use Rattle.obj.specs.Nothing.{no_unit}
 use Rattle.outputs.specs.Outputs.{counts_of}
 use Rattle.tables.specs.Tables.{main_ceilings}
-use Rattle.tables.specs.Records.{sections_in, splits_in, units_in, no_unit}
+use Rattle.tables.specs.Records.{sections_in, splits_in, units_in}
 use Rattle.load.specs.Load.{Loaded, nothing, load_of}
 use Rattle.loaded.specs.Tables.{image_from, sections_from}
 use Rattle.relocs.specs.Relocs.{reloc_of}
@@ -153,10 +154,6 @@ pub record OnCycle (c : Call) : Type 0 where
   pub symbols : c.symbols ≡ replicate c.sizes.symbols 0
   pub relocs : c.relocs ≡ replicate c.sizes.relocs 0
   pub counts : c.counts ≡ counts_of c.sizes.counts (0 ∷ 0 ∷ 0 ∷ k ∷ 0 ∷ 0 ∷ 0 ∷ [])
-
--- what is lent as a file is bytes, as each slice of `u8` is: of other numbers a section's number of "20 no section" could be read that makes its word that of 61
-abbrev pub Bytes : List ℕ → Type 0
-Bytes file = (at : ℕ) → get_or file at 0 < 256
 
 -- ---- T2, T3: restoring
 

@@ -16,11 +16,12 @@ use Rattle.obj.specs.Records.{unit_at, stage_places}
 use Rattle.obj.specs.declared.Reloc.{Reloc}
 use Rattle.obj.specs.declared.Split.{Split}
 use Rattle.obj.specs.declared.Unit as units
-use Rattle.tables.specs.Records.{no_split}
+use Rattle.obj.specs.Nothing.{no_split}
 use Rattle.tables.specs.Tables.{main_ceilings}
 use Rattle.symbol_order.specs.Order.{symbol_of}
 use Rattle.names.specs.Append.{Columns as Beside}
 use Rattle.load.specs.Load.{Loaded, load_of}
+use Rattle.load.proofs.Laws.{length-names_in}
 use Rattle.loaded.specs.Tables.{image_from, sections_from, Usable}
 use Rattle.loaded.proofs.Bytes.{loaded_usable}
 use Rattle.loaded.proofs.Laws.{symbols_sound}
@@ -41,7 +42,6 @@ use Rattle.run.specs.Run.{Rooms, Result, done, walked, stages, run_of}
 use Rattle.run.specs.Answers.{ran_in, units_at}
 use Rattle.run_file.specs.RunFile.{rooms_in}
 use Rattle.run_listing.specs.Tables.{listed_tables}
-use Rattle.run_listing.proofs.Added.{names-count}
 use Rattle.run_listing.proofs.Ended.{Finished, finished}
 use Rattle.run_listing.proofs.Readable.{output_below}
 use Rattle.listing.specs.Listing.{common_size}
@@ -66,7 +66,7 @@ module _ {file : List ℕ} {t : Loaded} (u : Usable file t) (room : ℕ) (names 
       let b = bind_inv _ _ _ a.2 in
       let c = bind_inv _ _ _ b.2 in
       let d = bind_inv _ _ _ c.2 in
-      let known = subst (λ (n : ℕ). All (Fine (length t.sections) n) a.0) (sym (names-count u)) (merged_fine u room names a.0 a.1) in
+      let known = subst (λ (n : ℕ). All (Fine (length t.sections) n) a.0) (sym (length-names_in file t)) (merged_fine u room names a.0 a.1) in
       subst (λ (f : Filled). All (λ s. s.end ≤ 4026531840) f.rows) (same_accepted d.2)
       (checked_ends (length c.0.names) c.0.rows d.0
       (gaps_fine u room names b.0 c.0 (common_fine u room names _ a.0 b.0 known b.1) c.1) d.1)

@@ -24,12 +24,12 @@ use Rattle.pieces.specs.declared.Piece.{Piece}
 use Rattle.pieces.specs.declared.PieceSymbol.{PieceSymbol}
 use Rattle.pieces.specs.Questions.{count_of, has}
 use Rattle.walk.specs.Walk.{Input, Output, passed_over, entry_of, add_symbol, add_symbols, split_symbols, piece_of, given, over, on_kept, on_split, walk, nothing}
+use Rattle.walk.proofs.Adding.{entry_symbol}
 use Rattle.pieces.specs.declared.Counts.{Counts}
 use Rattle.restore.proofs.Steps.{From, split_inv, kept_inv}
 use Rattle.restore.proofs.Walked.{sections_keep, pieces_from}
 use Rattle.splits.specs.Questions.{is_common, is_skipped}
 use Rattle.lists.proofs.Among.{all_find}
-use Rattle.run_listing.proofs.Walked.{entry_symbol}
 use Rattle.run_totals.specs.Totals.{Once}
 
 -- ---- symbols

@@ -17,6 +17,7 @@ use Rattle.names.specs.Fixed.{is_pointer_list}
 use Rattle.names.specs.Names.{Named}
 use Rattle.sections.specs.Image.{Image}
 use Rattle.sections.specs.Ends.{object_below, is_linkers, lowered, lowered_end, less_four, splitting_end}
+use Rattle.sections.specs.Bytes.{bytes_of}
 
 -- its address lies below
 pub object_below_lem : (end : ℕ) (y : Symbol) → object_below end y ≡ true → y.address < end
@@ -64,3 +65,8 @@ module _ (g : Image) (n : ℕ) (head : Section) (bytes : List ℕ) where
 pub name_held : (bytes places lengths : List ℕ) → Named bytes places lengths (length places) → (k : ℕ) → k < length places
     → (k < length places) × (k < length lengths) × (get_or places k 0 + get_or lengths k 0 ≤ length bytes)
 name_held bytes places lengths names k h = (h, omega (arith, names.measured), names.inside k h)
+
+-- a section's bytes are asked at its own place alone
+pub bytes_as : (image I J : List ℕ) (n : ℕ) (head : Section) → get_or I n 0 ≡ get_or J n 0 → bytes_of image I n head ≡ bytes_of image J n head
+unfolding bytes_of
+bytes_as image I J n head e = rw e

@@ -58,11 +58,6 @@ end_meaning n start (Err e) = refused 10 n start
 
 -- ---- steps of the code
 
--- r is x, and at most n
-pub record Within (x n r : ℕ) : Type 0 where
-  pub is : r ≡ x
-  pub small : r ≤ n
-
 -- a list of pointers has four bytes at least
 pub record Four (list : Bool) (size end : ℕ) : Type 0 where
   pub bytes : list ≡ true → 4 ≤ size

@@ -44,3 +44,7 @@ head_in o n = head_of o.heads.bytes.now o.heads.places.now n
 
 abbrev pub KeptIn : Obj → (image : Table) → Type 0
 KeptIn o image = Kept o.heads.bytes.now o.heads.places.now image.bytes.now image.places.now o.names.places.now
+
+-- the sections with their bytes, of the tables that are lent
+abbrev pub sections_lent : (heads image : Table) → Sections
+sections_lent heads image = sections_of heads.bytes.now heads.places.now image.bytes.now image.places.now

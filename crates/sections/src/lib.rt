@@ -8,7 +8,8 @@ ghost use Rattle.obj.specs.Records.{Held};
 ghost use Rattle.symbol_order.specs.Order.{symbol_of, Order};
 ghost use Rattle.sections.specs.Image.{image_of, Tables, Part, Whole, Lies, image_in, TablesIn};
 ghost use Rattle.sections.specs.Bytes.{bytes_of, all_zero};
-ghost use Rattle.sections.specs.Ends.{object_below, lowered, less_four, splitting_end, end_meaning, Within, Four};
+ghost use Rattle.sections.specs.Ends.{object_below, lowered, less_four, splitting_end, end_meaning, Four};
+ghost use Rattle.symbols.specs.Ranges.{Within};
 ghost use Rattle.sections.specs.Sections.{head_of, Heads, head_in, KeptIn};
 ghost use Rattle.sections.specs.Alignment.{default_alignment, larger, alignment_of, alignment_from, alignment_meaning, chosen};
 

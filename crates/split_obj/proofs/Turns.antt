@@ -24,8 +24,6 @@ use Rattle.walk.specs.Steps.{decide}
 use Rattle.walk.proofs.Deciding.{carried, decide_then_give}
 use Rattle.split_obj.specs.Loop.{Hits}
 
--- ---- chains
-
 -- ---- a row's start
 row_start : (c : Columns) (i : ℕ) → (row_at c i).start ≡ get_or c.starts i 0
 unfolding row_of

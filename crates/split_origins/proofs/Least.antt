@@ -18,7 +18,7 @@ use Rattle.lists.proofs.Each.{all_insert_by}
 use Rattle.lists.proofs.Filter.{map_keep}
 use Rattle.lists.proofs.Outcomes.{bind_inv, same_accepted}
 use Rattle.obj.specs.declared.Split.{Split}
-use Rattle.tables.specs.Records.{no_split}
+use Rattle.obj.specs.Nothing.{no_split}
 use Rattle.splits.specs.Updates.{with_unit}
 use Rattle.splits.specs.Questions.{within, of_unit}
 use Rattle.split_edits.specs.Edits.{together, after, stops, renamed}
@@ -26,6 +26,7 @@ use Rattle.merge.specs.Merge.{Given, Step, keep, push, join, joint_of, decide}
 use Rattle.merge.proofs.Rounds.{decide_joins}
 use Rattle.split_origins.specs.Traced.{Traced, plain, splits_of, become, traced_grouped, traced_pushed, traced_joined, own_of, both_of, done, again, traced_carried, traced_rounds, traced_one, traced_all}
 use Rattle.split_origins.specs.Origins.{least, Right, LeastOf, Told}
+use Rattle.split_origins.proofs.Originated.{joint_origin}
 
 -- ---- the least of several numbers
 lower-min : (a b : ℕ) → lower a b ≡ min a b
@@ -118,10 +119,6 @@ all_renamed unit p l (each {x = r} q rest) = each (record { is = renamed_origin 
 all_joined : (section from to unit : ℕ) (l : List Traced) → All Right l → All Right (traced_joined section from to unit l)
 unfolding traced_joined
 all_joined section from to unit l q = all_renamed unit (within section from to) (splits_of l) (all_keep (λ r. not (within section from to r.split)) q)
-
-joint_origin : (new old : Split) → (joint_of new old).origin ≡ lower new.origin old.origin
-unfolding joint_of
-joint_origin new old = refl
 
 both_right : (new : Traced) (j old : Split) → Right new → j ≡ joint_of new.split old → (own : List Traced) → All Right own → splits_of own ≡ old ∷ []
     → Right (record { split = j; numbers = both_of new.numbers own })

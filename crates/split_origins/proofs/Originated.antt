@@ -16,7 +16,8 @@ use Rattle.lists.proofs.Each.{all_placed}
 use Rattle.lists.proofs.Outcomes.{bind_inv, then_both, same_accepted}
 use Rattle.obj.specs.Records.{partial_at, origin_of, partial_numbered}
 use Rattle.obj.specs.declared.Split.{Split}
-use Rattle.tables.specs.Records.{sections_in, partials_in, no_split}
+use Rattle.obj.specs.Nothing.{no_split}
+use Rattle.tables.specs.Records.{sections_in, partials_in}
 use Rattle.tables.proofs.Lookups.{partial_is, length-partials_in}
 use Rattle.load.specs.Load.{Loaded, names_in}
 use Rattle.loaded.specs.Tables.{image_from, sections_from, Usable}
@@ -65,7 +66,7 @@ module _ (new old : Split) where
   unfolding joint_of
   joint_bit = both_bits (new.flags % 2) a b (omega arith) (omega arith) (omega arith)
 
-  joint_origin : (joint_of new old).origin ≡ lower new.origin old.origin
+  pub joint_origin : (joint_of new old).origin ≡ lower new.origin old.origin
   unfolding joint_of
   joint_origin = refl
 

@@ -43,7 +43,7 @@ pub alignment_past : (bits : ℕ) → 17 < bits → alignment_of bits ≡ 0
 alignment_past zero h = alignment_none
 alignment_past (suc e) h = alignment_above e (le_of_suc-le-suc h)
 
-none_not_bad : bad_align 0 ≡ false
+pub none_not_bad : bad_align 0 ≡ false
 unfolding bad_align
 none_not_bad = refl
 

@@ -9,23 +9,12 @@ use native.Mathlib.Omega.{arith}
 use lib.ListN.{length, get_or, set}
 use Rattle.lists.specs.Rows.{keep_if}
 use Rattle.obj.specs.declared.Split.{Split}
+use Rattle.obj.proofs.Order.{not_below_further}
+use Rattle.obj.specs.Order.{NotBelow}
 use Rattle.splits.specs.Updates.{with_end}
-use Rattle.splits.specs.Rising.{NotBelow, AllNotBelow, Rising}
+use Rattle.splits.specs.Rising.{AllNotBelow, Rising}
 
 -- ---- two splits
-
-pub not_below_itself : (s : Split) → NotBelow s s
-not_below_itself s = record { sections = omega arith; starts = λ e. omega arith }
-
-pub not_below_further : (a s t : Split) → NotBelow a s → NotBelow s t → NotBelow a t
-not_below_further a s t p q =
-    record {
-      sections = omega (arith, p.sections, q.sections);
-      starts = λ e.
-          let first : a.section ≡ s.section = omega (arith, p.sections, q.sections) in
-          let second : s.section ≡ t.section = omega (arith, p.sections, q.sections) in
-          omega (arith, p.starts first, q.starts second);
-    }
 
 -- y starts where x does
 pub record SamePlace (x y : Split) : Type 0 where

@@ -146,3 +146,8 @@ module _ (P : ℕ → Type 0) where
 
   pub same_origins : (l m : List Split) → map (with_end 0) m ≡ map (with_end 0) l → All (λ s. P s.origin) l → All (λ s. P s.origin) m
   same_origins l m e q = origins_out m (subst (All (λ s. P s.origin)) (sym e) (origins_in q))
+
+-- so many rows stand in columns of 1,024
+pub rows_long : {starts ends units rest : List ℕ} {room : ℕ} → room ≤ 1024 → length starts ≡ 1024 → length ends ≡ 1024 → length units ≡ 1024 → length rest ≡ 1024
+    → Long (columns starts ends units rest) room
+rows_long h s e u r = record { starts = omega (arith, h, s); ends = omega (arith, h, e); units = omega (arith, h, u); rest = omega (arith, h, r) }

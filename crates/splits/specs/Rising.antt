@@ -1,12 +1,8 @@
 -- The order of a stage's split table: document 01 refuses "sections falling, or starts falling in one". Ends may fall.
 -- The laws of proofs/Rising.antt say it by places, and that an end may change; crate split_edits has those of its edits.
-use Rattle.std.specs.Prelude.{◌≤◌, ◌≡◌, List, [], ◌∷◌}
+use Rattle.std.specs.Prelude.{List, [], ◌∷◌}
 use Rattle.obj.specs.declared.Split.{Split}
-
--- s may stand somewhere after a
-pub record NotBelow (a s : Split) : Type 0 where
-  pub sections : a.section ≤ s.section
-  pub starts : a.section ≡ s.section → a.start ≤ s.start
+use Rattle.obj.specs.Order.{NotBelow}
 
 -- every row may stand somewhere after a
 abbrev pub AllNotBelow : Split → List Split → Type 0

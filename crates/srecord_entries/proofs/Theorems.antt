@@ -20,21 +20,22 @@ use Rattle.fields.specs.Fields.{le32, le64, enc64}
 use Rattle.fields.proofs.Laws.{round64}
 use Rattle.obj.specs.Answers.{outcome_word}
 use Rattle.obj.specs.declared.Section.{Section}
+use Rattle.obj.specs.Parts.{Part}
 use Rattle.stage_tables.specs.StageTables.{stage_sections}
 use Rattle.stage_tables.proofs.Laws.{length_sections}
 use Rattle.head_tables.specs.HeadTables.{head_tables}
-use Rattle.join.specs.Join.{Part, outside, differ, joined, held}
+use Rattle.join.specs.Join.{outside, differ, joined, held}
 use Rattle.join.proofs.Sizes.{joined_reads}
 use Rattle.join_pieces.proofs.Joining.{is_joined}
 use Rattle.piece_records.specs.Records.{part_at, next_at, parts_at, parts_of}
 use Rattle.kept_output.specs.Kept.{output_of, size_of}
-use Rattle.srecords.specs.Lines.{lines_of, some_share, write_of}
+use Rattle.srecords.specs.Lines.{lines_of, some_share, write_of, Ended}
 use Rattle.srecords.specs.Reader.{ReadsBack}
 use Rattle.srecords.proofs.Theorem.{Small, reads_back}
 use Rattle.entry_join_pieces.specs.Entry.{join_pieces}
 use Rattle.entry_write_srecords.specs.Entry.{write_srecords}
 use Rattle.head_tables.proofs.Laws.{tables_few}
-use Rattle.write_srecords.specs.Along.{room_along, Ended}
+use Rattle.write_srecords.specs.Along.{room_along}
 use Rattle.write_srecords.proofs.Laws.{room_is, section_ends}
 use Rattle.entry_write_srecords.proofs.Laws.{tables_ended}
 use Rattle.srecord_entries.specs.Entries.{Call, written, GivenBack}

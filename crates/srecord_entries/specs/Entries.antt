@@ -4,7 +4,8 @@ use Rattle.std.specs.Prelude.{ℕ, ◌+◌, ◌-◌, ◌≤◌, ◌≡◌, List,
 use Rattle.lists.specs.Outcome.{accepted}
 use Rattle.fields.specs.Fields.{le64}
 use Rattle.stage_tables.specs.StageTables.{stage_sections}
-use Rattle.join.specs.Join.{Part, nowhere, joined, held}
+use Rattle.obj.specs.Parts.{Part}
+use Rattle.join.specs.Join.{nowhere, joined, held}
 use Rattle.piece_records.specs.Records.{parts_of}
 use Rattle.srecords.specs.Reader.{bytes_put, Has, ReadsBack}
 use Rattle.entry_join_pieces.specs.Entry.{join_pieces}

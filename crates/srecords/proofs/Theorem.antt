@@ -12,20 +12,17 @@ use Rattle.lists.specs.Rows.{some}
 use Rattle.lists.specs.Sort.{All, none, each}
 use Rattle.lists.proofs.Each.{all_placed}
 use Rattle.obj.specs.declared.Section.{Section}
-use Rattle.join.specs.Join.{Part, nowhere, joined_at, joined_section, held_by}
+use Rattle.obj.specs.Parts.{Part}
+use Rattle.join.specs.Join.{nowhere, joined_at, joined_section, held_by}
 use Rattle.lists.proofs.Among.{some_by, none_member, range_member, at_member}
 use Rattle.join.proofs.Members.{Byte, of, empty, joined_byte}
 use Rattle.join.proofs.Sizes.{joined_section-held, section_reads, held_by_is, held_by-none, listed}
-use Rattle.srecords.specs.Lines.{S7, section_lines, lines_from, lines_of, line_of, has_address, share_address, some_share}
+use Rattle.srecords.specs.Lines.{S7, section_lines, lines_from, lines_of, line_of, has_address, share_address, some_share, Ended}
 use Rattle.srecords.specs.Reader.{read, Line, puts, bytes_put, read_text, text_lines, read_lines, Has, ReadsBack}
 use Rattle.srecords.proofs.Text.{text_line, wide_7, chunks, section_read}
 use Rattle.srecords.proofs.Put.{put_append, put_own, put_below, put_past}
 
 -- ---- what is asked of the input: what the table checks give, and bytes that are bytes
-
--- "end above 0xF0000000" is 4
-abbrev pub Ends : List Section → Type 0
-Ends heads = All (λ s. s.address + s.size ≤ 4294967296) heads
 
 abbrev pub Small : List Part → Type 0
 Small parts = (p : Part) → Memᴰ p parts → (i : ℕ) → get_or p.bytes i 0 < 256
@@ -66,7 +63,7 @@ held_end parts n head h = go (ℕ_discrete head.kind 3)
     go (yes e) = let z = held_by-none head e in let l = joined_section-held parts n head in omega arith
     go (no d) = let z = held_by_is head d in let l = joined_section-held parts n head in omega arith
 
-from_read : (parts : List Part) → Small parts → (n : ℕ) (heads : List Section) → Ends heads → (t : List ℕ) (rest : List Line) → read_text t ≡ read rest
+from_read : (parts : List Part) → Small parts → (n : ℕ) (heads : List Section) → Ended heads → (t : List ℕ) (rest : List Line) → read_text t ≡ read rest
     → read_text (lines_from parts n heads ++ t) ≡ read (data_from parts n heads ++ rest)
 unfolding lines_from data_from
 from_read parts f n [] none t rest e = e
@@ -83,7 +80,7 @@ last_read =
     ∙ text_line S7 0 [] wide_7 (record { below = omega arith; few = omega arith; small = none }) [] [] refl
 
 -- THEOREM: every line is read, as the data lines of the sections by number and one S7 line with address 0
-pub text_read : (heads : List Section) (parts : List Part) → Ends heads → Small parts → read_text (lines_of heads parts) ≡ read (data_from parts 0 heads ++ (last ∷ []))
+pub text_read : (heads : List Section) (parts : List Part) → Ended heads → Small parts → read_text (lines_of heads parts) ≡ read (data_from parts 0 heads ++ (last ∷ []))
 unfolding lines_of
 text_read heads parts h f = from_read parts f 0 heads h (line_of S7 0 []) (last ∷ []) last_read
 
@@ -154,7 +151,7 @@ unfolding bytes_put puts
 last_none s x = put_append s (last ∷ []) x ∙ append-nil (bytes_put s x)
 
 -- THEOREM: a reader by the public definition gives back each section's joined bytes at its addresses, and nothing else
-pub reads_back : (heads : List Section) (parts : List Part) → Ends heads → Small parts → some_share heads ≡ false → ReadsBack (lines_of heads parts) heads parts
+pub reads_back : (heads : List Section) (parts : List Part) → Ended heads → Small parts → some_share heads ≡ false → ReadsBack (lines_of heads parts) heads parts
 reads_back heads parts h f e = record {
   lines = data_from parts 0 heads ++ (last ∷ []);
   taken = text_read heads parts h f;

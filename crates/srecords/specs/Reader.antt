@@ -5,7 +5,8 @@ use Rattle.std.specs.Prelude.{ℕ, ◌+◌, ◌*◌, ◌-◌, ◌%◌, ◌≤◌
 use mathlib.Core.List.{List, [], ◌∷◌, Memᴰ}
 use Rattle.fields.specs.Fields.{big, number_at}
 use Rattle.obj.specs.declared.Section.{Section}
-use Rattle.join.specs.Join.{Part, nowhere, joined_at}
+use Rattle.obj.specs.Parts.{Part}
+use Rattle.join.specs.Join.{nowhere, joined_at}
 use Rattle.srecords.specs.Lines.{sum}
 
 -- what is read, or that it can't be

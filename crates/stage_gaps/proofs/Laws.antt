@@ -23,7 +23,7 @@ use Rattle.stage_names.specs.StageNames.{flat, Fits, Given}
 use Rattle.sections.specs.Image.{Image}
 use Rattle.sections.specs.Sections.{Sections}
 use Rattle.splits.specs.Bytes.{table_bytes}
-use Rattle.splits.specs.Columns.{columns, row_at, Long}
+use Rattle.splits.specs.Columns.{row_at}
 use Rattle.splits.specs.Table.{columns_of, rows_of}
 use Rattle.splits.specs.declared.split_table.SplitColumns.{SplitColumns}
 use Rattle.stage_splits.specs.StageSplits.{room_of, said, Taken}
@@ -137,8 +137,3 @@ added_room b l m p = record {
   long_lengths = omega (arith, p.few, m);
   long_bytes = omega (arith, p.short, b);
 }
-
--- .. and all rows
-pub rows_long : {starts ends units rest : List ℕ} {room : ℕ} → room ≤ 1024 → length starts ≡ 1024 → length ends ≡ 1024 → length units ≡ 1024 → length rest ≡ 1024
-    → Long (columns starts ends units rest) room
-rows_long h s e u r = record { starts = omega (arith, h, s); ends = omega (arith, h, e); units = omega (arith, h, u); rest = omega (arith, h, r) }

@@ -171,7 +171,7 @@ unfolding flat
 flat_append [] t = refl
 flat_append (x ∷ s) t = ap (λ (l : List ℕ). x ++ l) (flat_append s t) ∙ sym (append_assoc x (flat s) (flat t))
 
-length_ends : (at : ℕ) (s : List (List ℕ)) → length (ends_from at s) ≡ length s
+pub length_ends : (at : ℕ) (s : List (List ℕ)) → length (ends_from at s) ≡ length s
 unfolding ends_from
 length_ends at [] = refl
 length_ends at (x ∷ s) = ap suc (length_ends (at + length x) s)
@@ -183,7 +183,7 @@ ends_append at (x ∷ s) t =
     ap (λ (l : List ℕ). (at + length x) ∷ l)
     (ends_append (at + length x) s t ∙ ap (λ (k : ℕ). ends_from (at + length x) s ++ ends_from k t) (let e = length-append x (flat s) in let z : at + length x + length (flat s) ≡ at + length (x ++ flat s) = omega arith in z))
 
-long_halves : (at : ℕ) (s : List (List ℕ)) → length (halves (ends_from at s)) ≡ 2 * length s
+pub long_halves : (at : ℕ) (s : List (List ℕ)) → length (halves (ends_from at s)) ≡ 2 * length s
 long_halves at s = length-halves (ends_from at s) ∙ ap (λ (k : ℕ). 2 * k) (length_ends at s)
 
 module _ (base more : List (List ℕ)) (e₀ b₀ : List ℕ) (fits : Fits base more (length e₀) (length b₀)) where

@@ -50,6 +50,10 @@ unfoldable pub flat : List (List ℕ) → List ℕ
 flat [] = []
 flat (x ∷ names) = x ++ flat names
 
+-- .. and these two are a stage's name table: the ends, two bytes each, and `flat`
+abbrev pub name_ends : List (List ℕ) → List ℕ
+name_ends names = halves (ends_from 0 names)
+
 -- the names were put behind those that are there: `first` of them, which end at `at`; r is where the last ends
 pub record Put (names : List (List ℕ)) (first at : ℕ) (ends bytes ends' bytes' : List ℕ) (r : ℕ) : Type 0 where
   pub ended : ends' ≡ sets ends (2 * first) (halves (ends_from at names))

@@ -17,7 +17,6 @@ use Rattle.tables.specs.Tables.{AllHeld}
 use Rattle.tables.specs.Records.{image_places_of}
 use Rattle.stage_tables.specs.StageTables.{symbols_check, image_check}
 use Rattle.symbol_order.specs.Order.{symbol_of, order_of, Order}
-use Rattle.sections.specs.Bytes.{bytes_of}
 use Rattle.sections.specs.Image.{Tables}
 use Rattle.sections.specs.Sections.{Kept}
 use Rattle.stage_symbols.specs.StageSymbols.{Placed}
@@ -33,11 +32,6 @@ placed_held {l} {column} {r} p long =
     let is = p.is ∙ ap (λ (n : ℕ). take n l) long in
     let count = sym (length-take-le r column p.inside) ∙ ap length is in
     record { is = ap (λ (n : ℕ). take n column) (sym count) ∙ p.is; inside = omega (arith, count, p.inside) }
-
--- ---- a section's bytes are asked at its own place alone
-pub bytes_as : (image I J : List ℕ) (n : ℕ) (head : Section) → get_or I n 0 ≡ get_or J n 0 → bytes_of image I n head ≡ bytes_of image J n head
-unfolding bytes_of
-bytes_as image I J n head e = rw e
 
 -- ---- sections with bytes in an image
 module _ (lengths places image b : List ℕ) (passed : image_check 64 lengths places (length image) b ≡ accepted tt) where

@@ -1,8 +1,8 @@
 -- What a stage's sections and symbols that passed are to the questions, whatever ceiling was asked and whatever columns were filled. Each record's check gives its facts.
 -- Assumes nothing.
-use Prim.Native.Nat.{ℕ, zero, suc, ◌/◌, ◌<◌, ◌≤◌, suc-le-suc}
+use Prim.Native.Nat.{ℕ, ◌/◌, ◌<◌, ◌≤◌}
 use mathlib.Core.Path.{◌≡◌, sym, ap}
-use mathlib.Core.List.{List, [], ◌∷◌}
+use mathlib.Core.List.{List}
 use native.Mathlib.Nat.{mul-div-le}
 use native.Mathlib.Omega.{arith}
 use lib.ListN.{length, get_or, take, length-take}
@@ -15,9 +15,10 @@ use Rattle.obj.specs.Records.{section_at, stage_places}
 use Rattle.obj.specs.declared.Section.{Section}
 use Rattle.obj.specs.declared.Refusal.{Refusal}
 use Rattle.obj.proofs.Laws.{length-stage_places}
+use Rattle.obj.specs.Nothing.{no_section}
 use Rattle.names.specs.Names.{Named}
 use Rattle.tables.specs.Tables.{records_check, AllHeld}
-use Rattle.tables.specs.Records.{section_fault, image_fault, image_places_of, no_section}
+use Rattle.tables.specs.Records.{section_fault, image_fault, image_places_of}
 use Rattle.tables.proofs.Laws as tables
 use Rattle.tables.proofs.Lookups.{held, stage_held}
 use Rattle.stage_tables.specs.StageTables.{stage_sections, symbols_check, image_check}

@@ -23,8 +23,9 @@ use Rattle.obj.specs.declared.Section.{Section}
 use Rattle.obj.specs.declared.Split.{Split}
 use Rattle.obj.specs.Records.{split_at, stage_places, split_width, partial_width}
 use Rattle.obj.proofs.Laws.{length-stage_places}
+use Rattle.obj.specs.Nothing.{no_split}
 use Rattle.tables.specs.Tables.{records_check, AllHeld}
-use Rattle.tables.specs.Records.{partials_in, splits_in, no_split, partial_fault}
+use Rattle.tables.specs.Records.{partials_in, splits_in, partial_fault}
 use Rattle.tables.proofs.Lookups.{held, partial_is}
 use Rattle.tables.proofs.Laws.{partials_aligned, splits_partials}
 use Rattle.stage_tables.specs.StageTables.{partials_check, splits_check, Filled}

@@ -12,8 +12,9 @@ use Rattle.align.specs.Align.{bad_align}
 use Rattle.obj.specs.Records.{symbol_at, stage_places}
 use Rattle.obj.specs.declared.Section.{Section}
 use Rattle.obj.proofs.Laws.{length-stage_places}
+use Rattle.obj.specs.Nothing.{no_symbol}
 use Rattle.tables.specs.Tables.{records_check}
-use Rattle.tables.specs.Records.{symbol_fault, no_symbol}
+use Rattle.tables.specs.Records.{symbol_fault}
 use Rattle.tables.proofs.Laws as tables
 use Rattle.tables.proofs.Lookups.{stage_held}
 use Rattle.stage_tables.specs.StageTables.{stage_symbols, symbols_check}

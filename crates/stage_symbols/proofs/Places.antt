@@ -10,20 +10,15 @@ use lib.Dec.{leb}
 use lib.ListN.{length, take, drop, set, length-append, length-drop}
 use lib.Seq.{take_all, take-append-le}
 use Rattle.lists.proofs.Keep.{take_more}
-use Rattle.lists.proofs.Rows.{length-tabulate}
 use Rattle.fields.specs.Fields.{le32}
 use Rattle.tables.specs.Records.{image_places_of}
-use Rattle.tables.proofs.Faults.{image_place_here}
+use Rattle.tables.proofs.Faults.{image_place_here, length-image_places}
 use Rattle.stage_symbols.specs.StageSymbols.{Placed}
-
-length_places : (b : List ℕ) → length (image_places_of b) ≡ length b / 4
-unfolding image_places_of
-length_places b = length-tabulate (λ k. le32 b (4 * k)) 0 (length b / 4)
 
 pub place_more : (b column : List ℕ) (i : ℕ) {r : ℕ} → i < length column → i < length b / 4 → r ≡ le32 b (4 * i)
     → take i column ≡ take i (image_places_of b) → take (i + 1) (set column i r) ≡ take (i + 1) (image_places_of b)
 place_more b column i {r} h k e q =
-    take_more i column (image_places_of b) r 0 h (rw length_places k) (image_place_here b i k e) q
+    take_more i column (image_places_of b) r 0 h (rw length-image_places k) (image_place_here b i k e) q
 
 -- as many as both have stand at the front of the column
 pub places_placed : (b column items : List ℕ) (n : ℕ) → n ≡ min (length column) (length b / 4) → length items ≡ n
@@ -44,4 +39,4 @@ places_placed b column items n e long q =
     go true h = ap (λ (m : ℕ). take m (image_places_of b)) (let l = leb-true (length column) (length b / 4) h in omega (arith, e))
     go false h =
         let l = leb-false (length column) (length b / 4) h in
-        take_all n (image_places_of b) (rw length_places (omega (arith, e))) ∙ sym (take_all (length column) (image_places_of b) (rw length_places (omega arith)))
+        take_all n (image_places_of b) (rw length-image_places (omega (arith, e))) ∙ sym (take_all (length column) (image_places_of b) (rw length-image_places (omega arith)))

@@ -1,20 +1,24 @@
 -- A stage table in two steps: its size with the places of its records, then the records at those places. What both say together is the table's
 -- outcome; a table that passed has its size, its count and records without a fault. Callers use `table_passed` and `taken_few`, `taken_places`, `taken-count`, `taken-held`.
 -- Assumes nothing.
+use borrow.Author.Tests.{le-ltb}
 use Prim.Native.Nat.{ℕ, ◌*◌, ◌/◌, ◌%◌, ◌≤◌}
-use mathlib.Core.Path.{◌≡◌, sym, ap, ◌∙◌}
-use mathlib.Core.List.{List}
+use mathlib.Core.Path.{◌≡◌, sym, ap, ◌∙◌, refl}
+use mathlib.Core.List.{List, []}
 use native.Mathlib.Nat.{mul-le-mul, mul-div-le}
 use native.Mathlib.Omega.{arith}
 use lib.ListN.{length, take, length-map}
 use Rattle.lists.specs.Outcome.{Outcome, accepted, refused}
-use Rattle.lists.proofs.Outcomes.{not_both, then_stops, then_goes, then_both}
+use Rattle.lists.proofs.Outcomes.{not_both, then_stops, then_goes, then_both, passes}
+use Rattle.lists.specs.Rows.{tabulate}
 use Rattle.obj.specs.Records.{stage_places, section_at, split_at, split_width}
 use Rattle.obj.proofs.Laws.{length-stage_places}
+use Rattle.obj.specs.declared.Section.{Section}
 use Rattle.tables.specs.Tables.{size_check, records_check, AllHeld}
 use Rattle.tables.proofs.Lookups.{stage_held}
-use Rattle.tables.proofs.Laws.{size_passed}
-use Rattle.stage_tables.specs.StageTables.{stage_sections, stage_splits, table_check, Filled}
+use Rattle.tables.proofs.Laws.{size_passed, records_pass}
+use Rattle.tables.specs.Records.{split_fault}
+use Rattle.stage_tables.specs.StageTables.{stage_sections, stage_splits, table_check, Filled, splits_check}
 
 -- ---- a table that passed
 pub table_passed : (width ceiling : ℕ) (b : List ℕ) (fault : ℕ → ℕ) → table_check width ceiling b fault ≡ accepted tt
@@ -91,3 +95,14 @@ length_sections sections = length-map (stage_places 15 (length sections / 15)) (
 
 pub length_splits : (splits : List ℕ) → length (stage_splits splits) ≡ length splits / split_width
 length_splits splits = length-map (stage_places split_width (length splits / split_width)) (split_at splits) ∙ length-stage_places split_width (length splits / split_width)
+
+-- a table without splits has none, and passes every check
+pub no_splits : stage_splits [] ≡ []
+unfolding stage_places tabulate
+no_splits = refl
+
+pub no_splits_pass : (ceiling : ℕ) (lengths : List ℕ) (sections : List Section) → splits_check ceiling lengths sections [] ≡ accepted tt
+unfolding table_check size_check
+no_splits_pass ceiling lengths sections =
+    sym (then_goes (refl {a = size_check split_width ceiling 0}) _ (passes 1 0 _ _ _ refl ∙ passes 2 0 ceiling _ _ (le-ltb ceiling 0 (omega arith))))
+    ∙ records_pass (split_fault lengths sections (stage_splits [])) 0 (λ k h. absurd (omega (arith, h)))

@@ -13,8 +13,9 @@ use Rattle.obj.specs.declared.Section.{Section}
 use Rattle.obj.specs.declared.Split.{Split}
 use Rattle.obj.specs.declared.Unit as unit_records
 use Rattle.obj.proofs.Laws.{length-stage_places}
+use Rattle.obj.specs.Nothing.{no_split, no_unit}
 use Rattle.tables.specs.Tables.{records_check}
-use Rattle.tables.specs.Records.{split_fault, no_split, no_unit}
+use Rattle.tables.specs.Records.{split_fault}
 use Rattle.tables.proofs.Laws as tables
 use Rattle.tables.proofs.Lookups.{held, stage_held}
 use Rattle.stage_tables.specs.StageTables.{stage_splits, stage_units, splits_check, units_check}

@@ -13,7 +13,7 @@ use Rattle.sections.specs.declared.Obj.{Obj}
 use Rattle.tables.specs.Tables.{main_ceilings, AllHeld}
 use Rattle.stage_tables.specs.StageTables.{stage_splits, splits_check, units_check}
 use Rattle.sections.specs.Image.{Image}
-use Rattle.sections.specs.Sections.{Sections, sections_of, Kept}
+use Rattle.sections.specs.Sections.{Sections, Kept}
 use Rattle.splits.specs.Columns.{Columns, row_at}
 use Rattle.relocs.specs.Relocs.{reloc_of, Whole, Rising}
 use Rattle.units.specs.Units.{unit_names}
@@ -65,12 +65,9 @@ AskedIn o = Asked o.symbols.bytes.now o.symbols.places.now o.order.now o.names.b
 abbrev pub HeadedIn : (heads image : Table) → (name_places : List ℕ) → Type 0
 HeadedIn heads image name_places = Headed heads.bytes.now heads.places.now image.bytes.now image.places.now name_places
 
--- the sections' records, and the sections with their bytes
+-- the sections' records
 abbrev pub heads_in : (heads : Table) → List Section
 heads_in heads = sections_in heads.bytes.now heads.places.now
-
-abbrev pub sections_lent : (heads image : Table) → Sections
-sections_lent heads image = sections_of heads.bytes.now heads.places.now image.bytes.now image.places.now
 
 -- the relocations that passed
 pub record Relocated (relocs reloc_places : List ℕ) : Type 0 where

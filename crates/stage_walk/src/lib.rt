@@ -9,7 +9,8 @@ ghost use Rattle.relocs.specs.Relocs.{reloc_of};
 ghost use Rattle.units.specs.Units.{unit_names};
 ghost use Rattle.split_obj.specs.Loop.{Ready};
 ghost use Rattle.stage_walk.specs.Room.{room_in, within_ceilings};
-ghost use Rattle.stage_walk.specs.Lines.{walk_of, from_units, from_splits, Gives, Passed, heads_in, sections_lent, Rowed};
+ghost use Rattle.sections.specs.Sections.{sections_lent};
+ghost use Rattle.stage_walk.specs.Lines.{walk_of, from_units, from_splits, Gives, Passed, heads_in, Rowed};
 
 use obj::{Refusal, Table};
 use outputs::room_for;

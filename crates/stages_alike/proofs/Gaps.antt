@@ -15,6 +15,7 @@ use Rattle.obj.specs.declared.Symbol.{Symbol}
 use Rattle.obj.specs.declared.Split.{Split}
 use Rattle.names.specs.GapName.{gap_name}
 use Rattle.symbols.specs.Ranges.{stripped, symbols_between}
+use Rattle.symbols.proofs.Finds.{symbols_there}
 use Rattle.sections.specs.Image.{Image}
 use Rattle.sections.specs.Sections.{Sections}
 use Rattle.merge.specs.Merge.{Given, merge_one}
@@ -25,7 +26,7 @@ use Rattle.gap_splits.specs.Entering.{Filled, Ceilings, named, gap_split, entere
 use Rattle.create_gap_splits.specs.Create.{name_in, gaps_filled}
 use Rattle.stages_alike.specs.Alike.{SameImages, SameSections}
 use Rattle.stages_alike.proofs.Lists.{bind_when}
-use Rattle.stages_alike.proofs.Symbols.{symbols_below, between_alike}
+use Rattle.stages_alike.proofs.Symbols.{between_alike}
 use Rattle.stages_alike.proofs.Sections.{counted, alignment_alike, end_alike, default_alike, section_named}
 
 -- ---- the gaps of a section
@@ -44,7 +45,7 @@ module _ (y z : ℕ → Symbol) (count : ℕ) (same : (i : ℕ) → i < count �
   gap_end_alike n current next = λ k. end k >>= λ last. refuse 42 n current (leb last current) >> accepted last
     where
       end : end_from y n current next [] (symbols_between y count n current next) ≡ end_from z n current next [] (symbols_between z count n current next)
-      end = from_alike n current next [] (all_keep _ (symbols_below y count n)) ∙ ap (end_from z n current next []) (between_alike y z count same n current next)
+      end = from_alike n current next [] (all_keep _ (symbols_there y count n)) ∙ ap (end_from z n current next []) (between_alike y z count same n current next)
 
   up_to_alike : (most n current next alignment : ℕ) → gaps_up_to y count most n current next alignment ≡ gaps_up_to z count most n current next alignment
   unfolding gaps_up_to

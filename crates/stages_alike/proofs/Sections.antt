@@ -17,7 +17,8 @@ use Rattle.sections.specs.Alignment.{given, larger, default_alignment, alignment
 use Rattle.sections.specs.Ends.{object_below, lowered, lowered_end, less_four, splitting_end}
 use Rattle.stages_alike.specs.Alike.{SameImages, SameSections}
 use Rattle.stages_alike.proofs.Lists.{all_reverse}
-use Rattle.stages_alike.proofs.Symbols.{symbols_below, symbols_alike, highest_alike}
+use Rattle.symbols.proofs.Finds.{symbols_there}
+use Rattle.stages_alike.proofs.Symbols.{symbols_alike, highest_alike}
 
 -- the symbols and names of h, so many of them
 abbrev pub recounted : (h : Image) → (count : ℕ) → Image
@@ -56,7 +57,7 @@ module _ (g h : Image) (same : SameImages g h) where
     where
       end : lowered_end g n (before head bytes (g.name head.name)) ≡ lowered_end (recounted h g.count) n (before head bytes (h.name head.name))
       end =
-          lowered_alike (before head bytes (g.name head.name)) (all_reverse (symbols_below g.symbol g.count n) none)
+          lowered_alike (before head bytes (g.name head.name)) (all_reverse (symbols_there g.symbol g.count n) none)
           ∙ ap₂ (λ (name : List ℕ) (l : List ℕ). lowered (recounted h g.count) (before head bytes name) (reverse l)) e
           (symbols_alike g.symbol h.symbol g.count same.symbols n)
 

@@ -8,18 +8,14 @@ use lib.Dec.{leb, ltb}
 use Rattle.lists.specs.Outcome.{accepted, refuse, ◌>>◌}
 use Rattle.lists.specs.Rows.{keep_if}
 use Rattle.lists.specs.Sort.{All, none, each}
-use Rattle.lists.proofs.All.{all_keep, all_sort}
+use Rattle.lists.proofs.All.{all_keep}
 use Rattle.lists.proofs.Rising.{numbers-below}
 use Rattle.obj.specs.declared.Symbol.{Symbol}
 use Rattle.symbol_order.specs.Order.{has_section, in_section, key_of, symbols_of, order_of}
 use Rattle.symbols.specs.Ranges.{sized, sized_unstripped, last_or, highest_of, symbols_between, symbols_through, has_symbols, last_below, last_in, highest_in}
+use Rattle.symbols.proofs.Finds.{symbols_there}
 use Rattle.std.specs.Prelude.{None}
 use Rattle.stages_alike.proofs.Lists.{kept_alike, some_alike, sorted_alike, kept-twice}
-
--- a section's symbols are symbols of the table
-pub symbols_below : (symbol : ℕ → Symbol) (count n : ℕ) → All (λ i. i < count) (symbols_of symbol count n)
-unfolding symbols_of
-symbols_below symbol count n = all_sort (λ i. (symbol i).address) (all_keep (λ i. in_section n (symbol i)) (numbers-below count))
 
 module _ (y z : ℕ → Symbol) (count : ℕ) (same : (i : ℕ) → i < count → y i ≡ z i) where
   -- ---- the order
@@ -38,12 +34,12 @@ module _ (y z : ℕ → Symbol) (count : ℕ) (same : (i : ℕ) → i < count �
   module _ (n : ℕ) where
     -- its symbols that pass a test
     passing_alike : (p : Symbol → Bool) → keep_if (λ i. p (y i)) (symbols_of y count n) ≡ keep_if (λ i. p (z i)) (symbols_of z count n)
-    passing_alike p = kept_alike y z count same p (symbols_below y count n) ∙ ap (keep_if (λ i. p (z i))) (symbols_alike n)
+    passing_alike p = kept_alike y z count same p (symbols_there y count n) ∙ ap (keep_if (λ i. p (z i))) (symbols_alike n)
 
     -- .. and a second one
     twice_alike : (p q : Symbol → Bool)
         → keep_if (λ i. p (y i)) (keep_if (λ i. q (y i)) (symbols_of y count n)) ≡ keep_if (λ i. p (z i)) (keep_if (λ i. q (z i)) (symbols_of z count n))
-    twice_alike p q = kept-twice y z count same p q (symbols_below y count n) (symbols_alike n)
+    twice_alike p q = kept-twice y z count same p q (symbols_there y count n) (symbols_alike n)
 
     -- "a section that has such records"
     pub has_alike : has_symbols y count n ≡ has_symbols z count n
@@ -88,4 +84,4 @@ module _ (y z : ℕ → Symbol) (count : ℕ) (same : (i : ℕ) → i < count �
       unfolding highest_in
       highest_alike =
           range_alike
-          (highest_of_lem (all_keep (λ i. sized (y i)) (all_keep (λ i. between (y i)) (symbols_below y count n))) ∙ ap (highest_of z) (twice_alike sized between))
+          (highest_of_lem (all_keep (λ i. sized (y i)) (all_keep (λ i. between (y i)) (symbols_there y count n))) ∙ ap (highest_of z) (twice_alike sized between))

@@ -16,6 +16,7 @@ use Rattle.obj.specs.declared.Section.{Section}
 use Rattle.obj.specs.declared.Reloc.{Reloc}
 use Rattle.obj.specs.declared.Split.{Split}
 use Rattle.symbols.specs.Ranges.{has_symbols}
+use Rattle.symbols.proofs.Finds.{symbols_there}
 use Rattle.sections.specs.Image.{Image}
 use Rattle.sections.specs.Sections.{Sections}
 use Rattle.splits.specs.Questions.{within, is_common, is_skipped, next_start}
@@ -27,7 +28,7 @@ use Rattle.units.specs.Units.{unit_of}
 use Rattle.walk.specs.Walk.{Input, Output, outside, nonzero, fits, halved, passed_over, entry_of, add_symbol, add_symbols, split_symbols, reloc_entry, add_relocs, split_relocs, piece_of, given, over, on_aligned, on_kept, on_split, walk_splits, walk_section, walk_sections, nothing, walk}
 use Rattle.stages_alike.specs.Alike.{SameImages, SameSections, SameRelocs}
 use Rattle.stages_alike.proofs.Lists.{some_alike, kept-twice}
-use Rattle.stages_alike.proofs.Symbols.{symbols_below, through_alike, has_alike}
+use Rattle.stages_alike.proofs.Symbols.{through_alike, has_alike}
 use Rattle.stages_alike.proofs.Sections.{recounted, counted, symbol_named, end_alike, alignment_in_alike}
 
 -- ---- the relocations of a section
@@ -76,7 +77,7 @@ module _ (g h : Image) (same : SameImages g h) where
   symbols_alike : (n unit place : ℕ) (s : Split) (out : List PieceSymbol) → add_symbols g unit place s out (split_symbols g n s) ≡ add_symbols h unit place s out (split_symbols h n s)
   symbols_alike n unit place s out =
       counted g h same (λ x. add_symbols x unit place s out (split_symbols x n s))
-      (add_alike unit place s out (all_keep _ (symbols_below g.symbol g.count n))
+      (add_alike unit place s out (all_keep _ (symbols_there g.symbol g.count n))
       ∙ ap (add_symbols (recounted h g.count) unit place s out) (through_alike g.symbol h.symbol g.count same.symbols n s.start s.end))
 
 -- ---- the walk

@@ -39,7 +39,7 @@ no_last i p e = last_is None i p (λ f. absurd (none-some i f)) e
 -- ---- symbols of a section
 module _ (symbol : ℕ → Symbol) (count n : ℕ) where
   -- they are symbols of the table
-  symbols_there : All (λ i. i < count) (symbols_of symbol count n)
+  pub symbols_there : All (λ i. i < count) (symbols_of symbol count n)
   unfolding symbols_of
   symbols_there = all_sort (λ i. (symbol i).address) (all_keep (λ i. in_section n (symbol i)) (numbers-below count))
 

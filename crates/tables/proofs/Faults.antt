@@ -17,8 +17,9 @@ use Rattle.obj.specs.declared.Reloc.{Reloc}
 use Rattle.obj.specs.declared.Split.{Split}
 use Rattle.obj.specs.declared.Unit as units
 use Rattle.obj.specs.Records.{section_at, symbol_at, partial_at, partial_numbered, split_at, unit_at}
+use Rattle.obj.specs.Nothing.{no_section, no_symbol, no_split, no_unit}
 use Rattle.faults.specs.Faults.{section_bad, symbol_bad, reloc_bad, split_bad, split_misplaced, unit_bad}
-use Rattle.tables.specs.Records.{sections_in, symbols_in, partials_in, splits_in, units_in, no_section, no_symbol, no_split, no_unit, numbered, image_places_of, bytes_cut, split_before, reloc_fault_above, section_fault, image_fault, symbol_fault, partial_fault, split_fault, unit_fault}
+use Rattle.tables.specs.Records.{sections_in, symbols_in, partials_in, splits_in, units_in, numbered, image_places_of, bytes_cut, split_before, reloc_fault_above, section_fault, image_fault, symbol_fault, partial_fault, split_fault, unit_fault}
 use Rattle.tables.proofs.Lookups.{found, partial_is}
 
 -- no number was given: the test failed
@@ -27,7 +28,7 @@ no_number number true h e = absurd (omega arith)
 no_number number false h e = refl
 
 -- ---- sections
-length-image_places : (b : List ℕ) → length (image_places_of b) ≡ length b / 4
+pub length-image_places : (b : List ℕ) → length (image_places_of b) ≡ length b / 4
 unfolding image_places_of
 length-image_places b = length-tabulate (λ k. le32 b (4 * k)) 0 (length b / 4)
 

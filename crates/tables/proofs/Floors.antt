@@ -13,8 +13,9 @@ use lib.Seq.{take-suc, get_or-set_same, get_or-set_other}
 use Rattle.lists.proofs.Rows.{get_or_same}
 use Rattle.obj.specs.declared.Reloc.{Reloc}
 use Rattle.obj.specs.Records.{section_at, reloc_at}
+use Rattle.obj.specs.Nothing.{no_reloc}
 use Rattle.faults.proofs.Laws.{reloc_section, reloc_fours}
-use Rattle.tables.specs.Records.{sections_in, relocs_in, no_reloc, floor_from, reloc_fault_above, reloc_fault}
+use Rattle.tables.specs.Records.{sections_in, relocs_in, floor_from, reloc_fault_above, reloc_fault}
 use Rattle.tables.proofs.Lookups.{found}
 use Rattle.lists.specs.Outcome.{Outcome, accepted}
 use Rattle.tables.specs.Tables.{record_check}

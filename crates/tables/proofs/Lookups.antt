@@ -13,8 +13,9 @@ use Rattle.lists.specs.Sort.{none as no_more}
 use Rattle.lists.proofs.Rows.{get_d_tabulate, length-tabulate, tabulate_more}
 use Rattle.obj.specs.Records.{partial_at, partial_numbered, split_at, Held, stage_places, partial_width}
 use Rattle.obj.proofs.Laws.{length-stage_places, stage_place}
+use Rattle.obj.specs.Nothing.{no_split}
 use Rattle.tables.specs.Tables.{AllHeld}
-use Rattle.tables.specs.Records.{partials_in, splits_in, no_split}
+use Rattle.tables.specs.Records.{partials_in, splits_in}
 
 -- record k of a table whose records are all held
 pub held : {width : ℕ} {b places : List ℕ} → AllHeld width b places → (k : ℕ) → k < length places → Held width b places k

@@ -5,8 +5,9 @@
 ghost use Rattle.std.specs.Prelude.{ℕ, ◌≡◌, ◌*◌, ◌<◌, ◌≤◌, length, get_or, take, replicate};
 ghost use Rattle.obj.specs.Records.{stage_places, Held, split_width, partial_width};
 ghost use Rattle.obj.specs.Answers.{meaning};
+ghost use Rattle.obj.specs.Nothing.{no_section};
 ghost use Rattle.tables.specs.Tables.{main_ceilings, size_check, record_check, records_check, AllHeld};
-ghost use Rattle.tables.specs.Records.{sections_in, symbols_in, relocs_in, partials_in, splits_in, units_in, no_section, numbered, image_places_of, bytes_cut, split_before, reloc_fault_above, section_fault, image_fault, symbol_fault, reloc_fault, partial_fault, split_fault, unit_fault};
+ghost use Rattle.tables.specs.Records.{sections_in, symbols_in, relocs_in, partials_in, splits_in, units_in, numbered, image_places_of, bytes_cut, split_before, reloc_fault_above, section_fault, image_fault, symbol_fault, reloc_fault, partial_fault, split_fault, unit_fault};
 
 use faults::{reloc_bad, section_bad, split_bad, split_misplaced, symbol_bad, unit_bad};
 use fields::get32;

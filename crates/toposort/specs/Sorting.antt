@@ -1,13 +1,13 @@
 -- The whole sort, "Order" of document 01's "Refused, by place", from 62 on: an edge that joins no node, a table that is too short, and
 -- then the search, which ends with an order or a cycle (61).
 -- `meaning` gives this paper's number, section and address for each case of the code's answer.
-use Rattle.std.specs.Prelude.{ℕ, ◌+◌, ◌-◌, ◌≤◌, ◌<◌, ◌≡◌, List, ◌⊎◌, ◌≢◌, length, get_or, take, ltb}
+use Rattle.std.specs.Prelude.{ℕ, ◌+◌, ◌-◌, ◌≤◌, ◌<◌, ◌≡◌, List, [], ◌⊎◌, ◌≢◌, length, get_or, take, ltb}
 use Rattle.lists.specs.Outcome.{Outcome, accepted, refused, refuse, ◌>>◌}
 use Rattle.obj.specs.Answers.{Answer}
 use Rattle.std.specs.Prelude.{Result, Ok, Err}
 use Rattle.toposort.specs.declared.Unsorted.{Unsorted}
 use Rattle.toposort.specs.declared.Unsorted.TheVariants.{Cycle, NoNode, Short}
-use Rattle.toposort.specs.Search.{Graph, End, all, cyclic, bad_edge, searched, next_edge}
+use Rattle.toposort.specs.Search.{Graph, End, all, cyclic, lost, bad_edge, searched, next_edge}
 
 -- what the sort gives for a table with room for so many nodes
 unfoldable pub sort_of : Graph → ℕ → Outcome End
@@ -18,6 +18,13 @@ sort_of g room = do
   refuse 76 0 0 (ltb room g.count)
   -- "61 cycle, left in the unit table", or the order
   accepted (searched g)
+
+-- the nodes that are left in the table: the order, or "61 cycle, left in the unit table" (a search never ends lost: `searched_right`)
+abbrev pub nodes_left : Outcome End → List ℕ
+nodes_left (accepted (all l)) = l
+nodes_left (accepted (cyclic l)) = l
+nodes_left (accepted lost) = []
+nodes_left (refused number section address) = []
 
 -- what an answer of the code says, beside the table that it leaves
 abbrev pub meaning : Result ℕ Unsorted → List ℕ → Outcome End

@@ -5,18 +5,13 @@ use mathlib.Core.List.{List}
 use Prim.Native.Nat.{ℕ, zero, suc, ◌+◌, ◌≤◌, ◌<◌}
 use native.Mathlib.Omega.{arith}
 use lib.ListN.{length, get_or}
-use Rattle.lists.specs.Outcome.{Outcome, accepted, refused, ◌>>=◌}
+use Rattle.lists.specs.Outcome.{Outcome, ◌>>=◌}
 use Rattle.lists.proofs.Binds.{onward}
-use Rattle.obj.specs.declared.Section.{Section}
 use Rattle.obj.specs.declared.Split.{Split}
 use Rattle.sections.specs.Image.{Image}
-use Rattle.sections.specs.Bytes.{bytes_of}
 use Rattle.sections.specs.Sections.{sections_of}
+use Rattle.sections.proofs.Laws.{bytes_as}
 use Rattle.trim.specs.Trim.{falls_of, carry_from, cut_section, cut_from, trimmed}
-
-bytes_as : (image I J : List ℕ) (n : ℕ) (head : Section) → get_or I n 0 ≡ get_or J n 0 → bytes_of image I n head ≡ bytes_of image J n head
-unfolding bytes_of
-bytes_as image I J n head e = rw e
 
 module _ (g : Image) (heads head_places image I J : List ℕ) (same : (n : ℕ) → n < length head_places → get_or I n 0 ≡ get_or J n 0) where
   section_alike : (n : ℕ) (l : List Split) → n < length head_places

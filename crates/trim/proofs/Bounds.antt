@@ -16,12 +16,13 @@ use Rattle.lists.specs.Sort.{All, none, each}
 use Rattle.lists.proofs.All.{all_at}
 use Rattle.lists.proofs.Tests.{none_of, none_of_six, none_of_four}
 use Rattle.lists.proofs.Outcomes.{same_accepted, then_inv, then_both, bind_inv}
-use Rattle.tables.specs.Records.{no_split, no_section, numbered, split_before, split_fault}
+use Rattle.tables.specs.Records.{numbered, split_before, split_fault}
 use Rattle.tables.proofs.Laws.{partial_good, split_good}
 use Rattle.faults.specs.Faults.{split_bad, split_misplaced}
 use Rattle.faults.proofs.Laws.{split_end, split_in_section}
 use Rattle.obj.specs.declared.Section.{Section}
 use Rattle.obj.specs.declared.Split.{Split}
+use Rattle.obj.specs.Nothing.{no_section, no_split}
 use Rattle.sections.specs.Image.{Image}
 use Rattle.sections.specs.Sections.{Sections}
 use Rattle.sections.specs.Ends.{splitting_end}

@@ -14,8 +14,8 @@ use Rattle.lists.specs.Rows.{tabulate}
 use Rattle.lists.proofs.Rows.{rest-cons, rest-none, get_d_tabulate}
 use Rattle.lists.proofs.DropRows.{drop-rows}
 use Rattle.lists.proofs.Outcomes.{fails, passes}
-use Rattle.tables.specs.Records.{no_split}
 use Rattle.obj.specs.declared.Split.{Split}
+use Rattle.obj.specs.Nothing.{no_split}
 use Rattle.splits.specs.Updates.{with_end}
 use Rattle.trim.specs.Trim.{alongside, last_at, closed_below, carry_one, carry_from}
 

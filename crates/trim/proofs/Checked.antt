@@ -18,10 +18,10 @@ use Rattle.lists.proofs.Outcomes.{same_accepted, then_both, bind_inv, passes}
 use Rattle.lists.proofs.Binds.{bind_goes}
 use Rattle.align.specs.Align.{bad_align, align_up}
 use Rattle.align.proofs.Theorems.{align_up-least}
-use Rattle.tables.specs.Records.{no_split}
 use Rattle.obj.specs.declared.Section.{Section}
 use Rattle.obj.specs.declared.Symbol.{Symbol}
 use Rattle.obj.specs.declared.Split.{Split}
+use Rattle.obj.specs.Nothing.{no_split}
 use Rattle.symbols.specs.Ranges.{last_in}
 use Rattle.symbols.specs.Sound.{Sound}
 use Rattle.std.specs.Prelude.{Option, Some, None}

@@ -14,8 +14,8 @@ use Rattle.lists.specs.Rows.{tabulate, some}
 use Rattle.lists.proofs.Rows.{get_d_tabulate, length-tabulate}
 use Rattle.lists.proofs.DropRows.{drop-rows, set_itself, some_at}
 use Rattle.lists.proofs.Binds.{bind_goes, bind_stops}
-use Rattle.tables.specs.Records.{no_split}
 use Rattle.obj.specs.declared.Split.{Split}
+use Rattle.obj.specs.Nothing.{no_split}
 use Rattle.splits.specs.Updates.{with_end}
 use Rattle.sections.specs.Image.{Image}
 use Rattle.sections.specs.Sections.{Sections}

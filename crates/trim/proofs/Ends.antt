@@ -15,13 +15,14 @@ use Rattle.std.proofs.lemmas.Bool.{and_parts, cases_lt}
 use Rattle.lists.specs.Outcome.{accepted}
 use Rattle.lists.specs.Rows.{some}
 use Rattle.lists.proofs.Outcomes.{same_accepted, then_inv, bind_inv}
-use Rattle.tables.specs.Records.{no_split}
 use Rattle.obj.specs.declared.Split.{Split}
+use Rattle.obj.specs.Nothing.{no_split}
+use Rattle.obj.specs.Order.{NotBelow}
 use Rattle.sections.specs.Image.{Image}
 use Rattle.sections.specs.Sections.{Sections}
 use Rattle.sections.specs.Ends.{splitting_end}
 use Rattle.splits.specs.Updates.{with_end}
-use Rattle.splits.specs.Rising.{NotBelow, Rising}
+use Rattle.splits.specs.Rising.{Rising}
 use Rattle.splits.proofs.Rising.{SamePlace, below_same, above_same, rising_at, rising_of}
 use Rattle.trim.specs.Trim.{falls_of, alongside, last_at, carry_one, carry_from, cut_to, cut_last, cut_section, cut_from, trimmed}
 

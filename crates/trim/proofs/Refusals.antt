@@ -13,10 +13,10 @@ use Rattle.lists.specs.Outcome.{Outcome, accepted, refused, ◌>>◌, ◌>>=◌}
 use Rattle.lists.proofs.Outcomes.{not_both, passes}
 use Rattle.lists.proofs.Binds.{bind_goes, after_goes}
 use Rattle.align.specs.Align.{bad_align, align_up}
-use Rattle.tables.specs.Records.{no_split}
 use Rattle.obj.specs.declared.Section.{Section}
 use Rattle.obj.specs.declared.Symbol.{Symbol}
 use Rattle.obj.specs.declared.Split.{Split}
+use Rattle.obj.specs.Nothing.{no_split}
 use Rattle.symbols.specs.Ranges.{has_symbols, backwards, last_in, highest_in}
 use Rattle.symbols.specs.Sound.{Sound}
 use Rattle.std.specs.Prelude.{Option}

@@ -6,11 +6,11 @@
 use Rattle.std.specs.Prelude.{ℕ, zero, suc, ◌+◌, Option, Some, None, List, [], ◌∷◌, Bool, cond, not, ◌&&◌, get_or, set, drop, eqb, leb, ltb}
 use Rattle.lists.specs.Outcome.{Outcome, accepted, refuse, ◌>>◌, ◌>>=◌}
 use Rattle.lists.specs.Rows.{some}
-use Rattle.tables.specs.Records.{no_split}
 use Rattle.align.specs.Align.{align_up}
 use Rattle.obj.specs.declared.Section.{Section}
 use Rattle.obj.specs.declared.Symbol.{Symbol}
 use Rattle.obj.specs.declared.Split.{Split}
+use Rattle.obj.specs.Nothing.{no_split}
 use Rattle.symbols.specs.Ranges.{last_in}
 use Rattle.sections.specs.Image.{Image}
 use Rattle.sections.specs.Sections.{Sections}

@@ -16,7 +16,7 @@ use Rattle.lists.specs.Outcome.{Outcome, accepted, refused, refuse, ◌>>=◌, �
 use Rattle.lists.proofs.Outcomes.{fails, passes}
 use Rattle.align.specs.Align.{good_align}
 use Rattle.align.proofs.Theorems.{good_is}
-use Rattle.align.proofs.Laws.{good_parts}
+use Rattle.align.proofs.Laws.{good_parts, good_pos}
 use Rattle.obj.specs.declared.Section.{Section}
 use Rattle.obj.specs.declared.Split.{Split}
 use Rattle.sections.specs.Bytes.{zero_between}
@@ -64,14 +64,12 @@ module _ (sections : Sections) (n from to : ℕ) where
       between_nonzero z = rw (lt-ltb from to some, ap inside (sym e) ∙ q, there ∙ z) refl
 
 -- ---- the alignment
-good_above : (a : ℕ) → good_align a ≡ true → 0 < a
-good_above a e = let p = (good_is a).0 e in omega (arith, pow_pos p.0, p.2)
 
 module _ (wanted : Outcome Chosen) (n start : ℕ) (good : (c : Chosen) → wanted ≡ accepted c → good_align c.value ≡ true) where
   pub aligned_value : (a : Alignment) → accepted (chosen a) ≡ wanted → Valued wanted (chosen a).value
   aligned_value a e =
       let g = good (chosen a) (sym e) in
-      record { chosen = (chosen a, sym e, refl); least = good_above (chosen a).value g; most = (good_parts (chosen a).value g).1 }
+      record { chosen = (chosen a, sym e, refl); least = good_pos (chosen a).value g; most = (good_parts (chosen a).value g).1 }
 
 -- ---- two lines, and those after them
 two_lines : {A : Type 0} (a b : Outcome (Unit {0})) (m : Outcome A) → (a >> (b >> m)) ≡ ((a >> b) >> m)

@@ -12,7 +12,8 @@ use Rattle.lists.proofs.All.{all_at}
 use Rattle.lists.proofs.Some.{some_turn, some-none}
 use Rattle.lists.proofs.Stores.{sets-sets, drop-take, drop-sets}
 use Rattle.obj.specs.declared.Section.{Section}
-use Rattle.join.specs.Join.{Part, nowhere, outside, differ, joined_section, joined_from, joined, held_by, held}
+use Rattle.obj.specs.Parts.{Part}
+use Rattle.join.specs.Join.{nowhere, outside, differ, joined_section, joined_from, joined, held_by, held}
 use Rattle.join.proofs.Sizes.{joined_section-held, length-joined, held_by_is, held_by-none}
 use Rattle.lists.specs.Rows.{some}
 use Rattle.stage_tables.specs.StageTables.{stage_sections}
@@ -24,10 +25,10 @@ use Rattle.lists.proofs.Outcomes.{fails, passes}
 use Rattle.join.specs.Laying.{laid_over}
 use Rattle.join_pieces.specs.Joins.{zeroed}
 use Rattle.join_pieces.proofs.Joining.{laid_is}
-use Rattle.srecords.specs.Lines.{S7, line_of, section_lines, lines_from, lines_of, share_address, some_share, write_of}
+use Rattle.srecords.specs.Lines.{S7, line_of, section_lines, lines_from, lines_of, share_address, some_share, write_of, Ended}
 use Rattle.srecord_text.specs.Room.{lines_size, Fits}
 use Rattle.srecord_text.proofs.Laws.{line-length, lines_length}
-use Rattle.write_srecords.specs.Along.{lines_along, room_along, all_lines, Ended, Laying}
+use Rattle.write_srecords.specs.Along.{lines_along, room_along, all_lines, Laying}
 
 -- ---- the lines of the definition
 

@@ -1,13 +1,12 @@
 -- The lines of all sections from their joined bytes, one section's after another's, as the writer goes along them; and how long they are. That these are the lines of
 -- the definition: `along_is` and `room_is` of proofs/Laws.antt.
 use Rattle.std.specs.Prelude.{ℕ, ◌+◌, ◌/◌, ◌≤◌, ◌≡◌, List, [], ◌∷◌, ◌++◌, length, take, drop, false}
-use Rattle.lists.specs.Sort.{All}
 use Rattle.obj.specs.declared.Section.{Section}
 use Rattle.lists.specs.Rows.{some}
 use Rattle.join.specs.Join.{outside, differ, held_by, held}
 use Rattle.stage_tables.specs.StageTables.{stage_sections}
 use Rattle.piece_records.specs.Records.{parts_at, Whole}
-use Rattle.srecords.specs.Lines.{S7, line_of, section_lines}
+use Rattle.srecords.specs.Lines.{S7, line_of, section_lines, Ended}
 use Rattle.srecord_text.specs.Room.{lines_size}
 
 -- "sections by number", their bytes one after another
@@ -23,10 +22,6 @@ room_along (head ∷ later) = lines_size (held_by head) + room_along later
 -- all lines: the S7 line takes 15 bytes
 abbrev pub all_lines : List Section → (bytes : List ℕ) → List ℕ
 all_lines heads bytes = lines_along heads bytes ++ line_of S7 0 []
-
--- "end above 0xF0000000" is 4
-abbrev pub Ended : List Section → Type 0
-Ended heads = All (λ s. s.address + s.size ≤ 4294967296) heads
 
 -- the bytes of the sections lie from `from` on, at the end of the room for their lines or behind it
 pub record Ready (sections out : List ℕ) (from : ℕ) : Type 0 where

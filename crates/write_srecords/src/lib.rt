@@ -9,8 +9,8 @@ ghost use Rattle.stage_tables.specs.StageTables.{stage_sections};
 ghost use Rattle.piece_records.specs.Records.{parts_at, Whole};
 ghost use Rattle.srecord_text.specs.Room.{lines_size, Fits};
 ghost use Rattle.lists.specs.Rows.{some};
-ghost use Rattle.srecords.specs.Lines.{section_lines, lines_of, share_address, some_share, write_of};
-ghost use Rattle.write_srecords.specs.Along.{room_along, all_lines, Ended, Ready, Laying};
+ghost use Rattle.srecords.specs.Lines.{section_lines, lines_of, share_address, some_share, write_of, Ended};
+ghost use Rattle.write_srecords.specs.Along.{room_along, all_lines, Ready, Laying};
 
 use join_pieces::{any_outside, base_of, head_of, held_by, lay_over_zeros};
 use obj::{Refusal, refuse};

@@ -4,9 +4,9 @@ use mathlib.Core.Path.{refl, ◌∙◌}
 use lib.ListN.{length-set, length-replicate}
 use Rattle.lists.proofs.Rows.{fill_turn, fill_done}
 use Rattle.obj.specs.declared.Split.{Split}
+use Rattle.obj.specs.Nothing.{no_split}
 use Rattle.splits.specs.Columns.{row_at}
 use Rattle.splits.specs.Table.{columns_of}
-use Rattle.common.specs.Records.{no_split}
 use Rattle.common.proofs.records.Goals as goal
 
 pub loop-i-init : goal.loop-i-init

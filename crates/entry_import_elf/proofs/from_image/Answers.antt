@@ -4,10 +4,9 @@ use Rattle.obj.proofs.Errors.{is_err}
 use Rattle.obj.specs.Answers.{meaning}
 use Rattle.tables.specs.Records.{sections_in}
 use Rattle.name_table.specs.Stored.{stage_lengths}
-use Rattle.stage_names.specs.StageNames.{flat}
+use Rattle.stage_names.specs.StageNames.{flat, name_ends}
 use Rattle.stage_tables.specs.StageTables.{stage_sections}
 use Rattle.stage_tables.proofs.Laws.{taken_few, taken_places, taken-count, taken-held}
-use Rattle.number_names.specs.Numbers.{name_ends}
 use Rattle.number_names.specs.Tables.{listed}
 use Rattle.import.specs.Import.{tables_of}
 use Rattle.entry_import_elf.specs.Entry.{symbols_room}

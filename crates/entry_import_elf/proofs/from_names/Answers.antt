@@ -2,8 +2,7 @@
 use Rattle.std.proofs.Common.{ℕ, ◌∙◌, List, refl, sym, subst, ap, length}
 use Rattle.obj.proofs.Errors.{is_err}
 use Rattle.obj.specs.Answers.{meaning}
-use Rattle.stage_names.specs.StageNames.{flat}
-use Rattle.number_names.specs.Numbers.{name_ends}
+use Rattle.stage_names.specs.StageNames.{flat, name_ends}
 use Rattle.import.specs.Import.{tables_of}
 use Rattle.entry_import_elf.specs.Entry.{sections_room, symbols_room}
 use Rattle.entry_import_elf.specs.Stages.{sections_stage, RowsGiven}

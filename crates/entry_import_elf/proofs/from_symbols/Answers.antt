@@ -5,7 +5,7 @@ use Rattle.obj.proofs.Errors.{is_err}
 use Rattle.lists.specs.Outcome.{refused}
 use Rattle.elf.specs.declared.SectionHeader.{SectionHeader}
 use Rattle.elf_file.specs.File.{section_bytes, symbol_table}
-use Rattle.number_names.specs.Numbers.{name_ends}
+use Rattle.stage_names.specs.StageNames.{name_ends}
 use Rattle.number_names.specs.Tables.{listed}
 use Rattle.import.specs.Import.{tables_of}
 use Rattle.import.proofs.Sections.{symbols_count}

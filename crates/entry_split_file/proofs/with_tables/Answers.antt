@@ -1,7 +1,8 @@
 -- Its columns hold every table that is allowed.
 use Rattle.std.proofs.Common.{rules, arith, length}
 use Rattle.stage_splits.proofs.Laws.{room_low}
-use Rattle.run_file.proofs.Columns.{rows_long, names_stand}
+use Rattle.splits.proofs.Rows.{rows_long}
+use Rattle.run_file.proofs.Columns.{names_stand}
 use Rattle.entry_split_file.proofs.with_tables.Goals as goal
 
 pub invariant_of-table : goal.invariant_of-table

@@ -1,7 +1,7 @@
 -- The loop of `join_pieces::any_piece`: the pieces that are left (`Passing`), and looking among them is looking among all.
 use Rattle.std.specs.Prelude.{ℕ, ◌≡◌, ◌-◌, Bool}
 use Rattle.lists.specs.Rows.{some}
-use Rattle.join.specs.Join.{Part}
+use Rattle.obj.specs.Parts.{Part}
 use Rattle.piece_records.specs.Records.{part_at, parts_at}
 use Rattle.join_pieces.specs.Joins.{Among}
 use Rattle.join_pieces.proofs.Passing.{Passing}

@@ -5,7 +5,7 @@ use mathlib.Core.List.{List}
 use Prim.Native.Nat.{ℕ, ◌+◌, ◌-◌}
 use lib.ListN.{length}
 use lib.Seq.{sets}
-use Rattle.join.specs.Join.{Part}
+use Rattle.obj.specs.Parts.{Part}
 use Rattle.join.proofs.Sizes.{inside, spot-fits}
 use Rattle.join.specs.Laying.{laid_over}
 use Rattle.stage_tables.specs.StageTables.{stage_sections}

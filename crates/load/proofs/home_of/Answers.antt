@@ -4,7 +4,8 @@ use Prim.Native.Nat.{ℕ}
 use mathlib.Core.Path.{ap, ◌∙◌}
 use mathlib.Core.List.{List}
 use lib.ListN.{get_or}
-use Rattle.tables.specs.Records.{sections_in, no_section}
+use Rattle.obj.specs.Nothing.{no_section}
+use Rattle.tables.specs.Records.{sections_in}
 use Rattle.load.proofs.home_of.Goals as goal
 
 pub section_or_none-requires : goal.section_or_none-requires

@@ -7,7 +7,7 @@ use Prim.Native.Nat.{ℕ, ◌+◌, ◌<◌}
 use native.Mathlib.Omega.{arith}
 use lib.ListN.{length, get_or, drop}
 use Rattle.lists.proofs.All.{all_at}
-use Rattle.join.specs.Join.{Part}
+use Rattle.obj.specs.Parts.{Part}
 use Rattle.piece_records.specs.Records.{part_at, Lying}
 use Rattle.piece_order.specs.Order.{part_in}
 use Rattle.piece_sweep.specs.Sweep.{unequal, farther, sweep_from}

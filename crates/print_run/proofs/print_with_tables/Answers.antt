@@ -1,6 +1,7 @@
 -- Its columns hold every table that is allowed.
 use Rattle.std.proofs.Common.{rules, arith}
-use Rattle.run_file.proofs.Columns.{rows_long, names_stand}
+use Rattle.splits.proofs.Rows.{rows_long}
+use Rattle.run_file.proofs.Columns.{names_stand}
 use Rattle.print_run.proofs.print_with_tables.Goals as goal
 
 pub invariant_of-table : goal.invariant_of-table

@@ -6,10 +6,11 @@ use Rattle.tables.specs.Records.{sections_in}
 use Rattle.sections.specs.Image.{image_in}
 use Rattle.sections.specs.Sections.{sections_of}
 use Rattle.splits.specs.Table.{rows_in}
+use Rattle.splits.proofs.Rows.{rows_long}
 use Rattle.stage_splits.proofs.Laws.{room_low, room_fits}
 use Rattle.gap_splits.specs.Answers.{ceilings}
 use Rattle.names.specs.Listed.{names_in}
-use Rattle.stage_gaps.proofs.Laws.{rows_long, splits_stop, splits_go}
+use Rattle.stage_gaps.proofs.Laws.{splits_stop, splits_go}
 use Rattle.stage_gaps.proofs.with_splits.Goals as goal
 
 pub invariant_of-table : goal.invariant_of-table

@@ -3,7 +3,8 @@ use Rattle.std.proofs.Common.{◌<◌, arith, length}
 use Rattle.std.proofs.lemmas.List.{length-map}
 use Rattle.obj.proofs.Errors.{is_err}
 use Rattle.obj.specs.Records.{reloc_at}
-use Rattle.tables.specs.Records.{relocs_in, no_reloc}
+use Rattle.obj.specs.Nothing.{no_reloc}
+use Rattle.tables.specs.Records.{relocs_in}
 use Rattle.tables.proofs.Loops.{going, stops, goes_on, passes_all}
 use Rattle.tables.proofs.Lookups.{found}
 use Rattle.tables.proofs.Floors.{no_floors, floors_more, reloc_fault_here, reloc_passed}

@@ -6,7 +6,8 @@ use native.Mathlib.Omega.{arith}
 use borrow.Author.Tests.{eq-eqb, ne_eqb}
 use Rattle.lists.proofs.Tests.{by_true, by_false}
 use Rattle.obj.specs.Records.{split_at}
-use Rattle.tables.specs.Records.{no_split, split_before}
+use Rattle.obj.specs.Nothing.{no_split}
+use Rattle.tables.specs.Records.{split_before}
 use Rattle.tables.proofs.Lookups.{found}
 use Rattle.tables.proofs.split_before.Goals as goal
 

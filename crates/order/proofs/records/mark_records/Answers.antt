@@ -6,7 +6,8 @@ use lib.ListN.{length, length-map, length-set}
 use Rattle.std.proofs.lemmas.List.{get_or-map}
 use Rattle.obj.specs.Records.{unit_at}
 use Rattle.obj.specs.declared.Unit as units
-use Rattle.tables.specs.Records.{units_in, no_unit}
+use Rattle.obj.specs.Nothing.{no_unit}
+use Rattle.tables.specs.Records.{units_in}
 use Rattle.order.proofs.Marks.{MarkedFrom, marked_more}
 use Rattle.order.proofs.records.mark_records.Goals as goal
 

@@ -5,7 +5,7 @@ use Prim.Native.Nat.{◌<◌}
 use native.Mathlib.Omega.{arith}
 use Rattle.std.proofs.lemmas.List.{get_or-map}
 use Rattle.obj.specs.Records.{unit_at}
-use Rattle.tables.specs.Records.{no_unit}
+use Rattle.obj.specs.Nothing.{no_unit}
 use Rattle.order.proofs.Marks.{by_auto, by_hand, by_record}
 use Rattle.order.proofs.records.record_of.Goals as goal
 
