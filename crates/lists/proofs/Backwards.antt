@@ -13,7 +13,7 @@ use Rattle.std.specs.List.{FoldsTo}
 use Rattle.std.specs.Iterator.{Yields, YieldsThen}
 use Rattle.std.specs.declared.iter.Rev.{Rev}
 use Rattle.std.specs.declared.ops.Range.{Range}
-use Rattle.lists.proofs.Compare.{lt_or_ge}
+use Rattle.std.proofs.lemmas.Bool.{cases_lt}
 
 -- one call: the end goes down to the number that is given, until there is none
 abbrev pub Falls : Rev (Range ℕ) → Option ℕ → Rev (Range ℕ) → Type 0
@@ -32,12 +32,12 @@ module _ {F : Type 0} {g : Mut F (Bor ℕ × Unit {0}) Bool} (f : F) (Yes No : �
 
   -- the highest number does not pass
   above : (low end x top : ℕ) (r : Option ℕ) → top ≡ end + 1 → x ≡ end → No x → Found low end r → Found low top r
-  above low end x top None e q n h = λ k a b. by k a b (lt_or_ge k end)
+  above low end x top None e q n h = λ k a b. by k a b (cases_lt k end)
     where
       by : (k : ℕ) → low ≤ k → k < top → (k < end) ⊎ (end ≤ k) → No k
       by k a b (inl l) = h k a l
       by k a b (inr l) = subst No (let z : x ≡ k = omega (arith, e, q) in z) n
-  above low end x top (Some i) e q n h = (h.0, omega (arith, e, h.1), h.2, λ k a b. by k a b (lt_or_ge k end))
+  above low end x top (Some i) e q n h = (h.0, omega (arith, e, h.1), h.2, λ k a b. by k a b (cases_lt k end))
     where
       by : (k : ℕ) → i < k → k < top → (k < end) ⊎ (end ≤ k) → No k
       by k a b (inl l) = h.3 k a l

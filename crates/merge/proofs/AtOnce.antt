@@ -2,14 +2,13 @@
 -- and a push that are made at once are the rest of the merge. Assumes nothing.
 use mathlib.Core.Path.{◌≡◌, sym, ap, ◌∙◌}
 use mathlib.Core.List.{List, []}
-use mathlib.Core.Bool.{false}
+use mathlib.Core.Bool.{false, false≢true}
 use Prim.Native.Nat.{ℕ, ◌≤◌, ◌<◌}
 use native.Mathlib.Omega.{arith}
 use lib.ListN.{length}
 use Rattle.std.specs.Prelude.{Ok, Err, is_err}
 use Rattle.lists.specs.Rows.{keep_if}
 use Rattle.lists.specs.Outcome.{accepted}
-use Rattle.lists.proofs.Compare.{never}
 use Rattle.obj.specs.Answers.{Answer}
 use Rattle.obj.specs.declared.Split.{Split}
 use Rattle.obj.specs.declared.Section.{Section}
@@ -24,7 +23,7 @@ use Rattle.merge.proofs.Decisions.{none-pushed}
 
 pub neither : (sections : List Section) (s : Split) (r : Answer) → is_err r ≡ false → Begins sections s r → Begins sections s (Ok tt)
 neither sections s (Ok _) e begins = begins
-neither sections s (Err r) e begins = absurd (never (sym e))
+neither sections s (Err r) e begins = absurd (false≢true (sym e))
 
 -- neither 20 nor 21 comes of s
 module _ (sections : List Section) (s : Split) (inside : Begins sections s (Ok tt)) where

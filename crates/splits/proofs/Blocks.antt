@@ -9,8 +9,8 @@ use borrow.Author.Tests.{lt-ltb, le-ltb}
 use lib.Dec.{eqb, leb, ltb}
 use lib.ListN.{get_or}
 use Rattle.std.specs.Prelude.{Option, Some, None}
+use Rattle.std.proofs.lemmas.Bool.{cases_lt, and_right}
 use Rattle.lists.specs.Rows.{tabulate, keep_if, some}
-use Rattle.lists.proofs.Compare.{lt_or_ge, and_fails}
 use Rattle.lists.proofs.Rows.{length-tabulate, get_d_tabulate}
 use Rattle.lists.proofs.Some.{some_false}
 use Rattle.lists.proofs.SomeRows.{some_row, some_ended}
@@ -52,7 +52,7 @@ none_of p f i size e k h l =
 
 -- what holds of the places from `at` up to i, and of those from i up to j
 pub each_on : (P : ℕ → Type 0) (at i j : ℕ) → ((k : ℕ) → at ≤ k → k < i → P k) → ((k : ℕ) → i ≤ k → k < j → P k) → (k : ℕ) → at ≤ k → k < j → P k
-each_on P at i j low high k h l = go (lt_or_ge k i)
+each_on P at i j low high k h l = go (cases_lt k i)
   where
     go : (k < i) ⊎ (i ≤ k) → P k
     go (inl m) = low k h m
@@ -95,7 +95,7 @@ pub units_none : (section unit : ℕ) (c : Columns) (i size : ℕ) → some (λ 
     → NonePasses (of_unit section unit) c i (i + size)
 unfolding row_of
 units_none section unit c i size e k h l =
-    and_fails (eqb (row_at c k).section section) (none_of (λ (u : ℕ). eqb u unit) (λ (j : ℕ). get_or c.units j 0) i size e k h l)
+    and_right (eqb (row_at c k).section section) _ (none_of (λ (u : ℕ). eqb u unit) (λ (j : ℕ). get_or c.units j 0) i size e k h l)
 
 -- the first row that passes begins those that pass
 pub first_hit : (p : Split → Bool) (c : Columns) (n at : ℕ) (r : Option ℕ) → at ≤ n → FirstPlace p c at n r → NextHit p c n at r
@@ -110,7 +110,7 @@ pub starts_none : (section from to : ℕ) (c : Columns) (i size : ℕ) → some 
     → (k : ℕ) → i ≤ k → k < i + size → within section from to (row_at c k) ≡ false
 unfolding row_of
 starts_none section from to c i size e k h l =
-    and_fails (eqb (row_at c k).section section)
+    and_right (eqb (row_at c k).section section) _
     (none_of (λ (s : ℕ). leb from s && ltb s to) (λ (j : ℕ). get_or c.starts j 0) i size e k h l)
 
 -- some row from i on passes: the rows up to j do not

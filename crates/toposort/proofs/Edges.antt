@@ -11,7 +11,7 @@ use lib.ListN.{length, get_or, drop, drop_of_length-le, length-drop}
 use lib.Seq.{drop-cons, get_or-drop}
 use lib.Dec.{eqb, leb}
 use borrow.Author.Tests.{eq-eqb, ne_eqb, eqb-true, eqb-false, le-leb, lt-leb, leb-true, leb-false}
-use Rattle.lists.proofs.Tests.{or_false}
+use Rattle.std.proofs.lemmas.Bool.{or_parts}
 use Rattle.toposort.specs.Search.{first, next_edge, bad_edge, is_bad}
 use Rattle.toposort.specs.Sorting.{After}
 
@@ -111,7 +111,7 @@ pub bad_past : (n : ℕ) (from to : List ℕ) (e : ℕ) → e ≤ length from �
     → ((k : ℕ) → k < e → is_bad n from to k ≡ false) → bad_edge n from to ≡ bad_from n from to e
 bad_past n from to zero h p good = omega arith
 bad_past n from to (suc e) h p good =
-    let here = or_false _ _ (good e (omega arith)) in
+    let here = or_parts _ _ (good e (omega arith)) in
     bad_past n from to e (omega arith) p (λ k q. good k (omega arith))
     ∙ bad_on n from to e (omega arith) (omega arith) (leb-false _ _ here.0) (leb-false _ _ here.1)
     ∙ ap (bad_from n from to) (add-one e)

@@ -9,12 +9,12 @@ use borrow.Author.Tests.{lt-ltb, le-ltb}
 use lib.Dec.{ltb}
 use Rattle.std.specs.Prelude.{min}
 use Rattle.std.proofs.Math.Nat.{min-eq_left, min-eq_right}
-use Rattle.lists.proofs.Compare.{lt_or_ge}
+use Rattle.std.proofs.lemmas.Bool.{cases_lt}
 use Rattle.outputs.specs.Room.{room_for}
 use Rattle.outputs.proofs.room_for.Goals as goal
 
 lower : (a b : ℕ) → min a b ≡ cond (ltb a b) a b
-lower a b = go (lt_or_ge a b)
+lower a b = go (cases_lt a b)
   where
     go : (a < b) ⊎ (b ≤ a) → min a b ≡ cond (ltb a b) a b
     go (inl h) = min-eq_left (omega arith) ∙ sym (ap (λ (t : Bool). cond t a b) (lt-ltb a b h))

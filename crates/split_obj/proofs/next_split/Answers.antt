@@ -5,8 +5,8 @@ use native.Mathlib.Numerals.{add-one}
 use mathlib.Core.Logic.{◌⊎◌, inl, inr}
 use borrow.Author.Tests.{tests, lt-ltb, le-ltb}
 use Rattle.std.proofs.lemmas.Iterator.{first_from_Range}
+use Rattle.std.proofs.lemmas.Bool.{cases_lt}
 use Rattle.lists.specs.Rows.{tabulate, keep_if}
-use Rattle.lists.proofs.Compare.{lt_or_ge}
 use Rattle.lists.proofs.FilterRows.{filter_hit, filter_miss, filter_none}
 use Rattle.obj.specs.declared.Split.{Split}
 use Rattle.splits.specs.Columns.{Columns, row_of, row_at}
@@ -24,7 +24,7 @@ module _ (p : Split → Bool) (c : Columns) (count from : ℕ) where
   passed_by : (i : ℕ) → from ≤ i → i ≤ count → ((k : ℕ) → from ≤ k → k < i → p (row_at c k) ≡ false)
       → left from ≡ left i
   passed_by zero h q miss = ap left (let e : from ≡ 0 = omega arith in e)
-  passed_by (suc i) h q miss = go (lt_or_ge i from) (λ l. passed_by i l (omega arith) (λ k a b. miss k a (omega arith)))
+  passed_by (suc i) h q miss = go (cases_lt i from) (λ l. passed_by i l (omega arith) (λ k a b. miss k a (omega arith)))
     where
       go : (i < from) ⊎ (from ≤ i) → (from ≤ i → left from ≡ left i) → left from ≡ left (suc i)
       go (inl l) before = ap left (let e : from ≡ suc i = omega arith in e)
