@@ -10,7 +10,7 @@ ghost use Rattle.entry_create_gap_splits.specs.Entry.{gap_splits_of, tables_outc
 
 use lent_tables::{NO_TABLES, StageTables};
 use name_table::{NameArrays, start_of};
-use names::{NameIndex, Names};
+use names::{NameIndex, Names, Room};
 use obj::{Refusal, Table, word_of};
 use outputs::clear_from;
 use sections::Obj;
@@ -25,14 +25,13 @@ fn from_symbols(
     heads: &Table,
     image: &Table,
     lent: &StageTables,
-    most: usize,
-    most_bytes: usize,
+    most: Room,
     outputs: &mut GapOutputs,
 ) -> Result<(), Refusal>
     requires { NamesIn names.now index.now
         × HeadedIn heads.now image.now names.now
-        × SpaceIn names.now most most_bytes outputs.old }
-    ensures gives { GivesIn (symbols_outcome names.now heads.now image.now lent.now most most_bytes outputs.old) result outputs.old outputs.new }
+        × SpaceIn names.now most.names most.bytes outputs.old }
+    ensures gives { GivesIn (symbols_outcome names.now heads.now image.now lent.now most.names most.bytes outputs.old) result outputs.old outputs.new }
     ensures lent { SameLent outputs.old outputs.new }
 {
     let mut symbols = SymbolArrays::new();
@@ -48,7 +47,6 @@ fn from_symbols(
         image,
         lent.splits,
         most,
-        most_bytes,
         outputs,
     )
 }
@@ -58,12 +56,11 @@ fn from_sections(
     names: &Names,
     index: &NameIndex,
     lent: &StageTables,
-    most: usize,
-    most_bytes: usize,
+    most: Room,
     outputs: &mut GapOutputs,
 ) -> Result<(), Refusal>
-    requires { NamesIn names.now index.now × SpaceIn names.now most most_bytes outputs.old }
-    ensures gives { GivesIn (sections_outcome names.now lent.now most most_bytes outputs.old) result outputs.old outputs.new }
+    requires { NamesIn names.now index.now × SpaceIn names.now most.names most.bytes outputs.old }
+    ensures gives { GivesIn (sections_outcome names.now lent.now most.names most.bytes outputs.old) result outputs.old outputs.new }
     ensures lent { SameLent outputs.old outputs.new }
 {
     let mut sections = SectionArrays::new();
@@ -80,7 +77,6 @@ fn from_sections(
         &sections.image(lent.image, lent.section_places),
         lent,
         most,
-        most_bytes,
         outputs,
     )
 }
@@ -90,9 +86,11 @@ fn checked(lent: &StageTables, outputs: &mut GapOutputs) -> Result<(), Refusal>
     ensures gives { GivesIn (tables_outcome lent.now outputs.old) result outputs.old outputs.new }
     ensures lent { SameLent outputs.old outputs.new }
 {
-    let most = names_room(outputs.ends.len());
-    let most_bytes = bytes_room(outputs.bytes.len());
-    fit_names(lent.name_ends, most, most_bytes)?;
+    let most = Room {
+        names: names_room(outputs.ends.len()),
+        bytes: bytes_room(outputs.bytes.len()),
+    };
+    fit_names(lent.name_ends, most)?;
     let mut columns = NameArrays::new();
     columns.check(lent.name_ends, lent.name_bytes, 4096)?;
     let n = lent.name_ends.len() / 2;
@@ -101,8 +99,10 @@ fn checked(lent: &StageTables, outputs: &mut GapOutputs) -> Result<(), Refusal>
         &columns.names(lent.name_ends, lent.name_bytes),
         &columns.index(),
         lent,
-        most - n,
-        most_bytes - end,
+        Room {
+            names: most.names - n,
+            bytes: most.bytes - end,
+        },
         outputs,
     )
 }

@@ -9,6 +9,7 @@ ghost use Rattle.run_file.specs.RunFile.{Lent};
 ghost use Rattle.entry_split_file.specs.Entry.{split_file_of, Leaves, LeavesIn};
 
 use gap_splits::AddedNames;
+use names::Room;
 use run::RunTables;
 use run_file::run_file;
 use run_load::FileColumns;
@@ -65,8 +66,10 @@ fn with_tables(file: &[u8], columns: &mut FileColumns, outputs: &mut RunOutputs)
         lengths: &mut [0u8; 4096],
         count: 0,
         used: 0,
-        most: 4096,
-        most_bytes: 65535,
+        most: Room {
+            names: 4096,
+            bytes: 65535,
+        },
     };
     in_columns(file, columns, &mut table, &mut added, outputs)
 }

@@ -38,8 +38,8 @@ pub record Shows (a : AddedNames) (s : Names) : Type 0 where
 
 -- the same columns are lent, of the same lengths, and as many names and bytes may be added
 pub record SameLent (a b : AddedNames) : Type 0 where
-  pub most : b.most ≡ a.most
-  pub most_bytes : b.most_bytes ≡ a.most_bytes
+  pub most : b.most.names ≡ a.most.names
+  pub most_bytes : b.most.bytes ≡ a.most.bytes
   pub bytes : b.bytes.ghost_name ≡ a.bytes.ghost_name
   pub places : b.places.ghost_name ≡ a.places.ghost_name
   pub lengths : b.lengths.ghost_name ≡ a.lengths.ghost_name
@@ -52,7 +52,7 @@ abbrev pub ceilings : (base : List (List ℕ)) → (most most_bytes : ℕ) → C
 ceilings base most most_bytes = record { names = length base + most; bytes = bytes_of base + most_bytes }
 
 abbrev pub ceilings_in : Names → AddedNames → Ceilings
-ceilings_in names a = ceilings (names_in names) a.most a.most_bytes
+ceilings_in names a = ceilings (names_in names) a.most.names a.most.bytes
 
 -- x is none of the names
 abbrev pub Absent : (names : List (List ℕ)) → (x : List ℕ) → Type 0

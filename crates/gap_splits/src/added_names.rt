@@ -2,7 +2,9 @@
 ghost use Rattle.std.specs.Prelude.{◌≡◌, ◌≤◌};
 ghost use Rattle.gap_splits.specs.Added.{beside, Stand};
 
-// The names that are added beside those of the tables: `count` of them, with `used` bytes in all, of at most `most` and `most_bytes`.
+use names::Room;
+
+// The names that are added beside those of the tables: `count` of them, with `used` bytes in all, of at most `most`.
 #[derive(Drop)]
 pub struct AddedNames<'b, 'p, 'l> {
     pub bytes: &'b mut [u8],
@@ -10,7 +12,6 @@ pub struct AddedNames<'b, 'p, 'l> {
     pub lengths: &'l mut [u8],
     pub count: usize,
     pub used: usize,
-    pub most: usize,
-    pub most_bytes: usize,
-    pub ghost stand: { Stand (beside bytes.now places.now lengths.now) count used most most_bytes },
+    pub most: Room,
+    pub ghost stand: { Stand (beside bytes.now places.now lengths.now) count used most.names most.bytes },
 }

@@ -47,13 +47,12 @@ impl AddedNames<'_, '_, '_> {
 // Adds the name x behind the others; whether there was room for it.
 fn add_name(added: &mut AddedNames, x: &[u8]) -> bool
     requires { length x.now ≤ 128 }
-    ensures names { Adds (added_in added.old) (added_in added.new) x.now added.old.most added.old.most_bytes result }
+    ensures names { Adds (added_in added.old) (added_in added.new) x.now added.old.most.names added.old.most.bytes result }
     ensures added { SameLent added.old added.new }
 {
     let count = added.count;
     let used = added.used;
     let most = added.most;
-    let most_bytes = added.most_bytes;
     let done = append(
         added.bytes,
         used,
@@ -62,7 +61,6 @@ fn add_name(added: &mut AddedNames, x: &[u8]) -> bool
         count,
         x,
         most,
-        most_bytes,
     );
     if done {
         added.count = count + 1;

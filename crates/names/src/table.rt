@@ -4,6 +4,8 @@ ghost use Rattle.std.specs.Prelude.{◌≡◌, ◌+◌, ◌≤◌, length};
 ghost use Rattle.std.proofs.lemmas.List.Edits.{sets};
 ghost use Rattle.names.specs.Append.{Packed, Appended};
 
+use crate::Room;
+
 // Stores the bytes of `from` from place `at` on.
 pub fn put_bytes(out: &mut [u8], at: usize, from: &[u8])
     requires { at + length from.now ≤ length out.old }
@@ -21,20 +23,19 @@ pub fn append(
     lengths: &mut [u8],
     n: usize,
     name: &[u8],
-    max_names: usize,
-    max_bytes: usize,
+    most: Room,
 ) -> bool
     requires { (length name.now ≤ 128) × (used ≤ 65535) × (n ≤ 4096) × Packed bytes.old places.old lengths.old n used }
     ensures { Appended
         (record { bytes = bytes.entry.now; places = places.old; lengths = lengths.old })
         (record { bytes = bytes.exit.now; places = places.new; lengths = lengths.new })
-        used n name.now max_names max_bytes result }
+        used n name.now most.names most.bytes result }
 {
     let end = used + name.len();
-    if (max_names <= n)
+    if (most.names <= n)
         | (places.len() <= n)
         | (lengths.len() <= n)
-        | (max_bytes < end)
+        | (most.bytes < end)
         | (bytes.len() < end)
     {
         return false;

@@ -16,7 +16,7 @@ use gap_splits::AddedNames;
 use lines::write_refused;
 use listing::{Cursor, PieceLists, next_line};
 use load::{Counts, NAMES, RELOCATIONS, SYMBOLS};
-use names::Names;
+use names::{Names, Room};
 use obj::Table;
 use order::Unlinked;
 use run::{Ran, RunTables};
@@ -194,8 +194,10 @@ fn print_with_tables<W: Write>(
         lengths: &mut [0u8; 4096],
         count: 0,
         used: 0,
-        most: 4096,
-        most_bytes: 65535,
+        most: Room {
+            names: 4096,
+            bytes: 65535,
+        },
     };
     print_in(out, file, columns, &mut table, &mut added, tables)
 }

@@ -64,8 +64,8 @@ ReadyIn l index =
 -- a split table of no more rows than document 01 allows, and room for all names that may be added
 pub record Lent (t : SplitTable) (a : AddedNames) : Type 0 where
   pub rows : t.room ≤ 1024
-  pub names : a.most ≡ 4096
-  pub bytes : a.most_bytes ≡ 65535
+  pub names : a.most.names ≡ 4096
+  pub bytes : a.most.bytes ≡ 65535
 
 -- the columns of the names that are added
 abbrev pub beside_in : AddedNames → Beside

@@ -81,8 +81,8 @@ fn run_tables(
 {
     added.count = 0;
     added.used = 0;
-    added.most = names_room(loaded.names.len(), most);
-    added.most_bytes = bytes_room(loaded.lengths, most_bytes);
+    added.most.names = names_room(loaded.names.len(), most);
+    added.most.bytes = bytes_room(loaded.lengths, most_bytes);
     let filled = split_table(loaded, index, table, added);
     order_and_walk(
         filled,

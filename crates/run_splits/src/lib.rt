@@ -30,7 +30,7 @@ fn fill_gaps(
     ensures tables { entering.meant (file_names loaded.now)
         (entering.added_in added.new) (rows_in table.new) result
         ≡ gaps_in loaded.now table.old.room
-        (entering.ceilings (file_names loaded.now) added.old.most added.old.most_bytes) (rows_in table.old) }
+        (entering.ceilings (file_names loaded.now) added.old.most.names added.old.most.bytes) (rows_in table.old) }
     ensures lent { SameTable table.old table.new }
     ensures added { entering.SameLent added.old added.new }
 {
@@ -66,7 +66,7 @@ pub fn split_table(
     ensures tables { entering.meant (file_names loaded.now)
         (entering.added_in added.new) (rows_in table.new) result
         ≡ split_table loaded.now.file.now (split_tables loaded.now) table.old.room
-        (entering.ceilings (file_names loaded.now) added.old.most added.old.most_bytes) }
+        (entering.ceilings (file_names loaded.now) added.old.most.names added.old.most.bytes) }
     ensures lent { SameTable table.old table.new }
     ensures added { entering.SameLent added.old added.new }
 {

@@ -97,7 +97,7 @@ flat_two s t = let a = flat_bytes (s ++ t) in let b = flat_bytes s in let c = fl
 -- ---- what the filling left
 module _ (base : List (List ℕ)) (a : AddedNames) where
   -- the names fit into the outputs
-  pub names_fit : {es bs : ℕ} → Space base a.most a.most_bytes es bs → Fits base (added_in a) es bs
+  pub names_fit : {es bs : ℕ} → Space base a.most.names a.most.bytes es bs → Fits base (added_in a) es bs
   names_fit p =
       let t = a.stand in
       let l = length-names a.bytes.now a.places.now a.lengths.now a.count in
@@ -109,11 +109,11 @@ module _ (base : List (List ℕ)) (a : AddedNames) where
       }
 
   -- .. and their number into a count
-  pub names_few : {es bs count : ℕ} → Space base a.most a.most_bytes es bs → length base ≡ count → count + a.count ≤ 4096
+  pub names_few : {es bs count : ℕ} → Space base a.most.names a.most.bytes es bs → length base ≡ count → count + a.count ≤ 4096
   names_few p z = let s = a.stand in omega (arith, s.few, p.few, z)
 
   -- .. and that of their bytes
-  pub bytes_few : {es bs bytes : ℕ} {out_ends out_bytes : List ℕ} → Space base a.most a.most_bytes es bs → Given (base ++ added_in a) es bs out_ends out_bytes bytes → bytes < 65536
+  pub bytes_few : {es bs bytes : ℕ} {out_ends out_bytes : List ℕ} → Space base a.most.names a.most.bytes es bs → Given (base ++ added_in a) es bs out_ends out_bytes bytes → bytes < 65536
   bytes_few p g = omega (arith, g.count, flat_two base (added_in a), (names_fit p).short)
 
   -- both tables are in the outputs

@@ -15,7 +15,7 @@ ghost use Rattle.stage_gaps.specs.StageGaps.{stage_of, filling_of, GivesIn, Laid
 use create_gap_splits::create_gap_splits;
 use gap_columns::GapTable;
 use gap_splits::AddedNames;
-use names::{NameIndex, Names};
+use names::{NameIndex, Names, Room};
 use obj::{Refusal, Table};
 use outputs::{clear_from, put_count};
 use sections::Obj;
@@ -52,7 +52,7 @@ fn give_counts(counts: &mut [u8], names: usize, bytes: usize, splits: usize)
 // What the filling left in the columns, in the outputs.
 fn give_filled(names: &Names, added: &AddedNames, splits: &SplitColumns, outputs: &mut GapOutputs)
     requires { NamedIn names.now
-        × SpaceIn names.now added.now.most added.now.most_bytes outputs.old
+        × SpaceIn names.now added.now.most.names added.now.most.bytes outputs.old
         × (split_width * splits.now.count ≤ length outputs.old.splits.now)
         × (splits.now.count ≤ 1024) }
     ensures laid { LaidIn (record { names = names_in names.now ++ added_in added.now; rows = rows_of splits.now }) outputs.old outputs.new }
@@ -80,7 +80,7 @@ fn fill_rows(
     found: &mut GapTable,
     outputs: &mut GapOutputs,
 ) -> Result<(), Refusal>
-    requires space { SpaceIn tables.now.obj.names added.old.most added.old.most_bytes outputs.old }
+    requires space { SpaceIn tables.now.obj.names added.old.most.names added.old.most.bytes outputs.old }
     requires unmarked { Clean marks.old }
     requires gaps { found.old.room ≡ 6208 }
     requires few { table.old.room ≤ 1024 }
@@ -110,11 +110,11 @@ fn with_added(
     table: &mut SplitTable,
     outputs: &mut GapOutputs,
 ) -> Result<(), Refusal>
-    requires { SpaceIn tables.now.obj.names tables.now.most tables.now.most_bytes outputs.old
+    requires { SpaceIn tables.now.obj.names tables.now.most.names tables.now.most.bytes outputs.old
         × (table.old.room ≤ 1024)
         × (split_width * table.old.room ≤ length outputs.old.splits.now) }
     ensures gives { GivesIn
-        (filling_of tables.now.obj tables.now.image table.old.room (ceilings (names_in tables.now.obj.names) tables.now.most tables.now.most_bytes) (rows_in table.old))
+        (filling_of tables.now.obj tables.now.image table.old.room (ceilings (names_in tables.now.obj.names) tables.now.most.names tables.now.most.bytes) (rows_in table.old))
         result outputs.old outputs.new }
     ensures lent { SameLent outputs.old outputs.new }
 {
@@ -131,7 +131,6 @@ fn with_added(
         count: 0,
         used: 0,
         most: tables.most,
-        most_bytes: tables.most_bytes,
     };
     let mut found = GapTable {
         keys: &mut keys,
@@ -148,13 +147,12 @@ pub fn with_splits(
     index: &NameIndex,
     image: &Table,
     splits: &[u8],
-    most: usize,
-    most_bytes: usize,
+    most: Room,
     outputs: &mut GapOutputs,
 ) -> Result<(), Refusal>
-    requires { Passed obj.now index.now image.now × SpaceIn obj.now.names most most_bytes outputs.old }
+    requires { Passed obj.now index.now image.now × SpaceIn obj.now.names most.names most.bytes outputs.old }
     ensures gives { GivesIn
-        (stage_of obj.now image.now (ceilings (names_in obj.now.names) most most_bytes) splits.now (length outputs.old.splits.now))
+        (stage_of obj.now image.now (ceilings (names_in obj.now.names) most.names most.bytes) splits.now (length outputs.old.splits.now))
         result outputs.old outputs.new }
     ensures lent { SameLent outputs.old outputs.new }
 {
@@ -179,7 +177,6 @@ pub fn with_splits(
         index: *index,
         image: *image,
         most,
-        most_bytes,
     };
     with_added(&tables, &mut table, outputs)
 }

@@ -1,7 +1,7 @@
 // What the gap stage reads. A struct with a ghost field imports all that its file does, so it stands in a file of its own.
 ghost use Rattle.stage_gaps.specs.StageGaps.{Passed};
 
-use names::NameIndex;
+use names::{NameIndex, Room};
 use obj::Table;
 use sections::Obj;
 
@@ -11,7 +11,6 @@ pub struct PassedTables<'s, 't, 'o, 'b, 'p, 'l, 'h, 'i, 'c, 'd, 'm, 'q> {
     pub obj: Obj<'s, 't, 'o, 'b, 'p, 'l, 'h, 'i>,
     pub index: NameIndex<'c, 'd>,
     pub image: Table<'m, 'q>,
-    pub most: usize,
-    pub most_bytes: usize,
+    pub most: Room,
     pub ghost passed: { Passed obj index image },
 }

@@ -12,7 +12,7 @@ ghost use Rattle.names.specs.Listed.{names_in, NamedIn};
 ghost use Rattle.stage_names.specs.Output.{FitsIn, PutIn, GivenIn, SameLent};
 
 use fields::{get16, put16};
-use names::{Names, name_at, put_bytes};
+use names::{Names, Room, name_at, put_bytes};
 use obj::{Refusal, place_of, refuse};
 pub use output::NameOutput;
 use outputs::{clear_from, room_for};
@@ -34,25 +34,25 @@ pub fn bytes_room(size: usize) -> usize
 }
 
 // Name k does not fit.
-fn is_beyond(ends: &[u8], most: usize, most_bytes: usize, k: usize) -> bool
+fn is_beyond(ends: &[u8], most: Room, k: usize) -> bool
     requires { 2 * k + 2 ≤ length ends.now }
-    ensures { result ≡ beyond most most_bytes ends.now k }
+    ensures { result ≡ beyond most.names most.bytes ends.now k }
 {
     let end = get16(ends, 2 * k) as usize;
-    (most <= k) | (most_bytes < end)
+    (most.names <= k) | (most.bytes < end)
 }
 
 // The names that are given fit: 1 of their length, then 2 at the first that does not.
-pub fn fit_names(ends: &[u8], most: usize, most_bytes: usize) -> Result<(), Refusal>
-    requires { most ≤ 4096 }
-    ensures { meaning result ≡ fit_check most most_bytes ends.now }
+pub fn fit_names(ends: &[u8], most: Room) -> Result<(), Refusal>
+    requires { most.names ≤ 4096 }
+    ensures { meaning result ≡ fit_check most.names most.bytes ends.now }
 {
     let n = ends.len() / 2;
     if ends.len() % 2 != 0 {
         return refuse(1, 0, place_of(n));
     }
     for k in 0..n {
-        if is_beyond(ends, most, most_bytes, k) {
+        if is_beyond(ends, most, k) {
             return refuse(2, 0, k as u32);
         }
     }

@@ -11,27 +11,27 @@ use Rattle.entry_create_gap_splits.proofs.Passed.{names_room_lem, fit_few, fit_e
 use Rattle.entry_create_gap_splits.proofs.checked.Goals as goal
 
 pub fit_names-requires : goal.fit_names-requires
-fit_names-requires c = omega (arith, c.names_room-most.ensures, (names_room_lem (length c.args.outputs.now.ends.now)).0)
+fit_names-requires c = omega (arith, c.names_room.ensures, (names_room_lem (length c.args.outputs.now.ends.now)).0)
 
 pub returns-in_err-fit_names-clause-gives : goal.returns-in_err-fit_names-clause-gives
 unfolding gap_splits_of
 returns-in_err-fit_names-clause-gives c =
     rw (same_err c.from_residual.result c.fit_names.result c.from_residual.ensures.1 c.in_err-fit_names.was)
-    (gives_stops _ (c.fit_names.ensures ∙ ap₂ (λ (m b : ℕ). fit_check m b c.args.lent.now.name_ends.now) c.names_room-most.ensures c.bytes_room-most_bytes.ensures) (ap meaning c.in_err-fit_names.was))
+    (gives_stops _ (c.fit_names.ensures ∙ ap₂ (λ (m b : ℕ). fit_check m b c.args.lent.now.name_ends.now) c.names_room.ensures c.bytes_room.ensures) (ap meaning c.in_err-fit_names.was))
 
 pub returns-in_err-check-clause-gives : goal.returns-in_err-check-clause-gives
 unfolding gap_splits_of
 returns-in_err-check-clause-gives c =
     rw (same_err c.from_residual-in_err-check.result c.check.result c.from_residual-in_err-check.ensures.1 c.in_err-check.was)
     (gives_goes
-    (ap₂ (λ (m b : ℕ). fit_check m b c.args.lent.now.name_ends.now) (sym c.names_room-most.ensures) (sym c.bytes_room-most_bytes.ensures) ∙ sym c.fit_names.ensures ∙ ap meaning c.in_ok-fit_names.was)
+    (ap₂ (λ (m b : ℕ). fit_check m b c.args.lent.now.name_ends.now) (sym c.names_room.ensures) (sym c.bytes_room.ensures) ∙ sym c.fit_names.ensures ∙ ap meaning c.in_ok-fit_names.was)
     (gives_stops _ c.check.ensures.said (ap meaning c.in_err-check.was)))
 
 pub overflow_sub-most : goal.overflow_sub-most
 overflow_sub-most c = fit_few _ _ _ (sym c.fit_names.ensures ∙ ap meaning c.in_ok-fit_names.was)
 
-pub overflow_sub-most_bytes : goal.overflow_sub-most_bytes
-overflow_sub-most_bytes c = omega (arith, c.start_of-end.ensures.is, fit_end _ _ _ (sym c.fit_names.ensures ∙ ap meaning c.in_ok-fit_names.was))
+pub overflow_sub-most-2 : goal.overflow_sub-most-2
+overflow_sub-most-2 c = omega (arith, c.start_of-end.ensures.is, fit_end _ _ _ (sym c.fit_names.ensures ∙ ap meaning c.in_ok-fit_names.was))
 
 pub names-requires : goal.names-requires
 names-requires c = let s = c.check.ensures in s.stored (sym s.said ∙ ap meaning c.in_ok-check.was)
@@ -44,7 +44,7 @@ from_sections-requires c =
     let passed = sym c.check.ensures.said ∙ ap meaning c.in_ok-check.was in
     let stored = c.check.ensures.stored passed in (
       names-taken _ _ stored n.bytes n.places n.lengths c.index.ensures.0 c.index.ensures.1 n.readable,
-      space _ _ stored n.bytes n.places n.lengths (length a.outputs.now.ends.now) (length a.outputs.now.bytes.now) _ _ _ c.names_room-most.ensures c.bytes_room-most_bytes.ensures c.start_of-end.ensures.is fit passed,
+      space _ _ stored n.bytes n.places n.lengths (length a.outputs.now.ends.now) (length a.outputs.now.bytes.now) _ _ _ c.names_room.ensures c.bytes_room.ensures c.start_of-end.ensures.is fit passed,
     )
 
 pub returns-clause-gives : goal.returns-clause-gives
@@ -56,9 +56,9 @@ returns-clause-gives c =
     let passed = sym c.check.ensures.said ∙ ap meaning c.in_ok-check.was in
     let stored = c.check.ensures.stored passed in
     gives_goes
-    (ap₂ (λ (m b : ℕ). fit_check m b a.lent.now.name_ends.now) (sym c.names_room-most.ensures) (sym c.bytes_room-most_bytes.ensures) ∙ fit)
+    (ap₂ (λ (m b : ℕ). fit_check m b a.lent.now.name_ends.now) (sym c.names_room.ensures) (sym c.bytes_room.ensures) ∙ fit)
     (gives_goes passed
     (gives_as
-    (names_as _ _ stored n.bytes n.places n.lengths (length a.outputs.now.ends.now) (length a.outputs.now.bytes.now) _ _ _ c.names_room-most.ensures c.bytes_room-most_bytes.ensures c.start_of-end.ensures.is fit passed
+    (names_as _ _ stored n.bytes n.places n.lengths (length a.outputs.now.ends.now) (length a.outputs.now.bytes.now) _ _ _ c.names_room.ensures c.bytes_room.ensures c.start_of-end.ensures.is fit passed
     a.lent.now.sections.now a.lent.now.section_places.now a.lent.now.image.now a.lent.now.symbols.now a.lent.now.splits.now (length a.outputs.now.splits.now))
     c.from_sections.ensures.gives))

@@ -45,6 +45,6 @@ returns-clause-gives c =
     gives_goes passed
     (gives_as
     (sections_as n.bytes.now n.places.now n.lengths.now t.sections.now t.image.now _ _ t.section_places.now t.symbols.now t.splits.now
-    (ceilings (names_in n) a.most a.most_bytes) (length a.outputs.now.splits.now) heads.places
+    (ceilings (names_in n) a.most.names a.most.bytes) (length a.outputs.now.splits.now) heads.places
     (λ k h. rw image.places (place_same n.lengths.now t.section_places.now t.image.now t.sections.now passed k h)))
     (rw (heads.bytes, image.bytes) at c.from_symbols.ensures.gives))

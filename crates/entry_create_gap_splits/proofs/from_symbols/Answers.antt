@@ -53,6 +53,6 @@ returns-clause-gives c =
     (gives_as
     (ap
     (λ (l : List ℕ).
-    from_splits n.lengths.now heads (image_of a.lent.now.symbols.now l n.bytes.now n.places.now n.lengths.now) sections (ceilings names a.most a.most_bytes) names a.lent.now.splits.now (length a.outputs.now.splits.now))
+    from_splits n.lengths.now heads (image_of a.lent.now.symbols.now l n.bytes.now n.places.now n.lengths.now) sections (ceilings names a.most.names a.most.bytes) names a.lent.now.splits.now (length a.outputs.now.splits.now))
     s.places)
     (rw s.bytes at c.with_splits.ensures.gives))

@@ -12,7 +12,7 @@ use Rattle.gap_splits.proofs.Turns.{starts, goes_on, refused_here, all_entered, 
 use Rattle.gap_splits.proofs.enter_gaps.Goals as goal
 
 pub invariant_of-added : goal.invariant_of-added
-invariant_of-added c = let a = c.args.added.now in record { stand = stand_none (beside a.bytes.now a.places.now a.lengths.now) a.most a.most_bytes a.stand.room }
+invariant_of-added c = let a = c.args.added.now in record { stand = stand_none (beside a.bytes.now a.places.now a.lengths.now) a.most.names a.most.bytes a.stand.room }
 
 pub loop-i-init : goal.loop-i-init
 loop-i-init c =

@@ -23,7 +23,7 @@ returns-then-add_name-clause-unit c =
     let long = length-names t.bytes.now t.places.now t.lengths.now (length t.places.now) in
     let many = length-names o.bytes.now o.places.now o.lengths.now o.count in
     let far = far_away (names_in t) a.x.now c.in_default.ensures in
-    numbered_new (names_in t) a.x.now (added_in o) _ o.most o.most_bytes far c.requires.2 c.add_name.ensures.names c.if-add_name.true (omega (arith, long, many))
+    numbered_new (names_in t) a.x.now (added_in o) _ o.most.names o.most.bytes far c.requires.2 c.add_name.ensures.names c.if-add_name.true (omega (arith, long, many))
 
 pub overflow_cast-result-then-add_name : goal.overflow_cast-result-then-add_name
 overflow_cast-result-then-add_name c = let s = c.args.added.now.stand in omega (arith, c.requires.1.few, s.few, s.room.few, length-names c.args.table_names.now.bytes.now c.args.table_names.now.places.now c.args.table_names.now.lengths.now (length c.args.table_names.now.places.now))
@@ -34,4 +34,4 @@ returns-clause-unit c =
     let t = a.table_names.now in
     let o = a.added.now in
     let far = far_away (names_in t) a.x.now c.in_default.ensures in
-    numbered-full (names_in t) a.x.now (added_in o) _ o.most o.most_bytes far c.requires.2 c.add_name.ensures.names c.if-add_name.false
+    numbered-full (names_in t) a.x.now (added_in o) _ o.most.names o.most.bytes far c.requires.2 c.add_name.ensures.names c.if-add_name.false

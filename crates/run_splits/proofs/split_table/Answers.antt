@@ -20,7 +20,7 @@ merge_partials-requires c =
 pub returns-in_err-merge_partials-clause-tables : goal.returns-in_err-merge_partials-clause-tables
 returns-in_err-merge_partials-clause-tables c =
     let a = c.args in
-    let room = ceilings (file_names a.loaded.now) a.added.now.most a.added.now.most_bytes in
+    let room = ceilings (file_names a.loaded.now) a.added.now.most.names a.added.now.most.bytes in
     let m = c.merge_partials in
     let refused = sym (ap (λ (r : Answer). merged r (rows_in m.new.table)) c.in_err-merge_partials.was) ∙ m.ensures.rows in
     rw (is_err _ c.from_residual.ensures.1) (merge_refused a.loaded.now.file.now (split_tables a.loaded.now) a.table.now.room room a.loaded.now.images.now c.requires.0.images_are refused)
@@ -33,7 +33,7 @@ fill_gaps-requires c =
 pub returns-in_err-fill_gaps-clause-tables : goal.returns-in_err-fill_gaps-clause-tables
 returns-in_err-fill_gaps-clause-tables c =
     let a = c.args in
-    let room = ceilings (file_names a.loaded.now) a.added.now.most a.added.now.most_bytes in
+    let room = ceilings (file_names a.loaded.now) a.added.now.most.names a.added.now.most.bytes in
     let m = c.merge_partials in
     let merges = sym (ap (λ (r : Answer). merged r (rows_in m.new.table)) c.in_ok-merge_partials.was) ∙ m.ensures.rows in
     let g = c.fill_gaps in
@@ -46,7 +46,7 @@ check_and_trim-requires c =
     let a = c.args in
     let q = c.requires in
     let t = split_tables a.loaded.now in
-    let room = ceilings (file_names a.loaded.now) a.added.now.most a.added.now.most_bytes in
+    let room = ceilings (file_names a.loaded.now) a.added.now.most.names a.added.now.most.bytes in
     let m = c.merge_partials in
     let merges = sym (ap (λ (r : Answer). merged r (rows_in m.new.table)) c.in_ok-merge_partials.was) ∙ m.ensures.rows in
     let g = c.fill_gaps in
@@ -64,7 +64,7 @@ pub returns-clause-tables : goal.returns-clause-tables
 returns-clause-tables c =
     let a = c.args in
     let t = split_tables a.loaded.now in
-    let room = ceilings (file_names a.loaded.now) a.added.now.most a.added.now.most_bytes in
+    let room = ceilings (file_names a.loaded.now) a.added.now.most.names a.added.now.most.bytes in
     let m = c.merge_partials in
     let merges = sym (ap (λ (r : Answer). merged r (rows_in m.new.table)) c.in_ok-merge_partials.was) ∙ m.ensures.rows in
     let g = c.fill_gaps in

@@ -34,7 +34,7 @@ returns-in_err-take_split_columns-clause-gives c =
     let base = names_in o.names in
     rw (same_err c.from_residual.result t.result c.from_residual.ensures.1 c.in_err-take_split_columns.was)
     (splits_stop o.names.lengths.now (sections_in o.heads.bytes.now o.heads.places.now) (image_in o)
-    (sections_of o.heads.bytes.now o.heads.places.now a.image.now.bytes.now a.image.now.places.now) (ceilings base a.most a.most_bytes) base a.splits.now
+    (sections_of o.heads.bytes.now o.heads.places.now a.image.now.bytes.now a.image.now.places.now) (ceilings base a.most.names a.most.bytes) base a.splits.now
     c.room_of.ensures t.ensures.taken.said (ap meaning c.in_err-take_split_columns.was))
 
 pub with_added-requires : goal.with_added-requires
@@ -52,5 +52,5 @@ returns-clause-gives c =
     let base = names_in o.names in
     let w = rw t.ensures.lent.room at c.with_added.ensures.gives in
     splits_go o.names.lengths.now (sections_in o.heads.bytes.now o.heads.places.now) (image_in o)
-    (sections_of o.heads.bytes.now o.heads.places.now a.image.now.bytes.now a.image.now.places.now) (ceilings base a.most a.most_bytes) base a.splits.now
+    (sections_of o.heads.bytes.now o.heads.places.now a.image.now.bytes.now a.image.now.places.now) (ceilings base a.most.names a.most.bytes) base a.splits.now
     (rows_in t.new.table) c.room_of.ensures t.ensures.taken (ap meaning c.in_ok-take_split_columns.was) w
