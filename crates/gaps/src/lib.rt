@@ -22,7 +22,7 @@ use fields::number;
 use gap_columns::{GapTable, place_gap};
 use obj::{Refusal, Section, Split, Symbol, Table, refuse};
 use sections::{Obj, alignment_of, default_of};
-use splits::{SplitColumns, row};
+use splits::{SplitColumns, row, section_of};
 use symbol_order::key_of;
 use symbols::{Backwards, for_section_range};
 
@@ -193,13 +193,19 @@ fn gaps_before(
     gaps_to(search, found, current, s.start, alignment)
 }
 
+// Whether a row is a split of the section below its splitting end; `ystart` and `yrest` are the row's.
+fn is_below(section: u16, end: u32, ystart: u32, yrest: u64) -> bool
+    ensures { result ≡ (eqb (yrest % 65536) section && ltb ystart end) }
+{
+    (section_of(yrest) == section) & (ystart < end)
+}
+
 // The first row from `at` on that is a split of the section below its splitting end.
 fn next_below(splits: &SplitColumns, section: u16, end: u32, at: usize) -> Option<usize>
     requires { at ≤ splits.now.count }
     ensures { NextHit (below section end) (columns_of splits.now) splits.now.count at result }
 {
-    (at..splits.count).find(|i| (splits.rest[*i] % 65536 == u64::from(section))
-        & (splits.starts[*i] < end))
+    (at..splits.count).find(|i| is_below(section, end, splits.starts[*i], splits.rest[*i]))
 }
 
 // The address after a split: "An open split runs to the next start or the splitting end".

@@ -53,4 +53,4 @@ returns c =
     let p = below a.section a.end in
     let row = row_at (columns_of a.splits.now) in
     next_hit p (columns_of a.splits.now) a.splits.now.count a.at c.find.result c.requires
-    (first_from_Range _ _ _ _ (λ k. p (row k) ≡ true) (λ k. p (row k) ≡ false) c.find.ensures.ran (λ x q k. search rules) (λ x q k. (search rules, search rules)))
+    (first_from_Range _ _ _ _ (λ k. p (row k) ≡ true) (λ k. p (row k) ≡ false) c.find.ensures.ran (λ x q k. search rules) (λ x q k. search rules))
