@@ -30,15 +30,17 @@ fn in_columns(
     ensures leaves { LeavesIn (split_file_of file.now (sizes_in outputs.old)) result outputs.old outputs.new }
     ensures lent { SameOutputs outputs.old outputs.new }
 {
-    let most = outputs.ends.len() / 2;
-    let most_bytes = outputs.bytes.len();
+    let most = Room {
+        names: outputs.ends.len() / 2,
+        bytes: outputs.bytes.len(),
+    };
     let mut tables = RunTables {
         units: &mut *outputs.units,
         pieces: &mut *outputs.pieces,
         entries: &mut *outputs.entries,
         offsets: &mut *outputs.offsets,
     };
-    let r = run_file(file, columns, table, added, most, most_bytes, &mut tables);
+    let r = run_file(file, columns, table, added, most, &mut tables);
     let ran = r.ran;
     let kept = kept_of(ran);
     // none after a refusal

@@ -164,7 +164,11 @@ fn print_in<'a, W: Write>(
         × (table.old.room ≡ 1024) }
     ensures { OnOk result (Prints file.now (length tables.old.units.now / 8) (room_lent tables.old) (W.contents out.old) (W.contents out.new)) }
 {
-    let r = run_file(file, columns, table, added, 4096, 65535, tables);
+    let most = Room {
+        names: 4096,
+        bytes: 65535,
+    };
+    let r = run_file(file, columns, table, added, most, tables);
     let ran = r.ran;
     let counts = r.counts;
     print_ran(out, ran, file, counts, columns, &added.names(), tables)

@@ -13,7 +13,7 @@ ghost use Rattle.run_file.specs.RunFile.{rooms_in, beside_in, ReadyIn, LoadedIn,
 use gap_splits::AddedNames;
 use load::{Counts, NAMES, RELOCATIONS, SPLITS, SYMBOLS, UNITS};
 use loaded::Loaded;
-use names::NameIndex;
+use names::{NameIndex, Room};
 use order::Unlinked;
 use run::{Ran, RunTables, order_and_walk};
 use run_load::{FileColumns, Prepared, prepare};
@@ -57,14 +57,13 @@ fn loaded_in<'a>(file: &'a [u8], prepared: Prepared, columns: &'a FileColumns) -
     }
 }
 
-// The stages over the tables of a file, and added names of which `most` have a place and `most_bytes` bytes are lent.
+// The stages over the tables of a file, and added names of which `most.names` have a place and `most.bytes` bytes are lent.
 fn run_tables(
     loaded: &Loaded,
     index: &NameIndex,
     table: &mut SplitTable,
     added: &mut AddedNames,
-    most: usize,
-    most_bytes: usize,
+    most: Room,
     out: &mut RunTables,
 ) -> Result<Ran, Unlinked>
     requires { ReadyIn loaded.now index.now
@@ -72,17 +71,19 @@ fn run_tables(
     ensures run { (ran_to (beside_in added.new) (columns_in table.new) out.new result
         ≡ stages loaded.now.file.now
         (tables_of loaded.now)
-        (rooms_in loaded.now.file.now most most_bytes table.old.room (length out.old.units.now / 8) (room_lent out.old)
+        (rooms_in loaded.now.file.now most.names most.bytes table.old.room (length out.old.units.now / 8) (room_lent out.old)
         (tables_of loaded.now)))
-        × HoldsIn most most_bytes table.old.room out.old (beside_in added.new) out.new result }
+        × HoldsIn most.names most.bytes table.old.room out.old (beside_in added.new) out.new result }
     ensures table { SameTable table.old table.new }
     ensures added { SameNames added.old added.new }
     ensures lent { SameLent out.old out.new }
 {
     added.count = 0;
     added.used = 0;
-    added.most.names = names_room(loaded.names.len(), most);
-    added.most.bytes = bytes_room(loaded.lengths, most_bytes);
+    added.most = Room {
+        names: names_room(loaded.names.len(), most.names),
+        bytes: bytes_room(loaded.lengths, most.bytes),
+    };
     let filled = split_table(loaded, index, table, added);
     order_and_walk(
         filled,
@@ -100,13 +101,12 @@ pub fn run_file(
     columns: &mut FileColumns,
     table: &mut SplitTable,
     added: &mut AddedNames,
-    most: usize,
-    most_bytes: usize,
+    most: Room,
     out: &mut RunTables,
 ) -> RanFile
     requires { Lent table.old added.old }
     ensures columns { SameColumns columns.old columns.new }
-    ensures run { RunsIn file.now most most_bytes table.old.room out.old result columns.new (beside_in added.new) (columns_in table.new) out.new }
+    ensures run { RunsIn file.now most.names most.bytes table.old.room out.old result columns.new (beside_in added.new) (columns_in table.new) out.new }
     ensures table { SameTable table.old table.new }
     ensures added { SameNames added.old added.new }
     ensures lent { SameLent out.old out.new }
@@ -127,7 +127,6 @@ pub fn run_file(
         table,
         added,
         most,
-        most_bytes,
         out,
     );
     RanFile {

@@ -12,7 +12,7 @@ use Rattle.run_file.proofs.run_file.Goals as goal
 pub returns-in-Err-clause-run : goal.returns-in-Err-clause-run
 returns-in-Err-clause-run c =
     let a = c.args in
-    let rooms : Loaded → Rooms = λ t. rooms_in a.file.now a.most a.most_bytes a.table.now.room (length a.out.now.units.now / 8) (room_lent a.out.now) t in
+    let rooms : Loaded → Rooms = λ t. rooms_in a.file.now a.most.names a.most.bytes a.table.now.room (length a.out.now.units.now / 8) (room_lent a.out.now) t in
     record { is = run_refused c.prepare.ensures.ready c.in-Err.is rooms; holds = tt; loaded = λ e q. absurd (not_both q) }
 
 pub loaded_in-requires : goal.loaded_in-requires
@@ -24,7 +24,7 @@ run_tables-ran-requires c = (c.loaded_in.ensures.ready _ c.index.ensures, c.requ
 pub returns-clause-run : goal.returns-clause-run
 returns-clause-run c =
     let a = c.args in
-    let rooms : Loaded → Rooms = λ t. rooms_in a.file.now a.most a.most_bytes a.table.now.room (length a.out.now.units.now / 8) (room_lent a.out.now) t in
+    let rooms : Loaded → Rooms = λ t. rooms_in a.file.now a.most.names a.most.bytes a.table.now.room (length a.out.now.units.now / 8) (room_lent a.out.now) t in
     let p = c.prepare.ensures.ready in
     let l = c.loaded_in.ensures in
     let e = rw (l.file_is, l.tables_are) at c.run_tables-ran.ensures.run in

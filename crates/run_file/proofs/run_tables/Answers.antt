@@ -30,8 +30,8 @@ invariant_of-added c =
     let o = a.added.now in
     let l = a.loaded.now in
     let w = beside o.bytes.now o.places.now o.lengths.now in
-    let names = left_first a.most (length l.names.now) 4096 c.names_room-added.ensures in
-    let bytes = left_first a.most_bytes (sum l.lengths.now) 65535 c.bytes_room-added.ensures in
+    let names = left_first a.most.names (length l.names.now) 4096 c.names_room-added.ensures in
+    let bytes = left_first a.most.bytes (sum l.lengths.now) 65535 c.bytes_room-added.ensures in
     record { stand = stand_none w _ _ (room_less w o.stand.room (omega (arith, names, c.requires.1.names)) (omega (arith, bytes, c.requires.1.bytes))) }
 
 pub split_table-filled-requires : goal.split_table-filled-requires
@@ -50,7 +50,7 @@ order_and_walk-requires c =
     let base = length-names l.file.now l.names.now l.lengths.now (length l.names.now) in
     let o = s.new.added in
     let more = length-names o.bytes.now o.places.now o.lengths.now o.count in
-    let room = left_sum a.most (length l.names.now) 4096 c.names_room-added.ensures (few_names u) in
+    let room = left_sum a.most.names (length l.names.now) 4096 c.names_room-added.ensures (few_names u) in
     let e = c.columns.ensures.columns in (
       record { usable = usable_rest u; images_are = q.0.images_are; order_is = q.0.order_is },
       λ accepts. rw (e.starts, e.ends, e.units, e.rest, e.count) (record {
@@ -69,11 +69,11 @@ returns-clause-run c =
     let units = length a.out.now.units.now / 8 in
     let output = room_lent a.out.now in
     let cap = a.table.now.room in
-    let rooms = rooms_in l.file.now a.most a.most_bytes cap units output t in
+    let rooms = rooms_in l.file.now a.most.names a.most.bytes cap units output t in
     let base = names_of l.file.now l.names.now l.lengths.now (length l.names.now) in
     let counted = c.names_room-added.ensures in
     let sized = c.bytes_room-added.ensures in
-    let asked = ap (split_table l.file.now t cap) (names_room_lem q.0.usable a.most a.most_bytes cap units output counted sized) in
+    let asked = ap (split_table l.file.now t cap) (names_room_lem q.0.usable a.most.names a.most.bytes cap units output counted sized) in
     let s = c.split_table-filled in
     let o = s.new.added in
     let w = c.order_and_walk in
@@ -81,7 +81,7 @@ returns-clause-run c =
     let made = rw (e.starts, e.ends, e.units, e.rest, e.count) at w.ensures.run in (
       stages_are l.file.now l.names.now l.lengths.now l.sections.now l.symbols.now l.relocs.now l.partials.now l.units.now base rooms refl (made.0 base (beside o.bytes.now o.places.now o.lengths.now))
           (s.ensures.tables ∙ table_of_parts l.file.now t _ _ ∙ asked),
-      holds w.result a.most a.most_bytes cap output _ _ o.count o.used s.new.table.count made.1 o.stand (omega (arith, s.new.table.fits, s.ensures.lent.room))
-          (omega (arith, s.ensures.added.most, left_second a.most (length l.names.now) 4096 counted)) (omega (arith, s.ensures.added.most, left_first a.most (length l.names.now) 4096 counted))
-          (omega (arith, s.ensures.added.most_bytes, left_second a.most_bytes (sum l.lengths.now) 65535 sized)) (omega (arith, s.ensures.added.most_bytes, left_first a.most_bytes (sum l.lengths.now) 65535 sized)),
+      holds w.result a.most.names a.most.bytes cap output _ _ o.count o.used s.new.table.count made.1 o.stand (omega (arith, s.new.table.fits, s.ensures.lent.room))
+          (omega (arith, s.ensures.added.most, left_second a.most.names (length l.names.now) 4096 counted)) (omega (arith, s.ensures.added.most, left_first a.most.names (length l.names.now) 4096 counted))
+          (omega (arith, s.ensures.added.most_bytes, left_second a.most.bytes (sum l.lengths.now) 65535 sized)) (omega (arith, s.ensures.added.most_bytes, left_first a.most.bytes (sum l.lengths.now) 65535 sized)),
     )
