@@ -69,7 +69,7 @@ answer_of ends bytes sections places image symbols splits question = do
   splits_check main_ceilings.splits (stage_lengths ends bytes) (stage_sections sections) splits
   question_of (image_in ends bytes symbols) (sections_in sections places image) (length splits / split_width) (split_in splits) question
 
--- `end_for_section` takes no splits: an empty table passes every check (`no_splits` of proofs/Laws.antt), so it answers for the other tables and then
+-- `end_for_section` takes no splits: an empty table passes every check (`no_splits_pass` of stage_tables/proofs/Laws.antt), so it answers for the other tables and then
 -- the end (`end_answer_lem`, a line for each)
 abbrev pub end_answer : (ends bytes sections places image symbols : List ℕ) → (section : ℕ) → Outcome ℕ
 end_answer ends bytes sections places image symbols section = answer_of ends bytes sections places image symbols [] (End section)

@@ -31,7 +31,6 @@ apart_at (x ∷ l) d (suc i) (suc j) h k e = ap suc (apart_at l d.1 i j (le_of_s
 
 -- members of a list of values
 module _ (f : ℕ → ℕ) where
-
   map_in : (w : ℕ) (l : List ℕ) → In w (map f l) → (v : ℕ) × In v l × (f v ≡ w)
   map_in w [] i = absurd i
   map_in w (x ∷ l) (inl e) = (x, inl refl, sym e)

@@ -62,14 +62,13 @@ impl<'b> CaseReader<'b> {
 }
 
 impl CaseReader<'_> {
-    // No bytes, and no digit of one.
+    // No bytes. A first digit that was read stays: whether it goes over into the next case is for the program.
     pub fn clear(&mut self)
-        ensures none { (self.new.bytes.used ≡ 0) × (self.new.high ≡ None) }
+        ensures none { (self.new.bytes.used ≡ 0) × (self.new.high ≡ self.old.high) }
         ensures mode { self.new.mode ≡ self.old.mode }
         ensures lent { self.new.bytes.buffer.ghost_name ≡ self.old.bytes.buffer.ghost_name }
     {
         self.bytes.take_up(0);
-        self.high = None;
     }
 
     // A byte that was read.

@@ -28,6 +28,7 @@ impl Reading<'_> {
     fn next_case(&mut self, rt: &impl Print) -> io::Result<()> {
         self.close(rt)?;
         self.case.clear();
+        self.case.high = None;
         self.open = true;
         rt.write_all(b"=")
     }

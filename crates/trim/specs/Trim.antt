@@ -2,7 +2,7 @@
 -- start..end, aligned up. It falls in the last split at that start (`at_mut`). Where an end falls, the alignment of the section's next split is still
 -- asked, from this split's start. Then, where the splitting end isn't the section's end, a last split that ends above it is cut to it."
 -- All falls are found in the table as it was, and then carried out: 54 comes "after every 11 of the stage", and 10 after that.
--- What a trimmed table keeps, and what it is for a table that passed the check: the laws of proofs/Laws.antt.
+-- What a trimmed table keeps, and what it is for a table that passed the check: the laws of proofs/Ends.antt and proofs/Bounds.antt.
 use Rattle.std.specs.Prelude.{ℕ, zero, suc, ◌+◌, Option, Some, None, List, [], ◌∷◌, Bool, cond, not, ◌&&◌, get_or, set, drop, eqb, leb, ltb}
 use Rattle.lists.specs.Outcome.{Outcome, accepted, refuse, ◌>>◌, ◌>>=◌}
 use Rattle.lists.specs.Rows.{some}
@@ -67,7 +67,7 @@ unfoldable pub alongside : Split → List Split → ℕ
 alongside s [] = 0
 alongside s (y ∷ l) = cond (eqb y.section s.section && eqb y.start s.start) (suc (alongside s l)) 0
 
--- "the last split at that start": the place of the last row that starts where row k does (`last_at_start` of proofs/Laws.antt)
+-- "the last split at that start": the place of the last row that starts where row k does (`last_at_start` of proofs/Ends.antt)
 unfoldable pub last_at : List Split → ℕ → ℕ
 last_at rows k = k + alongside (get_or rows k no_split) (drop (suc k) rows)
 

@@ -1,4 +1,4 @@
--- `obj::read_section` meets its contract: each field is read at the offset that the definition gives it.
+-- `Section::read` meets its contract: each field is read at the offset that the definition gives it.
 use Rattle.obj.specs.Records.{section_at}
 use Rattle.obj.proofs.SectionRecord.read.Goals as goal
 

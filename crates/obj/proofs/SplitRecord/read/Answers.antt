@@ -1,4 +1,4 @@
--- `obj::read_split` meets its contract: the fields of a partial record, with the origin that stands behind them.
+-- `Split::read` meets its contract: the fields of a partial record, with the origin that stands behind them.
 use Rattle.obj.specs.Records.{split_at}
 use Rattle.obj.proofs.SplitRecord.read.Goals as goal
 

@@ -1,4 +1,4 @@
--- `obj::read_symbol` meets its contract: each field is read at the offset that the definition gives it.
+-- `Symbol::read` meets its contract: each field is read at the offset that the definition gives it.
 use Rattle.obj.specs.Records.{symbol_at}
 use Rattle.obj.proofs.SymbolRecord.read.Goals as goal
 

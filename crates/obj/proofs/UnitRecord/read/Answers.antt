@@ -1,4 +1,4 @@
--- `obj::read_unit` meets its contract: each field is read at the offset that the definition gives it.
+-- `Unit::read` meets its contract: each field is read at the offset that the definition gives it.
 use mathlib.Core.Path.{◌∙◌}
 use mir.ValLaws.{to_z-of_z}
 use mir.Syntax.{w32}
