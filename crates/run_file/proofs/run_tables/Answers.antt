@@ -21,8 +21,8 @@ use Rattle.run_file.proofs.Laws.{usable_parts, usable_rest}
 use Rattle.run_file.proofs.Stages.{names_room_lem, stages_are, holds, left_first, left_second, left_sum, room_less}
 use Rattle.run_file.proofs.run_tables.Goals as goal
 
-pub bytes_room-added-requires : goal.bytes_room-added-requires
-bytes_room-added-requires c = let u = c.requires.0.usable in omega (arith, few_names u, measured u)
+pub bytes_room-requires : goal.bytes_room-requires
+bytes_room-requires c = let u = c.requires.0.usable in omega (arith, few_names u, measured u)
 
 pub invariant_of-added : goal.invariant_of-added
 invariant_of-added c =
@@ -30,8 +30,8 @@ invariant_of-added c =
     let o = a.added.now in
     let l = a.loaded.now in
     let w = beside o.bytes.now o.places.now o.lengths.now in
-    let names = left_first a.most.names (length l.names.now) 4096 c.names_room-added.ensures in
-    let bytes = left_first a.most.bytes (sum l.lengths.now) 65535 c.bytes_room-added.ensures in
+    let names = left_first a.most.names (length l.names.now) 4096 c.names_room.ensures in
+    let bytes = left_first a.most.bytes (sum l.lengths.now) 65535 c.bytes_room.ensures in
     record { stand = stand_none w _ _ (room_less w o.stand.room (omega (arith, names, c.requires.1.names)) (omega (arith, bytes, c.requires.1.bytes))) }
 
 pub split_table-filled-requires : goal.split_table-filled-requires
@@ -50,7 +50,7 @@ order_and_walk-requires c =
     let base = length-names l.file.now l.names.now l.lengths.now (length l.names.now) in
     let o = s.new.added in
     let more = length-names o.bytes.now o.places.now o.lengths.now o.count in
-    let room = left_sum a.most.names (length l.names.now) 4096 c.names_room-added.ensures (few_names u) in
+    let room = left_sum a.most.names (length l.names.now) 4096 c.names_room.ensures (few_names u) in
     let e = c.columns.ensures.columns in (
       record { usable = usable_rest u; images_are = q.0.images_are; order_is = q.0.order_is },
       λ accepts. rw (e.starts, e.ends, e.units, e.rest, e.count) (record {
@@ -71,8 +71,8 @@ returns-clause-run c =
     let cap = a.table.now.room in
     let rooms = rooms_in l.file.now a.most.names a.most.bytes cap units output t in
     let base = names_of l.file.now l.names.now l.lengths.now (length l.names.now) in
-    let counted = c.names_room-added.ensures in
-    let sized = c.bytes_room-added.ensures in
+    let counted = c.names_room.ensures in
+    let sized = c.bytes_room.ensures in
     let asked = ap (split_table l.file.now t cap) (names_room_lem q.0.usable a.most.names a.most.bytes cap units output counted sized) in
     let s = c.split_table-filled in
     let o = s.new.added in
