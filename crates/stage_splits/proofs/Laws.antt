@@ -116,7 +116,7 @@ one_count size n before e =
     ap (store_count 0 n) (clear_all 0 before ∙ ap (λ (k : ℕ). replicate k 0) e) ∙ counts_stored size (n ∷ [])
 
 -- no rows, and a count of 0: zeros throughout
-nothing-laid : (size : ℕ) → replicate size 0 ≡ laid size (table_bytes [])
+pub nothing-laid : (size : ℕ) → replicate size 0 ≡ laid size (table_bytes [])
 unfolding table_bytes
 nothing-laid size = ap (λ (k : ℕ). replicate {A = ℕ} k 0) (let e : size ≡ size - 0 = omega arith in e)
 
