@@ -3,7 +3,7 @@ use mathlib.Core.Path.{◌≡◌, refl, sym, ap, ◌∙◌}
 use mathlib.Core.List.Memᴰ
 use mathlib.Core.List.{List, [], ◌∷◌, map, Memᴰ}
 use mathlib.Core.Logic.{◌⊎◌, inl, inr}
-use mathlib.Core.Bool.{Bool, true, false, cond}
+use mathlib.Core.Bool.{Bool, true, false, cond, false≢true}
 use Prim.Native.Nat.{ℕ, ◌+◌, ◌-◌, ◌≤◌, ◌<◌}
 use native.Mathlib.Omega.{arith}
 use lib.Dec.{eqb}
@@ -50,7 +50,7 @@ keep_member {A} p {x = x} (Memᴰ.head {x = y} {xs = l} e) h = go (p y) (sym h �
   where
     go : (b : Bool) → true ≡ b → Memᴰ x (cond b (y ∷ keep_if p l) (keep_if p l))
     go true q = Memᴰ.head e
-    go false q = absurd (Rattle.lists.proofs.Compare.never (sym q))
+    go false q = absurd (false≢true (sym q))
 keep_member {A} p {x = x} (Memᴰ.tail {x = y} {xs = l} m) h = go (p y) (keep_member p m h)
   where
     go : (b : Bool) → Memᴰ x (keep_if p l) → Memᴰ x (cond b (y ∷ keep_if p l) (keep_if p l))
