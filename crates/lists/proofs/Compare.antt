@@ -2,7 +2,7 @@
 use mathlib.Core.Path.{◌≡◌, refl}
 use mathlib.Core.Bool.{Bool, true, false, cond, ◌&&◌}
 use mathlib.Core.Logic.{◌⊎◌, inl, inr}
-use Prim.Native.Nat.{ℕ, ◌≤◌, ◌<◌, max}
+use Prim.Native.Nat.{ℕ, ◌≤◌, ◌<◌, min, max}
 use native.Mathlib.Omega.{arith}
 use lib.Dec.{leb, ltb, eqb}
 use borrow.Author.Tests.{le-leb, lt-leb, ltb-true, ltb-false, ne_eqb}
@@ -33,37 +33,21 @@ one_of_two a b = go (cases_lt a b)
     go (inl h) = inr (omega arith)
     go (inr h) = inl (omega arith)
 
--- the lower of two numbers is above neither
+-- the lower and the higher of two numbers, as arithmetic knows them
 module _ (a b : ℕ) where
-  pub lower-first : lower a b ≤ a
-  lower-first = go (ltb a b) refl
+  pub lower-is : lower a b ≡ min a b
+  lower-is = go (ltb a b) refl
     where
-      go : (t : Bool) → ltb a b ≡ t → cond t a b ≤ a
-      go true e = omega arith
-      go false e = ltb-false a b e
-
-  pub lower-second : lower a b ≤ b
-  lower-second = go (ltb a b) refl
-    where
-      go : (t : Bool) → ltb a b ≡ t → cond t a b ≤ b
+      go : (t : Bool) → ltb a b ≡ t → cond t a b ≡ min a b
       go true e = let h = ltb-true a b e in omega arith
-      go false e = omega arith
+      go false e = let h = ltb-false a b e in omega arith
 
--- what neither of two numbers is above, neither the lower nor the higher is
-module _ (a b most : ℕ) (p : a ≤ most) (q : b ≤ most) where
-  pub lower-most : lower a b ≤ most
-  lower-most = go (ltb a b)
+  pub higher-is : higher a b ≡ max a b
+  higher-is = go (ltb a b) refl
     where
-      go : (t : Bool) → cond t a b ≤ most
-      go true = p
-      go false = q
-
-  pub higher-most : higher a b ≤ most
-  higher-most = go (ltb a b)
-    where
-      go : (t : Bool) → cond t b a ≤ most
-      go true = q
-      go false = p
+      go : (t : Bool) → ltb a b ≡ t → cond t b a ≡ max a b
+      go true e = let h = ltb-true a b e in omega arith
+      go false e = let h = ltb-false a b e in omega arith
 
 -- a number above 0 is not 0
 pub above-eqb : (n : ℕ) → 0 < n → eqb n 0 ≡ false

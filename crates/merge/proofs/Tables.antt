@@ -28,7 +28,7 @@ use Rattle.tables.proofs.Laws as table-laws
 use Rattle.splits.specs.Rising.{Rising}
 use Rattle.splits.proofs.Rising.{rising_at, rising_of}
 use Rattle.lists.specs.Bounds.{lower, higher}
-use Rattle.lists.proofs.Compare.{higher-most, lower-most, above-eqb}
+use Rattle.lists.proofs.Compare.{higher-is, lower-is, above-eqb}
 use Rattle.merge.specs.Merge.{Given, given, section_end, joint_of, merge_one, merge_all}
 use Rattle.merge.specs.Kept.{Inside, Keeps}
 use Rattle.merge.proofs.Decisions.{bit_product}
@@ -94,15 +94,15 @@ module _ (lengths : List ℕ) (g : Given) where
     renamed = λ h. absurd (h refl);
     aligned = joint_aligned new old p.aligned q.aligned;
     flags = let h = bit_product (new.flags / 2 % 2) (old.flags / 2 % 2) (omega arith) (omega arith) in omega (arith, h);
-    start = lower-most old.start new.start 4026531840 q.start p.start;
-    end = higher-most old.end new.end 4026531840 q.end p.end;
+    start = omega (arith, lower-is old.start new.start, q.start, p.start);
+    end = omega (arith, higher-is old.end new.end, q.end, p.end);
   }
 
   joint_inside : (new old : Split) → new.section ≡ old.section → Inside g new → Inside g old → Inside g (joint_of new old)
   unfolding joint_of
   joint_inside new old e p q = record {
     section = p.section;
-    end = higher-most old.end new.end (get_or g.ends new.section 0) (rw e q.end) p.end;
+    end = let below : new.end ≤ get_or g.ends new.section 0 = p.end in let older : old.end ≤ get_or g.ends new.section 0 = rw e q.end in omega (arith, higher-is old.end new.end, older, below);
   }
 
   good_keeps : Keeps Good

@@ -31,7 +31,7 @@ use Rattle.order.specs.declared.Unlinked.TheVariants.{Refused, Cycle}
 use Rattle.run_room.specs.Room.{sum}
 use Rattle.run_room.proofs.Sums.{sum_turn, sum-none}
 use Rattle.lists.specs.Bounds.{lower}
-use Rattle.lists.proofs.Compare.{lower-first, lower-second}
+use Rattle.lists.proofs.Compare.{lower-is}
 use Rattle.run_file.specs.RunFile.{rooms_in, Holds}
 
 -- ---- the bytes of the file's names
@@ -115,13 +115,13 @@ holds (Err (Refused r)) most most_bytes cap room c units names used splits keeps
 -- ---- what the ceilings leave
 module _ {a : ℕ} (most n ceiling : ℕ) (e : a ≡ lower (ceiling - n) most) where
   pub left_first : a ≤ ceiling
-  left_first = omega (arith, e, lower-first (ceiling - n) most)
+  left_first = omega (arith, e, lower-is (ceiling - n) most)
 
   pub left_second : a ≤ most
-  left_second = omega (arith, e, lower-second (ceiling - n) most)
+  left_second = omega (arith, e, lower-is (ceiling - n) most)
 
   pub left_sum : n ≤ ceiling → n + a ≤ ceiling
-  left_sum h = omega (arith, e, h, lower-first (ceiling - n) most)
+  left_sum h = omega (arith, e, h, lower-is (ceiling - n) most)
 
 -- less room for names
 pub room_less : (c : Beside) {a b m n : ℕ} → Room c m n → a ≤ m → b ≤ n → Room c a b

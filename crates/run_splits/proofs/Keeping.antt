@@ -36,7 +36,7 @@ use Rattle.gaps.proofs.Inside.{found_lies}
 use Rattle.gap_splits.specs.Entering.{Filled, Ceilings, Named, full, named, gap_split, unit_name, entered, filled}
 use Rattle.create_gap_splits.specs.Create.{gaps_filled}
 use Rattle.loaded.proofs.Laws.{section_below}
-use Rattle.lists.proofs.Compare.{higher-most}
+use Rattle.lists.proofs.Compare.{higher-is}
 use Rattle.run_splits.specs.Table as table
 use Rattle.run_splits.specs.Table.{Fine, Homed}
 
@@ -44,7 +44,7 @@ use Rattle.run_splits.specs.Table.{Fine, Homed}
 
 fine_joint : {sections names : ℕ} (new old : Split) → Fine sections names new → Fine sections names old → Fine sections names (joint_of new old)
 unfolding joint_of
-fine_joint new old p q = record { section = p.section; end = higher-most old.end new.end 4026531840 q.end p.end; unit = p.unit; renamed = λ h. absurd (h refl) }
+fine_joint new old p q = record { section = p.section; end = omega (arith, higher-is old.end new.end, q.end, p.end); unit = p.unit; renamed = λ h. absurd (h refl) }
 
 fine_keeps : (sections names : ℕ) → Keeps (Fine sections names)
 fine_keeps sections names = record {
