@@ -3,6 +3,7 @@
 // sections, symbols, relocations, splits and units. `stdout` has what must come out, by document 01 and the decisions.
 #![tactic(auto)]
 
+use fields::Field;
 use program_input::{Answer, CaseReader, Gathered, Turn, digit, longer, read_full};
 use std::io;
 
@@ -145,7 +146,7 @@ impl Reading<'_> {
 
 fn show_counts(rt: &impl Print, counts: &[u8]) -> io::Result<()> {
     for i in 0..counts.len() / 2 {
-        let count = fields::get16(counts, 2 * i);
+        let count = u16::get(counts, 2 * i);
         print!(rt; " {count}")?;
     }
     println!(rt; "")

@@ -6,7 +6,7 @@ ghost use Rattle.std.specs.Prelude.{◌≡◌, ◌+◌, ◌≤◌, length};
 ghost use Rattle.elf.specs.Elf.{header_at, section_header_at, symbol_entry_at};
 ghost use Rattle.elf.specs.Strings.{string_at, Spanned, EndedBelow};
 
-use big_endian::{get_be16, get_be32};
+use big_endian::BigField;
 
 // The ELF header, 52 bytes. `magic` is e_ident[0..4] as one number, `class` e_ident[4], `order` e_ident[5]; the others are the ABI's without their `e_`, but `kind` is e_type.
 #[derive(Clone, Copy)]
@@ -64,22 +64,22 @@ pub fn read_header(b: &[u8]) -> Header
     ensures { result ≡ header_at b.now }
 {
     Header {
-        magic: get_be32(b, 0),
+        magic: u32::get_be(b, 0),
         class: b[4],
         order: b[5],
-        kind: get_be16(b, 16),
-        machine: get_be16(b, 18),
-        version: get_be32(b, 20),
-        entry: get_be32(b, 24),
-        phoff: get_be32(b, 28),
-        shoff: get_be32(b, 32),
-        flags: get_be32(b, 36),
-        ehsize: get_be16(b, 40),
-        phentsize: get_be16(b, 42),
-        phnum: get_be16(b, 44),
-        shentsize: get_be16(b, 46),
-        shnum: get_be16(b, 48),
-        shstrndx: get_be16(b, 50),
+        kind: u16::get_be(b, 16),
+        machine: u16::get_be(b, 18),
+        version: u32::get_be(b, 20),
+        entry: u32::get_be(b, 24),
+        phoff: u32::get_be(b, 28),
+        shoff: u32::get_be(b, 32),
+        flags: u32::get_be(b, 36),
+        ehsize: u16::get_be(b, 40),
+        phentsize: u16::get_be(b, 42),
+        phnum: u16::get_be(b, 44),
+        shentsize: u16::get_be(b, 46),
+        shnum: u16::get_be(b, 48),
+        shstrndx: u16::get_be(b, 50),
     }
 }
 
@@ -90,16 +90,16 @@ pub fn read_section_header(b: &[u8], at: usize) -> SectionHeader
     ensures { result ≡ section_header_at b.now at }
 {
     SectionHeader {
-        name: get_be32(b, at),
-        kind: get_be32(b, at + 4),
-        flags: get_be32(b, at + 8),
-        addr: get_be32(b, at + 12),
-        offset: get_be32(b, at + 16),
-        size: get_be32(b, at + 20),
-        link: get_be32(b, at + 24),
-        info: get_be32(b, at + 28),
-        addralign: get_be32(b, at + 32),
-        entsize: get_be32(b, at + 36),
+        name: u32::get_be(b, at),
+        kind: u32::get_be(b, at + 4),
+        flags: u32::get_be(b, at + 8),
+        addr: u32::get_be(b, at + 12),
+        offset: u32::get_be(b, at + 16),
+        size: u32::get_be(b, at + 20),
+        link: u32::get_be(b, at + 24),
+        info: u32::get_be(b, at + 28),
+        addralign: u32::get_be(b, at + 32),
+        entsize: u32::get_be(b, at + 36),
     }
 }
 
@@ -110,12 +110,12 @@ pub fn read_symbol_entry(b: &[u8], at: usize) -> SymbolEntry
     ensures { result ≡ symbol_entry_at b.now at }
 {
     SymbolEntry {
-        name: get_be32(b, at),
-        value: get_be32(b, at + 4),
-        size: get_be32(b, at + 8),
+        name: u32::get_be(b, at),
+        value: u32::get_be(b, at + 4),
+        size: u32::get_be(b, at + 8),
         info: b[at + 12],
         other: b[at + 13],
-        shndx: get_be16(b, at + 14),
+        shndx: u16::get_be(b, at + 14),
     }
 }
 

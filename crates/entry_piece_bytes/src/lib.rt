@@ -7,7 +7,7 @@ ghost use Rattle.obj.specs.Answers.{meaning, word};
 ghost use Rattle.entry_piece_bytes.specs.Entry.{place_of, outside, reach, Leaves};
 ghost use Rattle.entry_piece_bytes.specs.Lent.{of_lent, in_lent, within_lent};
 
-use fields::put32;
+use fields::Field;
 use obj::{Record, Refusal, Section, refuse, word_of};
 use outputs::clear_from;
 use pieces::{PIECE_BYTES, Piece, record_in};
@@ -121,8 +121,8 @@ fn put_place(out: &mut [u8], r: Result<Place, Refusal>) -> Result<(), Refusal>
     clear_from(out, 0);
     let p = r?;
     if 8 <= out.len() {
-        put32(out, 0, p.offset);
-        put32(out, 4, p.length);
+        p.offset.put(out, 0);
+        p.length.put(out, 4);
     }
     Ok(())
 }

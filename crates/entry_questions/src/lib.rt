@@ -10,7 +10,7 @@ ghost use Rattle.name_table.specs.Columns.{ReadableIn};
 ghost use Rattle.entry_questions.specs.Entry.{end_of, alignment_at, end_answer, alignment_answer, Leaves};
 ghost use Rattle.entry_questions.specs.Lines.{answer_in, from_symbols_in, split_at_in, KeptIn, HeadsIn, HomesIn};
 
-use fields::put32;
+use fields::Field;
 use lent_tables::{NO_TABLES, StageTables};
 use name_table::NameArrays;
 use names::Names;
@@ -118,7 +118,7 @@ fn put_number(out: &mut [u8], r: Result<u32, Refusal>) -> Result<(), Refusal>
     clear_from(out, 0);
     let n = r?;
     if 4 <= out.len() {
-        put32(out, 0, n);
+        n.put(out, 0);
     }
     Ok(())
 }

@@ -10,7 +10,7 @@ ghost use Rattle.toposort.specs.Sorting.{Within, sort_of};
 ghost use Rattle.toposort.specs.Lent.{graph_in};
 ghost use Rattle.entry_toposort.specs.Entry.{graph_of, toposort_of, Checked, Room, Ends, Leaves};
 
-use fields::get16;
+use fields::Field;
 use obj::{Refusal, place_of, refuse, word_of};
 use outputs::{clear_from, put_count, put_halves};
 use toposort::{EdgeTable, Unsorted, answer_of, kept};
@@ -21,7 +21,7 @@ fn column(edges: &[u8], at: usize, out: &mut [u16])
     ensures { out.new ≡ tabulate (λ i. le16 edges.now (4 * i + at)) 0 (length out.old) }
 {
     for (i, place) in out.iter_mut().enumerate() {
-        *place = get16(edges, 4 * i + at);
+        *place = u16::get(edges, 4 * i + at);
     }
 }
 

@@ -49,6 +49,10 @@ signed64 v = to_z w64 v
 abbrev pub word32 : ℤ → ℕ
 word32 z = of_z w32 z
 
+-- the word of 64 bits of a number
+abbrev pub word64 : ℤ → ℕ
+word64 z = of_z w64 z
+
 -- ---- any width, either order
 
 -- which byte stands first: the lowest or the highest

@@ -17,7 +17,7 @@ ghost use Rattle.load.specs.Reading.{so_far, fault_in, loaded_in, SameColumns, R
 ghost use Rattle.load.specs.Columns.{part, tables_in, floors_in, no_counts, fault_as, one_more, slot_of, Room, Ready, Counted, RelocFits, Kept, Loads};
 
 use faults::{reloc_bad, section_bad, split_bad, symbol_bad, unit_bad};
-use fields::{get16, get32};
+use fields::Field;
 use names::{Names, bad_name, bucket_of, clear_heads, enter, find};
 use obj::{
     PARTIAL_BYTES, Record, Refusal, Reloc, Section, Symbol, Table, Unit, read_partial, refuse,
@@ -274,7 +274,7 @@ fn record_number(before: &SoFar, at: usize) -> Result<(), u16>
     if file.len() < start {
         return Err(1);
     }
-    let len = get32(file, at) as usize;
+    let len = u32::get(file, at) as usize;
     if file.len() < start + len {
         return Err(1);
     }
@@ -283,7 +283,7 @@ fn record_number(before: &SoFar, at: usize) -> Result<(), u16>
         at: start,
         len,
     };
-    kind_number(get16(file, at + 4), &payload)
+    kind_number(u16::get(file, at + 4), &payload)
 }
 
 // ---- a record without a fault is kept
@@ -396,8 +396,8 @@ fn keep_record(file: &[u8], at: usize, c: Ceilings, n: Counts, columns: &mut Col
     ensures { SameColumns columns.old columns.new
         × KeptIn c file.now (at + 6) (le32 file.now at) (le16 file.now (at + 4)) (loaded_in n columns.old) result columns.new }
 {
-    let len = get32(file, at) as usize;
-    let kind = get16(file, at + 4);
+    let len = u32::get(file, at) as usize;
+    let kind = u16::get(file, at + 4);
     keep_kind(kind, file, at + 6, len, c, n, columns)
 }
 
@@ -406,7 +406,7 @@ fn next_record(file: &[u8], at: usize) -> usize
     requires { (at + 6 ≤ length file.now) × (length file.now ≤ 65536) }
     ensures { result ≡ at + 6 + le32 file.now at }
 {
-    at + 6 + (get32(file, at) as usize)
+    at + 6 + (u32::get(file, at) as usize)
 }
 
 // ---- the whole file

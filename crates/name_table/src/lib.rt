@@ -14,7 +14,7 @@ ghost use Rattle.name_table.specs.Columns.{StoredIn, StoresIn, SameLent};
 
 pub use arrays::NameArrays;
 pub use columns::NameColumns;
-use fields::get16;
+use fields::Field;
 use names::{NameIndex, Names, bad_name, bucket_of, clear_heads, enter, find};
 use obj::{Refusal, refuse};
 use tables::table_size;
@@ -28,7 +28,7 @@ pub fn start_of(ends: &[u8], k: usize) -> usize
     if k == 0 {
         return 0;
     }
-    get16(ends, 2 * k - 2) as usize
+    u16::get(ends, 2 * k - 2) as usize
 }
 
 // Where name k ends. That it has an end is asked here and by what takes a name's number, and is no field of a struct: of the ends it is a fact for one k only.
@@ -36,7 +36,7 @@ pub fn end_of(ends: &[u8], k: usize) -> usize
     requires { 2 * k + 2 ≤ length ends.now }
     ensures { Number (end_of ends.now k) result }
 {
-    get16(ends, 2 * k) as usize
+    u16::get(ends, 2 * k) as usize
 }
 
 // The fault of name k, which follows k good ones: 1 where its end falls or passes the bytes; "3 name byte or length", or equal to an earlier one.

@@ -10,7 +10,7 @@ ghost use Rattle.name_table.specs.NameTable.{name_in};
 ghost use Rattle.number_names.specs.Numbers.{enter_name, InTable};
 ghost use Rattle.number_names.specs.Tables.{listed, room_of, SameTable, HeldBy, EnteredBy};
 
-use fields::put16;
+use fields::Field;
 use name_table::{end_of, start_of};
 use names::{bucket_of, enter, find_by, put_bytes, same};
 use obj::{Refusal, refuse};
@@ -61,7 +61,7 @@ pub fn enter_name(x: &[u8], names: &mut NumberedNames) -> Result<(), Refusal>
         return refuse(2, 0, n as u32);
     }
     put_bytes(names.bytes, used, x);
-    put16(names.ends, 2 * n, end as u16);
+    (end as u16).put(names.ends, 2 * n);
     enter(names.heads, names.chain, bucket_of(x), n);
     names.count = Count {
         names: n + 1,

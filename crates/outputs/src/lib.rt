@@ -7,7 +7,7 @@ ghost use Rattle.lists.specs.Rows.{clear_from};
 ghost use Rattle.outputs.specs.Outputs.{halves, store_count};
 ghost use Rattle.outputs.specs.Room.{room_for};
 
-use fields::put16;
+use fields::Field;
 
 // How many records of `width` bytes a lent table of `size` bytes may take: "A shorter lent output table has its own length as ceiling".
 pub fn room_for(ceiling: usize, width: usize, size: usize) -> usize
@@ -33,7 +33,7 @@ pub fn put_halves(out: &mut [u8], numbers: &[u16])
     ensures { out.new ≡ sets out.old 0 (halves numbers.now) }
 {
     for (i, number) in numbers.iter().enumerate() {
-        put16(out, 2 * i, *number);
+        number.put(out, 2 * i);
     }
 }
 
@@ -44,6 +44,6 @@ pub fn put_count(counts: &mut [u8], k: usize, count: u16)
     ensures { counts.new ≡ store_count k count counts.old }
 {
     if 2 * k + 2 <= counts.len() {
-        put16(counts, 2 * k, count);
+        count.put(counts, 2 * k);
     }
 }

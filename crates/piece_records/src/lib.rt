@@ -6,7 +6,7 @@ ghost use Rattle.std.specs.Prelude.{◌≡◌, ◌+◌, ◌≤◌, length};
 ghost use Rattle.obj.specs.Answers.{meaning};
 ghost use Rattle.piece_records.specs.Records.{part_at, next_at, record_bad, count_from, Lying, IsHead};
 
-use fields::{get16, get32};
+use fields::Field;
 use obj::{Refusal, refuse};
 
 // A piece without its bytes.
@@ -38,11 +38,11 @@ fn record_bad(b: &[u8], at: usize) -> bool
     if left < 6 {
         return true;
     }
-    let size = get32(b, at) as usize;
+    let size = u32::get(b, at) as usize;
     if left - 6 < size {
         return true;
     }
-    (get16(b, at + 4) != 7) | (size < 6)
+    (u16::get(b, at + 4) != 7) | (size < 6)
 }
 
 // What is read below is asked at a place where a record lies whole (`Lying`): a struct of the bytes and the place would be made anew for each record and read once.
@@ -52,7 +52,7 @@ pub fn next_at(b: &[u8], at: usize) -> usize
     requires { Lying b.now at }
     ensures { result ≡ next_at b.now at }
 {
-    let size = get32(b, at) as usize;
+    let size = u32::get(b, at) as usize;
     at + 6 + size
 }
 
@@ -62,9 +62,9 @@ pub fn head_at(b: &[u8], at: usize) -> PieceHead
     ensures { IsHead (part_at b.now at) result }
 {
     PieceHead {
-        section: get16(b, at + 6),
-        address: get32(b, at + 8),
-        length: get32(b, at) - 6,
+        section: u16::get(b, at + 6),
+        address: u32::get(b, at + 8),
+        length: u32::get(b, at) - 6,
     }
 }
 
@@ -73,7 +73,7 @@ pub fn bytes_at<'a>(b: &'a [u8], at: usize) -> &'a [u8]
     requires { Lying b.now at }
     ensures { result.now ≡ (part_at b.now at).bytes }
 {
-    let size = get32(b, at) as usize;
+    let size = u32::get(b, at) as usize;
     let start = at + 12;
     let end = at + 6 + size;
     &b[start..end]

@@ -8,7 +8,7 @@ ghost use Rattle.std.specs.Prelude.{◌≡◌, [], ◌∷◌, ◌++◌, ◌+◌,
 ghost use Rattle.std.proofs.lemmas.List.Edits.{sets};
 ghost use Rattle.pieces.specs.Pieces.{piece_width, piece_head, piece_at, symbol_at, reloc_at, pieces_in, symbols_in, relocs_in};
 
-use fields::{get16, get32, get64, put16, put32, put64};
+use fields::Field;
 pub use lent::PieceTables;
 use obj::Record;
 
@@ -65,15 +65,15 @@ impl Record for Piece {
     #[tactic(auto, unfolding(crate::specs::Pieces::piece_at))]
     fn read(b: &[u8], at: usize) -> Piece {
         Piece {
-            unit: get16(b, at),
-            number: get16(b, at + 2),
-            section: get16(b, at + 4),
-            name: get16(b, at + 6),
-            address: get32(b, at + 8),
-            size: get32(b, at + 12),
-            alignment: get32(b, at + 16),
-            offset: get64(b, at + 20),
-            origin: get16(b, at + 28),
+            unit: u16::get(b, at),
+            number: u16::get(b, at + 2),
+            section: u16::get(b, at + 4),
+            name: u16::get(b, at + 6),
+            address: u32::get(b, at + 8),
+            size: u32::get(b, at + 12),
+            alignment: u32::get(b, at + 16),
+            offset: u64::get(b, at + 20),
+            origin: u16::get(b, at + 28),
         }
     }
 }
@@ -88,11 +88,11 @@ impl Record for PieceSymbol {
     #[tactic(auto, unfolding(crate::specs::Pieces::symbol_at))]
     fn read(b: &[u8], at: usize) -> PieceSymbol {
         PieceSymbol {
-            unit: get16(b, at),
-            piece: get16(b, at + 2),
-            symbol: get16(b, at + 4),
-            flags: get16(b, at + 6),
-            address: get32(b, at + 8),
+            unit: u16::get(b, at),
+            piece: u16::get(b, at + 2),
+            symbol: u16::get(b, at + 4),
+            flags: u16::get(b, at + 6),
+            address: u32::get(b, at + 8),
         }
     }
 }
@@ -107,9 +107,9 @@ impl Record for PieceReloc {
     #[tactic(auto, unfolding(crate::specs::Pieces::reloc_at))]
     fn read(b: &[u8], at: usize) -> PieceReloc {
         PieceReloc {
-            piece: get16(b, at),
-            relocation: get16(b, at + 2),
-            offset: get32(b, at + 4),
+            piece: u16::get(b, at),
+            relocation: u16::get(b, at + 2),
+            offset: u32::get(b, at + 4),
         }
     }
 }
@@ -129,14 +129,14 @@ fn put_head(out: &mut [u8], at: usize, p: Piece)
     requires { at + 28 ≤ length out.old }
     ensures { out.new ≡ sets out.old at (piece_head p) }
 {
-    put16(out, at, p.unit);
-    put16(out, at + 2, p.number);
-    put16(out, at + 4, p.section);
-    put16(out, at + 6, p.name);
-    put32(out, at + 8, p.address);
-    put32(out, at + 12, p.size);
-    put32(out, at + 16, p.alignment);
-    put64(out, at + 20, p.offset);
+    p.unit.put(out, at);
+    p.number.put(out, at + 2);
+    p.section.put(out, at + 4);
+    p.name.put(out, at + 6);
+    p.address.put(out, at + 8);
+    p.size.put(out, at + 12);
+    p.alignment.put(out, at + 16);
+    p.offset.put(out, at + 20);
 }
 
 // One piece more, behind the k that are there.
@@ -146,7 +146,7 @@ pub fn put_piece(out: &mut [u8], k: usize, p: Piece)
 {
     let at = PIECE_BYTES * k;
     put_head(out, at, p);
-    put16(out, at + 28, p.origin);
+    p.origin.put(out, at + 28);
 }
 
 pub fn put_piece_symbol(out: &mut [u8], k: usize, y: PieceSymbol)
@@ -154,11 +154,11 @@ pub fn put_piece_symbol(out: &mut [u8], k: usize, y: PieceSymbol)
     ensures { symbols_in out.new (k + 1) ≡ symbols_in out.old k ++ (y ∷ []) }
 {
     let at = 12 * k;
-    put16(out, at, y.unit);
-    put16(out, at + 2, y.piece);
-    put16(out, at + 4, y.symbol);
-    put16(out, at + 6, y.flags);
-    put32(out, at + 8, y.address);
+    y.unit.put(out, at);
+    y.piece.put(out, at + 2);
+    y.symbol.put(out, at + 4);
+    y.flags.put(out, at + 6);
+    y.address.put(out, at + 8);
 }
 
 pub fn put_piece_reloc(out: &mut [u8], k: usize, r: PieceReloc)
@@ -166,9 +166,9 @@ pub fn put_piece_reloc(out: &mut [u8], k: usize, r: PieceReloc)
     ensures { relocs_in out.new (k + 1) ≡ relocs_in out.old k ++ (r ∷ []) }
 {
     let at = 8 * k;
-    put16(out, at, r.piece);
-    put16(out, at + 2, r.relocation);
-    put32(out, at + 4, r.offset);
+    r.piece.put(out, at);
+    r.relocation.put(out, at + 2);
+    r.offset.put(out, at + 4);
 }
 
 impl PieceTables<'_, '_, '_> {

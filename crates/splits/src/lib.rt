@@ -12,7 +12,7 @@ ghost use Rattle.splits.specs.Updates.{with_end};
 ghost use Rattle.splits.specs.Questions.{in_range, of_unit, NextHit, FirstPlace, Meets};
 ghost use Rattle.splits.specs.Bytes.{partial_bytes, split_bytes, table_bytes, Loadable};
 
-use fields::{put16, put32};
+use fields::Field;
 use obj::{PARTIAL_BYTES, SPLIT_BYTES, Split, Table};
 
 mod one_column;
@@ -228,13 +228,13 @@ fn put_partial(out: &mut [u8], at: usize, s: Split)
     requires { at + partial_width ≤ length out.old }
     ensures { out.new ≡ sets out.old at (partial_bytes s) }
 {
-    put16(out, at, s.section);
-    put32(out, at + 2, s.start);
-    put32(out, at + 6, s.end);
-    put16(out, at + 10, s.unit);
-    put32(out, at + 12, s.alignment);
+    s.section.put(out, at);
+    s.start.put(out, at + 2);
+    s.end.put(out, at + 6);
+    s.unit.put(out, at + 10);
+    s.alignment.put(out, at + 12);
     out[at + 16] = s.flags;
-    put16(out, at + 17, s.rename);
+    s.rename.put(out, at + 17);
 }
 
 // One split as a record at `at`.
@@ -243,7 +243,7 @@ fn put_split(out: &mut [u8], at: usize, s: Split)
     ensures { out.new ≡ sets out.old at (split_bytes s) }
 {
     put_partial(out, at, s);
-    put16(out, at + PARTIAL_BYTES, s.origin);
+    s.origin.put(out, at + PARTIAL_BYTES);
 }
 
 // The rows as records at the front of a lent table.

@@ -11,7 +11,7 @@ ghost use Rattle.stage_names.specs.StageNames.{names_room, bytes_room, beyond, f
 ghost use Rattle.names.specs.Listed.{names_in, NamedIn};
 ghost use Rattle.stage_names.specs.Output.{FitsIn, PutIn, GivenIn, SameLent};
 
-use fields::{get16, put16};
+use fields::Field;
 use names::{Names, Room, name_at, put_bytes};
 use obj::{Refusal, place_of, refuse};
 pub use output::NameOutput;
@@ -38,7 +38,7 @@ fn is_beyond(ends: &[u8], most: Room, k: usize) -> bool
     requires { 2 * k + 2 ≤ length ends.now }
     ensures { result ≡ beyond most.names most.bytes ends.now k }
 {
-    let end = get16(ends, 2 * k) as usize;
+    let end = u16::get(ends, 2 * k) as usize;
     (most.names <= k) | (most.bytes < end)
 }
 
@@ -87,7 +87,7 @@ pub fn put_names(names: &Names, first: usize, at: usize, output: &mut NameOutput
         let x = name_at(names, i);
         put_bytes(output.bytes, end, x);
         end += x.len();
-        put16(output.ends, 2 * (first + i), end as u16);
+        (end as u16).put(output.ends, 2 * (first + i));
     }
     end
 }

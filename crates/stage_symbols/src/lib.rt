@@ -7,7 +7,7 @@ ghost use Rattle.tables.specs.Records.{sections_in, image_places_of};
 ghost use Rattle.stage_tables.specs.StageTables.{symbols_check};
 ghost use Rattle.stage_symbols.specs.StageSymbols.{Room, Ordered, Placed};
 
-use fields::get32;
+use fields::Field;
 use obj::{Refusal, Table};
 use stage_tables::take_symbols;
 use symbol_order::make_order;
@@ -44,7 +44,7 @@ pub fn take_image_places(b: &[u8], column: &mut [u32]) -> usize
 {
     let n = column.len().min(b.len() / 4);
     for (i, place) in column[..n].iter_mut().enumerate() {
-        *place = get32(b, 4 * i);
+        *place = u32::get(b, 4 * i);
     }
     n
 }

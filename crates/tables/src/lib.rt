@@ -10,7 +10,7 @@ ghost use Rattle.tables.specs.Tables.{main_ceilings, size_check, record_check, r
 ghost use Rattle.tables.specs.Records.{sections_in, symbols_in, relocs_in, partials_in, splits_in, units_in, numbered, image_places_of, bytes_cut, split_before, reloc_fault_above, section_fault, image_fault, symbol_fault, reloc_fault, partial_fault, split_fault, unit_fault};
 
 use faults::{reloc_bad, section_bad, split_bad, split_misplaced, symbol_bad, unit_bad};
-use fields::get32;
+use fields::Field;
 use obj::{Refusal, Reloc, Section, Split, Symbol, Table, Unit, place_of, read_partial, refuse};
 
 // How many records of each kind there are, or how many there may be.
@@ -142,7 +142,7 @@ pub fn image_place(places: &[u8], k: usize) -> u32
     ensures { result ≡ get_or (image_places_of places.now) k 0 }
 {
     if k < places.len() / 4 {
-        return get32(places, 4 * k);
+        return u32::get(places, 4 * k);
     }
     0
 }

@@ -20,8 +20,8 @@ returns-then-out-ge8 c =
     let a = c.args in
     let p = c.in_ok-p.p in
     put_leaves a.r a.out.now _ c.in_ok-p.was refl (omega (arith, c.if-out-ge8.true, c.clear_from.auto.out))
-    (sets_then (clear_from 0 0 a.out.now) 0 (enc32 p.offset) 4 (enc32 p.length) c.put32-then-out-ge8.ensures
-    (c.put32.ensures ∙ ap (λ (l : List ℕ). sets l 0 (enc32 p.offset)) c.clear_from.ensures) refl)
+    (sets_then (clear_from 0 0 a.out.now) 0 (enc32 p.offset) 4 (enc32 p.length) c.put-then-out-ge8.ensures
+    (c.put.ensures ∙ ap (λ (l : List ℕ). sets l 0 (enc32 p.offset)) c.clear_from.ensures) refl)
 
 pub returns-else-out-ge8 : goal.returns-else-out-ge8
 returns-else-out-ge8 c =

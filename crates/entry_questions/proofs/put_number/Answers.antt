@@ -16,7 +16,7 @@ returns-in_err-n c = refused_leaves c.args.r c.args.out.now _ c.in_err-n.was (ap
 pub returns-then-out-ge4 : goal.returns-then-out-ge4
 returns-then-out-ge4 c =
     let a = c.args in
-    put_leaves a.r a.out.now _ c.in_ok-n.was refl (omega (arith, c.if-out-ge4.true, c.clear_from.auto.out)) (c.put32.ensures ∙ ap (λ (l : List ℕ). sets l 0 (enc32 c.in_ok-n.n)) c.clear_from.ensures)
+    put_leaves a.r a.out.now _ c.in_ok-n.was refl (omega (arith, c.if-out-ge4.true, c.clear_from.auto.out)) (c.put.ensures ∙ ap (λ (l : List ℕ). sets l 0 (enc32 c.in_ok-n.n)) c.clear_from.ensures)
 
 pub returns-else-out-ge4 : goal.returns-else-out-ge4
 returns-else-out-ge4 c =

@@ -10,7 +10,7 @@ use Rattle.entry_toposort.proofs.column.Goals as goal
 
 pub loop-i-preserved : goal.loop-i-preserved
 loop-i-preserved c =
-    fill_turn (λ j. le16 c.args.edges.now (4 * j + c.args.at)) (length c.args.out.now) _ _ _ (omega arith) (omega arith) c.get16.ensures c.loop-i.invariant
+    fill_turn (λ j. le16 c.args.edges.now (4 * j + c.args.at)) (length c.args.out.now) _ _ _ (omega arith) (omega arith) c.get.ensures c.loop-i.invariant
 
 pub returns : goal.returns
 returns c =

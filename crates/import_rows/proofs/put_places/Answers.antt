@@ -14,7 +14,7 @@ loop-i-preserved c =
     let a = c.args in
     let i = c.loop-i.i in
     write_turn c.loop-i.invariant (rows_turn (λ p. enc32 p) (λ k. place_of (header_of a.headers.now k)) a.taken.numbers.now i c.loop-i-test.true)
-    (c.put32.ensures ∙ ap (λ (p : ℕ). sets c.loop-i.out (4 * i) (enc32 p)) (c.place_of.ensures ∙ ap place_of c.header_of.ensures))
+    (c.put.ensures ∙ ap (λ (p : ℕ). sets c.loop-i.out (4 * i) (enc32 p)) (c.place_of.ensures ∙ ap place_of c.header_of.ensures))
     (omega arith)
 
 pub returns : goal.returns

@@ -16,10 +16,10 @@ returns c =
     let s2 = s1 ++ (y.kind ∷ []) in
     let s3 = s2 ++ enc32 y.address in
     let s4 = s3 ++ enc32 y.size in
-    sets_then a.out.now a.at s4 (a.at + 11) (enc32 y.offset) c.put32-3.ensures
-    (sets_then a.out.now a.at s3 (a.at + 7) (enc32 y.size) c.put32-2.ensures
-    (sets_then a.out.now a.at s2 (a.at + 3) (enc32 y.address) c.put32.ensures
-    (sets_then a.out.now a.at s1 (a.at + 2) (y.kind ∷ []) c.put_bytes.ensures c.put16.ensures refl)
+    sets_then a.out.now a.at s4 (a.at + 11) (enc32 y.offset) c.put-4.ensures
+    (sets_then a.out.now a.at s3 (a.at + 7) (enc32 y.size) c.put-3.ensures
+    (sets_then a.out.now a.at s2 (a.at + 3) (enc32 y.address) c.put-2.ensures
+    (sets_then a.out.now a.at s1 (a.at + 2) (y.kind ∷ []) c.put_bytes.ensures c.put.ensures refl)
     refl)
     refl)
     refl

@@ -19,13 +19,13 @@ returns c =
     let s5 = s4 ++ (y.size_known ∷ []) in
     let s6 = s5 ++ (y.kind ∷ []) in
     let s7 = s6 ++ enc16 y.flags in
-    sets_then a.out.now a.at s7 (a.at + 16) (enc32 y.alignment) c.put32-3.ensures
-    (sets_then a.out.now a.at s6 (a.at + 14) (enc16 y.flags) c.put16-3.ensures
+    sets_then a.out.now a.at s7 (a.at + 16) (enc32 y.alignment) c.put-6.ensures
+    (sets_then a.out.now a.at s6 (a.at + 14) (enc16 y.flags) c.put-5.ensures
     (sets_then a.out.now a.at s5 (a.at + 13) (y.kind ∷ []) c.put_bytes-2.ensures
     (sets_then a.out.now a.at s4 (a.at + 12) (y.size_known ∷ []) c.put_bytes.ensures
-    (sets_then a.out.now a.at s3 (a.at + 8) (enc32 y.size) c.put32-2.ensures
-    (sets_then a.out.now a.at s2 (a.at + 4) (enc32 y.address) c.put32.ensures
-    (sets_then a.out.now a.at s1 (a.at + 2) (enc16 y.section) c.put16-2.ensures c.put16.ensures refl)
+    (sets_then a.out.now a.at s3 (a.at + 8) (enc32 y.size) c.put-4.ensures
+    (sets_then a.out.now a.at s2 (a.at + 4) (enc32 y.address) c.put-3.ensures
+    (sets_then a.out.now a.at s1 (a.at + 2) (enc16 y.section) c.put-2.ensures c.put.ensures refl)
     refl)
     refl)
     refl)

@@ -5,8 +5,8 @@ use Rattle.load.specs.Columns.{tables_in}
 use Rattle.load.proofs.Numbers.{record_passed, record_read}
 use Rattle.load.proofs.keep_record.Goals as goal
 
-pub get32-len-requires : goal.get32-len-requires
-get32-len-requires c =
+pub get-len-requires : goal.get-len-requires
+get-len-requires c =
     let a = c.args in
     omega (arith, (record_passed a.c a.file.now a.at (tables_in a.n a.columns.now.places.now a.columns.now.lengths.now) c.requires.1).head)
 
@@ -15,8 +15,8 @@ overflow_add-at c =
     let a = c.args in
     omega (arith, (record_passed a.c a.file.now a.at (tables_in a.n a.columns.now.places.now a.columns.now.lengths.now) c.requires.1).head, c.requires.0.tabled.small)
 
-pub get16-kind-requires : goal.get16-kind-requires
-get16-kind-requires c =
+pub get-kind-requires : goal.get-kind-requires
+get-kind-requires c =
     let a = c.args in
     omega (arith, (record_passed a.c a.file.now a.at (tables_in a.n a.columns.now.places.now a.columns.now.lengths.now) c.requires.1).head)
 
@@ -28,5 +28,5 @@ overflow_add-at-2 c =
 pub keep_kind-requires : goal.keep_kind-requires
 keep_kind-requires c =
     let a = c.args in
-    let p = record_read a.c a.file.now a.at (tables_in a.n a.columns.now.places.now a.columns.now.lengths.now) c.requires.1 c.get32-len.ensures c.get16-kind.ensures in
+    let p = record_read a.c a.file.now a.at (tables_in a.n a.columns.now.places.now a.columns.now.lengths.now) c.requires.1 c.get-len.ensures c.get-kind.ensures in
     (p.0, c.requires.0, p.1)

@@ -17,10 +17,10 @@ pub returns-then-file-start-2 : goal.returns-then-file-start-2
 returns-then-file-start-2 c =
     let b = c.args.before.now in
     ap fault_as
-    (payload_cut b.most b.file.now c.args.at (tables_in b.counts b.places.now b.lengths.now) c.if-file-start.false c.get32-len.ensures c.if-file-start-2.true)
+    (payload_cut b.most b.file.now c.args.at (tables_in b.counts b.places.now b.lengths.now) c.if-file-start.false c.get-len.ensures c.if-file-start-2.true)
 
 pub returns : goal.returns
 returns c =
     let b = c.args.before.now in
     c.kind_number.ensures ∙ ap fault_as
-    (payload_whole b.most b.file.now c.args.at (tables_in b.counts b.places.now b.lengths.now) c.if-file-start.false c.get32-len.ensures c.get16.ensures c.if-file-start-2.false)
+    (payload_whole b.most b.file.now c.args.at (tables_in b.counts b.places.now b.lengths.now) c.if-file-start.false c.get-len.ensures c.get.ensures c.if-file-start-2.false)

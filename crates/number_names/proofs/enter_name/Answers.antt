@@ -42,8 +42,8 @@ invariant_of-names-3 c =
     let fits = place_free c.args.x.now t.ends.now t.bytes.now t.count.names t.count.used t.most.names t.most.bytes t.room c.if-names-n.false in
     let h = standing_held t.standing in
     record {
-      standing = held_standing (held_more h fits (ltb-false _ _ (held_asked h c.args.x.now c.find_name.result c.known.ensures.0 c.known.ensures.1 c.find_name.ensures c.is_some.ensures false c.if-is_some.false)) c.put_bytes.ensures c.put16.ensures c.bucket_of.ensures c.enter.ensures.0 c.enter.ensures.1);
-      room = within_as c.put16.auto.b c.put_bytes.auto.out t.room;
+      standing = held_standing (held_more h fits (ltb-false _ _ (held_asked h c.args.x.now c.find_name.result c.known.ensures.0 c.known.ensures.1 c.find_name.ensures c.is_some.ensures false c.if-is_some.false)) c.put_bytes.ensures c.put.ensures c.bucket_of.ensures c.enter.ensures.0 c.enter.ensures.1);
+      room = within_as c.put.auto.b c.put_bytes.auto.out t.room;
     }
 
 pub returns : goal.returns
@@ -54,7 +54,7 @@ returns c = (
     bytes = refl;
     heads = refl;
     chain = refl;
-    ends_size = c.put16.auto.b;
+    ends_size = c.put.auto.b;
     bytes_size = c.put_bytes.auto.out;
     heads_size = c.enter.auto.heads;
     chain_size = c.enter.auto.chain;
@@ -67,6 +67,6 @@ returns c = (
       record {
         names = names ++ (c.args.x.now ∷ []);
         is = enter_new _ names _ new (place_asked _ _ _ false h c.if-names-n.false);
-        held = held_more h fits new c.put_bytes.ensures c.put16.ensures c.bucket_of.ensures c.enter.ensures.0 c.enter.ensures.1;
+        held = held_more h fits new c.put_bytes.ensures c.put.ensures c.bucket_of.ensures c.enter.ensures.0 c.enter.ensures.1;
       },
 )

@@ -12,4 +12,4 @@ pub returns : goal.returns
 unfolding part_at
 returns c =
     let a = c.args in
-    ap (λ (k : ℕ). take k (drop (a.at + 12) a.b.now)) (let z : a.at + 6 + c.get32-size.result - (a.at + 12) ≡ le32 a.b.now a.at - 6 = omega arith in z)
+    ap (λ (k : ℕ). take k (drop (a.at + 12) a.b.now)) (let z : a.at + 6 + c.get-size.result - (a.at + 12) ≡ le32 a.b.now a.at - 6 = omega arith in z)

@@ -9,7 +9,7 @@ use Rattle.piece_records.proofs.head_at.Goals as goal
 pub returns : goal.returns
 unfolding part_at
 returns c = record {
-  section = c.get16.ensures;
-  address = c.get32.ensures;
-  «length» = ap (λ (k : ℕ). k - 6) c.get32-2.ensures ∙ sym (bytes_length _ _ c.requires);
+  section = c.get.ensures;
+  address = c.get-2.ensures;
+  «length» = ap (λ (k : ℕ). k - 6) c.get-3.ensures ∙ sym (bytes_length _ _ c.requires);
 }

@@ -18,5 +18,5 @@ returns-then-left-size c = payload_short _ _ (omega arith) (omega arith)
 pub returns : goal.returns
 unfolding any_of any_from
 returns c =
-    ap₂ (λ (k n : ℕ). not (eqb k 7) || ltb n 6) c.get16.ensures c.get32-size.ensures
+    ap₂ (λ (k n : ℕ). not (eqb k 7) || ltb n 6) c.get.ensures c.get-size.ensures
     ∙ payload_there _ _ (omega arith) (omega arith)

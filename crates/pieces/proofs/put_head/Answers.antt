@@ -19,14 +19,14 @@ returns c =
     let s-address = s-name ++ enc32 p.address in
     let s-size = s-address ++ enc32 p.size in
     let s-alignment = s-size ++ enc32 p.alignment in
-    sets_then a.out.now a.at s-alignment (a.at + 20) (enc64 p.offset) c.put64.ensures
-    (sets_then a.out.now a.at s-size (a.at + 16) (enc32 p.alignment) c.put32-3.ensures
-    (sets_then a.out.now a.at s-address (a.at + 12) (enc32 p.size) c.put32-2.ensures
-    (sets_then a.out.now a.at s-name (a.at + 8) (enc32 p.address) c.put32.ensures
-    (sets_then a.out.now a.at s-section (a.at + 6) (enc16 p.name) c.put16-4.ensures
-    (sets_then a.out.now a.at s-number (a.at + 4) (enc16 p.section) c.put16-3.ensures
-    (sets_then a.out.now a.at s-unit (a.at + 2) (enc16 p.number) c.put16-2.ensures
-    c.put16.ensures
+    sets_then a.out.now a.at s-alignment (a.at + 20) (enc64 p.offset) c.put-8.ensures
+    (sets_then a.out.now a.at s-size (a.at + 16) (enc32 p.alignment) c.put-7.ensures
+    (sets_then a.out.now a.at s-address (a.at + 12) (enc32 p.size) c.put-6.ensures
+    (sets_then a.out.now a.at s-name (a.at + 8) (enc32 p.address) c.put-5.ensures
+    (sets_then a.out.now a.at s-section (a.at + 6) (enc16 p.name) c.put-4.ensures
+    (sets_then a.out.now a.at s-number (a.at + 4) (enc16 p.section) c.put-3.ensures
+    (sets_then a.out.now a.at s-unit (a.at + 2) (enc16 p.number) c.put-2.ensures
+    c.put.ensures
     refl)
     refl)
     refl)

@@ -15,5 +15,5 @@ stored b after out at p first last = sets_then b at (piece_head p) (at + 28) (en
 pub returns : goal.returns
 returns c =
     let a = c.args in
-    ap (λ (b : List ℕ). pieces_in b (a.k + 1)) (stored a.out.now _ _ (piece_width * a.k) a.p c.put_head.ensures c.put16.ensures)
+    ap (λ (b : List ℕ). pieces_in b (a.k + 1)) (stored a.out.now _ _ (piece_width * a.k) a.p c.put_head.ensures c.put.ensures)
     ∙ pieces_more a.out.now a.k a.p (search rules) c.requires

@@ -15,9 +15,9 @@ returns c =
     let s-piece = enc16 r.piece in
     let s-relocation = s-piece ++ enc16 r.relocation in
     ap (λ (b : List ℕ). relocs_in b (a.k + 1))
-    (sets_then a.out.now at s-relocation (at + 4) (enc32 r.offset) c.put32.ensures
-    (sets_then a.out.now at s-piece (at + 2) (enc16 r.relocation) c.put16-2.ensures
-    c.put16.ensures
+    (sets_then a.out.now at s-relocation (at + 4) (enc32 r.offset) c.put-3.ensures
+    (sets_then a.out.now at s-piece (at + 2) (enc16 r.relocation) c.put-2.ensures
+    c.put.ensures
     refl)
     refl)
     ∙ relocs_more a.out.now a.k r (search rules) c.requires

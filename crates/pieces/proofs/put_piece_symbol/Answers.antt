@@ -17,11 +17,11 @@ returns c =
     let s-symbol = s-piece ++ enc16 y.symbol in
     let s-flags = s-symbol ++ enc16 y.flags in
     ap (λ (b : List ℕ). symbols_in b (a.k + 1))
-    (sets_then a.out.now at s-flags (at + 8) (enc32 y.address) c.put32.ensures
-    (sets_then a.out.now at s-symbol (at + 6) (enc16 y.flags) c.put16-4.ensures
-    (sets_then a.out.now at s-piece (at + 4) (enc16 y.symbol) c.put16-3.ensures
-    (sets_then a.out.now at s-unit (at + 2) (enc16 y.piece) c.put16-2.ensures
-    c.put16.ensures
+    (sets_then a.out.now at s-flags (at + 8) (enc32 y.address) c.put-5.ensures
+    (sets_then a.out.now at s-symbol (at + 6) (enc16 y.flags) c.put-4.ensures
+    (sets_then a.out.now at s-piece (at + 4) (enc16 y.symbol) c.put-3.ensures
+    (sets_then a.out.now at s-unit (at + 2) (enc16 y.piece) c.put-2.ensures
+    c.put.ensures
     refl)
     refl)
     refl)

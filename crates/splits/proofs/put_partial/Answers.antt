@@ -19,9 +19,9 @@ returns c =
     let unit = end ++ enc16 s.unit in
     let alignment = unit ++ enc32 s.alignment in
     let flags = alignment ++ (s.flags ∷ []) in
-    sets_then a.out.now a.at flags (a.at + 17) (enc16 s.rename) c.put16-3.ensures
+    sets_then a.out.now a.at flags (a.at + 17) (enc16 s.rename) c.put-6.ensures
     (sets_then a.out.now a.at alignment (a.at + 16) (s.flags ∷ []) refl
-    (sets_then a.out.now a.at unit (a.at + 12) (enc32 s.alignment) c.put32-3.ensures
-    (sets_then a.out.now a.at end (a.at + 10) (enc16 s.unit) c.put16-2.ensures
-    (sets_then a.out.now a.at start (a.at + 6) (enc32 s.end) c.put32-2.ensures
-    (sets_then a.out.now a.at section (a.at + 2) (enc32 s.start) c.put32.ensures c.put16.ensures refl) refl) refl) refl) refl) refl
+    (sets_then a.out.now a.at unit (a.at + 12) (enc32 s.alignment) c.put-5.ensures
+    (sets_then a.out.now a.at end (a.at + 10) (enc16 s.unit) c.put-4.ensures
+    (sets_then a.out.now a.at start (a.at + 6) (enc32 s.end) c.put-3.ensures
+    (sets_then a.out.now a.at section (a.at + 2) (enc32 s.start) c.put-2.ensures c.put.ensures refl) refl) refl) refl) refl) refl

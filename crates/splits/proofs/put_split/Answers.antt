@@ -13,4 +13,4 @@ unfolding split_bytes partial_bytes
 returns c =
     let written = c in
     let a = written.args in
-    sets_then a.out.now a.at (partial_bytes a.s) (a.at + partial_width) (enc16 a.s.origin) c.put16.ensures written.put_partial.ensures refl
+    sets_then a.out.now a.at (partial_bytes a.s) (a.at + partial_width) (enc16 a.s.origin) c.put.ensures written.put_partial.ensures refl

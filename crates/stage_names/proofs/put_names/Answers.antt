@@ -34,11 +34,11 @@ loop-i-preserved c =
     let a = c.args in
     let l = c.loop-i in
     record {
-      putting = putting_turn a.names.now.bytes.now a.names.now.places.now a.names.now.lengths.now (length a.names.now.places.now) a.first a.at a.output.now.ends.now a.output.now.bytes.now l.output.ends.now l.output.bytes.now l.end l.i l.invariant.putting c.loop-i-test.true c.name_at-x.ensures c.put_bytes.ensures c.put16.ensures;
+      putting = putting_turn a.names.now.bytes.now a.names.now.places.now a.names.now.lengths.now (length a.names.now.places.now) a.first a.at a.output.now.ends.now a.output.now.bytes.now l.output.ends.now l.output.bytes.now l.end l.i l.invariant.putting c.loop-i-test.true c.name_at-x.ensures c.put_bytes.ensures c.put.ensures;
       lent = record {
         ends = l.invariant.lent.ends;
         bytes = l.invariant.lent.bytes;
-        ends_size = c.put16.auto.b ∙ l.invariant.lent.ends_size;
+        ends_size = c.put.auto.b ∙ l.invariant.lent.ends_size;
         bytes_size = c.put_bytes.auto.out ∙ l.invariant.lent.bytes_size;
       };
     }

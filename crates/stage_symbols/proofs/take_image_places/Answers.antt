@@ -10,7 +10,7 @@ loop-i-preserved c =
     let n = length-take-le c.min-n.result c.args.column.now (omega (arith, c.min-n.ensures)) in
     let inside : l.i < length l.place-items = let h = c.loop-i-test.true in omega (arith, l.auto.place-items) in
     let known : l.i < length b / 4 = let h = c.loop-i-test.true in omega (arith, n, c.min-n.ensures) in
-    place_more b l.place-items l.i inside known c.get32.ensures l.invariant
+    place_more b l.place-items l.i inside known c.get.ensures l.invariant
 
 pub returns : goal.returns
 returns c =

@@ -7,4 +7,4 @@ use Rattle.obj.proofs.RelocRecord.read.Goals as goal
 
 pub returns : goal.returns
 returns c =
-    reloc_made _ _ c.get16.ensures c.get32.ensures c.get32-2.ensures (to_z-of_z w64 c.get_i64.result (record { sfits = c.get_i64.type_inv }) ∙ c.get_i64.ensures) c.get32-3.ensures
+    reloc_made _ _ c.get.ensures c.get-2.ensures c.get-3.ensures (to_z-of_z w64 c.get-4.result (record { sfits = c.get-4.type_inv }) ∙ c.get-4.ensures) c.get-5.ensures

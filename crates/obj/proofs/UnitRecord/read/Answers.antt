@@ -7,5 +7,5 @@ use Rattle.obj.proofs.UnitRecord.read.Goals as goal
 
 pub returns : goal.returns
 returns c =
-    unit_made _ _ c.get16.ensures
-    (to_z-of_z w32 c.get_i32.result (record { sfits = c.get_i32.type_inv }) ∙ c.get_i32.ensures)
+    unit_made _ _ c.get.ensures
+    (to_z-of_z w32 c.get-2.result (record { sfits = c.get-2.type_inv }) ∙ c.get-2.ensures)
