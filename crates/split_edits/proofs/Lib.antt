@@ -1,5 +1,4 @@
 pub mod Inserted
-pub mod Shifts
 pub mod Removal
 pub mod Search
 pub mod Sorting

@@ -2,4 +2,5 @@ pub mod Laws
 pub mod Ranks
 pub mod Unique
 pub mod Parts
+pub mod Shifted
 pub mod Sections
