@@ -1,6 +1,7 @@
 -- The columns that are lent together, and the rows that they mean: `columns_of` and `rows_of` of columns to read, `columns_in` and `rows_in` of a table to write,
 -- and the like of a table of which one column is written.
-use Rattle.std.specs.Prelude.{◌+◌, ◌≤◌, ◌≡◌, List, length}
+use Rattle.std.specs.Prelude.{◌+◌, ◌≤◌, ◌≡◌, List}
+use Rattle.lists.specs.Slices.{SameSlice}
 use Rattle.obj.specs.declared.Split.{Split}
 use Rattle.splits.specs.Columns.{Columns, columns, rows}
 use Rattle.splits.specs.declared.split_table.SplitColumns.{SplitColumns}
@@ -41,14 +42,10 @@ pub record SameColumns (s r : SplitColumns) : Type 0 where
 -- the same columns are lent, of the same lengths, with the same room
 pub record SameLent (t u : SplitTable) : Type 0 where
   pub room : u.room ≡ t.room
-  pub starts : u.starts.ghost_name ≡ t.starts.ghost_name
-  pub ends : u.ends.ghost_name ≡ t.ends.ghost_name
-  pub units : u.units.ghost_name ≡ t.units.ghost_name
-  pub rest : u.rest.ghost_name ≡ t.rest.ghost_name
-  pub starts_size : length u.starts.now ≡ length t.starts.now
-  pub ends_size : length u.ends.now ≡ length t.ends.now
-  pub units_size : length u.units.now ≡ length t.units.now
-  pub rest_size : length u.rest.now ≡ length t.rest.now
+  pub starts : SameSlice t.starts u.starts
+  pub ends : SameSlice t.ends u.ends
+  pub units : SameSlice t.units u.units
+  pub rest : SameSlice t.rest u.rest
 
 -- as many rows
 pub record SameSize (t u : SplitTable) : Type 0 where
@@ -86,8 +83,7 @@ pub record OnlyEnds (t u : SplitEnds) : Type 0 where
   pub starts : u.starts.now ≡ t.starts.now
   pub units : u.units.now ≡ t.units.now
   pub rest : u.rest.now ≡ t.rest.now
-  pub ends : u.ends.ghost_name ≡ t.ends.ghost_name
-  pub size : length u.ends.now ≡ length t.ends.now
+  pub ends : SameSlice t.ends u.ends
   pub count : u.count ≡ t.count
 
 abbrev pub units_columns : SplitUnits → Columns
@@ -102,8 +98,7 @@ pub record OnlyUnits (t u : SplitUnits) : Type 0 where
   pub starts : u.starts.now ≡ t.starts.now
   pub ends : u.ends.now ≡ t.ends.now
   pub rest : u.rest.now ≡ t.rest.now
-  pub units : u.units.ghost_name ≡ t.units.ghost_name
-  pub size : length u.units.now ≡ length t.units.now
+  pub units : SameSlice t.units u.units
   pub count : u.count ≡ t.count
 
 abbrev pub rest_columns : SplitRest → Columns
@@ -118,6 +113,5 @@ pub record OnlyRest (t u : SplitRest) : Type 0 where
   pub starts : u.starts.now ≡ t.starts.now
   pub ends : u.ends.now ≡ t.ends.now
   pub units : u.units.now ≡ t.units.now
-  pub rest : u.rest.ghost_name ≡ t.rest.ghost_name
-  pub size : length u.rest.now ≡ length t.rest.now
+  pub rest : SameSlice t.rest u.rest
   pub count : u.count ≡ t.count

@@ -4,10 +4,11 @@ use native.Mathlib.Omega.{arith}
 use mathlib.Core.Path.{◌≡◌, refl, ◌∙◌}
 use lib.ListN.{length-set}
 use Rattle.common.proofs.Marking.{marking_start, marking_more, marking_done}
+use Rattle.lists.proofs.Slices.{slice_same}
 use Rattle.common.proofs.mark_columns.Goals as goal
 
 pub loop-i-init : goal.loop-i-init
-loop-i-init c = (marking_start _ _ _ _, record { starts = refl; ends = refl; units = refl; rest = refl; size = refl; count = refl })
+loop-i-init c = (marking_start _ _ _ _, record { starts = refl; ends = refl; units = refl; rest = slice_same; count = refl })
 
 pub loop-i-preserved : goal.loop-i-preserved
 loop-i-preserved c =
@@ -21,8 +22,7 @@ loop-i-preserved c =
         starts = o.starts;
         ends = o.ends;
         units = o.units;
-        rest = o.rest;
-        size = length-set l.table.rest.now l.i v ∙ o.size;
+        rest = record { name = o.rest.name; size = length-set l.table.rest.now l.i v ∙ o.rest.size };
         count = o.count;
       },
     )

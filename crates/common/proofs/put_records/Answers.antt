@@ -6,10 +6,11 @@ use mathlib.Core.Path.{◌≡◌, refl, ◌∙◌}
 use lib.ListN.{length, length-set}
 use Rattle.lists.proofs.Rows.{unmapped}
 use Rattle.common.proofs.Written.{writing_start, writing_more, writing_done}
+use Rattle.lists.proofs.Slices.{slice_same}
 use Rattle.common.proofs.put_records.Goals as goal
 
 pub loop-i-init : goal.loop-i-init
-loop-i-init c = (writing_start _ _ _ _ _, record { starts = refl; ends = refl; units = refl; rest = refl; size = refl; count = refl })
+loop-i-init c = (writing_start _ _ _ _ _, record { starts = refl; ends = refl; units = refl; rest = slice_same; count = refl })
 
 pub loop-i-preserved : goal.loop-i-preserved
 loop-i-preserved c =
@@ -23,8 +24,7 @@ loop-i-preserved c =
         starts = o.starts;
         ends = o.ends;
         units = o.units;
-        rest = o.rest;
-        size = length-set l.table.rest.now l.i v ∙ o.size;
+        rest = record { name = o.rest.name; size = length-set l.table.rest.now l.i v ∙ o.rest.size };
         count = o.count;
       },
     )

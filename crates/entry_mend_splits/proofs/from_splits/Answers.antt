@@ -60,10 +60,10 @@ returns-clause-gives c =
     let told = ap meaning c.in_ok-take_split_columns.was in
     let room = k.room ∙ c.room_of.ensures in
     -- the arrays hold what the table held
-    let starts = c.starts-2-1.given.1.1 (sym k.starts) in
-    let ends = c.ends-2-1.given.1.1 (sym k.ends) in
-    let units = c.units-2-1.given.1.1 (sym k.units) in
-    let rest = c.rest-2-1.given.1.1 (sym k.rest) in
+    let starts = c.starts-2-1.given.1.1 (sym k.starts.name) in
+    let ends = c.ends-2-1.given.1.1 (sym k.ends.name) in
+    let units = c.units-2-1.given.1.1 (sym k.units.name) in
+    let rest = c.rest-2-1.given.1.1 (sym k.rest.name) in
     let mended = rw (starts, ends, units, rest) at w.ensures.mended in
     let e = c.columns.ensures in
     gives_as (ap (λ (room : ℕ). from_splits a.lengths.now heads a.splits.now room (length a.lines.now)) c.room_of.ensures)

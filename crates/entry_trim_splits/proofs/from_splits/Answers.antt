@@ -48,10 +48,10 @@ trim-requires c =
     let heads = a.obj.now.heads in
     let passed = sym t.ensures.taken.said ∙ ap meaning c.in_ok-take_split_columns.was in
     let low = room_low (length a.output.now.splits.now) in
-    let starts = c.starts-2-1.given.1.1 (sym k.starts) in
-    let ends = c.ends-2-1.given.1.1 (sym k.ends) in
-    let units = c.units-2-1.given.1.1 (sym k.units) in
-    let rest = c.rest-2-1.given.1.1 (sym k.rest) in (
+    let starts = c.starts-2-1.given.1.1 (sym k.starts.name) in
+    let ends = c.ends-2-1.given.1.1 (sym k.ends.name) in
+    let units = c.units-2-1.given.1.1 (sym k.units.name) in
+    let rest = c.rest-2-1.given.1.1 (sym k.rest.name) in (
       c.requires.0,
       c.requires.1,
       c.requires.3,
@@ -67,10 +67,10 @@ returns-in_err-trim-clause-gives c =
     let k = t.ensures.lent in
     let heads = a.obj.now.heads in
     let passed = sym t.ensures.taken.said ∙ ap meaning c.in_ok-take_split_columns.was in
-    let starts = c.starts-2-1.given.1.1 (sym k.starts) in
-    let ends = c.ends-2-1.given.1.1 (sym k.ends) in
-    let units = c.units-2-1.given.1.1 (sym k.units) in
-    let rest = c.rest-2-1.given.1.1 (sym k.rest) in
+    let starts = c.starts-2-1.given.1.1 (sym k.starts.name) in
+    let ends = c.ends-2-1.given.1.1 (sym k.ends.name) in
+    let units = c.units-2-1.given.1.1 (sym k.units.name) in
+    let rest = c.rest-2-1.given.1.1 (sym k.rest.name) in
     rw (same_err c.from_residual-in_err-trim.result c.trim.result c.from_residual-in_err-trim.ensures.1 c.in_err-trim.was)
     (trim_goes a.obj.now.names.lengths.now (sections_in heads.bytes.now heads.places.now) (image_in a.obj.now) (sections_lent a.obj.now a.image.now) a.splits.now
     (length a.output.now.splits.now) c.room_of.ensures passed (t.ensures.taken.taken passed)
@@ -93,10 +93,10 @@ returns-clause-gives c =
     let e = c.columns.ensures in
     let heads = a.obj.now.heads in
     let passed = sym t.ensures.taken.said ∙ ap meaning c.in_ok-take_split_columns.was in
-    let starts = c.starts-2-1.given.1.1 (sym k.starts) in
-    let ends = c.ends-2-1.given.1.1 (sym k.ends) in
-    let units = c.units-2-1.given.1.1 (sym k.units) in
-    let rest = c.rest-2-1.given.1.1 (sym k.rest) in
+    let starts = c.starts-2-1.given.1.1 (sym k.starts.name) in
+    let ends = c.ends-2-1.given.1.1 (sym k.ends.name) in
+    let units = c.units-2-1.given.1.1 (sym k.units.name) in
+    let rest = c.rest-2-1.given.1.1 (sym k.rest.name) in
     let w = seen-laid _ _ _ (rw (starts, ends, units, rest) at c.trim.ensures.rows) c.in_ok-trim.was (rw (e.columns, e.count) at c.give_splits.ensures.laid) in
     trim_goes a.obj.now.names.lengths.now (sections_in heads.bytes.now heads.places.now) (image_in a.obj.now) (sections_lent a.obj.now a.image.now) a.splits.now
     (length a.output.now.splits.now) c.room_of.ensures passed (t.ensures.taken.taken passed) (rw c.in_ok-trim.was at w)

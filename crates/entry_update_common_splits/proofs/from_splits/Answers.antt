@@ -50,10 +50,10 @@ returns-in_err-update_common_records-clause-gives c =
     let u = c.update_common_records in
     let k = t.ensures.lent in
     let passed = sym t.ensures.taken.said ∙ ap meaning c.in_ok-take_split_columns.was in
-    let starts = c.starts-2-1.given.1.1 (sym k.starts) in
-    let ends = c.ends-2-1.given.1.1 (sym k.ends) in
-    let units = c.units-2-1.given.1.1 (sym k.units) in
-    let rest = c.rest-2-1.given.1.1 (sym k.rest) in
+    let starts = c.starts-2-1.given.1.1 (sym k.starts.name) in
+    let ends = c.ends-2-1.given.1.1 (sym k.ends.name) in
+    let units = c.units-2-1.given.1.1 (sym k.units.name) in
+    let rest = c.rest-2-1.given.1.1 (sym k.rest.name) in
     rw (same_err c.from_residual-in_err-update_common_records.result u.result c.from_residual-in_err-update_common_records.ensures.1 c.in_err-update_common_records.was)
     (update_goes a.names.now.lengths.now (sections_in a.heads.now.bytes.now a.heads.now.places.now) (bss_numbers a.names.now a.heads.now) a.splits.now (is_some a.given) (unwrap_or a.given 0)
     (length a.output.now.splits.now) c.room_of.ensures passed (t.ensures.taken.taken passed)
@@ -76,10 +76,10 @@ returns-clause-gives c =
     let k = t.ensures.lent in
     let e = c.columns.ensures in
     let passed = sym t.ensures.taken.said ∙ ap meaning c.in_ok-take_split_columns.was in
-    let starts = c.starts-2-1.given.1.1 (sym k.starts) in
-    let ends = c.ends-2-1.given.1.1 (sym k.ends) in
-    let units = c.units-2-1.given.1.1 (sym k.units) in
-    let rest = c.rest-2-1.given.1.1 (sym k.rest) in
+    let starts = c.starts-2-1.given.1.1 (sym k.starts.name) in
+    let ends = c.ends-2-1.given.1.1 (sym k.ends.name) in
+    let units = c.units-2-1.given.1.1 (sym k.units.name) in
+    let rest = c.rest-2-1.given.1.1 (sym k.rest.name) in
     let w = gives_laid _ _ (rw (starts, ends, units, rest) at u.ensures.rows) c.in_ok-update_common_records.was (rw (e.columns, e.count) at c.give_splits.ensures.laid) in
     update_goes a.names.now.lengths.now (sections_in a.heads.now.bytes.now a.heads.now.places.now) (bss_numbers a.names.now a.heads.now) a.splits.now (is_some a.given) (unwrap_or a.given 0)
     (length a.output.now.splits.now) c.room_of.ensures passed (t.ensures.taken.taken passed) (rw c.in_ok-update_common_records.was at w)

@@ -23,5 +23,5 @@ returns-clause-rows c =
     let u = c.update_common_splits in
     let marked = rw (c.names.ensures, c.heads-heads.ensures) at u.ensures.rows in
     let o = u.ensures.others in
-    let written = c.rest-2-1.given.1.1 (sym o.rest) in
+    let written = c.rest-2-1.given.1.1 (sym o.rest.name) in
     rw written (marked_left _ said (common_left u.result _ _ _ (rw (o.starts, o.ends, o.units, o.count) at marked)))

@@ -73,5 +73,5 @@ returns-clause-tables c =
     let u = c.check_and_trim in
     let o = u.ensures.others in
     let trimmed = rw (o.starts, o.units, o.rest, o.count) at u.ensures.rows in
-    let written = c.ends-2-1.given.1.1 (sym o.ends) in
+    let written = c.ends-2-1.given.1.1 (sym o.ends.name) in
     rw written (ends_so a.loaded.now.file.now t a.table.now.room room a.loaded.now.images.now c.requires.0.images_are (file_names a.loaded.now) (added_in g.new.added) _ u.result merges filled trimmed)
