@@ -2,7 +2,7 @@
 -- Assumes nothing.
 use mathlib.Core.Path.{◌≡◌, refl, sym, ap, ◌∙◌}
 use mathlib.Core.List.{List, [], ◌∷◌}
-use mathlib.Core.Bool.{Bool, true, false, cond, not, ◌&&◌, false≢true}
+use mathlib.Core.Bool.{Bool, true, false, cond, not, beq, ◌&&◌, false≢true}
 use Prim.Native.Nat.{ℕ, ◌+◌, ◌-◌, ◌*◌, ◌%◌, ◌≤◌, ◌<◌}
 use native.Mathlib.Omega.{arith}
 use lib.Dec.{eqb, leb, ltb}
@@ -92,6 +92,20 @@ good_joint new old a b = go (eqb new.alignment 0)
     go : (t : Bool) → Good (cond t old.alignment new.alignment)
     go true = b
     go false = a
+
+-- two splits that are both common, or both not, have the same lowest bit of their flags
+pub common_same : (new old : Split) (x y : Bool) → x ≡ eqb (new.flags % 2) 1 → y ≡ eqb (old.flags % 2) 1 → not (beq x y) ≡ false → new.flags % 2 ≡ old.flags % 2
+common_same new old true true e f h = eqb-true _ _ (sym e) ∙ sym (eqb-true _ _ (sym f))
+common_same new old false false e f h = omega (arith, eqb-false (new.flags % 2) 1 (sym e), eqb-false (old.flags % 2) 1 (sym f))
+common_same new old true false e f h = absurd (cc)
+common_same new old false true e f h = absurd (cc)
+
+-- .. and where one is and one is not, they have not
+pub common-apart : (new old : Split) (x y : Bool) → x ≡ eqb (new.flags % 2) 1 → y ≡ eqb (old.flags % 2) 1 → not (beq x y) ≡ true → new.flags % 2 ≡ old.flags % 2 → ⊥
+common-apart new old true true e f h g = absurd (cc)
+common-apart new old false false e f h g = absurd (cc)
+common-apart new old true false e f h g = omega (arith, g, eqb-true (new.flags % 2) 1 (sym e), eqb-false (old.flags % 2) 1 (sym f))
+common-apart new old false true e f h g = omega (arith, g, eqb-false (new.flags % 2) 1 (sym e), eqb-true (old.flags % 2) 1 (sym f))
 
 -- a product of two bits is a bit
 pub bit_product : (a b : ℕ) → a < 2 → b < 2 → a * b < 2

@@ -1,5 +1,7 @@
 -- `merge::check_place` meets its contract: 20 and 21, in the definition's order.
 -- Assumes nothing.
+use mathlib.Core.Path.{ap, ◌∙◌}
+use Rattle.merge.specs.Merge.{section_end}
 use Rattle.merge.proofs.Decisions.{decide_20, decide_21, decide_own}
 use Rattle.merge.proofs.check_place.Goals as goal
 
@@ -10,12 +12,12 @@ pub returns-then-s-limit : goal.returns-then-s-limit
 returns-then-s-limit c = rw c.refuse_at-then-s-limit.ensures (
     λ room rows.
     let t = c.args.heads.now.table in
-    let e = c.section_end-limit in
-    decide_21 t.bytes.now t.places.now room rows c.args.s c.if-heads-section.false e.result e.ensures c.if-s-limit.true)
+    let e = c.end-limit.ensures ∙ ap section_end c.record.ensures in
+    decide_21 t.bytes.now t.places.now room rows c.args.s c.if-heads-section.false _ e c.if-s-limit.true)
 
 pub returns : goal.returns
 returns c =
     λ room rows.
     let t = c.args.heads.now.table in
-    let e = c.section_end-limit in
-    decide_own t.bytes.now t.places.now room rows c.args.s c.if-heads-section.false e.result e.ensures c.if-s-limit.false
+    let e = c.end-limit.ensures ∙ ap section_end c.record.ensures in
+    decide_own t.bytes.now t.places.now room rows c.args.s c.if-heads-section.false _ e c.if-s-limit.false
