@@ -1,6 +1,6 @@
 -- What is asked of a split table: the splits that start in a range of a section, and those of a unit in a section.
 -- The "joint range" of document 01, Merge, is from the joint start up to, and without, the joint end; a split is in it by its start.
-use Rattle.std.specs.Prelude.{ℕ, ◌+◌, ◌-◌, ◌/◌, ◌%◌, ◌≤◌, ◌≡◌, List, [], ◌∷◌, Bool, true, false, cond, not, ◌&&◌, eqb, leb, ltb, ◌<◌, Option, MatchOption}
+use Rattle.std.specs.Prelude.{ℕ, ◌+◌, ◌-◌, ◌/◌, ◌%◌, ◌≤◌, ◌≡◌, List, [], ◌∷◌, Bool, true, false, cond, not, ◌&&◌, eqb, leb, ltb, ◌<◌, get_or, Option, None, Some, MatchOption}
 use Rattle.lists.specs.Rows.{tabulate, keep_if, some}
 use Rattle.obj.specs.declared.Split.{Split}
 use Rattle.splits.specs.declared.Met.{Met}
@@ -28,6 +28,11 @@ is_skipped y = eqb (y.flags / 4 % 2) 1
 unfoldable pub next_start : (end : ℕ) → List Split → ℕ
 next_start end [] = end
 next_start end (s ∷ later) = s.start
+
+-- where a row of the columns starts, or `end` where there is none
+abbrev pub start_of : (starts : List ℕ) → (end : ℕ) → Option ℕ → ℕ
+start_of starts end (Some i) = get_or starts i 0
+start_of starts end None = end
 
 -- y is the unit's, in a section
 abbrev pub of_unit : ℕ → ℕ → Split → Bool
