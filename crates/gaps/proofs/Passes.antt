@@ -1,14 +1,12 @@
 -- A turn of the search over a section's splits: the gaps before the next split enter, and those behind it are left. Assumes nothing.
 use mathlib.Core.Path.{◌≡◌, sym, ap, subst, ◌∙◌}
 use mathlib.Core.List.{List, [], ◌∷◌}
-use mathlib.Core.Bool.{Bool, true, false, cond}
-use Prim.Native.Nat.{ℕ, ◌+◌, ◌-◌, ◌≤◌, ◌<◌}
+use mathlib.Core.Bool.{Bool, true, false, cond, ◌&&◌}
+use Prim.Native.Nat.{ℕ, ◌+◌, ◌-◌, ◌≤◌, ◌<◌, zero-le}
 use native.Mathlib.Omega.{arith}
 use lib.Dec.{eqb, ltb}
-use lib.ListN.{get_or}
-use borrow.Author.Tests.{lt-ltb, le-ltb}
-use Rattle.std.proofs.lemmas.Option.{none-some}
-use Rattle.std.specs.Prelude.{Option, None, Some, unwrap_or}
+use borrow.Author.Tests.{lt-ltb, le-ltb, le-leb}
+use Rattle.std.specs.Prelude.{Option, unwrap_or}
 use Rattle.lists.specs.Outcome.{accepted, refused}
 use Rattle.lists.specs.Rows.{tabulate, keep_if}
 use Rattle.lists.specs.Sort.{All, none, each}
@@ -20,28 +18,24 @@ use Rattle.obj.specs.declared.Split.{Split}
 use Rattle.symbol_order.specs.Order.{key}
 use Rattle.symbols.specs.Sound.{Sound}
 use Rattle.splits.specs.Columns.{Columns, row_at, rows}
-use Rattle.splits.specs.Questions.{from_hit, Hit, NextHit}
+use Rattle.splits.specs.Questions.{within, from_hit, FirstPlace, start_of}
+use Rattle.splits.proofs.Next.{hit_next, next_small, start_there}
 use Rattle.gap_columns.specs.Table.{found_in, SameLent}
 use Rattle.gap_columns.specs.declared.gap_table.GapTable.{GapTable}
 use Rattle.gap_columns.proofs.Lent.{lent_same, lent_still}
 use Rattle.gaps.specs.Gaps.{end_after, gaps_to, gaps_before, gaps_from, below, into}
-use Rattle.gaps.specs.Found.{Space, start_of}
+use Rattle.gaps.specs.Found.{Space}
 use Rattle.gaps.proofs.Gathered.{into-none, into_gathered}
 use Rattle.gaps.proofs.Starts.{Known, known_rows, among_before, after_among, after_hit, from_done, from_on, from_refused, from_none}
 
 -- ---- the next split, if there is one
-module _ (p : Split → Bool) (c : Columns) (n from : ℕ) where
-  next_hit : (r : Option ℕ) → NextHit p c n from r → Hit p c n from (unwrap_or r n)
-  next_hit (Some i) h = h.0
-  next_hit None h = h
 
-  pub next_there : (r : Option ℕ) → NextHit p c n from r → (i : ℕ) → r ≡ Some i → i < n
-  next_there (Some j) h i e = let same : j ≡ i = cc in omega (arith, h.1)
-  next_there None h i e = absurd (none-some i e)
+-- each address is in a range from 0 on
+below_is : (n end : ℕ) → within n 0 end ≡ below n end
+below_is n end = λ k s. eqb s.section n && (le-leb 0 s.start zero-le k && ltb s.start end)
 
-start_there : (starts : List ℕ) (end n : ℕ) (r : Option ℕ) → ((i : ℕ) → r ≡ Some i → i < n) → start_of starts end r ≡ cond (ltb (unwrap_or r n) n) (get_or starts (unwrap_or r n) 0) end
-start_there starts end n (Some i) h = rw (lt-ltb i n (h i (λ j. Some i)))
-start_there starts end n None h = rw (le-ltb n n (omega arith))
+pub first_below : (n end : ℕ) (c : Columns) (from m : ℕ) (r : Option ℕ) → FirstPlace (within n 0 end) c from m r → FirstPlace (below n end) c from m r
+first_below n end c from m r = subst (λ (p : Split → Bool). FirstPlace p c from m r) (below_is n end)
 
 -- ---- a turn
 
@@ -74,11 +68,11 @@ module _ (symbol : ℕ → Symbol) (count n least end start : ℕ) (c : Columns)
   here_is : (i : ℕ) → i < m → from_hit (below n end) c m i ≡ row_at c i ∷ later i
   here_is i h = rw (lt-ltb i m h)
 
-  pub walk_start : (next : Option ℕ) → NextHit (below n end) c m 0 next → Space symbol count n start end (rows c m) found₀
+  pub walk_start : (next : Option ℕ) → FirstPlace (below n end) c 0 m next → Space symbol count n start end (rows c m) found₀
       → Walking symbol count n least end start c m found₀ found₀ start (unwrap_or next m)
   walk_start next first_hit s =
       let i = unwrap_or next m in
-      let hit = next_hit (below n end) c m 0 next first_hit in
+      let hit = hit_next (below n end) c m 0 next (omega arith) first_hit in
       let e : keep_if (below n end) (rows c m) ≡ from_hit (below n end) c m i = sym (ap (keep_if (below n end)) (tabulate_all (row_at c) m)) ∙ hit.is in
       record {
         small = hit.small;
@@ -140,14 +134,14 @@ module _ (symbol : ℕ → Symbol) (count n least end start : ℕ) (c : Columns)
 
         pub walk_on : (found' : GapTable) (current' : ℕ) (next : Option ℕ) → SameLent found found'
             → accepted (found_in found') ≡ into (found_in found) (gaps_before symbol count n least current s)
-            → NextHit (below n end) c m (i + 1) next
+            → FirstPlace (below n end) c (i + 1) m next
             → current' ≡ cond (eqb s.end 0) (start_of c.starts end next) s.end
             → Walking symbol count n least end start c m found₀ found' current' (unwrap_or next m)
         walk_on found' current' next same e later_hit own =
             let room = w.space.room in
             let i' = unwrap_or next m in
-            let hit = next_hit (below n end) c m (i + 1) next later_hit in
-            let at = own ∙ ap (λ (a : ℕ). cond (eqb s.end 0) a s.end) (start_there c.starts end m next (next_there (below n end) c m (i + 1) next later_hit)) in
+            let hit = hit_next (below n end) c m (i + 1) next (omega (arith, h)) later_hit in
+            let at = own ∙ ap (λ (a : ℕ). cond (eqb s.end 0) a s.end) (start_there c.starts end m next (next_small (below n end) c m (i + 1) next later_hit)) in
             let now : current' ≡ end_after end s (later i) = at ∙ sym (after_hit (below n end) c m i' end s) ∙ ap (end_after end s) (sym hit.is) in
             record {
               small = hit.small;

@@ -2,7 +2,7 @@
 -- before and after, which says whether the name already occurred in the gap.
 -- How many gaps there can be: each starts at a section's start, at a start or end of a split, or at a symbol, and no two at one address
 -- (DECISIONS.md, 52a). So a table with room for so many never overflows, and the search has no refusal of its own for that.
-use Rattle.std.specs.Prelude.{ℕ, ◌+◌, ◌≤◌, ◌<◌, ◌≡◌, List, [], ◌++◌, map, true, false, cond, not, ◌||◌, length, get_or, take, drop, eqb, leb, Option, None, Some, Result, Ok, Err}
+use Rattle.std.specs.Prelude.{ℕ, ◌+◌, ◌≤◌, ◌<◌, ◌≡◌, List, [], ◌++◌, map, true, false, cond, not, ◌||◌, length, get_or, take, drop, eqb, leb, Result, Ok, Err}
 use Rattle.lists.specs.Outcome.{Outcome, accepted, refused, refuse, ◌>>◌, ◌>>=◌}
 use Rattle.lists.specs.Rows.{some}
 use Rattle.lists.specs.Sort.{All, Rising}
@@ -92,11 +92,6 @@ pub record Stopped (symbol : ℕ → Symbol) (current : ℕ) (part marks : List 
 -- the marks of a part's names are gone
 abbrev pub Unmarked : (symbol : ℕ → Symbol) → (part before after : List ℕ) → Type 0
 Unmarked symbol part before after = (k : ℕ) → get_or after k 0 ≡ cond (some (λ i. eqb k (symbol i).name) part) 0 (get_or before k 0)
-
--- where a row starts, or `end` where there is none
-abbrev pub start_of : (starts : List ℕ) → (end : ℕ) → Option ℕ → ℕ
-start_of starts end (Some i) = get_or starts i 0
-start_of starts end None = end
 
 -- where a gap ends that has these symbols: `gap_end` of the symbols from `current` on
 abbrev pub end_in : (symbol : ℕ → Symbol) → (n current next : ℕ) → (part : List ℕ) → Outcome ℕ

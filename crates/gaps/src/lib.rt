@@ -2,7 +2,7 @@
 // is, and kept in a lent table in the order in which they enter.
 #![tactic(auto)]
 
-ghost use Rattle.std.specs.Prelude.{ℕ, Some, ◌≡◌, [], true, false, cond, not, ◌&&◌, ◌+◌, ◌*◌, ◌%◌, ◌≤◌, ◌<◌, length, get_or, eqb, ltb};
+ghost use Rattle.std.specs.Prelude.{ℕ, Some, ◌≡◌, [], true, false, cond, not, ◌&&◌, ◌+◌, ◌*◌, ◌%◌, ◌≤◌, ◌<◌, length, eqb, ltb, IfSome};
 ghost use Rattle.lists.specs.Rows.{keep_if};
 ghost use Rattle.align.specs.Align.{good_align, bad_align};
 ghost use Rattle.obj.specs.Answers.{meaning};
@@ -11,18 +11,18 @@ ghost use Rattle.symbols.specs.Sound.{Sound};
 ghost use Rattle.sections.specs.Image.{image_in, TablesIn};
 ghost use Rattle.sections.specs.Sections.{sections_of, head_in, KeptIn};
 ghost use Rattle.splits.specs.Table.{columns_of, rows_of};
-ghost use Rattle.splits.specs.Questions.{NextHit};
+ghost use Rattle.splits.specs.Questions.{start_of};
 ghost use Rattle.gap_columns.specs.Table.{found_in, SameLent};
 ghost use Rattle.gaps.specs.Gaps.{gap_end, gaps_to, gaps_before, gaps_from, below, section_gaps, into, found_gaps};
 ghost use Rattle.gaps.specs.Search.{symbol_in, count_in, SameSearch};
-ghost use Rattle.gaps.specs.Found.{alignment_of_next, next_meaning, searched, Clean, Markable, Lent, Space, SectionSpace, Stopped, Unmarked, end_in, start_of};
+ghost use Rattle.gaps.specs.Found.{alignment_of_next, next_meaning, searched, Clean, Markable, Lent, Space, SectionSpace, Stopped, Unmarked, end_in};
 
 use align::align_up;
 use fields::number;
 use gap_columns::{GapTable, place_gap};
 use obj::{Refusal, Section, Split, Symbol, Table, refuse};
 use sections::{Obj, alignment_of, default_of};
-use splits::{SplitColumns, row, section_of};
+use splits::{SectionRange, SplitColumns, next_row, row, start_of};
 use symbol_order::key_of;
 use symbols::{Backwards, for_section_range};
 
@@ -193,33 +193,15 @@ fn gaps_before(
     gaps_to(search, found, current, s.start, alignment)
 }
 
-// Whether a row is a split of the section below its splitting end; `ystart` and `yrest` are the row's.
-fn is_below(section: u16, end: u32, ystart: u32, yrest: u64) -> bool
-    ensures { result ≡ (eqb (yrest % 65536) section && ltb ystart end) }
-{
-    (section_of(yrest) == section) & (ystart < end)
-}
-
-// The first row from `at` on that is a split of the section below its splitting end.
-fn next_below(splits: &SplitColumns, section: u16, end: u32, at: usize) -> Option<usize>
-    requires { at ≤ splits.now.count }
-    ensures { NextHit (below section end) (columns_of splits.now) splits.now.count at result }
-{
-    (at..splits.count).find(|i| is_below(section, end, splits.starts[*i], splits.rest[*i]))
-}
-
 // The address after a split: "An open split runs to the next start or the splitting end".
 fn end_after(splits: &SplitColumns, next: Option<usize>, end: u32, own: u32) -> u32
-    requires { (i : ℕ) → next ≡ Some i → i < splits.now.count }
+    requires { IfSome next (λ i. i < splits.now.count) }
     ensures { result ≡ cond (eqb own 0) (start_of splits.now.starts.now end next) own }
 {
     if own != 0 {
         return own;
     }
-    match next {
-        Some(i) => splits.starts[i],
-        None => end,
-    }
+    start_of(splits, next, end)
 }
 
 // The gaps of a section from its start up to its splitting end, over the splits below it.
@@ -239,10 +221,15 @@ fn section_gaps(
     ensures same { SameSearch search.old search.new }
     ensures lent { SameLent found.old found.new }
 {
-    let section = search.here.section;
     let least = search.here.least;
+    // "also those below the section's start" (DECISIONS 45)
+    let below = SectionRange {
+        section: search.here.section,
+        from: 0,
+        to: end,
+    };
     let mut current = start;
-    let mut next = next_below(splits, section, end, 0);
+    let mut next = next_row(splits, below, 0);
     // no count: the walk goes from a split of the section to the next
     while let Some(i) = next {
         if end <= current {
@@ -250,7 +237,7 @@ fn section_gaps(
         }
         let s = row(splits, i);
         gaps_before(search, found, current, s)?;
-        next = next_below(splits, section, end, i + 1);
+        next = next_row(splits, below, i + 1);
         current = end_after(splits, next, end, s.end);
     }
     if end <= current {

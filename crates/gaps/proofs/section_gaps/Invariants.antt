@@ -1,8 +1,7 @@
 -- `gaps::section_gaps` meets its contract. Invariant (`Walking`): the gaps over the splits from the next one on enter after those found as all of the section
 -- after those that were there, and the table has room for them.
-use Prim.Native.Nat.{ℕ, ◌-◌, ◌<◌}
-use mathlib.Core.Path.{◌≡◌}
-use Rattle.std.specs.Prelude.{Some, unwrap_or}
+use Prim.Native.Nat.{◌-◌, ◌<◌}
+use Rattle.std.specs.Prelude.{IfSome, unwrap_or}
 use Rattle.splits.specs.Table.{columns_of}
 use Rattle.gaps.specs.Search.{symbol_in, count_in, SameSearch}
 use Rattle.gaps.proofs.Passes.{Walking}
@@ -13,7 +12,7 @@ invariant-loop-next l =
     let here = l.initial.search.here in
     record {
       holds : Walking (symbol_in here) (count_in here) here.section here.least l.end l.start (columns_of l.splits) l.splits.count l.initial.found l.found l.current (unwrap_or l.next l.splits.count);
-      there : (i : ℕ) → l.next ≡ Some i → i < l.splits.count;
+      there : IfSome l.next (λ i. i < l.splits.count);
       same : SameSearch l.initial.search l.search;
     }
 
