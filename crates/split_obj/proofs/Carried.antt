@@ -3,8 +3,8 @@ use mathlib.Core.Path.{◌≡◌, sym, ap, subst, ◌∙◌}
 use mathlib.Core.List.{List}
 use mathlib.Core.Bool.{true, cond}
 use mathlib.Core.Logic.{◌≢◌}
-use Prim.Native.Nat.{ℕ, ◌+◌, ◌-◌, ◌%◌, ◌≤◌, ◌<◌}
-use Rattle.std.specs.Prelude.{Result, Err, Option, None, Some, IfSome}
+use Prim.Native.Nat.{ℕ, ◌+◌, ◌-◌, ◌%◌, ◌≤◌, ◌<◌, zero-le}
+use Rattle.std.specs.Prelude.{Result, Err, Option, None, Some, unwrap_or}
 use native.Mathlib.Omega.{arith}
 use lib.Dec.{ltb}
 use lib.ListN.{length, get_or}
@@ -14,7 +14,8 @@ use Rattle.obj.specs.declared.Split.{Split}
 use Rattle.sections.specs.Image.{image_of}
 use Rattle.sections.specs.Sections.{sections_of}
 use Rattle.splits.specs.Columns.{Columns, row_at, rows as rows_of}
-use Rattle.splits.specs.Questions.{within, from_hit}
+use Rattle.splits.specs.Questions.{within, from_hit, Hit, FirstPlace, start_of}
+use Rattle.splits.proofs.Next.{NextIn, hit_next, next_small, start_there}
 use Rattle.relocs.specs.Relocs.{reloc_of}
 use Rattle.units.specs.Units.{unit_names}
 use Rattle.pieces.specs.declared.Counts.{Counts}
@@ -24,7 +25,7 @@ use Rattle.pieces.specs.Tables.{SameLent}
 use Rattle.walk.specs.Walk.{Input, Output, start_in, splitting_end_in, halved, on_aligned, walk_splits, walk_sections}
 use Rattle.walk.specs.Steps.{decide}
 use Rattle.walk.specs.Giving.{input_of, output_of, gave_meaning, Besides}
-use Rattle.split_obj.specs.Loop.{Hits, place_in, Tabled}
+use Rattle.split_obj.specs.Loop.{Tabled}
 use Rattle.split_obj.proofs.Turns.{turn_fault, turn_skip, turn_misfit, turn_refused, turn_given, splits-none, section_short, section_starts, section_ends, sections_end}
 
 -- ---- the input, of the lent tables
@@ -49,26 +50,28 @@ abbrev pub splits_left : Input → (last n low end : ℕ) → Columns → (rows 
 splits_left t last n low end c rows current i out = walk_splits t n end current out (from_hit (within n low end) c rows i) >>= after t last n
 
 pub record AtSplit (t : Input) (whole : Outcome Output) (symbols relocs units last n low end : ℕ) (c : Columns) (rows current : ℕ) (i : Option ℕ) (scratch part : List ℕ) (tables : PieceTables) : Type 0 where
-  pub small : IfSome i (λ k. k < rows)
-  pub passes : place_in rows i < rows → within n low end (row_at c (place_in rows i)) ≡ true
-  pub same : splits_left t last n low end c rows current (place_in rows i) (output_of tables) ≡ whole
+  pub next : NextIn (within n low end) c rows i
+  pub same : splits_left t last n low end c rows current (unwrap_or i rows) (output_of tables) ≡ whole
   pub tabled : Tabled symbols relocs units scratch part tables
 
 -- the split that comes next, where there is one
 module _ {t : Input} {whole : Outcome Output} {symbols relocs units last n low end : ℕ} {c : Columns} {rows current : ℕ} {i : Option ℕ} {scratch part : List ℕ} {tables : PieceTables}
     (at : AtSplit t whole symbols relocs units last n low end c rows current i scratch part tables) {k : ℕ} (is : i ≡ Some k) where
+  split_next : (k < rows) × (within n low end (row_at c k) ≡ true)
+  split_next = subst (NextIn (within n low end) c rows) is at.next
+
   pub split_small : k < rows
-  split_small = subst (λ (o : Option ℕ). IfSome o (λ j. j < rows)) is at.small
+  split_small = split_next.0
 
   pub split_passes : within n low end (row_at c k) ≡ true
-  split_passes = subst (λ (o : Option ℕ). place_in rows o < rows → within n low end (row_at c (place_in rows o)) ≡ true) is at.passes split_small
+  split_passes = split_next.1
 
   pub split_same : splits_left t last n low end c rows current k (output_of tables) ≡ whole
-  split_same = subst (λ (o : Option ℕ). splits_left t last n low end c rows current (place_in rows o) (output_of tables) ≡ whole) is at.same
+  split_same = subst (λ (o : Option ℕ). splits_left t last n low end c rows current (unwrap_or o rows) (output_of tables) ≡ whole) is at.same
 
 -- .. and where there is none
-pub no_place : {rows : ℕ} {i : Option ℕ} → i ≡ None → rows ≤ place_in rows i
-no_place {rows} {i} is = subst (λ (o : Option ℕ). rows ≤ place_in rows o) (sym is) (omega arith)
+pub no_place : {rows : ℕ} {i : Option ℕ} → i ≡ None → rows ≤ unwrap_or i rows
+no_place {rows} {i} is = subst (λ (o : Option ℕ). rows ≤ unwrap_or o rows) (sym is) (omega arith)
 
 -- ---- an answer
 pub refused_at : (symbols : ℕ) (before : PieceTables) (scratch : List ℕ) (t : PieceTables) (r : Result (Unit {0}) Refusal) (e : Refusal) (whole : Outcome Output)
@@ -86,9 +89,10 @@ module _ (t : Input) (n last : ℕ) (out : Output) (whole : Outcome Output) (sam
     pub ends_short : (number section address : ℕ) → refused number section address ≡ splitting_end_in t.image t.sections n → refused number section address ≡ whole
     ends_short number section address d = sym (section_short t n last out h number section address (sym d)) ∙ same
 
-    pub goes_section : (end : ℕ) → accepted end ≡ splitting_end_in t.image t.sections n → (c : Columns) (count r : ℕ) → t.splits ≡ rows_of c count
-        → Hits (within n low end) c count 0 r → splits_left t last n low end c count low r out ≡ whole
-    goes_section end d c count r g hits = sym (section_starts t n last out h low end (sym d) is c count r g hits) ∙ same
+    pub goes_section : (end : ℕ) → accepted end ≡ splitting_end_in t.image t.sections n → (c : Columns) (count : ℕ) (r : Option ℕ) → t.splits ≡ rows_of c count
+        → FirstPlace (within n low end) c 0 count r → splits_left t last n low end c count low (unwrap_or r count) out ≡ whole
+    goes_section end d c count r g first =
+        sym (section_starts t n last out h low end (sym d) is c count (unwrap_or r count) g (hit_next (within n low end) c count 0 r zero-le first)) ∙ same
 
 -- ---- a split
 module _ (t : Input) (last n low end : ℕ) (c : Columns) (rows current i : ℕ) (out : Output) (whole : Outcome Output) (same : splits_left t last n low end c rows current i out ≡ whole) where
@@ -100,37 +104,47 @@ module _ (t : Input) (last n low end : ℕ) (c : Columns) (rows current i : ℕ)
     unfolding ◌>>=◌
     ends_none q = sym (ap (λ (m : Outcome Output). m >>= after t last n) (splits-none t n end current out (within n low end) c rows i h q)) ∙ same
 
-    module _ (q : i < rows) (j next : ℕ) (hits : Hits (within n low end) c rows (i + 1) j) (e : next ≡ cond (ltb j rows) (get_or c.starts j 0) end)
+    -- the split at place i, and the next one, if there is one
+    module _ (q : i < rows) (r : Option ℕ) (next : ℕ) (first : FirstPlace (within n low end) c (i + 1) rows r) (e : next ≡ start_of c.starts end r)
         (s : Split) (is : s ≡ row_at c i) where
+      abbrev j : ℕ
+      j = unwrap_or r rows
+
+      hit : Hit (within n low end) c rows (i + 1) j
+      hit = hit_next (within n low end) c rows (i + 1) r (omega (arith, q)) first
+
+      next_at : next ≡ cond (ltb j rows) (get_or c.starts j 0) end
+      next_at = e ∙ start_there c.starts end rows r (next_small (within n low end) c rows (i + 1) r first)
+
       abbrev asked : Outcome (Option Target)
       asked = decide t.image t.sections t.units n current next s
 
       at_row : asked ≡ decide t.image t.sections t.units n current next (row_at c i)
       at_row = ap (decide t.image t.sections t.units n current next) is
 
-      pub ends_fault : (r : Refusal) → refused r.number r.section r.address ≡ asked → refused r.number r.section r.address ≡ whole
-      ends_fault r d =
-          sym (turn_fault t n end current out (within n low end) c rows i h q j next hits e (after t last n) r.number r.section r.address (d ∙ at_row)) ∙ same
+      pub ends_fault : (x : Refusal) → refused x.number x.section x.address ≡ asked → refused x.number x.section x.address ≡ whole
+      ends_fault x d =
+          sym (turn_fault t n end current out (within n low end) c rows i h q j next hit next_at (after t last n) x.number x.section x.address (d ∙ at_row)) ∙ same
 
       pub goes_skip : accepted None ≡ asked → splits_left t last n low end c rows next j out ≡ whole
-      goes_skip d = sym (turn_skip t n end current out (within n low end) c rows i h q j next hits e (after t last n) (d ∙ at_row)) ∙ same
+      goes_skip d = sym (turn_skip t n end current out (within n low end) c rows i h q j next hit next_at (after t last n) (d ∙ at_row)) ∙ same
 
       module _ (unit alignment : ℕ) (d : accepted (Some (record { unit = unit; alignment = alignment })) ≡ asked) (a : ℕ) (half : halved 16 alignment current ≡ a) where
         pub ends_misfit : current % a ≢ 0 → refused 75 n current ≡ whole
         ends_misfit m =
-            sym (turn_misfit t n end current out (within n low end) c rows i h q j next hits e (after t last n) unit alignment (d ∙ at_row) a half m) ∙ same
+            sym (turn_misfit t n end current out (within n low end) c rows i h q j next hit next_at (after t last n) unit alignment (d ∙ at_row) a half m) ∙ same
 
         -- what was given, at the split's own start
         module _ (starts : s.start ≡ current) where
           given_at : on_aligned t n current unit a (row_at c i) out ≡ on_aligned t n s.start unit a s out
           given_at = λ k. on_aligned t n (sym starts k) unit a (sym is k) out
 
-          pub ends_refused : (r : Refusal) → on_aligned t n s.start unit a s out ≡ refused r.number r.section r.address → refused r.number r.section r.address ≡ whole
-          ends_refused r g =
-              sym (turn_refused t n end current out (within n low end) c rows i h q j next hits e (after t last n) unit alignment (d ∙ at_row) a half r.number r.section r.address (given_at ∙ g))
+          pub ends_refused : (x : Refusal) → on_aligned t n s.start unit a s out ≡ refused x.number x.section x.address → refused x.number x.section x.address ≡ whole
+          ends_refused x g =
+              sym (turn_refused t n end current out (within n low end) c rows i h q j next hit next_at (after t last n) unit alignment (d ∙ at_row) a half x.number x.section x.address (given_at ∙ g))
               ∙ same
 
           pub goes_given : (o : Output) → on_aligned t n s.start unit a s out ≡ accepted o → splits_left t last n low end c rows next j o ≡ whole
           goes_given o g =
-              sym (turn_given t n end current out (within n low end) c rows i h q j next hits e (after t last n) unit alignment (d ∙ at_row) a half o (given_at ∙ g))
+              sym (turn_given t n end current out (within n low end) c rows i h q j next hit next_at (after t last n) unit alignment (d ∙ at_row) a half o (given_at ∙ g))
               ∙ same

@@ -18,11 +18,10 @@ use Rattle.lists.proofs.Outcomes.{fails, passes}
 use Rattle.lists.proofs.Binds.{bind_goes, bind_stops, bind_assoc}
 use Rattle.obj.specs.declared.Split.{Split}
 use Rattle.splits.specs.Columns.{Columns, row_of, row_at, rows}
-use Rattle.splits.specs.Questions.{within, from_hit, next_start}
+use Rattle.splits.specs.Questions.{within, from_hit, Hit, next_start}
 use Rattle.walk.specs.Walk.{Input, Output, start_in, splitting_end_in, halved, on_aligned, on_split, walk_splits, walk_section, walk_sections}
 use Rattle.walk.specs.Steps.{decide}
 use Rattle.walk.proofs.Deciding.{carried, decide_then_give}
-use Rattle.split_obj.specs.Loop.{Hits}
 
 -- ---- a row's start
 row_start : (c : Columns) (i : ℕ) → (row_at c i).start ≡ get_or c.starts i 0
@@ -50,7 +49,7 @@ module _ (t : Input) (n end current : ℕ) (out : Output) where
     splits-none q = rw (le-ltb i count q) (fails 70 n current _ _ (lt-ltb current end h))
 
     -- a split, and those after it
-    module _ (q : i < count) (j next : ℕ) (hits : Hits p c count (i + 1) j) (e : next ≡ cond (ltb j count) (get_or c.starts j 0) end) where
+    module _ (q : i < count) (j next : ℕ) (hits : Hit p c count (i + 1) j) (e : next ≡ cond (ltb j count) (get_or c.starts j 0) end) where
       next_is : next_start end (from_hit p c count j) ≡ next
       unfolding next_start
       next_is = go (ltb j count) ∙ sym e
@@ -136,7 +135,7 @@ module _ (t : Input) (n last : ℕ) (out : Output) where
 
     -- its splits, from the first that is taken
     pub section_starts : (low end : ℕ) → splitting_end_in t.image t.sections n ≡ accepted end → low ≡ start_in t.sections n
-        → (c : Columns) (count r : ℕ) → t.splits ≡ rows c count → Hits (within n low end) c count 0 r
+        → (c : Columns) (count r : ℕ) → t.splits ≡ rows c count → Hit (within n low end) c count 0 r
         → walk_sections t n (last - n) out ≡ (walk_splits t n end low out (from_hit (within n low end) c count r) >>= later)
     unfolding walk_section
     section_starts low end e f c count r g hits =

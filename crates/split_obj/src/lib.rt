@@ -2,9 +2,8 @@
 // "A loop inside the split loop yields the alignment by break; a misfit leaves the section loop by label." All else is a call.
 #![tactic(auto)]
 
-ghost use Rattle.std.specs.Prelude.{◌≡◌, ◌-◌, ◌<◌, ◌≤◌, length, IfSome};
+ghost use Rattle.std.specs.Prelude.{◌≡◌, ◌-◌, ◌<◌, ◌≤◌, length};
 ghost use Rattle.splits.specs.Table.{columns_of, rows_of};
-ghost use Rattle.splits.specs.Questions.{within};
 ghost use Rattle.obj.specs.Records.{Held};
 ghost use Rattle.obj.specs.Answers.{meaning};
 ghost use Rattle.sections.specs.Bytes.{bytes_of};
@@ -16,39 +15,14 @@ ghost use Rattle.pieces.specs.Tables.{SameLent};
 ghost use Rattle.units.specs.Units.{unit_names};
 ghost use Rattle.walk.specs.Walk.{walk_sections};
 ghost use Rattle.walk.specs.Giving.{input_of, output_of, gave_meaning, Besides};
-ghost use Rattle.split_obj.specs.Loop.{FirstHit, start_at, Ready, Tabled};
+ghost use Rattle.split_obj.specs.Loop.{Ready, Tabled};
 
 use obj::{Refusal, Section, Table};
 use pieces::PieceTables;
 use relocs::for_section;
 use sections::{Obj, end_of};
-use splits::{SectionRange, SplitColumns, is_within, row};
+use splits::{SectionRange, SplitColumns, next_row, row, start_of};
 use walk::{Target, choose, give, refuse_at};
-
-// The place of the first split from place `from` on that starts in low..end of section n. Row by row, and not by blocks as `splits::next_within` goes: a section's splits
-// stand together, so the next one is mostly the next row.
-fn next_split(splits: &SplitColumns, n: usize, low: u32, end: u32, from: usize) -> Option<usize>
-    requires { (from ≤ splits.now.count) × (n < 65535) }
-    ensures { FirstHit (within n low end) (columns_of splits.now) splits.now.count from result }
-{
-    let range = SectionRange {
-        section: n as u16,
-        from: low,
-        to: end,
-    };
-    (from..splits.count).find(|i| is_within(range, splits.starts[*i], splits.rest[*i]))
-}
-
-// Where the split at place j starts, or the splitting end if there is none.
-fn start_of(splits: &SplitColumns, j: Option<usize>, end: u32) -> u32
-    requires { IfSome j (λ i. i < splits.now.count) }
-    ensures { result ≡ start_at (columns_of splits.now) splits.now.count end j }
-{
-    match j {
-        Some(i) => splits.starts[i],
-        None => end,
-    }
-}
 
 // Where section n starts.
 fn section_start(heads: &Table, n: usize) -> u32
@@ -98,14 +72,19 @@ pub fn walk_sections(
             let end = end_in(obj, image, n, low)?;
             let m = for_section(relocs, n as u16, part);
             let mut current = low;
-            let mut i = next_split(splits, n, low, end, 0);
+            let range = SectionRange {
+                section: n as u16,
+                from: low,
+                to: end,
+            };
+            let mut i = next_row(splits, range, 0);
             // No count: a turn goes to where the next split starts.
             while current < end {
                 let Some(k) = i else {
                     return refuse_at(70, n, current);
                 };
                 let s = row(splits, k);
-                i = next_split(splits, n, low, end, k + 1);
+                i = next_row(splits, range, k + 1);
                 let next = start_of(splits, i, end);
                 let target = choose(obj, image, unit_table, unit_numbers, n, s, current, next)?;
                 if let Some(Target { unit, alignment }) = target {

@@ -1,11 +1,11 @@
 -- `split_obj::walk_sections` meets its contract: what is left from this section on, from this split on, gives what the whole gives, and the rest of the halving
 -- gives what the whole halving gives; each way out is a law of proofs/Carried.antt. Assumes nothing.
 use mathlib.Core.Path.{◌≡◌, refl, sym, ap, subst, ◌∙◌}
-use Prim.Native.Nat.{ℕ, ◌≤◌, ◌<◌}
+use Prim.Native.Nat.{ℕ, ◌+◌, ◌≤◌, ◌<◌}
 use native.Mathlib.Omega.{arith}
 use borrow.Author.Tests.{eq-eqb}
 use lib.ListN.{length}
-use Rattle.std.specs.Prelude.{Ok, Option}
+use Rattle.std.specs.Prelude.{Ok, Option, unwrap_or}
 use Rattle.obj.proofs.Errors.{is_err}
 use Rattle.lists.specs.Outcome.{accepted}
 use Rattle.align.specs.Align.{bad_align}
@@ -15,6 +15,8 @@ use Rattle.sections.proofs.Kept.{kept-held, kept_lies}
 use Rattle.splits.specs.Columns.{row_at}
 use Rattle.splits.specs.Table.{columns_of}
 use Rattle.splits.proofs.Rows.{good_row}
+use Rattle.splits.specs.Questions.{within}
+use Rattle.splits.proofs.Next.{next_in}
 use Rattle.splits.proofs.Alignment.{alignment_good}
 use Rattle.pieces.specs.declared.Counts.{Counts}
 use Rattle.pieces.proofs.Same.{lent_still}
@@ -23,7 +25,6 @@ use Rattle.walk.specs.Walk.{fits}
 use Rattle.walk.specs.Steps.{Sane}
 use Rattle.walk.specs.Giving.{output_of}
 use Rattle.walk.proofs.Regions.{length-counts}
-use Rattle.split_obj.specs.Loop.{place_in}
 use Rattle.split_obj.proofs.Turns.{row_low}
 use Rattle.split_obj.proofs.Halving.{halving_starts, half_fits, half_stops, half_on}
 use Rattle.split_obj.proofs.Carried.{tables_input, splits_left, refused_at, split_small, split_passes, split_same, no_place, sections_done, ends_short, goes_section, section_done, ends_none, ends_fault, goes_skip, ends_misfit, ends_refused, goes_given}
@@ -57,8 +58,8 @@ returns-in_default c =
     let out = output_of q.tables in
     let carried =
     q.invariant.0.same
-    ∙ goes_section tp n a.last (output_of p.tables) _ p.invariant.0.same below low c.section_start-low.ensures end c.in_ok-end.ensures k a.splits.now.count (place_in a.splits.now.count c.next_split-i.result) refl c.next_split-i.ensures.hits in
-    refused_at _ _ _ _ _ _ _ c.refuse_at.ensures (ends_none t a.last n low end k a.splits.now.count q.current (place_in a.splits.now.count q.i) out _ carried c.loop-current-test.true (no_place c.in_default.is))
+    ∙ goes_section tp n a.last (output_of p.tables) _ p.invariant.0.same below low c.section_start-low.ensures end c.in_ok-end.ensures k a.splits.now.count c.next_row-i.result refl c.next_row-i.ensures in
+    refused_at _ _ _ _ _ _ _ c.refuse_at.ensures (ends_none t a.last n low end k a.splits.now.count q.current (unwrap_or q.i a.splits.now.count) out _ carried c.loop-current-test.true (no_place c.in_default.is))
     (lent_still p.invariant.1 q.invariant.1)
 
 pub choose-requires : goal.choose-requires
@@ -96,11 +97,11 @@ returns-in_err-target c =
     let out = output_of q.tables in
     let carried =
     split_same q.invariant.0 c.in-Some.is
-    ∙ goes_section tp n a.last (output_of p.tables) _ p.invariant.0.same below low c.section_start-low.ensures end c.in_ok-end.ensures k a.splits.now.count (place_in a.splits.now.count c.next_split-i.result) refl c.next_split-i.ensures.hits in
+    ∙ goes_section tp n a.last (output_of p.tables) _ p.invariant.0.same below low c.section_start-low.ensures end c.in_ok-end.ensures k a.splits.now.count c.next_row-i.result refl c.next_row-i.ensures in
     let small : c.in-Some.k < a.splits.now.count = split_small q.invariant.0 c.in-Some.is in
     let r = c.in_err-target.field-0.0 in
     refused_at _ _ _ _ _ r _ (is_err _ c.from_residual-in_err-target.ensures.1)
-    (ends_fault t a.last n low end k a.splits.now.count q.current c.in-Some.k out _ carried c.loop-current-test.true small (place_in a.splits.now.count c.next_split-i-in-loop-current.result) c.start_of-next.result c.next_split-i-in-loop-current.ensures.hits c.start_of-next.ensures c.row-s.result c.row-s.ensures r c.in_err-target.ensures.0)
+    (ends_fault t a.last n low end k a.splits.now.count q.current c.in-Some.k out _ carried c.loop-current-test.true small c.next_row-i-in-loop-current.result c.start_of-next.result c.next_row-i-in-loop-current.ensures c.start_of-next.ensures c.row-s.result c.row-s.ensures r c.in_err-target.ensures.0)
     (lent_still p.invariant.1 q.invariant.1)
 
 pub loop-a-init : goal.loop-a-init
@@ -163,12 +164,12 @@ returns-in_err-give c =
     let out = output_of q.tables in
     let carried =
     split_same q.invariant.0 c.in-Some.is
-    ∙ goes_section tp n a.last (output_of p.tables) _ p.invariant.0.same below low c.section_start-low.ensures end c.in_ok-end.ensures k a.splits.now.count (place_in a.splits.now.count c.next_split-i.result) refl c.next_split-i.ensures.hits in
+    ∙ goes_section tp n a.last (output_of p.tables) _ p.invariant.0.same below low c.section_start-low.ensures end c.in_ok-end.ensures k a.splits.now.count c.next_row-i.result refl c.next_row-i.ensures in
     let small : c.in-Some.k < a.splits.now.count = split_small q.invariant.0 c.in-Some.is in
     let gives = subst (λ (x : Option Target). Sane (length a.unit_table.now.places.now) q.current c.row-s.result (Ok x)) c.in-Some-target.is c.in_ok-target.ensures.1 in
     let r = c.in_err-give.field-0.0 in
     refused_at _ _ _ _ _ r _ (is_err _ c.from_residual-in_err-give.ensures.1)
-    (ends_refused t a.last n low end k a.splits.now.count q.current c.in-Some.k out _ carried c.loop-current-test.true small (place_in a.splits.now.count c.next_split-i-in-loop-current.result) c.start_of-next.result c.next_split-i-in-loop-current.ensures.hits c.start_of-next.ensures c.row-s.result c.row-s.ensures c.in-Some-target.field-0.unit c.in-Some-target.field-0.alignment (ap (λ (x : Option Target). accepted x) (sym c.in-Some-target.is) ∙ c.in_ok-target.ensures.0) c.loop-a.a (half_fits _ _ _ c.loop-a.invariant c.if-current-a-eq0.true) gives.starts r
+    (ends_refused t a.last n low end k a.splits.now.count q.current c.in-Some.k out _ carried c.loop-current-test.true small c.next_row-i-in-loop-current.result c.start_of-next.result c.next_row-i-in-loop-current.ensures c.start_of-next.ensures c.row-s.result c.row-s.ensures c.in-Some-target.field-0.unit c.in-Some-target.field-0.alignment (ap (λ (x : Option Target). accepted x) (sym c.in-Some-target.is) ∙ c.in_ok-target.ensures.0) c.loop-a.a (half_fits _ _ _ c.loop-a.invariant c.if-current-a-eq0.true) gives.starts r
     (c.in_err-give.ensures.is (length a.obj.now.heads.places.now) t.sections.bytes t.splits t.units))
     (lent_still p.invariant.1 (lent_still q.invariant.1 c.in_err-give.ensures.lent))
 
@@ -186,18 +187,16 @@ loop-current-preserved-in_ok-give c =
     let low = c.section_start-low.result in
     let end = c.in_ok-end.end in
     let out = output_of q.tables in
-    let whole = splits_left tp a.last n low end k a.splits.now.count low (place_in a.splits.now.count c.next_split-i.result) (output_of p.tables) in
+    let whole = splits_left tp a.last n low end k a.splits.now.count low (unwrap_or c.next_row-i.result a.splits.now.count) (output_of p.tables) in
     let small : c.in-Some.k < a.splits.now.count = split_small q.invariant.0 c.in-Some.is in
     let gives = subst (λ (x : Option Target). Sane (length a.unit_table.now.places.now) q.current c.row-s.result (Ok x)) c.in-Some-target.is c.in_ok-target.ensures.1 in
-    let hits = c.next_split-i-in-loop-current.ensures in
     let made = c.in_ok-give.ensures in
     let tabled = q.invariant.0.tabled in (
       record {
-        small = hits.small;
-        passes = hits.hits.passes;
+        next = next_in (within n low end) k a.splits.now.count (c.in-Some.k + 1) c.next_row-i-in-loop-current.result c.next_row-i-in-loop-current.ensures;
         same =
-            subst (λ (room : Counts). splits_left (lent room) a.last n low end k a.splits.now.count c.start_of-next.result (place_in a.splits.now.count c.next_split-i-in-loop-current.result) (output_of c.give.new.tables) ≡ whole) (sym made.lent.room)
-            (goes_given t a.last n low end k a.splits.now.count q.current c.in-Some.k out whole (split_same q.invariant.0 c.in-Some.is) c.loop-current-test.true small (place_in a.splits.now.count c.next_split-i-in-loop-current.result) c.start_of-next.result c.next_split-i-in-loop-current.ensures.hits c.start_of-next.ensures c.row-s.result c.row-s.ensures c.in-Some-target.field-0.unit c.in-Some-target.field-0.alignment (ap (λ (x : Option Target). accepted x) (sym c.in-Some-target.is) ∙ c.in_ok-target.ensures.0) c.loop-a.a (half_fits _ _ _ c.loop-a.invariant c.if-current-a-eq0.true) gives.starts _
+            subst (λ (room : Counts). splits_left (lent room) a.last n low end k a.splits.now.count c.start_of-next.result (unwrap_or c.next_row-i-in-loop-current.result a.splits.now.count) (output_of c.give.new.tables) ≡ whole) (sym made.lent.room)
+            (goes_given t a.last n low end k a.splits.now.count q.current c.in-Some.k out whole (split_same q.invariant.0 c.in-Some.is) c.loop-current-test.true small c.next_row-i-in-loop-current.result c.start_of-next.result c.next_row-i-in-loop-current.ensures c.start_of-next.ensures c.row-s.result c.row-s.ensures c.in-Some-target.field-0.unit c.in-Some-target.field-0.alignment (ap (λ (x : Option Target). accepted x) (sym c.in-Some-target.is) ∙ c.in_ok-target.ensures.0) c.loop-a.a (half_fits _ _ _ c.loop-a.invariant c.if-current-a-eq0.true) gives.starts _
             (made.is (length a.obj.now.heads.places.now) t.sections.bytes t.splits t.units));
         tabled = record {
           beside = made.beside;
@@ -222,13 +221,11 @@ loop-current-preserved c =
     let low = c.section_start-low.result in
     let end = c.in_ok-end.end in
     let out = output_of q.tables in
-    let whole = splits_left tp a.last n low end k a.splits.now.count low (place_in a.splits.now.count c.next_split-i.result) (output_of p.tables) in
-    let small : c.in-Some.k < a.splits.now.count = split_small q.invariant.0 c.in-Some.is in
-    let hits = c.next_split-i-in-loop-current.ensures in (
+    let whole = splits_left tp a.last n low end k a.splits.now.count low (unwrap_or c.next_row-i.result a.splits.now.count) (output_of p.tables) in
+    let small : c.in-Some.k < a.splits.now.count = split_small q.invariant.0 c.in-Some.is in (
       record {
-        small = hits.small;
-        passes = hits.hits.passes;
-        same = goes_skip t a.last n low end k a.splits.now.count q.current c.in-Some.k out whole (split_same q.invariant.0 c.in-Some.is) c.loop-current-test.true small (place_in a.splits.now.count c.next_split-i-in-loop-current.result) c.start_of-next.result c.next_split-i-in-loop-current.ensures.hits c.start_of-next.ensures c.row-s.result c.row-s.ensures (ap (λ (x : Option Target). accepted x) (sym c.in_default-target.is) ∙ c.in_ok-target.ensures.0);
+        next = next_in (within n low end) k a.splits.now.count (c.in-Some.k + 1) c.next_row-i-in-loop-current.result c.next_row-i-in-loop-current.ensures;
+        same = goes_skip t a.last n low end k a.splits.now.count q.current c.in-Some.k out whole (split_same q.invariant.0 c.in-Some.is) c.loop-current-test.true small c.next_row-i-in-loop-current.result c.start_of-next.result c.next_row-i-in-loop-current.ensures c.start_of-next.ensures c.row-s.result c.row-s.ensures (ap (λ (x : Option Target). accepted x) (sym c.in_default-target.is) ∙ c.in_ok-target.ensures.0);
         tabled = q.invariant.0.tabled;
       },
       q.invariant.1,
@@ -250,10 +247,10 @@ loop-n-preserved c =
     let out = output_of q.tables in
     let carried =
     q.invariant.0.same
-    ∙ goes_section tp n a.last (output_of p.tables) _ p.invariant.0.same below low c.section_start-low.ensures end c.in_ok-end.ensures k a.splits.now.count (place_in a.splits.now.count c.next_split-i.result) refl c.next_split-i.ensures.hits in (
+    ∙ goes_section tp n a.last (output_of p.tables) _ p.invariant.0.same below low c.section_start-low.ensures end c.in_ok-end.ensures k a.splits.now.count c.next_row-i.result refl c.next_row-i.ensures in (
       record {
         up = omega (arith, below);
-        same = section_done t a.last n low end k a.splits.now.count q.current (place_in a.splits.now.count q.i) out _ carried below c.loop-current-test.false;
+        same = section_done t a.last n low end k a.splits.now.count q.current (unwrap_or q.i a.splits.now.count) out _ carried below c.loop-current-test.false;
         tabled = q.invariant.0.tabled;
       },
       lent_still p.invariant.1 q.invariant.1,
@@ -275,10 +272,10 @@ returns-then-a-le4 c =
     let out = output_of q.tables in
     let carried =
     split_same q.invariant.0 c.in-Some.is
-    ∙ goes_section tp n a.last (output_of p.tables) _ p.invariant.0.same below low c.section_start-low.ensures end c.in_ok-end.ensures k a.splits.now.count (place_in a.splits.now.count c.next_split-i.result) refl c.next_split-i.ensures.hits in
+    ∙ goes_section tp n a.last (output_of p.tables) _ p.invariant.0.same below low c.section_start-low.ensures end c.in_ok-end.ensures k a.splits.now.count c.next_row-i.result refl c.next_row-i.ensures in
     let small : c.in-Some.k < a.splits.now.count = split_small q.invariant.0 c.in-Some.is in
     refused_at _ _ _ _ _ _ _ c.refuse_at-then-a-le4.ensures
-    (ends_misfit t a.last n low end k a.splits.now.count q.current c.in-Some.k out _ carried c.loop-current-test.true small (place_in a.splits.now.count c.next_split-i-in-loop-current.result) c.start_of-next.result c.next_split-i-in-loop-current.ensures.hits c.start_of-next.ensures c.row-s.result c.row-s.ensures c.in-Some-target.field-0.unit c.in-Some-target.field-0.alignment (ap (λ (x : Option Target). accepted x) (sym c.in-Some-target.is) ∙ c.in_ok-target.ensures.0) c.loop-a.a (half_stops _ _ _ c.loop-a.invariant c.if-current-a-eq0.false c.if-a-le4.true) c.if-current-a-eq0.false)
+    (ends_misfit t a.last n low end k a.splits.now.count q.current c.in-Some.k out _ carried c.loop-current-test.true small c.next_row-i-in-loop-current.result c.start_of-next.result c.next_row-i-in-loop-current.ensures c.start_of-next.ensures c.row-s.result c.row-s.ensures c.in-Some-target.field-0.unit c.in-Some-target.field-0.alignment (ap (λ (x : Option Target). accepted x) (sym c.in-Some-target.is) ∙ c.in_ok-target.ensures.0) c.loop-a.a (half_stops _ _ _ c.loop-a.invariant c.if-current-a-eq0.false c.if-a-le4.true) c.if-current-a-eq0.false)
     (lent_still p.invariant.1 q.invariant.1)
 
 pub returns-after-loop-n : goal.returns-after-loop-n

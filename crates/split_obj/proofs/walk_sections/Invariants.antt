@@ -2,11 +2,11 @@
 -- halving gives what the whole halving gives; each way out is a law of proofs/Carried.antt. Assumes nothing.
 use Prim.Native.Nat.{◌-◌}
 use lib.ListN.{length}
+use Rattle.std.specs.Prelude.{unwrap_or}
 use Rattle.splits.specs.Table.{columns_of}
 use Rattle.pieces.specs.Tables.{SameLent}
 use Rattle.walk.specs.Walk.{halved, walk_sections}
 use Rattle.walk.specs.Giving.{output_of}
-use Rattle.split_obj.specs.Loop.{place_in}
 use Rattle.split_obj.proofs.Halving.{Halving}
 use Rattle.split_obj.proofs.Carried.{tables_input, AtSection, AtSplit, splits_left}
 use Rattle.split_obj.proofs.walk_sections.Given as goal
@@ -20,12 +20,12 @@ decreases-loop-a l = l.a
 abbrev pub invariant-loop-current : goal.invariant-loop-current
 invariant-loop-current l =
     AtSplit (tables_input l.obj.symbols.bytes.now l.obj.symbols.places.now l.obj.names.bytes.now l.obj.names.places.now l.obj.names.lengths.now l.obj.heads.bytes.now l.obj.heads.places.now l.image.bytes.now l.image.places.now l.relocs.bytes.now l.relocs.places.now (columns_of l.splits) l.splits.count l.unit_table.bytes.now l.unit_table.places.now l.tables.room)
-    (splits_left (tables_input l.obj.symbols.bytes.now l.obj.symbols.places.now l.obj.names.bytes.now l.obj.names.places.now l.obj.names.lengths.now l.obj.heads.bytes.now l.obj.heads.places.now l.image.bytes.now l.image.places.now l.relocs.bytes.now l.relocs.places.now (columns_of l.splits) l.splits.count l.unit_table.bytes.now l.unit_table.places.now l.initial.tables.room) l.last l.n l.low l.end (columns_of l.splits) l.splits.count l.initial.current (place_in l.splits.count l.initial.i) (output_of l.initial.tables))
+    (splits_left (tables_input l.obj.symbols.bytes.now l.obj.symbols.places.now l.obj.names.bytes.now l.obj.names.places.now l.obj.names.lengths.now l.obj.heads.bytes.now l.obj.heads.places.now l.image.bytes.now l.image.places.now l.relocs.bytes.now l.relocs.places.now (columns_of l.splits) l.splits.count l.unit_table.bytes.now l.unit_table.places.now l.initial.tables.room) l.last l.n l.low l.end (columns_of l.splits) l.splits.count l.initial.current (unwrap_or l.initial.i l.splits.count) (output_of l.initial.tables))
     (length l.obj.symbols.places.now) (length l.relocs.places.now) (length l.unit_table.places.now) l.last l.n l.low l.end (columns_of l.splits) l.splits.count l.current l.i l.scratch l.part l.tables
     × SameLent l.initial.tables l.tables
 
 abbrev pub decreases-loop-current : goal.decreases-loop-current
-decreases-loop-current l = l.splits.count - place_in l.splits.count l.i
+decreases-loop-current l = l.splits.count - unwrap_or l.i l.splits.count
 
 abbrev pub invariant-loop-n : goal.invariant-loop-n
 invariant-loop-n l =
