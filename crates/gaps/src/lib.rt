@@ -47,8 +47,8 @@ fn stop_of(table: &Table, part: &[u16], current: u32, marks: &mut [u8]) -> usize
     requires { Readable table.now.bytes.now table.now.places.now part.now × Markable (symbol_of table.now.bytes.now table.now.places.now) (length table.now.places.now) marks.old × Clean marks.old }
     ensures { Stopped (symbol_of table.now.bytes.now table.now.places.now) current part.now marks.new result }
 {
-    for j in 0..part.len() {
-        let y = table.record::<Symbol>(number(part, j));
+    for (j, n) in part.iter().enumerate() {
+        let y = table.record::<Symbol>(usize::from(*n));
         if y.is_stripped() {
             continue;
         }
@@ -66,8 +66,8 @@ fn clear_marks(table: &Table, part: &[u16], marks: &mut [u8])
     requires { Readable table.now.bytes.now table.now.places.now part.now × Markable (symbol_of table.now.bytes.now table.now.places.now) (length table.now.places.now) marks.old }
     ensures { Unmarked (symbol_of table.now.bytes.now table.now.places.now) part.now marks.old marks.new }
 {
-    for j in 0..part.len() {
-        let y = table.record::<Symbol>(number(part, j));
+    for n in part {
+        let y = table.record::<Symbol>(usize::from(*n));
         let k = y.name as usize;
         marks[k] = 0;
     }

@@ -13,31 +13,31 @@ pub loop-j-init : goal.loop-j-init
 loop-j-init c = passing_start _ _ _ _ c.requires.2
 
 pub record-y-requires : goal.record-y-requires
-record-y-requires c = held_at _ _ _ c.requires.0 _ _ c.loop-j-test.true c.number.ensures
+record-y-requires c = held_at _ _ _ c.requires.0 _ _ c.loop-j-test.true c.from.ensures
 
 pub loop-j-preserved-then-is_stripped : goal.loop-j-preserved-then-is_stripped
 loop-j-preserved-then-is_stripped c =
     let a = c.args in
-    let is = c.record-y.ensures ∙ ap (symbol_of a.table.now.bytes.now a.table.now.places.now) c.number.ensures in
+    let is = c.record-y.ensures ∙ ap (symbol_of a.table.now.bytes.now a.table.now.places.now) c.from.ensures in
     passing_stripped _ _ _ _ _ c.loop-j.invariant c.loop-j-test.true (ap stripped (sym is) ∙ sym c.is_stripped.ensures ∙ c.if-is_stripped.true)
 
 pub bounds-marks-k : goal.bounds-marks-k
 bounds-marks-k c =
     let a = c.args in
-    let is = c.record-y.ensures ∙ ap (symbol_of a.table.now.bytes.now a.table.now.places.now) c.number.ensures in
+    let is = c.record-y.ensures ∙ ap (symbol_of a.table.now.bytes.now a.table.now.places.now) c.from.ensures in
     omega (arith, ap (λ (y : Symbol). y.name) is, name_marked _ _ _ a.marks.now c.loop-j.marks c.requires.0 c.requires.1 c.loop-j.auto.marks c.loop-j.j c.loop-j-test.true)
 
 pub bounds-marks-k-in-loop-j : goal.bounds-marks-k-in-loop-j
 bounds-marks-k-in-loop-j c =
     let a = c.args in
-    let is = c.record-y.ensures ∙ ap (symbol_of a.table.now.bytes.now a.table.now.places.now) c.number.ensures in
+    let is = c.record-y.ensures ∙ ap (symbol_of a.table.now.bytes.now a.table.now.places.now) c.from.ensures in
     omega (arith, ap (λ (y : Symbol). y.name) is, name_marked _ _ _ a.marks.now c.loop-j.marks c.requires.0 c.requires.1 c.loop-j.auto.marks c.loop-j.j c.loop-j-test.true)
 
 pub returns-then-marks-k : goal.returns-then-marks-k
 returns-then-marks-k c =
     let a = c.args in
     let l = c.loop-j in
-    let is = c.record-y.ensures ∙ ap (symbol_of a.table.now.bytes.now a.table.now.places.now) c.number.ensures in
+    let is = c.record-y.ensures ∙ ap (symbol_of a.table.now.bytes.now a.table.now.places.now) c.from.ensures in
     let room = name_marked _ _ _ a.marks.now l.marks c.requires.0 c.requires.1 l.auto.marks l.j c.loop-j-test.true in
     passing_ends _ _ _ _ _ l.invariant c.loop-j-test.true (ap stripped (sym is) ∙ sym c.is_stripped.ensures ∙ c.if-is_stripped.false) room
     (sym (test_is l.marks a.current _ _ _ _ refl c.misses.ensures is) ∙ c.if-marks-k.true)
@@ -46,7 +46,7 @@ pub loop-j-preserved : goal.loop-j-preserved
 loop-j-preserved c =
     let a = c.args in
     let l = c.loop-j in
-    let is = c.record-y.ensures ∙ ap (symbol_of a.table.now.bytes.now a.table.now.places.now) c.number.ensures in
+    let is = c.record-y.ensures ∙ ap (symbol_of a.table.now.bytes.now a.table.now.places.now) c.from.ensures in
     let room = name_marked _ _ _ a.marks.now l.marks c.requires.0 c.requires.1 l.auto.marks l.j c.loop-j-test.true in
     let passed = passing_named _ _ _ _ _ l.invariant c.loop-j-test.true (ap stripped (sym is) ∙ sym c.is_stripped.ensures ∙ c.if-is_stripped.false) room
     (sym (test_is l.marks a.current _ _ _ _ refl c.misses.ensures is) ∙ c.if-marks-k.false) in
