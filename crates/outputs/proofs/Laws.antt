@@ -12,7 +12,7 @@ use lib.ListN.{length, get_or, take, drop, replicate, length-append, length-repl
 use lib.Seq.{sets, sets-eq, length-sets, drop-cons, take_all, take-append-le, take-append_seam}
 use Rattle.lists.specs.Tables.{laid}
 use Rattle.lists.specs.Rows.{clear_from}
-use Rattle.lists.proofs.Clear.{clear_is}
+use Rattle.lists.proofs.Clear.{clear_is, clear_all}
 use Rattle.fields.specs.Fields.{enc16}
 use Rattle.outputs.specs.Outputs.{halves, counts_of, store_count, store_counts}
 
@@ -40,6 +40,18 @@ halves_turn out numbers i h =
 pub halves_done : (out numbers : List ℕ) (i : ℕ) → length numbers ≤ i → sets out (2 * i) (halves (drop i numbers)) ≡ out
 unfolding halves
 halves_done out numbers i h = rw (drop_of_length-le numbers h)
+
+-- the same of counts: one is stored where it fits, and the rest follows it
+pub counts_turn : (counts numbers : List ℕ) (i : ℕ) → i < length numbers
+    → store_counts (i + 1) (drop (i + 1) numbers) (store_count i (get_or numbers i 0) counts) ≡ store_counts i (drop i numbers) counts
+unfolding store_counts
+counts_turn counts numbers i h =
+    rw (drop-cons numbers i 0 h)
+    (ap (λ (k : ℕ). store_counts k (drop k numbers) (store_count i (get_or numbers i 0) counts)) (add-one i))
+
+pub counts_done : (counts numbers : List ℕ) (i : ℕ) → length numbers ≤ i → store_counts i (drop i numbers) counts ≡ counts
+unfolding store_counts
+counts_done counts numbers i h = rw (drop_of_length-le numbers h)
 
 -- ---- a table that is cleared after its records
 
@@ -116,3 +128,7 @@ module _ (size : ℕ) where
     where
       none : counts_of size [] ≡ replicate size 0
       none = no_counts size
+
+-- .. into one that was cleared first
+pub counts_cleared : (counts numbers : List ℕ) {cleared : List ℕ} → cleared ≡ clear_from 0 0 counts → store_counts 0 numbers cleared ≡ counts_of (length counts) numbers
+counts_cleared counts numbers e = ap (store_counts 0 numbers) (e ∙ clear_all 0 counts) ∙ counts_stored (length counts) numbers

@@ -4,7 +4,7 @@
 ghost use Rattle.std.specs.Prelude.{◌≡◌, ◌*◌, ◌≤◌, ◌<◌, length};
 ghost use Rattle.std.proofs.lemmas.List.Edits.{sets};
 ghost use Rattle.lists.specs.Rows.{clear_from};
-ghost use Rattle.outputs.specs.Outputs.{halves, store_count};
+ghost use Rattle.outputs.specs.Outputs.{halves, store_count, store_counts};
 ghost use Rattle.outputs.specs.Room.{room_for};
 
 use fields::Field;
@@ -45,5 +45,16 @@ pub fn put_count(counts: &mut [u8], k: usize, count: u16)
 {
     if 2 * k + 2 <= counts.len() {
         count.put(counts, 2 * k);
+    }
+}
+
+// The counts from the first on, as many as fit whole; behind them what was lent.
+#[tactic(auto, using(crate::proofs::Laws::counts_turn, crate::proofs::Laws::counts_done))]
+pub fn put_counts(counts: &mut [u8], numbers: &[u16])
+    requires { length numbers.now ≤ 64 }
+    ensures { counts.new ≡ store_counts 0 numbers.now counts.old }
+{
+    for (k, number) in numbers.iter().enumerate() {
+        put_count(counts, k, *number);
     }
 }
