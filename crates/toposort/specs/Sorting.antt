@@ -4,6 +4,7 @@
 use Rattle.std.specs.Prelude.{ℕ, ◌+◌, ◌-◌, ◌≤◌, ◌<◌, ◌≡◌, List, [], ◌⊎◌, ◌≢◌, length, get_or, take, ltb}
 use Rattle.lists.specs.Outcome.{Outcome, accepted, refused, refuse, ◌>>◌}
 use Rattle.obj.specs.Answers.{Answer}
+use Rattle.obj.specs.declared.Refusal.{Refusal}
 use Rattle.std.specs.Prelude.{Result, Ok, Err}
 use Rattle.toposort.specs.declared.Unsorted.{Unsorted}
 use Rattle.toposort.specs.declared.Unsorted.TheVariants.{Cycle, NoNode, Short}
@@ -47,12 +48,16 @@ carried (Err (Cycle k)) = k
 carried (Err (NoNode e)) = e
 carried (Err Short) = 0
 
--- document 01's number, section and address for each case of the answer
+-- document 01's number, section and address where there is no order
+abbrev pub refusal_of : Unsorted → Refusal
+refusal_of (Cycle k) = record { number = 61; section = 0; address = 0 }
+refusal_of (NoNode e) = record { number = 62; section = 0; address = e }
+refusal_of Short = record { number = 76; section = 0; address = 0 }
+
+-- .. and for each case of the answer
 abbrev pub answer_of : Result ℕ Unsorted → Answer
 answer_of (Ok n) = Ok tt
-answer_of (Err (Cycle k)) = Err (record { number = 61; section = 0; address = 0 })
-answer_of (Err (NoNode e)) = Err (record { number = 62; section = 0; address = e })
-answer_of (Err Short) = Err (record { number = 76; section = 0; address = 0 })
+answer_of (Err why) = Err (refusal_of why)
 
 -- the answer and the table mean this outcome; the ranges that callers need
 pub record Sorts (o : Outcome End) (size : ℕ) (answer : Result ℕ Unsorted) (table : List ℕ) : Type 0 where

@@ -4,14 +4,14 @@
 ghost use Rattle.std.specs.Prelude.{◌≡◌, [], ◌++◌, ℕ, suc, ◌≤◌, ◌<◌, length, drop, MatchOption};
 ghost use Rattle.lists.specs.Outcome.{accepted};
 ghost use Rattle.toposort.specs.Search.{next_edge, bad_edge, is_bad, move_of, node, parent_of, hops, climb, state_at, Reaches, searched, start};
-ghost use Rattle.toposort.specs.Sorting.{Sorts, Within, Chainable, Chained, Follows, Moves, Ready, sort_of, carried, kept as kept_by, answer_of};
+ghost use Rattle.toposort.specs.Sorting.{Sorts, Within, Chainable, Chained, Follows, Moves, Ready, sort_of, kept as kept_by, refusal_of, answer_of};
 ghost use Rattle.toposort.specs.Lent.{graph_in};
 ghost use Rattle.toposort.specs.declared.State.TheVariants.{Open, Closed};
 
 mod edge_table;
 
 pub use edge_table::EdgeTable;
-use obj::{Refusal, refuse};
+use obj::Refusal;
 
 // The root's record: the last of the 1,025.
 const ROOT: usize = 1024;
@@ -29,12 +29,25 @@ pub struct Node {
     pub state: State,
 }
 
-// Why there is no order: the edges close a cycle of so many nodes, which the table holds; an edge joins no node; or the table is too short.
+// Why there is no order: the edges close a cycle of so many nodes, which the table holds; the edge of this number joins no node; or the table is too short.
 #[derive(Clone, Copy)]
 pub enum Unsorted {
     Cycle(usize),
-    NoNode(usize),
+    NoNode(u32),
     Short,
+}
+
+// Document 01's number, section and address for each of them.
+impl From<Unsorted> for Refusal {
+    ghost from_gives = { λ why r. r ≡ refusal_of why };
+
+    fn from(why: Unsorted) -> Refusal {
+        match why {
+            Unsorted::Cycle(_) => Refusal::new(61, 0, 0),
+            Unsorted::NoNode(e) => Refusal::new(62, 0, e),
+            Unsorted::Short => Refusal::new(76, 0, 0),
+        }
+    }
 }
 
 // What an open node does next: the root has opened every node, a node has passed its last edge, or an edge is taken (where the node's next
@@ -235,7 +248,7 @@ pub fn toposort(graph: &EdgeTable, table: &mut [u16]) -> Result<usize, Unsorted>
     ensures { Sorts (sort_of (graph_in graph.now) (length table.old)) (length table.old) result table.new }
 {
     if let Some(e) = bad_edge(graph) {
-        return Err(Unsorted::NoNode(e));
+        return Err(Unsorted::NoNode(e as u32));
     }
     if table.len() < graph.count {
         return Err(Unsorted::Short);
@@ -263,15 +276,10 @@ pub fn kept(r: Result<usize, Unsorted>) -> usize
     }
 }
 
-// Document 01's number, section and address for each case of the answer.
+// The answer as a check's: a refusal, or nothing.
 pub fn answer_of(r: Result<usize, Unsorted>) -> Result<(), Refusal>
-    requires { carried r ≤ 2048 }
     ensures { result ≡ answer_of r }
 {
-    match r {
-        Ok(_) => Ok(()),
-        Err(Unsorted::Cycle(_)) => refuse(61, 0, 0),
-        Err(Unsorted::NoNode(e)) => refuse(62, 0, e as u32),
-        Err(Unsorted::Short) => refuse(76, 0, 0),
-    }
+    r?;
+    Ok(())
 }
