@@ -21,8 +21,7 @@ use Rattle.obj.specs.declared.Split.{Split}
 use Rattle.obj.specs.declared.Unit as units
 use Rattle.obj.specs.Nothing.{no_split, no_unit}
 use Rattle.std.specs.Prelude.{Result, Ok, Err, MatchResult}
-use Rattle.std.specs.Result.{IsErrAnd, ForErr}
-use Rattle.std.proofs.lemmas.Result.{err_from_is_err_and}
+use Rattle.std.specs.Result.{IsErrAnd}
 use Rattle.std.proofs.lemmas.List.{get_or-map}
 use Rattle.toposort.specs.Search.{Graph, End, all, cyclic, lost, searched}
 use Rattle.toposort.specs.Sorting as sorting
@@ -44,7 +43,10 @@ use Rattle.order.specs.declared.Unlinked.TheVariants.{Refused}
 use Rattle.order.specs.Columns as stage
 use Rattle.order.specs.LinkOrder.{link_order, first_record, hand_of, made_unit, record_of, records_of}
 use Rattle.order.specs.Bytes.{units_bytes}
-use Rattle.order.specs.Columns.{said_of, Room, Resolves}
+use Rattle.order.specs.Columns.{said_of, Resolves}
+use Rattle.outputs.specs.Room.{room_for}
+use Rattle.outputs.proofs.Room.{room_low, room_fits, room_same}
+use Rattle.obj.proofs.Errors.{is_err}
 
 -- ---- what an answer leaves is what its outcome says
 said : (r : Result ℕ Unsorted) (t : List ℕ) (o : Outcome End) → sorting.meaning r t ≡ o → meaning (answer_of r) ≡ said_of o
@@ -60,17 +62,24 @@ left (Err (NoNode i)) t o e = ap nodes_left e
 left (Err Short) t o e = ap nodes_left e
 
 -- what the sort says, said of the unit records: an order as it is, and why there is none
-pub says_of : (r : Result ℕ Unsorted) (a : Result ℕ Unlinked) → MatchResult r (λ n. a ≡ Ok n) (λ e. IsErrAnd a (λ d. stage.Says (Err e) (Err d))) → stage.Says r a
-says_of (Ok n) a is = subst (stage.Says (Ok n)) (sym is) (refl, refl, tt)
-says_of (Err e) a given = let p = err_from_is_err_and a given in subst (stage.Says (Err e)) (sym p.1) p.2
+abbrev linked_by : Result ℕ Unsorted → Result ℕ Unlinked
+linked_by (Ok n) = Ok n
+linked_by (Err why) = Err (stage.unlinked_of why)
 
-pub err_small : (r : Result ℕ Unsorted) → sorting.carried r ≤ 2048 → ForErr r (λ e. sorting.carried (Err e) ≤ 2048)
-err_small r h e is = subst (λ (x : Result ℕ Unsorted). sorting.carried x ≤ 2048) is h
+pub says_linked : (r : Result ℕ Unsorted) → stage.Says r (linked_by r)
+says_linked (Ok n) = (refl, refl, tt)
+says_linked (Err (Cycle k)) = (refl, refl, tt)
+says_linked (Err (NoNode e)) = (refl, refl, λ e. omega arith)
+says_linked (Err Short) = (refl, refl, λ e. omega arith)
+
+pub says_of : (r : Result ℕ Unsorted) (a : Result ℕ Unlinked) → MatchResult r (λ n. a ≡ Ok n) (λ e. IsErrAnd a (λ d. d ≡ stage.unlinked_of e)) → stage.Says r a
+says_of (Ok n) a is = subst (stage.Says (Ok n)) (sym is) (says_linked (Ok n))
+says_of (Err e) a given = subst (stage.Says (Err e)) (sym (is_err a given)) (says_linked (Err e))
 
 -- a table of more bytes than 1,024 units take is as good as one of 1,024
-same_room : (g : Graph) (size room : ℕ) → g.count ≤ 1024 → Room size room → sort_of g room ≡ sort_of g (size / 8)
+same_room : (g : Graph) (size room : ℕ) → g.count ≤ 1024 → room ≡ room_for 1024 8 size → sort_of g room ≡ sort_of g (size / 8)
 unfolding sort_of
-same_room g size room h w = rw (w.same g.count h)
+same_room g size room h w = rw (w, room_same 1024 8 size h)
 
 -- ---- the nodes that are left are nodes
 all_in : (P : ℕ → Type 0) (l : List ℕ) → ((v : ℕ) → In v l → P v) → All P l
@@ -120,7 +129,7 @@ nodes-named c n column w = all_in (λ x. x < length column) (nodes (rows c n)) (
         omega (arith, w k.0 inside)
 
 -- ---- the front of a table whose first part was lent and comes back as `part`
-module _ (g : Graph) (size room : ℕ) (r : Result ℕ Unsorted) (part rest : List ℕ) (k : ℕ) (few : g.count ≤ 1024) (w : Room size room) (s : Sorts (sort_of g room) room r part)
+module _ (g : Graph) (size room : ℕ) (r : Result ℕ Unsorted) (part rest : List ℕ) (k : ℕ) (few : g.count ≤ 1024) (w : room ≡ room_for 1024 8 size) (s : Sorts (sort_of g room) room r part)
     (e : k ≡ kept r) where
   means : sorting.meaning r part ≡ sort_of g (size / 8)
   means = s.means ∙ same_room g size room few w
@@ -135,7 +144,7 @@ module _ (g : Graph) (size room : ℕ) (r : Result ℕ Unsorted) (part rest : Li
   kept-nodes = take-append-le k part rest (omega (arith, s.room, s.long)) ∙ ap (λ (i : ℕ). take i part) e ∙ left r part _ means
 
   pub kept-fits : 8 * k ≤ size
-  kept-fits = omega (arith, s.room, w.fits)
+  kept-fits = omega (arith, s.room, w, room_fits 1024 8 size)
 
   pub sorted_resolves : (splits : List Split) (us : List units.Unit) (a : Result ℕ Unlinked) (before after : List ℕ) → length before ≡ size
       → stage.Says r a
@@ -146,7 +155,7 @@ module _ (g : Graph) (size room : ℕ) (r : Result ℕ Unsorted) (part rest : Li
     counted = q.0 ∙ sym e ∙ sym kept_long ∙ ap length kept-nodes;
     front = f ∙ ap (λ (l : List ℕ). sets before 0 (units_bytes (records_of splits us l))) kept-nodes;
     room = omega (arith, kept-fits, q.0, e);
-    few = omega (arith, s.room, w.low, q.0);
+    few = omega (arith, s.room, w, room_low 1024 8 size, q.0);
     other = q.2;
   }
 

@@ -1,5 +1,5 @@
 -- The stage in lent columns: what its functions ask of the tables, and what they leave.
-use Rattle.std.specs.Prelude.{ℕ, ◌*◌, ◌/◌, ◌≤◌, ◌<◌, ◌≡◌, List, Result, Ok, Err, cond, length, get_or, eqb, ltb}
+use Rattle.std.specs.Prelude.{ℕ, ◌*◌, ◌≤◌, ◌<◌, ◌≡◌, List, Result, Ok, Err, cond, length, get_or, eqb, ltb}
 use Rattle.std.proofs.lemmas.List.Edits.{sets}
 use Rattle.lists.specs.Rows.{some}
 use Rattle.lists.specs.Sort.{All}
@@ -15,6 +15,7 @@ use Rattle.splits.specs.Columns.{Columns}
 use Rattle.toposort.specs.Search.{End, all, cyclic, lost}
 use Rattle.toposort.specs.Sorting as sorting
 use Rattle.toposort.specs.declared.Unsorted.{Unsorted}
+use Rattle.toposort.specs.declared.Unsorted.TheVariants as unsorted
 use Rattle.toposort.specs.Sorting.{nodes_left}
 use Rattle.link_graph.specs.Columns.{Splits, UnitsBelow}
 use Rattle.link_graph.specs.Tables.{given_of, NamesBelow, Graphed}
@@ -45,10 +46,16 @@ abbrev pub refusal_of : Unlinked → Refusal
 refusal_of (Cycle k) = record { number = 61; section = 0; address = 0 }
 refusal_of (Refused r) = r
 
--- .. and for each case of the answer
-abbrev pub answer_of : Result ℕ Unlinked → Answer
+-- .. and for each case of the answer, whatever it carries
+abbrev pub answer_of : {T : Type 0} → Result T Unlinked → Answer
 answer_of (Ok n) = Ok tt
 answer_of (Err why) = Err (refusal_of why)
+
+-- why the sort gives no order, said of the unit records
+abbrev pub unlinked_of : Unsorted → Unlinked
+unlinked_of (unsorted.Cycle k) = Cycle k
+unlinked_of (unsorted.NoNode e) = Refused (sorting.refusal_of (unsorted.NoNode e))
+unlinked_of unsorted.Short = Refused (sorting.refusal_of unsorted.Short)
 
 -- 61 is the cycle's number alone
 abbrev pub NotCycle : Result ℕ Unlinked → Type 0
@@ -59,12 +66,6 @@ NotCycle (Err (Refused r)) = r.number ≡ 61 → ⊥
 -- the answer says of the unit records what the sort says of the nodes
 abbrev pub Says : Result ℕ Unsorted → Result ℕ Unlinked → Type 0
 Says r a = (kept a ≡ sorting.kept r) × (answer_of a ≡ sorting.answer_of r) × NotCycle a
-
--- room for the units of a table of this many bytes, of which no more than 1,024 are asked
-pub record Room (size r : ℕ) : Type 0 where
-  pub low : r ≤ 1024
-  pub fits : 8 * r ≤ size
-  pub same : (n : ℕ) → n ≤ 1024 → ltb r n ≡ ltb (size / 8) n
 
 -- what the stage leaves: its answer, and the records of the order or the cycle at the front of the unit table
 pub record Resolves (splits : List Split) (us : List units.Unit) (o : Outcome End) (r : Result ℕ Unlinked) (before after : List ℕ) : Type 0 where

@@ -3,19 +3,20 @@
 
 mod records;
 
-ghost use Rattle.std.specs.Prelude.{◌≡◌, ◌/◌, ◌≤◌, length, Err};
+ghost use Rattle.std.specs.Prelude.{◌≡◌, ◌/◌, length};
 ghost use Rattle.tables.specs.Records.{units_in};
 ghost use Rattle.splits.specs.Table.{rows_of};
-ghost use Rattle.toposort.specs.Sorting.{sort_of, carried};
+ghost use Rattle.toposort.specs.Sorting.{sort_of};
 ghost use Rattle.link_graph.specs.Graph.{graph_of};
 ghost use Rattle.link_graph.specs.Tables.{given_of, NamesBelow, SameLent};
 ghost use Rattle.order.specs.LinkOrder.{link_order};
 ghost use Rattle.order.specs.declared.Unlinked.TheVariants.{Refused};
-ghost use Rattle.order.specs.Columns.{kept as kept_by, refusal_of, answer_of, Says, Room, Resolves, Sortable, Lent};
+ghost use Rattle.order.specs.Columns.{kept as kept_by, refusal_of, unlinked_of, answer_of, Resolves, Sortable, Lent};
 
 use link_graph::{LinkGraph, LinkTables, make_graph};
 use obj::Refusal;
 use order_numbers::{order_twice, order_units};
+use outputs::room_for;
 pub use records::put_unit;
 use records::write_records;
 use toposort::{EdgeTable, Unsorted};
@@ -47,6 +48,18 @@ impl From<Unlinked> for Refusal {
     }
 }
 
+// Why the sort gives no order, said of the unit records.
+impl From<Unsorted> for Unlinked {
+    ghost from_gives = { λ why r. r ≡ unlinked_of why };
+
+    fn from(why: Unsorted) -> Unlinked {
+        match why {
+            Unsorted::Cycle(k) => Unlinked::Cycle(k),
+            Unsorted::NoNode(_) | Unsorted::Short => Unlinked::Refused(Refusal::from(why)),
+        }
+    }
+}
+
 // How many unit records stand at the front of the unit table.
 pub fn kept(r: Result<usize, Unlinked>) -> usize
     ensures { result ≡ kept_by r }
@@ -58,31 +71,12 @@ pub fn kept(r: Result<usize, Unlinked>) -> usize
     }
 }
 
-// The answer as a check's: a refusal, or nothing.
-pub fn answer_of(r: Result<usize, Unlinked>) -> Result<(), Refusal>
+// The answer as a check's, whatever it carries: a refusal, or nothing.
+pub fn answer_of<T: Drop>(r: Result<T, Unlinked>) -> Result<(), Refusal>
     ensures { result ≡ answer_of r }
 {
     r?;
     Ok(())
-}
-
-// Why the sort gives no order, said of the unit records.
-fn why_unlinked(why: Unsorted) -> Unlinked
-    requires { carried (Err why) ≤ 2048 }
-    ensures { Says (Err why) (Err result) }
-{
-    match why {
-        Unsorted::Cycle(k) => Unlinked::Cycle(k),
-        Unsorted::NoNode(e) => Unlinked::from(Refusal::new(62, 0, e as u32)),
-        Unsorted::Short => Unlinked::from(Refusal::new(76, 0, 0)),
-    }
-}
-
-// As many units as the unit table has room for; more than 1,024 are never asked.
-fn room_of(size: usize) -> usize
-    ensures { Room size result }
-{
-    (size / 8).min(1024)
 }
 
 // The sort of the graph, in the lent `table`, which is for the work; the records of the nodes that it leaves are written to the front of `out`.
@@ -100,7 +94,8 @@ fn sort_graph(
 {
     let n = graph.count;
     let e = graph.edges;
-    let room = room_of(out.len());
+    // "1,024 units"
+    let room = room_for(1024, 8, out.len());
     let edges = EdgeTable {
         count: n,
         from: &graph.from[..e],
@@ -109,7 +104,7 @@ fn sort_graph(
     let r = toposort::toposort(&edges, &mut table[..room]);
     let m = toposort::kept(r);
     write_records(tables, graph.column, &graph.nodes[..n], &table[..m], out);
-    r.map_err(why_unlinked)
+    r.map_err(Unlinked::from)
 }
 
 // The stage: 60, then the graph and its sort. `numbers`, `scratch` and `graph` are for the work, and what they hold at first is of no matter; each is for a thing of its own,

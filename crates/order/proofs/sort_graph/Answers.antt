@@ -14,7 +14,8 @@ use Rattle.link_graph.specs.Graph.{graph_of}
 use Rattle.link_graph.specs.Tables.{given_of}
 use Rattle.link_graph.specs.declared.link_tables.LinkGraph.{LinkGraph}
 use Rattle.toposort.proofs.Sorting.{sorts_in}
-use Rattle.order.proofs.Stage.{left_inside, nodes-named, kept_long, kept-nodes, kept-fits, says_of, err_small, sorted_resolves, same_sort, resolves_as}
+use Rattle.order.proofs.Stage.{left_inside, nodes-named, kept_long, kept-nodes, kept-fits, says_of, sorted_resolves, same_sort, resolves_as}
+use Rattle.outputs.proofs.Room.{room_low}
 use Rattle.order.proofs.sort_graph.Goals as goal
 
 -- the nodes and the edges that stand at the front of the columns
@@ -30,6 +31,12 @@ within g =
     let to = length-take-le g.edges g.to.now (omega (arith, g.few_edges, g.long.long_to)) in
     record { nodes = g.few_nodes; edges = omega (arith, from, g.few_edges); paired = to ∙ sym from }
 
+pub slice_bounds-toposort-end : goal.slice_bounds-toposort-end
+slice_bounds-toposort-end c = omega (arith, c.room_for-room.ensures, room_low 1024 8 (length c.args.out.now), c.requires.table_long)
+
+pub slice_bounds-toposort-end-2 : goal.slice_bounds-toposort-end-2
+slice_bounds-toposort-end-2 c = sym (length-take-le _ c.args.table.now (omega (arith, c.room_for-room.ensures, room_low 1024 8 (length c.args.out.now), c.requires.table_long)))
+
 pub write_records-requires : goal.write_records-requires
 write_records-requires c =
     let s = c in
@@ -37,12 +44,12 @@ write_records-requires c =
     let g = front a.graph.now in
     let size = length a.out.now in
     let t = c.toposort-r in
-    let fits : c.room_of-room.result ≤ length a.table.now = omega (arith, c.room_of-room.ensures.low, s.requires.table_long) in
-    let sorted = sorts_in g c.room_of-room.result a.table.now fits t.ensures in
+    let fits : c.room_for-room.result ≤ length a.table.now = omega (arith, c.room_for-room.ensures, room_low 1024 8 size, s.requires.table_long) in
+    let sorted = sorts_in g c.room_for-room.result a.table.now fits t.ensures in
     let column = a.graph.now.column.now in
-    let left = kept-nodes g size c.room_of-room.result t.result t.new.table (drop c.room_of-room.result a.table.now) c.kept-m.result a.graph.now.few_nodes c.room_of-room.ensures sorted c.kept-m.ensures in
-    let long = kept_long g size c.room_of-room.result t.result t.new.table (drop c.room_of-room.result a.table.now) c.kept-m.result a.graph.now.few_nodes c.room_of-room.ensures sorted c.kept-m.ensures in
-    let room = kept-fits g size c.room_of-room.result t.result t.new.table (drop c.room_of-room.result a.table.now) c.kept-m.result a.graph.now.few_nodes c.room_of-room.ensures sorted c.kept-m.ensures in (
+    let left = kept-nodes g size c.room_for-room.result t.result t.new.table (drop c.room_for-room.result a.table.now) c.kept-m.result a.graph.now.few_nodes c.room_for-room.ensures sorted c.kept-m.ensures in
+    let long = kept_long g size c.room_for-room.result t.result t.new.table (drop c.room_for-room.result a.table.now) c.kept-m.result a.graph.now.few_nodes c.room_for-room.ensures sorted c.kept-m.ensures in
+    let room = kept-fits g size c.room_for-room.result t.result t.new.table (drop c.room_for-room.result a.table.now) c.kept-m.result a.graph.now.few_nodes c.room_for-room.ensures sorted c.kept-m.ensures in (
       s.requires.named,
       s.requires.graphed.nodes_are,
       record {
@@ -54,9 +61,6 @@ write_records-requires c =
       },
     )
 
-pub map_err-requires : goal.map_err-requires
-map_err-requires c = err_small c.toposort-r.result c.toposort-r.ensures.small
-
 pub returns-clause-resolves : goal.returns-clause-resolves
 returns-clause-resolves c =
     let s = c in
@@ -65,9 +69,9 @@ returns-clause-resolves c =
     let graphed = s.requires.graphed in
     let size = length a.out.now in
     let t = c.toposort-r in
-    let fits : c.room_of-room.result ≤ length a.table.now = omega (arith, c.room_of-room.ensures.low, s.requires.table_long) in
-    let sorted = sorts_in g c.room_of-room.result a.table.now fits t.ensures in
+    let fits : c.room_for-room.result ≤ length a.table.now = omega (arith, c.room_for-room.ensures, room_low 1024 8 size, s.requires.table_long) in
+    let sorted = sorts_in g c.room_for-room.result a.table.now fits t.ensures in
     resolves_as
     (same_sort g (graph_of (given_of a.tables.now)) (size / 8) (sym (long_nodes a.graph.now) ∙ ap length graphed.nodes_are) graphed.edged.starts graphed.edged.goals)
-    (sorted_resolves g size c.room_of-room.result t.result t.new.table (drop c.room_of-room.result a.table.now) c.kept-m.result a.graph.now.few_nodes c.room_of-room.ensures sorted c.kept-m.ensures
+    (sorted_resolves g size c.room_for-room.result t.result t.new.table (drop c.room_for-room.result a.table.now) c.kept-m.result a.graph.now.few_nodes c.room_for-room.ensures sorted c.kept-m.ensures
     (rows_of a.tables.now.splits) (units_in a.tables.now.units.bytes.now a.tables.now.units.places.now) c.map_err.result a.out.now _ refl (says_of _ _ c.map_err.ensures.cases) c.write_records.ensures)
