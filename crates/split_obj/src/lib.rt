@@ -89,7 +89,7 @@ pub fn walk_sections(
                 let target = choose(obj, image, unit_table, unit_numbers, n, s, current, next)?;
                 if let Some(Target { unit, alignment }) = target {
                     let mut a = alignment;
-                    let fit = loop {
+                    let alignment = loop {
                         if current % a == 0 {
                             break a;
                         }
@@ -98,7 +98,8 @@ pub fn walk_sections(
                         }
                         a /= 2;
                     };
-                    give(scratch, tables, obj, relocs, &part[..m], n, s, unit, fit)?;
+                    let fit = Target { unit, alignment };
+                    give(scratch, tables, obj, relocs, &part[..m], n, s, fit)?;
                 }
                 current = next;
             }

@@ -1,5 +1,5 @@
 -- Adding entries to the output: what is asked of the tables, and what the answers mean.
-use Rattle.std.specs.Prelude.{ℕ, ◌+◌, ◌≤◌, ◌<◌, ◌≡◌, List, length, Option, Some, None}
+use Rattle.std.specs.Prelude.{ℕ, ◌+◌, ◌≤◌, ◌<◌, ◌≡◌, List, length, Result, Ok, Err}
 use Rattle.lists.specs.Sort.{All}
 use Rattle.symbol_order.specs.Order.{symbol_of}
 use Rattle.symbol_order.specs.Order as symbol_order
@@ -9,6 +9,7 @@ use Rattle.pieces.specs.declared.PieceReloc.{PieceReloc}
 use Rattle.pieces.specs.declared.lent.PieceTables.{PieceTables}
 use Rattle.pieces.specs.Tables.{symbols_of, relocs_of, SamePieces, SameSymbols, SameRelocs, SameLent}
 use Rattle.piece_columns.specs.Columns.{ChainedIn}
+use Rattle.walk.specs.declared.Full.{Full}
 
 -- the chains of the entries of so many symbols
 pub record Entries (symbols : ℕ) (chains : List ℕ) (t : PieceTables) : Type 0 where
@@ -32,9 +33,9 @@ pub record AddsNow (wanted : List PieceSymbol) (chains : List ℕ) (before after
   pub lent : SameLent before after
 
 -- they are there, or they are more than there is room for
-abbrev pub Adds : (wanted : List PieceSymbol) → (chains : List ℕ) → (before after : PieceTables) → Option (Unit {0}) → Type 0
-Adds wanted chains before after (Some u) = AddsNow wanted chains before after
-Adds wanted chains before after None = (before.room.symbols < length wanted) × SameLent before after
+abbrev pub Adds : (wanted : List PieceSymbol) → (chains : List ℕ) → (before after : PieceTables) → Result (Unit {0}) Full → Type 0
+Adds wanted chains before after (Ok u) = AddsNow wanted chains before after
+Adds wanted chains before after (Err e) = (before.room.symbols < length wanted) × SameLent before after
 
 -- numbers of relocations that can be read, none below `start`; their numbers have 16 bits
 pub record Above (relocs reloc_places part : List ℕ) (start : ℕ) : Type 0 where

@@ -1,6 +1,6 @@
 -- What a split gives to the lent output tables: they are read as the lists of the definition, `output_of`, and the answer means an outcome, `gave_meaning`. On a
 -- refusal the tables may hold anything.
-use Rattle.std.specs.Prelude.{ℕ, ◌≤◌, ◌<◌, ◌≡◌, List, [], ◌∷◌, ◌++◌, true, ◌||◌, ltb, length, take, drop, Option, Some, None, Result, Ok, Err}
+use Rattle.std.specs.Prelude.{ℕ, ◌≤◌, ◌<◌, ◌≡◌, List, [], ◌∷◌, ◌++◌, true, ◌||◌, ltb, length, take, drop, Result, Ok, Err}
 use Rattle.lists.specs.Outcome.{Outcome, accepted, refused}
 use Rattle.obj.specs.Records.{Held}
 use Rattle.obj.specs.declared.Refusal.{Refusal}
@@ -20,6 +20,7 @@ use Rattle.relocs.specs.Relocs.{reloc_of, relocs_of, Whole, Rising}
 use Rattle.pieces.specs.declared.Counts.{Counts}
 use Rattle.walk.specs.Walk.{Input, Output, piece_of, add_relocs, split_relocs, on_aligned}
 use Rattle.walk.specs.Adding.{Entries}
+use Rattle.walk.specs.declared.Full.{Full}
 
 -- ---- the input and the output of the walk, of their parts
 
@@ -96,9 +97,9 @@ pub record PieceMade (wanted : List Piece) (wanted-relocs : List PieceReloc) (co
   pub counted : CountedIn counts after
   pub lent : SameLent before after
 
-abbrev pub PieceGives : (wanted : List Piece) → (wanted-relocs : List PieceReloc) → (counts : List ℕ) → (before after : PieceTables) → Option (Unit {0}) → Type 0
-PieceGives wanted wanted-relocs counts before after (Some u) = PieceMade wanted wanted-relocs counts before after
-PieceGives wanted wanted-relocs counts before after None =
+abbrev pub PieceGives : (wanted : List Piece) → (wanted-relocs : List PieceReloc) → (counts : List ℕ) → (before after : PieceTables) → Result (Unit {0}) Full → Type 0
+PieceGives wanted wanted-relocs counts before after (Ok u) = PieceMade wanted wanted-relocs counts before after
+PieceGives wanted wanted-relocs counts before after (Err e) =
     ((ltb before.room.relocs (length wanted-relocs) || ltb before.room.pieces (length wanted)) ≡ true) × SameLent before after
 
 -- what is known of the columns after an answer

@@ -1,5 +1,5 @@
 // The symbols and relocations of a split, as entries behind those that are there.
-ghost use Rattle.std.specs.Prelude.{◌≡◌, cond, eqb, ◌+◌, ◌<◌, ◌≤◌, length};
+ghost use Rattle.std.specs.Prelude.{◌≡◌, cond, eqb, ◌+◌, ◌*◌, ◌/◌, ◌%◌, ◌<◌, ◌≤◌, length};
 ghost use Rattle.obj.specs.Records.{Held};
 ghost use Rattle.names.specs.Fixed.{is_vector_table_end};
 ghost use Rattle.symbol_order.specs.Order.{symbol_of};
@@ -11,11 +11,17 @@ ghost use Rattle.relocs.specs.Relocs.{reloc_of, Readable};
 ghost use Rattle.walk.specs.Walk.{passed_over, entry_of, add_symbol, add_symbols, reloc_entry, add_relocs};
 ghost use Rattle.walk.specs.Adding.{Entries, Lying, Adds, Above, AddsRelocs};
 
-use fields::number;
+use crate::Full;
 use names::{Names, is_linker_generated_label, is_vector_table_end, name_at};
 use obj::{Reloc, Split, Symbol, Table};
 use piece_columns::{has_symbol, push_symbol};
 use pieces::{PieceReloc, PieceSymbol, PieceTables};
+
+// "bit 0 Local, 1 Common, 2 Stripped"
+const COMMON: u16 = 2;
+
+// The piece of an entry that has none
+const NO_PIECE: u16 = 65535;
 
 // "one at the end is passed over, `gTRKInterruptVectorTableEnd` at the start instead": where a symbol of this name is passed over.
 fn passed_at(name: &[u8], s: Split) -> u32
@@ -44,6 +50,13 @@ fn common_address(alignment: u32) -> u32
     alignment
 }
 
+// "only the flags of `keep_flags` plus Common": those from Stripped on in the low byte, and Common.
+fn common_flags(flags: u16) -> u16
+    ensures { result ≡ flags % 256 / 4 * 4 + 2 }
+{
+    flags % 256 / 4 * 4 + COMMON
+}
+
 // The entry of symbol i: "its symbols take their alignment (else 4) as address, and only the flags of `keep_flags` plus Common".
 fn entry_of(unit: u16, place: u16, s: Split, i: u16, y: Symbol) -> PieceSymbol
     requires { s.start ≤ y.address }
@@ -52,9 +65,9 @@ fn entry_of(unit: u16, place: u16, s: Split, i: u16, y: Symbol) -> PieceSymbol
     if s.is_common() {
         return PieceSymbol {
             unit: unit,
-            piece: 65535,
+            piece: NO_PIECE,
             symbol: i,
-            flags: y.flags % 256 / 4 * 4 + 2,
+            flags: common_flags(y.flags),
             address: common_address(y.alignment),
         };
     }
@@ -84,7 +97,7 @@ fn add_symbol(
     i: usize,
     chains: &mut [u16],
     tables: &mut PieceTables,
-) -> Option<()>
+) -> Result<(), Full>
     requires { Held 20 symbols.now.bytes.now symbols.now.places.now i
         × SymbolNames symbols.now.bytes.now symbols.now.places.now names.now.bytes.now names.now.places.now names.now.lengths.now
         × (s.start ≤ (symbol_of symbols.now.bytes.now symbols.now.places.now i).address)
@@ -94,14 +107,14 @@ fn add_symbol(
     let y = symbols.record::<Symbol>(i);
     let name = name_at(names, y.name as usize);
     if is_passed_over(name, s, y) | is_entered(chains, tables, unit, i) {
-        return Some(());
+        return Ok(());
     }
     if tables.made.symbols == tables.room.symbols {
-        return None;
+        return Err(Full);
     }
     let place = tables.made.pieces as u16;
     push_symbol(chains, tables, entry_of(unit, place, s, i as u16, y));
-    Some(())
+    Ok(())
 }
 
 // The symbols of a split, whose numbers are `part`, behind the entries that are there, if there is room for them.
@@ -113,16 +126,16 @@ pub fn add_symbols(
     unit: u16,
     chains: &mut [u16],
     tables: &mut PieceTables,
-) -> Option<()>
+) -> Result<(), Full>
     requires { Lying symbols.now.bytes.now symbols.now.places.now part.now s.start
         × SymbolNames symbols.now.bytes.now symbols.now.places.now names.now.bytes.now names.now.places.now names.now.lengths.now
         × Entries (length symbols.now.places.now) chains.old tables.old }
     ensures { Adds (add_symbols (image_of symbols.now.bytes.now symbols.now.places.now names.now.bytes.now names.now.places.now names.now.lengths.now) unit tables.old.made.pieces s (symbols_of tables.old) part.now) chains.new tables.old tables.new result }
 {
-    for i in 0..part.len() {
-        add_symbol(symbols, names, s, unit, number(part, i), chains, tables)?;
+    for i in part {
+        add_symbol(symbols, names, s, unit, usize::from(*i), chains, tables)?;
     }
-    Some(())
+    Ok(())
 }
 
 // The relocations of the next piece, which starts at `start`; `part` are their numbers: "Relocation offsets in a piece are rounded down to fours."
@@ -131,12 +144,11 @@ pub fn add_relocs(relocs: &Table, part: &[u16], start: u32, tables: &mut PieceTa
     ensures { AddsRelocs (add_relocs (reloc_of relocs.now.bytes.now relocs.now.places.now) tables.old.made.pieces start (relocs_of tables.old) part.now) (length part.now) tables.old tables.new }
 {
     let place = tables.made.pieces as u16;
-    for i in 0..part.len() {
-        let k = number(part, i);
-        let r = relocs.record::<Reloc>(k);
+    for i in part {
+        let r = relocs.record::<Reloc>(usize::from(*i));
         tables.add_reloc(PieceReloc {
             piece: place,
-            relocation: k as u16,
+            relocation: *i,
             offset: (r.address - start) / 4 * 4,
         });
     }

@@ -12,12 +12,16 @@ pub use choice::choose;
 use obj::{Refusal, refuse};
 pub use output::give;
 
-// Where a split that is not skipped gives to: this unit, with this alignment before any halving.
+// Where a split that is not skipped gives to: this unit, with this alignment, which the loop over splits halves until it fits.
 #[derive(Clone, Copy)]
 pub struct Target {
     pub unit: usize,
     pub alignment: u32,
 }
+
+// 76: an output table has no room for what a split gives.
+#[derive(Clone, Copy, Debug, PartialEq, Eq)]
+pub struct Full;
 
 // "(section, current)": where the walk refuses.
 pub fn refuse_at<T>(number: u16, n: usize, current: u32) -> Result<T, Refusal>

@@ -13,7 +13,7 @@ ghost use Rattle.walk.specs.Walk.{fits, piece_of, split_symbols};
 ghost use Rattle.walk.specs.Giving.{counts_in, Beside, PieceGives, pieces_with, relocs_with, Sided, SectionRelocs, GivesOut};
 
 use crate::entries::{add_relocs, add_symbols};
-use crate::refuse_at;
+use crate::{Full, Target, refuse_at};
 use obj::{Refusal, Section, Split, Table};
 use piece_columns::{count_of, push_piece};
 use pieces::{Piece, PieceTables};
@@ -22,28 +22,31 @@ use sections::Obj;
 use symbols::{for_section_through, has_symbols};
 
 // "rename 2 (0xFFFF none)"
+const NO_NAME: u16 = 65535;
+
+// The section's name, if the split has no other
 fn name_for(head: Section, s: Split) -> u16
     ensures { result ≡ cond (eqb s.rename 65535) head.name s.rename }
 {
-    if s.rename == 65535 {
+    if s.rename == NO_NAME {
         return head.name;
     }
     s.rename
 }
 
 // "A piece also records its section number"; its offset in the file has 64 bits.
-fn piece_of(head: Section, n: u16, unit: u16, number: u16, alignment: u32, s: Split) -> Piece
-    requires { (s.start ≤ s.end) × (head.address ≤ s.start) }
-    ensures { result ≡ piece_of head n unit number alignment s }
+fn piece_of(head: Section, n: u16, target: Target, number: u16, s: Split) -> Piece
+    requires { (target.unit < 65536) × (s.start ≤ s.end) × (head.address ≤ s.start) }
+    ensures { result ≡ piece_of head n target.unit number target.alignment s }
 {
     Piece {
-        unit: unit,
+        unit: target.unit as u16,
         number: number,
         section: n,
         name: name_for(head, s),
         address: s.start,
         size: s.end - s.start,
-        alignment: alignment,
+        alignment: target.alignment,
         offset: head.offset as u64 + (s.start - head.address) as u64,
         origin: s.origin,
     }
@@ -84,33 +87,32 @@ fn give_piece(
     part: &[u16],
     n: usize,
     s: Split,
-    unit: usize,
-    alignment: u32,
-) -> Option<()>
+    target: Target,
+) -> Result<(), Full>
     requires { CountedIn counts.old tables.old
         × SectionRelocs relocs.now.bytes.now relocs.now.places.now part.now n
         × Sided heads.now.bytes.now heads.now.places.now n s
-        × (unit < length counts.old) × (unit < 65536) × (s.start ≤ s.end)
+        × (target.unit < length counts.old) × (target.unit < 65536) × (s.start ≤ s.end)
         × (tables.old.room.pieces ≤ 1024) }
     ensures { PieceGives
-        (pieces_with (head_of heads.now.bytes.now heads.now.places.now n) n unit alignment s (pieces_of tables.old))
+        (pieces_with (head_of heads.now.bytes.now heads.now.places.now n) n target.unit target.alignment s (pieces_of tables.old))
         (relocs_with (reloc_of relocs.now.bytes.now relocs.now.places.now) (length relocs.now.places.now) n s tables.old.made.pieces (relocs_of tables.old))
         counts.new tables.old tables.new result }
 {
     let inside = range(relocs, part, s.start, s.end);
     let most = tables.made.relocs + inside.len();
     if (tables.room.relocs < most) | (tables.room.pieces <= tables.made.pieces) {
-        return None;
+        return Err(Full);
     }
     add_relocs(relocs, inside, s.start, tables);
     let head = heads.record::<Section>(n);
-    let number = count_of(counts, unit);
-    let p = piece_of(head, n as u16, unit as u16, number, alignment, s);
+    let number = count_of(counts, target.unit);
+    let p = piece_of(head, n as u16, target, number, s);
     push_piece(counts, tables, p);
-    Some(())
+    Ok(())
 }
 
-// The split s of section n gives to the unit, with an alignment that fits; `part` are the section's relocations.
+// The split s of section n gives to a unit, with an alignment that fits; `part` are the section's relocations.
 pub fn give(
     scratch: &mut [u16],
     tables: &mut PieceTables,
@@ -119,20 +121,19 @@ pub fn give(
     part: &[u16],
     n: usize,
     s: Split,
-    unit: usize,
-    alignment: u32,
+    target: Target,
 ) -> Result<(), Refusal>
     requires { Beside (length obj.now.symbols.places.now) scratch.old tables.old
         × TablesIn obj.now
         × SectionRelocs relocs.now.bytes.now relocs.now.places.now part.now n
         × Sided obj.now.heads.bytes.now obj.now.heads.places.now n s
-        × (unit < length (counts_in scratch.old)) × (unit < 65536) × (fits alignment s.start ≡ true) }
+        × (target.unit < length (counts_in scratch.old)) × (target.unit < 65536) × (fits target.alignment s.start ≡ true) }
     ensures { GivesOut
         (image_in obj.now)
         (head_of obj.now.heads.bytes.now obj.now.heads.places.now)
         (reloc_of relocs.now.bytes.now relocs.now.places.now)
         (length relocs.now.places.now)
-        n unit alignment s scratch.new tables.old tables.new result }
+        n target.unit target.alignment s scratch.new tables.old tables.new result }
 {
     if is_backwards(&obj.symbols, obj.order, part, n, s) {
         return refuse_at(11, n, s.start);
@@ -144,11 +145,11 @@ pub fn give(
         &obj.names,
         inside,
         s,
-        unit as u16,
+        target.unit as u16,
         &mut scratch[..8192],
         tables,
     )
-    .ok_or(full)?;
+    .map_err(|_| full)?;
     if s.is_common() {
         return Ok(());
     }
@@ -160,9 +161,8 @@ pub fn give(
         part,
         n,
         s,
-        unit,
-        alignment,
+        target,
     )
-    .ok_or(full)?;
+    .map_err(|_| full)?;
     Ok(())
 }

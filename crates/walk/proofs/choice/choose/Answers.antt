@@ -4,7 +4,8 @@ use Prim.Native.Nat.{ℕ}
 use native.Mathlib.Omega.{arith}
 use borrow.Author.Rules.{rules}
 use lib.ListN.{length-map}
-use Rattle.lists.specs.Outcome.{accepted}
+use Rattle.lists.specs.Outcome.{accepted, refused}
+use Rattle.obj.specs.declared.Refusal.{Refusal}
 use Rattle.obj.specs.Records.{unit_at}
 use Rattle.units.specs.Units.{unit_names}
 use Rattle.units.proofs.Laws.{unit_le}
@@ -14,7 +15,8 @@ use Rattle.obj.proofs.Errors.{is_err}
 use Rattle.sections.specs.Image.{image_in}
 use Rattle.sections.specs.Sections.{head_of}
 use Rattle.walk.specs.Walk.{alignment_in}
-use Rattle.walk.proofs.Refused.{AlignedOr, aligned_else}
+use Rattle.walk.proofs.Refused.{Left, left}
+use Rattle.walk.specs.Steps.{AlignedAt}
 use Rattle.walk.proofs.choice.choose.Goals as goal
 
 pub returns-then-s-current : goal.returns-then-s-current
@@ -44,9 +46,10 @@ returns-in_err-alignment c =
     let count = length-map a.unit_table.now.places.now (λ (at : ℕ). (unit_at a.unit_table.now.bytes.now at).name) in
     let wanted = alignment_in (image_in a.obj.now) (head_of a.obj.now.heads.bytes.now a.obj.now.heads.places.now a.n) a.n a.current a.s in
     let r = c.in_err-alignment.field-0.0 in
-    let stopped = subst (AlignedOr wanted) c.in_err-alignment.was (aligned_else wanted a.n a.current _ _ c.map_err.ensures.cases (λ e d q. search rules) c.alignment_at-asked.ensures) in
+    let at : Refusal = record { number = 11; section = a.n; address = a.current } in
+    let stopped = subst (Left (AlignedAt wanted a.n a.current) at) c.in_err-alignment.was (left (AlignedAt wanted a.n a.current) at c.alignment_at-asked.result c.map_err.result c.map_err.ensures.cases (λ e d q. search rules) c.alignment_at-asked.ensures) in
     rw (is_err _ c.from_residual-in_err-alignment.ensures.1)
-    (decide_backwards _ _ _ _ _ _ _ c.if-s-current.false c.in_ok-between.ensures (sym c.is_skipped.ensures ∙ c.if-is_skipped.false) (λ e. c.if-unit-unit_table.false (number ∙ e ∙ count)) r.number r.section r.address stopped, tt)
+    (decide_backwards _ _ _ _ _ _ _ c.if-s-current.false c.in_ok-between.ensures (sym c.is_skipped.ensures ∙ c.if-is_skipped.false) (λ e. c.if-unit-unit_table.false (number ∙ e ∙ count)) r.number r.section r.address (stopped.1 ∙ ap (λ (e : Refusal). refused e.number e.section e.address) (sym stopped.2)), tt)
 
 pub returns : goal.returns
 returns c =
@@ -54,7 +57,8 @@ returns c =
     let number = c.number-unit.ensures ∙ c.requires.3.each a.s.unit c.requires.4 in
     let count = length-map a.unit_table.now.places.now (λ (at : ℕ). (unit_at a.unit_table.now.bytes.now at).name) in
     let wanted = alignment_in (image_in a.obj.now) (head_of a.obj.now.heads.bytes.now a.obj.now.heads.places.now a.n) a.n a.current a.s in
-    let valued = subst (AlignedOr wanted) c.in_ok-alignment.was (aligned_else wanted a.n a.current _ _ c.map_err.ensures.cases (λ e d q. search rules) c.alignment_at-asked.ensures) in
+    let at : Refusal = record { number = 11; section = a.n; address = a.current } in
+    let valued = subst (Left (AlignedAt wanted a.n a.current) at) c.in_ok-alignment.was (left (AlignedAt wanted a.n a.current) at c.alignment_at-asked.result c.map_err.result c.map_err.ensures.cases (λ e d q. search rules) c.alignment_at-asked.ensures) in
     let alignment = c.in_ok-alignment.alignment in (
       ap (λ (u : ℕ). accepted (Some (record { unit = u; alignment = alignment }))) number
           ∙ decide_gives _ _ _ _ _ _ _ c.if-s-current.false c.in_ok-between.ensures (sym c.is_skipped.ensures ∙ c.if-is_skipped.false) (λ e. c.if-unit-unit_table.false (number ∙ e ∙ count)) alignment valued,

@@ -5,6 +5,7 @@ use Prim.Native.Nat.{ℕ, ◌+◌}
 use native.Mathlib.Omega.{arith}
 use lib.ListN.{length, get_or, drop}
 use Rattle.lists.proofs.All.{all_at}
+use Rattle.obj.proofs.Errors.{is_err}
 use Rattle.symbol_order.specs.Order.{symbol_of}
 use Rattle.symbol_order.proofs.Parts.{held_at}
 use Rattle.sections.specs.Image.{image_of}
@@ -20,10 +21,10 @@ pub add_symbol-requires : goal.add_symbol-requires
 add_symbol-requires c =
     let l = c.loop-i in
     let h = c.loop-i-test.true in
-    let e = c.number.ensures in (
-      held_at _ _ _ c.requires.0.readable l.i _ h e,
+    let e = c.from.ensures in (
+      held_at _ _ _ c.requires.0.readable l.i-index _ h e,
       c.requires.1,
-      omega (arith, all_at l.i 0 c.requires.0.above h, ap (λ (i : ℕ). (symbol_of c.args.symbols.now.bytes.now c.args.symbols.now.places.now i).address) e),
+      omega (arith, all_at l.i-index 0 c.requires.0.above h, ap (λ (i : ℕ). (symbol_of c.args.symbols.now.bytes.now c.args.symbols.now.places.now i).address) e),
       l.invariant.1,
     )
 
@@ -34,17 +35,17 @@ returns-in_err-add_symbol c =
     let l = c.loop-i in
     let place = a.tables.now.made.pieces in
     let out = symbols_of l.tables in
-    let more = add_symbol g a.unit place a.s out (get_or a.part.now l.i 0) in
-    let asked : add_symbol g a.unit l.tables.made.pieces a.s out c.number.result ≡ more = λ d. add_symbol g a.unit (l.invariant.2.made d) a.s out (c.number.ensures d) in
+    let more = add_symbol g a.unit place a.s out (get_or a.part.now l.i-index 0) in
+    let asked : add_symbol g a.unit l.tables.made.pieces a.s out c.from.result ≡ more = λ d. add_symbol g a.unit (l.invariant.2.made d) a.s out (c.from.ensures d) in
     let full = c.in_err-add_symbol.ensures in
-    rw c.from_residual.ensures (
+    rw (is_err _ c.from_residual.ensures.1) (
       omega (
         arith,
         full.0,
         ap (λ (m : Counts). m.symbols) l.invariant.4.room,
         ap (λ (e : List PieceSymbol). length e) asked,
-        symbols_longer g a.unit place a.s more (drop (l.i + 1) a.part.now),
-        ap (λ (e : List PieceSymbol). length e) (symbols_turn g a.unit place a.s out a.part.now l.i c.loop-i-test.true),
+        symbols_longer g a.unit place a.s more (drop (l.i-index + 1) a.part.now),
+        ap (λ (e : List PieceSymbol). length e) (symbols_turn g a.unit place a.s out a.part.now l.i-index c.loop-i-test.true),
         ap (λ (e : List PieceSymbol). length e) l.invariant.5,
       ),
       lent_still l.invariant.4 full.1,
@@ -57,8 +58,8 @@ loop-i-preserved c =
     let l = c.loop-i in
     let place = a.tables.now.made.pieces in
     let out = symbols_of l.tables in
-    let asked : add_symbol g a.unit l.tables.made.pieces a.s out c.number.result ≡ add_symbol g a.unit place a.s out (get_or a.part.now l.i 0) =
-    λ d. add_symbol g a.unit (l.invariant.2.made d) a.s out (c.number.ensures d) in
+    let asked : add_symbol g a.unit l.tables.made.pieces a.s out c.from.result ≡ add_symbol g a.unit place a.s out (get_or a.part.now l.i-index 0) =
+    λ d. add_symbol g a.unit (l.invariant.2.made d) a.s out (c.from.ensures d) in
     let now = c.in_ok-add_symbol.ensures in (
       let h = c.loop-i-test.true in omega arith,
       record {
@@ -71,8 +72,8 @@ loop-i-preserved c =
       pieces_still l.invariant.2 now.pieces,
       relocs_still l.invariant.3 now.relocs,
       lent_still l.invariant.4 now.lent,
-      ap (λ (e : List PieceSymbol). add_symbols g a.unit place a.s e (drop (l.i + 1) a.part.now)) (now.is ∙ asked)
-          ∙ sym (symbols_turn g a.unit place a.s out a.part.now l.i c.loop-i-test.true)
+      ap (λ (e : List PieceSymbol). add_symbols g a.unit place a.s e (drop (l.i-index + 1) a.part.now)) (now.is ∙ asked)
+          ∙ sym (symbols_turn g a.unit place a.s out a.part.now l.i-index c.loop-i-test.true)
           ∙ l.invariant.5,
     )
 
@@ -82,7 +83,7 @@ returns c =
     let g = image_of a.symbols.now.bytes.now a.symbols.now.places.now a.names.now.bytes.now a.names.now.places.now a.names.now.lengths.now in
     let l = c.loop-i in
     record {
-      is = sym (symbols_done g a.unit a.tables.now.made.pieces a.s (symbols_of l.tables) a.part.now l.i c.loop-i-test.false) ∙ l.invariant.5;
+      is = sym (symbols_done g a.unit a.tables.now.made.pieces a.s (symbols_of l.tables) a.part.now l.i-index c.loop-i-test.false) ∙ l.invariant.5;
       chained = l.invariant.1.chained;
       pieces = l.invariant.2;
       relocs = l.invariant.3;

@@ -1,6 +1,6 @@
 -- `walk::entries::add_symbols` meets its contract. Invariant: adding the symbols that are left to the entries so far adds them all.
 use mathlib.Core.Path.{◌≡◌}
-use Prim.Native.Nat.{◌-◌, ◌≤◌}
+use Prim.Native.Nat.{◌≤◌}
 use lib.ListN.{length, drop}
 use Rattle.sections.specs.Image.{image_of}
 use Rattle.pieces.specs.Tables.{symbols_of, SamePieces, SameRelocs, SameLent}
@@ -10,10 +10,7 @@ use Rattle.walk.proofs.entries.add_symbols.Given as goal
 
 abbrev pub invariant-loop-i : goal.invariant-loop-i
 invariant-loop-i l =
-    (l.i ≤ length l.part) × Entries (length l.symbols.places.now) l.chains l.tables
+    (l.i-index ≤ length l.part) × Entries (length l.symbols.places.now) l.chains l.tables
     × SamePieces l.initial.tables l.tables × SameRelocs l.initial.tables l.tables × SameLent l.initial.tables l.tables
-    × (add_symbols (image_of l.symbols.bytes.now l.symbols.places.now l.names.bytes.now l.names.places.now l.names.lengths.now) l.unit l.initial.tables.made.pieces l.s (symbols_of l.tables) (drop l.i l.part)
+    × (add_symbols (image_of l.symbols.bytes.now l.symbols.places.now l.names.bytes.now l.names.places.now l.names.lengths.now) l.unit l.initial.tables.made.pieces l.s (symbols_of l.tables) (drop l.i-index l.part)
     ≡ add_symbols (image_of l.symbols.bytes.now l.symbols.places.now l.names.bytes.now l.names.places.now l.names.lengths.now) l.unit l.initial.tables.made.pieces l.s (symbols_of l.initial.tables) l.part)
-
-abbrev pub decreases-loop-i : goal.decreases-loop-i
-decreases-loop-i l = length l.part - l.i

@@ -4,6 +4,7 @@ use mathlib.Core.List.{List, ◌++◌}
 use mathlib.Core.Bool.{not, ◌||◌}
 use Prim.Native.Nat.{ℕ, ◌-◌, ◌≤◌, ◌<◌}
 use native.Mathlib.Omega.{arith}
+use borrow.Author.Rules.{rules}
 use borrow.Rule.Slice.PartMut.{same_len_mid}
 use lib.Dec.{eqb, leb, ltb}
 use lib.ListN.{length, take, drop}
@@ -45,8 +46,8 @@ returns-then-is_backwards c =
     rw c.refuse_at.ensures
     (record {
       is = λ count bytes splits units.
-          aligned_backwards (input_of g (record { count = count; head = head; bytes = bytes }) reloc relocs splits units t.room) a.n a.s.start a.unit a.alignment a.s (output_of t) c.requires.6
-          (sym (backwards_is (input_of g (record { count = count; head = head; bytes = bytes }) reloc relocs splits units t.room) a.n a.s.start a.unit a.alignment a.s (output_of t) c.requires.6 a.part.now c.requires.2.is) ∙ sym c.is_backwards.ensures ∙ c.if-is_backwards.true);
+          aligned_backwards (input_of g (record { count = count; head = head; bytes = bytes }) reloc relocs splits units t.room) a.n a.s.start a.target.unit a.target.alignment a.s (output_of t) c.requires.6
+          (sym (backwards_is (input_of g (record { count = count; head = head; bytes = bytes }) reloc relocs splits units t.room) a.n a.s.start a.target.unit a.target.alignment a.s (output_of t) c.requires.6 a.part.now c.requires.2.is) ∙ sym c.is_backwards.ensures ∙ c.if-is_backwards.true);
       beside = tt;
       lent = lent_same;
     })
@@ -65,25 +66,25 @@ add_symbols-requires c =
       c.requires.0.entered,
     )
 
-pub returns-in_err-ok_or : goal.returns-in_err-ok_or
-returns-in_err-ok_or c =
+pub returns-in_err-map_err : goal.returns-in_err-map_err
+returns-in_err-map_err c =
     let a = c.args in
     let t = a.tables.now in
     let g = image_in a.obj.now in
     let head = head_of a.obj.now.heads.bytes.now a.obj.now.heads.places.now in
     let reloc = reloc_of a.relocs.now.bytes.now a.relocs.now.places.now in
     let relocs = length a.relocs.now.places.now in
-    let forwards = forwards_is g head reloc relocs a.n a.unit a.alignment a.s t c.requires.6 c.requires.2.is c.is_backwards.ensures c.if-is_backwards.false in
-    let wanted = wanted_is g head reloc relocs a.n a.unit a.alignment a.s t c.symbols_inside-inside.ensures in
+    let forwards = forwards_is g head reloc relocs a.n a.target.unit a.target.alignment a.s t c.requires.6 c.requires.2.is c.is_backwards.ensures c.if-is_backwards.false in
+    let wanted = wanted_is g head reloc relocs a.n a.target.unit a.target.alignment a.s t c.symbols_inside-inside.ensures in
     let more = c.add_symbols in
-    let asked = Adds (add_symbols g a.unit t.made.pieces a.s (symbols_of t) c.symbols_inside-inside.result.now) more.new.chains t more.new.tables in
-    let full = subst (Left asked c.new-full.result) (sym c.ok_or.ensures.value ∙ c.in_err-ok_or.was) (left asked c.new-full.result more.result more.ensures) in
-    rw (is_err _ c.from_residual.ensures.1 ∙ ap Err (full.1 ∙ c.new-full.ensures))
+    let asked = Adds (add_symbols g a.target.unit t.made.pieces a.s (symbols_of t) c.symbols_inside-inside.result.now) more.new.chains t more.new.tables in
+    let full = subst (Left asked c.new-full.result) c.in_err-map_err.was (left asked c.new-full.result more.result c.map_err.result c.map_err.ensures.cases (λ e d q. search rules) more.ensures) in
+    rw (is_err _ c.from_residual.ensures.1 ∙ ap Err (full.2 ∙ c.new-full.ensures))
     (record {
-      is = λ count bytes splits units. symbols_full g head reloc relocs a.n a.unit a.alignment a.s t.room (output_of t) count bytes splits units c.requires.6
-          (forwards count bytes splits units) (subst (λ (l : List PieceSymbol). t.room.symbols < length l) wanted full.0.0);
+      is = λ count bytes splits units. symbols_full g head reloc relocs a.n a.target.unit a.target.alignment a.s t.room (output_of t) count bytes splits units c.requires.6
+          (forwards count bytes splits units) (subst (λ (l : List PieceSymbol). t.room.symbols < length l) wanted full.1.0);
       beside = tt;
-      lent = full.0.1;
+      lent = full.1.1;
     })
 
 pub returns-then-is_common : goal.returns-then-is_common
@@ -94,13 +95,13 @@ returns-then-is_common c =
     let head = head_of a.obj.now.heads.bytes.now a.obj.now.heads.places.now in
     let reloc = reloc_of a.relocs.now.bytes.now a.relocs.now.places.now in
     let relocs = length a.relocs.now.places.now in
-    let forwards = forwards_is g head reloc relocs a.n a.unit a.alignment a.s t c.requires.6 c.requires.2.is c.is_backwards.ensures c.if-is_backwards.false in
+    let forwards = forwards_is g head reloc relocs a.n a.target.unit a.target.alignment a.s t c.requires.6 c.requires.2.is c.is_backwards.ensures c.if-is_backwards.false in
     let more = c.add_symbols in
     let mid = more.new.tables in
-    let asked = Adds (add_symbols g a.unit t.made.pieces a.s (symbols_of t) c.symbols_inside-inside.result.now) more.new.chains t more.new.tables in
-    let now = subst (Left asked c.new-full.result) (sym c.ok_or.ensures.value ∙ c.in_ok-ok_or.was) (left asked c.new-full.result more.result more.ensures) in
-    let entries = entries_are g head reloc relocs a.n a.unit a.alignment a.s t c.symbols_inside-inside.ensures now in
-    let few = few_entries g head reloc relocs a.n a.unit a.alignment a.s t c.symbols_inside-inside.ensures now in
+    let asked = Adds (add_symbols g a.target.unit t.made.pieces a.s (symbols_of t) c.symbols_inside-inside.result.now) more.new.chains t more.new.tables in
+    let now = subst (Left asked c.new-full.result) c.in_ok-map_err.was (left asked c.new-full.result more.result c.map_err.result c.map_err.ensures.cases (λ e d q. search rules) more.ensures) in
+    let entries = entries_are g head reloc relocs a.n a.target.unit a.target.alignment a.s t c.symbols_inside-inside.ensures now in
+    let few = few_entries g head reloc relocs a.n a.target.unit a.target.alignment a.s t c.symbols_inside-inside.ensures now in
     let front : length more.new.chains ≡ 8192 = more.auto.chains ∙ length-take-le 8192 a.scratch.now c.requires.0.long in
     let between : List ℕ = more.new.chains ++ drop 8192 a.scratch.now in
     let long : length between ≡ length a.scratch.now = length_front a.scratch.now more.new.chains 8192 more.auto.chains in
@@ -115,7 +116,7 @@ returns-then-is_common c =
     } in
     record {
       is = λ count bytes splits units.
-          common_made g head reloc relocs a.n a.unit a.alignment a.s t.room (output_of t) count bytes splits units c.requires.6
+          common_made g head reloc relocs a.n a.target.unit a.target.alignment a.s t.room (output_of t) count bytes splits units c.requires.6
           (forwards count bytes splits units) few (sym c.is_common.ensures ∙ c.if-is_common.true)
           (omega (arith, length-pieces_in t.pieces.now t.made.pieces, t.fits.few_pieces)) (omega (arith, length-relocs_in t.relocs.now t.made.relocs, t.fits.few_relocs))
           ∙ (λ d. accepted (record { pieces = sym (pieces_same now.pieces) d; symbols = sym entries d; relocs = sym (relocs_same now.relocs) d }));
@@ -135,8 +136,8 @@ give_piece-requires c =
     let g = image_in a.obj.now in
     let t = a.tables.now in
     let more = c.add_symbols in
-    let asked = Adds (add_symbols g a.unit t.made.pieces a.s (symbols_of t) c.symbols_inside-inside.result.now) more.new.chains t more.new.tables in
-    let now = subst (Left asked c.new-full.result) (sym c.ok_or.ensures.value ∙ c.in_ok-ok_or.was) (left asked c.new-full.result more.result more.ensures) in
+    let asked = Adds (add_symbols g a.target.unit t.made.pieces a.s (symbols_of t) c.symbols_inside-inside.result.now) more.new.chains t more.new.tables in
+    let now = subst (Left asked c.new-full.result) c.in_ok-map_err.was (left asked c.new-full.result more.result c.map_err.result c.map_err.ensures.cases (λ e d q. search rules) more.ensures) in
     let front : length more.new.chains ≡ 8192 = more.auto.chains ∙ length-take-le 8192 a.scratch.now c.requires.0.long in
     let between : List ℕ = more.new.chains ++ drop 8192 a.scratch.now in
     let long : length between ≡ length a.scratch.now = length_front a.scratch.now more.new.chains 8192 more.auto.chains in
@@ -145,42 +146,42 @@ give_piece-requires c =
       subst (λ (l : List ℕ). CountedIn l more.new.tables) (sym lent) (counted_same now.pieces c.requires.0.counted),
       c.requires.2,
       c.requires.3,
-      subst (λ (l : List ℕ). a.unit < length l) (sym lent) c.requires.4,
+      subst (λ (l : List ℕ). a.target.unit < length l) (sym lent) c.requires.4,
       c.requires.5,
       forwards_ends (not (eqb (length a.part.now) 0) || has_symbols g.symbol g.count a.n) a.s (sym c.is_backwards.ensures ∙ c.if-is_backwards.false) (sym c.is_common.ensures ∙ c.if-is_common.false),
       omega (arith, c.requires.0.most_pieces, ap (λ (m : Counts). m.pieces) now.lent.room),
     )
 
-pub returns-in_err-ok_or-2 : goal.returns-in_err-ok_or-2
-returns-in_err-ok_or-2 c =
+pub returns-in_err-map_err-2 : goal.returns-in_err-map_err-2
+returns-in_err-map_err-2 c =
     let a = c.args in
     let t = a.tables.now in
     let g = image_in a.obj.now in
     let head = head_of a.obj.now.heads.bytes.now a.obj.now.heads.places.now in
     let reloc = reloc_of a.relocs.now.bytes.now a.relocs.now.places.now in
     let relocs = length a.relocs.now.places.now in
-    let forwards = forwards_is g head reloc relocs a.n a.unit a.alignment a.s t c.requires.6 c.requires.2.is c.is_backwards.ensures c.if-is_backwards.false in
+    let forwards = forwards_is g head reloc relocs a.n a.target.unit a.target.alignment a.s t c.requires.6 c.requires.2.is c.is_backwards.ensures c.if-is_backwards.false in
     let more = c.add_symbols in
     let mid = more.new.tables in
-    let asked = Adds (add_symbols g a.unit t.made.pieces a.s (symbols_of t) c.symbols_inside-inside.result.now) more.new.chains t more.new.tables in
-    let now = subst (Left asked c.new-full.result) (sym c.ok_or.ensures.value ∙ c.in_ok-ok_or.was) (left asked c.new-full.result more.result more.ensures) in
-    let entries = entries_are g head reloc relocs a.n a.unit a.alignment a.s t c.symbols_inside-inside.ensures now in
-    let pieces : pieces_with (head a.n) a.n a.unit a.alignment a.s (pieces_of mid) ≡ pieces_with (head a.n) a.n a.unit a.alignment a.s (pieces_of t) =
-    ap (pieces_with (head a.n) a.n a.unit a.alignment a.s) (pieces_same now.pieces) in
+    let asked = Adds (add_symbols g a.target.unit t.made.pieces a.s (symbols_of t) c.symbols_inside-inside.result.now) more.new.chains t more.new.tables in
+    let now = subst (Left asked c.new-full.result) c.in_ok-map_err.was (left asked c.new-full.result more.result c.map_err.result c.map_err.ensures.cases (λ e d q. search rules) more.ensures) in
+    let entries = entries_are g head reloc relocs a.n a.target.unit a.target.alignment a.s t c.symbols_inside-inside.ensures now in
+    let pieces : pieces_with (head a.n) a.n a.target.unit a.target.alignment a.s (pieces_of mid) ≡ pieces_with (head a.n) a.n a.target.unit a.target.alignment a.s (pieces_of t) =
+    ap (pieces_with (head a.n) a.n a.target.unit a.target.alignment a.s) (pieces_same now.pieces) in
     let place = now.pieces.made ∙ sym (length-pieces_in t.pieces.now t.made.pieces) in
     let offsets : relocs_with reloc relocs a.n a.s mid.made.pieces (relocs_of mid) ≡ relocs_with reloc relocs a.n a.s (length (pieces_of t)) (relocs_of t) =
     λ d. relocs_with reloc relocs a.n a.s (place d) (relocs_same now.relocs d) in
     let gp = c.give_piece in
-    let put = PieceGives (pieces_with (head a.n) a.n a.unit a.alignment a.s (pieces_of mid)) (relocs_with reloc relocs a.n a.s mid.made.pieces (relocs_of mid)) gp.new.counts mid gp.new.tables in
-    let full = subst (Left put c.new-full.result) (sym c.ok_or-2.ensures.value ∙ c.in_err-ok_or-2.was) (left put c.new-full.result gp.result gp.ensures) in
-    rw (is_err _ c.from_residual-in_err-ok_or-2.ensures.1 ∙ ap Err (full.1 ∙ c.new-full.ensures))
+    let put = PieceGives (pieces_with (head a.n) a.n a.target.unit a.target.alignment a.s (pieces_of mid)) (relocs_with reloc relocs a.n a.s mid.made.pieces (relocs_of mid)) gp.new.counts mid gp.new.tables in
+    let full = subst (Left put c.new-full.result) c.in_err-map_err-2.was (left put c.new-full.result gp.result c.map_err-2.result c.map_err-2.ensures.cases (λ e d q. search rules) gp.ensures) in
+    rw (is_err _ c.from_residual-in_err-map_err-2.ensures.1 ∙ ap Err (full.2 ∙ c.new-full.ensures))
     (record {
       is = λ count bytes splits units.
-          piece_full g head reloc relocs a.n a.unit a.alignment a.s t.room (output_of t) count bytes splits units c.requires.6
+          piece_full g head reloc relocs a.n a.target.unit a.target.alignment a.s t.room (output_of t) count bytes splits units c.requires.6
           (forwards count bytes splits units) (sym c.is_common.ensures ∙ c.if-is_common.false)
-          ((λ d. ltb (sym now.lent.room d).relocs (length (sym offsets d)) || ltb (sym now.lent.room d).pieces (length (sym pieces d))) ∙ full.0.0);
+          ((λ d. ltb (sym now.lent.room d).relocs (length (sym offsets d)) || ltb (sym now.lent.room d).pieces (length (sym pieces d))) ∙ full.1.0);
       beside = tt;
-      lent = lent_still now.lent full.0.1;
+      lent = lent_still now.lent full.1.1;
     })
 
 pub returns : goal.returns
@@ -191,15 +192,15 @@ returns c =
     let head = head_of a.obj.now.heads.bytes.now a.obj.now.heads.places.now in
     let reloc = reloc_of a.relocs.now.bytes.now a.relocs.now.places.now in
     let relocs = length a.relocs.now.places.now in
-    let forwards = forwards_is g head reloc relocs a.n a.unit a.alignment a.s t c.requires.6 c.requires.2.is c.is_backwards.ensures c.if-is_backwards.false in
+    let forwards = forwards_is g head reloc relocs a.n a.target.unit a.target.alignment a.s t c.requires.6 c.requires.2.is c.is_backwards.ensures c.if-is_backwards.false in
     let more = c.add_symbols in
     let mid = more.new.tables in
-    let asked = Adds (add_symbols g a.unit t.made.pieces a.s (symbols_of t) c.symbols_inside-inside.result.now) more.new.chains t more.new.tables in
-    let now = subst (Left asked c.new-full.result) (sym c.ok_or.ensures.value ∙ c.in_ok-ok_or.was) (left asked c.new-full.result more.result more.ensures) in
-    let entries = entries_are g head reloc relocs a.n a.unit a.alignment a.s t c.symbols_inside-inside.ensures now in
-    let few = few_entries g head reloc relocs a.n a.unit a.alignment a.s t c.symbols_inside-inside.ensures now in
-    let pieces : pieces_with (head a.n) a.n a.unit a.alignment a.s (pieces_of mid) ≡ pieces_with (head a.n) a.n a.unit a.alignment a.s (pieces_of t) =
-    ap (pieces_with (head a.n) a.n a.unit a.alignment a.s) (pieces_same now.pieces) in
+    let asked = Adds (add_symbols g a.target.unit t.made.pieces a.s (symbols_of t) c.symbols_inside-inside.result.now) more.new.chains t more.new.tables in
+    let now = subst (Left asked c.new-full.result) c.in_ok-map_err.was (left asked c.new-full.result more.result c.map_err.result c.map_err.ensures.cases (λ e d q. search rules) more.ensures) in
+    let entries = entries_are g head reloc relocs a.n a.target.unit a.target.alignment a.s t c.symbols_inside-inside.ensures now in
+    let few = few_entries g head reloc relocs a.n a.target.unit a.target.alignment a.s t c.symbols_inside-inside.ensures now in
+    let pieces : pieces_with (head a.n) a.n a.target.unit a.target.alignment a.s (pieces_of mid) ≡ pieces_with (head a.n) a.n a.target.unit a.target.alignment a.s (pieces_of t) =
+    ap (pieces_with (head a.n) a.n a.target.unit a.target.alignment a.s) (pieces_same now.pieces) in
     let place = now.pieces.made ∙ sym (length-pieces_in t.pieces.now t.made.pieces) in
     let offsets : relocs_with reloc relocs a.n a.s mid.made.pieces (relocs_of mid) ≡ relocs_with reloc relocs a.n a.s (length (pieces_of t)) (relocs_of t) =
     λ d. relocs_with reloc relocs a.n a.s (place d) (relocs_same now.relocs d) in
@@ -208,18 +209,18 @@ returns c =
     let between : List ℕ = more.new.chains ++ drop 8192 a.scratch.now in
     let long : length between ≡ length a.scratch.now = length_front a.scratch.now more.new.chains 8192 more.auto.chains in
     let far : 8192 ≤ length between = omega (arith, c.requires.0.long, long) in
-    let put = PieceGives (pieces_with (head a.n) a.n a.unit a.alignment a.s (pieces_of mid)) (relocs_with reloc relocs a.n a.s mid.made.pieces (relocs_of mid)) gp.new.counts mid gp.new.tables in
-    let made = subst (Left put c.new-full.result) (sym c.ok_or-2.ensures.value ∙ c.in_ok-ok_or-2.was) (left put c.new-full.result gp.result gp.ensures) in
+    let put = PieceGives (pieces_with (head a.n) a.n a.target.unit a.target.alignment a.s (pieces_of mid)) (relocs_with reloc relocs a.n a.s mid.made.pieces (relocs_of mid)) gp.new.counts mid gp.new.tables in
+    let made = subst (Left put c.new-full.result) c.in_ok-map_err-2.was (left put c.new-full.result gp.result c.map_err-2.result c.map_err-2.ensures.cases (λ e d q. search rules) gp.ensures) in
     let after = gp.new.tables in
     let lent = lent_still now.lent made.lent in
     let behind = same_len_mid 8192 (length between - 8192) between gp.new.counts gp.auto.counts ∙ long in
     let chains = chains_behind between gp.new.counts far ∙ chains_front more.new.chains a.scratch.now front in
-    let out = piece_out g head reloc relocs a.n a.unit a.alignment a.s t.room (output_of t) in
+    let out = piece_out g head reloc relocs a.n a.target.unit a.target.alignment a.s t.room (output_of t) in
     let written : pieces_of after ≡ out.pieces = made.is ∙ pieces in
     let moved : relocs_of after ≡ out.relocs = made.relocs_are ∙ offsets in
     record {
       is = λ count bytes splits units.
-          piece_made g head reloc relocs a.n a.unit a.alignment a.s t.room (output_of t) count bytes splits units c.requires.6
+          piece_made g head reloc relocs a.n a.target.unit a.target.alignment a.s t.room (output_of t) count bytes splits units c.requires.6
           (forwards count bytes splits units) few (sym c.is_common.ensures ∙ c.if-is_common.false)
           (omega (arith, ap (λ (l : List Piece). length l) written, length-pieces_in after.pieces.now after.made.pieces, after.fits.few_pieces, ap (λ (m : Counts). m.pieces) lent.room))
           (omega (arith, ap (λ (l : List PieceReloc). length l) moved, length-relocs_in after.relocs.now after.made.relocs, after.fits.few_relocs, ap (λ (m : Counts). m.relocs) lent.room))

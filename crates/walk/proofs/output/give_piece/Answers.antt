@@ -29,7 +29,7 @@ returns-then-tables-most c =
     let t = a.tables.now in
     let reloc = reloc_of a.relocs.now.bytes.now a.relocs.now.places.now in
     let address = address_of a.relocs.now.bytes.now a.relocs.now.places.now in (
-      full_test t.room t.made (pieces_with (head_of a.heads.now.bytes.now a.heads.now.places.now a.n) a.n a.unit a.alignment a.s (pieces_of t)) (relocs_with reloc (length a.relocs.now.places.now) a.n a.s t.made.pieces (relocs_of t)) _ true
+      full_test t.room t.made (pieces_with (head_of a.heads.now.bytes.now a.heads.now.places.now a.n) a.n a.target.unit a.target.alignment a.s (pieces_of t)) (relocs_with reloc (length a.relocs.now.places.now) a.n a.s t.made.pieces (relocs_of t)) _ true
           (length-append (pieces_of t) _ ∙ ap (λ (m : ℕ). m + 1) (length-pieces_in t.pieces.now t.made.pieces))
           (length_relocs reloc t.made.pieces a.s.start (relocs_of t) _
           ∙ (λ d. length-relocs_in t.relocs.now t.made.relocs d + length (sym (c.range-inside.ensures ∙ ap (keep_if (λ (i : ℕ). leb a.s.start (address i) && ltb (address i) a.s.end)) c.requires.1.is) d)))
@@ -56,7 +56,7 @@ push_piece-requires c =
     let a = c.args in
     let t = a.tables.now in
     let added = c.add_relocs.ensures in
-    let unit = ap (λ (p : Piece). p.unit) c.piece_of-p.ensures ∙ piece_unit c.record-head.result a.n a.unit c.count_of-number.result a.alignment a.s in (
+    let unit = ap (λ (p : Piece). p.unit) c.piece_of-p.ensures ∙ piece_unit c.record-head.result a.n a.target.unit c.count_of-number.result a.target.alignment a.s in (
       omega (arith, unit, c.requires.3),
       counted_same added.pieces c.requires.0,
       omega (arith, (room_left t.room t.made _ c.if-tables-most.false).1, added.pieces.made, ap (λ (m : Counts). m.pieces) added.lent.room),
