@@ -66,11 +66,3 @@ module _ {A : Type 0} (p : A → Bool) (f : ℕ → A) (count at : ℕ) where
   -- a record that is read through the list
   pub first_there : (k : ℕ) → k < count → p (f k) ≡ true → (d : A) → p (get_or (tabulate f 0 count) k d) ≡ true
   first_there k h e d = ap p (listed k d h) ∙ e
-
--- one more that does not pass
-pub none_more : {p : ℕ → Bool} {at k : ℕ} → ((j : ℕ) → at ≤ j → j < k → p j ≡ false) → p k ≡ false → (j : ℕ) → at ≤ j → j < k + 1 → p j ≡ false
-none_more {p} {at} {k} g e j a b = go (cases_lt j k)
-  where
-    go : (j < k) ⊎ (k ≤ j) → p j ≡ false
-    go (inl h) = g j a h
-    go (inr h) = let z : k ≡ j = omega (arith, h, b) in subst (λ (i : ℕ). p i ≡ false) z e

@@ -1,7 +1,7 @@
 // The next record of the unit, from a cursor on: the cursor itself moves there, or to the next kind of record, or to the next unit, or to the total.
-ghost use Rattle.std.specs.Prelude.{◌≡◌, ℕ, Bool, ◌<◌};
+ghost use Rattle.std.specs.Prelude.{◌≡◌, ◌<◌};
 ghost use Rattle.listing.specs.declared.Cursor.TheVariants.{Units, Pieces, Symbols, Relocs};
-ghost use Rattle.listing.specs.Cursor.{piece_is, symbol_is, reloc_is, First, Before, Valid, Sought, SoughtRelocs, SoughtUnits};
+ghost use Rattle.listing.specs.Cursor.{piece_is, symbol_is, reloc_is, Before, Valid, Sought, SoughtRelocs, SoughtUnits};
 ghost use Rattle.listing.specs.Lent.{listed_pieces, listed_symbols, listed_relocs, piece_on, symbol_on, reloc_on};
 
 use crate::lent::UnitHere;
@@ -17,19 +17,6 @@ fn reloc_is(here: &UnitHere, k: usize) -> bool
     let r: PieceReloc = record_in(here.lists.relocs, k);
     let p = piece_of(here.lists, r.piece as usize);
     p.unit == here.unit
-}
-
-// The first number from `at` on, below `count`, that passes the test.
-fn first_from<F: Fn(usize) -> bool>(at: usize, count: usize, test: F) -> Option<usize>
-    requires { (k : ℕ) → k < count → F.pre test k }
-    ensures { (p : ℕ → Bool) → ((k : ℕ) (r : _) → k < count → F.post test k r → r ≡ p k) → First p at count result }
-{
-    for k in at..count {
-        if test(k) {
-            return Some(k);
-        }
-    }
-    None
 }
 
 // The unit, or the total behind the last.
@@ -48,7 +35,7 @@ fn seek_reloc(here: &UnitHere, at: usize) -> Cursor
     ensures { SoughtRelocs here.now.units (listed_pieces here.now.lists.now) (listed_relocs here.now.lists.now) (Relocs here.now.unit at here.now.bytes) result }
 {
     let (unit, bytes) = (here.unit, here.bytes);
-    if let Some(at) = first_from(at, here.lists.made.relocs, |k| reloc_is(here, k)) {
+    if let Some(at) = (at..here.lists.made.relocs).find(|k| reloc_is(here, *k)) {
         return Cursor::Relocs { unit, at, bytes };
     }
     seek_unit(here.units, here.unit + 1, here.bytes)
@@ -59,8 +46,8 @@ fn seek_symbol(here: &UnitHere, at: usize) -> Cursor
     ensures { Sought here.now.units (listed_pieces here.now.lists.now) (listed_symbols here.now.lists.now) (listed_relocs here.now.lists.now) (Symbols here.now.unit at here.now.bytes) result }
 {
     let (unit, bytes) = (here.unit, here.bytes);
-    let in_unit = |k: usize| record_in::<PieceSymbol>(here.lists.symbols, k).unit == here.unit;
-    if let Some(at) = first_from(at, here.lists.made.symbols, in_unit) {
+    let in_unit = |k: &usize| record_in::<PieceSymbol>(here.lists.symbols, *k).unit == here.unit;
+    if let Some(at) = (at..here.lists.made.symbols).find(in_unit) {
         return Cursor::Symbols { unit, at, bytes };
     }
     seek_reloc(here, 0)
@@ -71,8 +58,8 @@ fn seek_piece(here: &UnitHere, at: usize) -> Cursor
     ensures { Sought here.now.units (listed_pieces here.now.lists.now) (listed_symbols here.now.lists.now) (listed_relocs here.now.lists.now) (Pieces here.now.unit at here.now.bytes) result }
 {
     let (unit, bytes) = (here.unit, here.bytes);
-    let in_unit = |k: usize| record_in::<Piece>(here.lists.pieces, k).unit == here.unit;
-    if let Some(at) = first_from(at, here.lists.made.pieces, in_unit) {
+    let in_unit = |k: &usize| record_in::<Piece>(here.lists.pieces, *k).unit == here.unit;
+    if let Some(at) = (at..here.lists.made.pieces).find(in_unit) {
         return Cursor::Pieces { unit, at, bytes };
     }
     seek_symbol(here, 0)
