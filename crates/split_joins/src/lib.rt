@@ -2,8 +2,8 @@
 // equal to the two edits one after the other (specs/Joins.antt).
 #![tactic(auto)]
 
-ghost use Rattle.std.specs.Prelude.{◌≡◌, true, false, eqb, ℕ, ◌-◌, ◌≤◌, length, get_or, MatchOption};
-ghost use Rattle.lists.specs.Rows.{tabulate, some};
+ghost use Rattle.std.specs.Prelude.{◌≡◌, true, false, eqb, ℕ, get_or};
+ghost use Rattle.lists.specs.Rows.{some};
 ghost use Rattle.splits.specs.Columns.{Good};
 ghost use Rattle.splits.specs.Table.{columns_of, columns_in, SameLent, Unchanged};
 ghost use Rattle.split_joins.specs.Joins.{Apart, Between, TakesPlace, AtOnce};
@@ -16,14 +16,13 @@ mod row_run;
 
 use row_run::RowRun;
 
-// Whether one of the rows from `from` up to `to` is the unit's. No early exit, so that the compiler compares eight at a time.
-fn has_unit(units: &[u16], from: usize, to: usize, unit: u16) -> bool
-    requires { (from ≤ to) × (to ≤ length units.now) }
-    ensures { result ≡ some (λ (u : ℕ). eqb u unit) (tabulate (λ (k : ℕ). get_or units.now k 0) from (to - from)) }
+// Whether one of the units is this one. No early exit, so that the compiler compares eight at a time.
+fn has_unit(units: &[u16], unit: u16) -> bool
+    ensures { result ≡ some (λ (u : ℕ). eqb u unit) units.now }
 {
     let mut any = false;
-    for k in from..to {
-        any |= units[k] == unit;
+    for u in units {
+        any |= *u == unit;
     }
     any
 }
@@ -32,12 +31,14 @@ fn has_unit(units: &[u16], from: usize, to: usize, unit: u16) -> bool
 fn keeps_units(rows: &RowRun, unit: u16) -> bool
     ensures { result ≡ true → Apart (λ (k : ℕ). get_or rows.now.splits.units.now k 0) rows.now.splits.count rows.now.first rows.now.stop unit }
 {
-    let splits = &rows.splits;
-    for i in rows.first..rows.stop {
-        let u = splits.units[i];
-        if u != unit {
-            let before = has_unit(splits.units, 0, rows.first, u);
-            let behind = has_unit(splits.units, rows.stop, splits.count, u);
+    let units = rows.splits.units;
+    let front = &units[..rows.first];
+    let these = &units[rows.first..rows.stop];
+    let back = &units[rows.stop..rows.splits.count];
+    for u in these {
+        if *u != unit {
+            let before = has_unit(front, *u);
+            let behind = has_unit(back, *u);
             if before | behind {
                 return false;
             }
