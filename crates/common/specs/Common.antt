@@ -10,6 +10,7 @@ use Rattle.obj.specs.Answers.{Answer}
 use Rattle.std.specs.Prelude.{Option, None, Some, Result, Ok, Err}
 use Rattle.obj.specs.declared.Refusal.{Refusal}
 use Rattle.splits.specs.Updates.{with_common}
+use Rattle.common.specs.declared.Start.{Start}
 use Rattle.splits.specs.Questions.{is_common}
 
 -- ---- where the common splits begin
@@ -68,11 +69,11 @@ common_of given start bss rows = common_start given start bss rows >>= λ from. 
 -- ---- the code's answers
 
 -- a section and an address, or none
-abbrev pub from_of : Option (ℕ × ℕ) → From
+abbrev pub from_of : Option Start → From
 from_of None = nowhere
-from_of (Some (section, address)) = on section address
+from_of (Some s) = on s.section s.address
 
-abbrev pub start_meaning : Result (Option (ℕ × ℕ)) Refusal → Outcome From
+abbrev pub start_meaning : Result (Option Start) Refusal → Outcome From
 start_meaning (Ok at) = accepted (from_of at)
 start_meaning (Err r) = refused r.number r.section r.address
 

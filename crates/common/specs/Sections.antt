@@ -9,6 +9,7 @@ use Rattle.names.specs.declared.Names.{Names}
 use Rattle.names.specs.Names.{name_at, Named}
 use Rattle.names.specs.Fixed.{is_bss}
 use Rattle.common.specs.declared.Bss.{Bss}
+use Rattle.common.specs.declared.Start.{Start}
 use Rattle.common.specs.declared.Bss.TheVariants.{None, One, Many}
 use Rattle.std.specs.Prelude.{Option, Some, Result, Ok, Err}
 use Rattle.obj.specs.declared.Refusal.{Refusal}
@@ -56,7 +57,7 @@ first_of (One section) rows = start_of section (keep_if (common_in section) rows
 first_of Many rows = nowhere
 
 -- "30 several `.bss`; 31 none"
-abbrev pub given_of : (start : ℕ) → Bss → Result (Option (ℕ × ℕ)) Refusal
+abbrev pub given_of : (start : ℕ) → Bss → Result (Option Start) Refusal
 given_of start None = Err (record { number = 31; section = 0; address = 0 })
-given_of start (One section) = Ok (Some (section, start))
+given_of start (One section) = Ok (Some (record { section = section; address = start }))
 given_of start Many = Err (record { number = 30; section = 0; address = 0 })

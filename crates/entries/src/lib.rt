@@ -152,7 +152,7 @@ pub extern "C" fn update_common_splits(
 pub extern "C" fn mark_common_splits(splits: &mut [Split], section: u16, address: u32)
     ensures { splits.new ≡ map (marked section address) splits.old }
 {
-    common::mark_common_splits(splits, section, address)
+    common::mark_common_splits(splits, common::Start { section, address })
 }
 
 #[unsafe(no_mangle)]

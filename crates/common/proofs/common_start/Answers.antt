@@ -12,7 +12,7 @@ pub returns-in-Some : goal.returns-in-Some
 unfolding common_start
 returns-in-Some c =
     let a = c.args in
-    rw c.in-Some.is (ap start_meaning c.given_start.ensures ∙ ap (λ (b : Bss). start_meaning (given_of c.in-Some.start b)) c.by_name-bss.ensures ∙ given_is c.in-Some.start (bss_numbers a.names.now a.heads.now))
+    rw c.in-Some.is (ap start_meaning c.given_start.ensures ∙ ap (λ (b : Bss). start_meaning (given_of c.in-Some.address b)) c.by_name-bss.ensures ∙ given_is c.in-Some.address (bss_numbers a.names.now a.heads.now))
 
 pub returns-in-None : goal.returns-in-None
 unfolding common_start

@@ -17,7 +17,7 @@ loop-i-preserved c =
     let t = a.table.now in
     let o = l.invariant.1 in
     let v = c.marked_rest.result in (
-      marking_more a.section a.address t.starts.now t.rest.now l.table.rest.now l.i v (omega (arith, o.count, c.loop-i-test.true)) (rw o.starts at c.marked_rest.ensures) l.invariant.0,
+      marking_more a.from.section a.from.address t.starts.now t.rest.now l.table.rest.now l.i v (omega (arith, o.count, c.loop-i-test.true)) (rw o.starts at c.marked_rest.ensures) l.invariant.0,
       record {
         starts = o.starts;
         ends = o.ends;
@@ -35,4 +35,4 @@ returns-clause-rows c =
     let o = l.invariant.1 in
     let e : l.i ≡ t.count = omega arith in
     rw (o.starts, o.ends, o.units, o.count)
-    (marking_done a.section a.address t.starts.now t.rest.now t.ends.now t.units.now l.table.rest.now t.count (rw e at l.invariant.0))
+    (marking_done a.from.section a.from.address t.starts.now t.rest.now t.ends.now t.units.now l.table.rest.now t.count (rw e at l.invariant.0))

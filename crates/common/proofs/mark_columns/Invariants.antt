@@ -5,5 +5,5 @@ use Rattle.common.proofs.mark_columns.Given as goal
 
 abbrev pub invariant-loop-i : goal.invariant-loop-i
 invariant-loop-i l =
-    Marking l.section l.address l.initial.table.starts.now l.initial.table.rest.now l.table.rest.now l.i
+    Marking l.from.section l.from.address l.initial.table.starts.now l.initial.table.rest.now l.table.rest.now l.i
     × OnlyRest l.initial.table l.table

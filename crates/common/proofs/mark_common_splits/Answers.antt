@@ -6,4 +6,4 @@ use Rattle.common.specs.Common.{marked}
 use Rattle.common.proofs.mark_common_splits.Goals as goal
 
 pub loop-s-preserved : goal.loop-s-preserved
-loop-s-preserved c = grind (arith, common_steps, map_over_more (marked c.args.section c.args.address))
+loop-s-preserved c = grind (arith, common_steps, map_over_more (marked c.args.from.section c.args.from.address))

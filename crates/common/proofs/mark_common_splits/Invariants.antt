@@ -4,4 +4,4 @@ use Rattle.common.specs.Common.{marked}
 use Rattle.common.proofs.mark_common_splits.Given as goal
 
 abbrev pub invariant-loop-s : goal.invariant-loop-s
-invariant-loop-s l = l.splits ≡ map (marked l.section l.address) (take l.s-index l.initial.splits) ++ drop l.s-index l.initial.splits
+invariant-loop-s l = l.splits ≡ map (marked l.from.section l.from.address) (take l.s-index l.initial.splits) ++ drop l.s-index l.initial.splits

@@ -2,12 +2,12 @@
 use Rattle.common.proofs.Marking.{mark_hit, mark_miss}
 use Rattle.common.proofs.marked_rest.Goals as goal
 
-pub returns-then-section_of-section : goal.returns-then-section_of-section
-returns-then-section_of-section c =
+pub returns-then-section_of-from : goal.returns-then-section_of-from
+returns-then-section_of-from c =
     let a = c.args in
-    λ end unit. mark_hit a.section a.address a.start end unit a.rest (rw c.section_of.ensures at c.if-section_of-section.true)
+    λ end unit. mark_hit a.from.section a.from.address a.ystart end unit a.yrest (rw c.section_of.ensures at c.if-section_of-from.true)
 
 pub returns : goal.returns
 returns c =
     let a = c.args in
-    λ end unit. mark_miss a.section a.address a.start end unit a.rest (rw c.section_of.ensures at c.if-section_of-section.false)
+    λ end unit. mark_miss a.from.section a.from.address a.ystart end unit a.yrest (rw c.section_of.ensures at c.if-section_of-from.false)

@@ -3,10 +3,10 @@ use mathlib.Core.Path.{refl}
 use Rattle.common.specs.Common.{marked}
 use Rattle.common.proofs.marked_split.Goals as goal
 
-pub returns-then-s-section : goal.returns-then-s-section
+pub returns-then-s-from : goal.returns-then-s-from
 unfolding marked
-returns-then-s-section c = rw c.if-s-section.true refl
+returns-then-s-from c = rw c.if-s-from.true refl
 
 pub returns : goal.returns
 unfolding marked
-returns c = rw c.if-s-section.false refl
+returns c = rw c.if-s-from.false refl
