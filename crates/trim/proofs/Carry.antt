@@ -7,8 +7,8 @@ use native.Mathlib.Numerals.{add-one}
 use native.Mathlib.Nat.{zero-add}
 use native.Mathlib.Omega.{arith}
 use lib.Dec.{eqb, leb}
-use lib.ListN.{length, get_or, take, set, drop, drop_of_length-le}
-use lib.Seq.{drop-cons, get_or-take, length-take-le}
+use lib.ListN.{length, get_or, set, drop, drop_of_length-le}
+use lib.Seq.{drop-cons}
 use Rattle.lists.specs.Outcome.{accepted, refused, refuse, ◌>>◌, ◌>>=◌}
 use Rattle.lists.specs.Rows.{tabulate}
 use Rattle.lists.proofs.Rows.{rest-cons, rest-none, get_d_tabulate}
@@ -103,17 +103,13 @@ unfolding carry_one
 carry_not k fall l e = sym (ap (λ (m : ℕ). carry_one k m l) e)
 
 -- ---- all falls: what is left from row k on
-module _ (falls : List ℕ) (n k : ℕ) (l : List Split) where
-  abbrev left : ℕ → List ℕ
-  left i = drop i (take n falls)
-
-  pub carry_turn : k < n → n ≤ length falls → carry_from k (left k) l ≡ (carry_one k (get_or falls k 0) l >>= carry_from (k + 1) (left (k + 1)))
+module _ (falls : List ℕ) (k : ℕ) (l : List Split) where
+  pub carry_turn : k < length falls → carry_from k (drop k falls) l ≡ (carry_one k (get_or falls k 0) l >>= carry_from (k + 1) (drop (k + 1) falls))
   unfolding carry_from
-  carry_turn h q =
-      ap (λ (t : List ℕ). carry_from k t l) (drop-cons (take n falls) k 0 (let e : length (take n falls) ≡ n = length-take-le n falls q in omega arith))
-      ∙ ap (λ (m : ℕ). carry_one k m l >>= carry_from (suc k) (left (suc k))) (get_or-take n falls k 0 h)
-      ∙ ap (λ (m : ℕ). carry_one k (get_or falls k 0) l >>= carry_from m (left m)) (sym (add-one k))
+  carry_turn h =
+      ap (λ (t : List ℕ). carry_from k t l) (drop-cons falls k 0 h)
+      ∙ ap (λ (m : ℕ). carry_one k (get_or falls k 0) l >>= carry_from m (drop m falls)) (sym (add-one k))
 
-  pub carry_ended : n ≤ k → n ≤ length falls → carry_from k (left k) l ≡ accepted l
+  pub carry_ended : length falls ≤ k → carry_from k (drop k falls) l ≡ accepted l
   unfolding carry_from
-  carry_ended h q = ap (λ (t : List ℕ). carry_from k t l) (drop_of_length-le (take n falls) {i = k} (let e : length (take n falls) ≡ n = length-take-le n falls q in omega arith))
+  carry_ended h = ap (λ (t : List ℕ). carry_from k t l) (drop_of_length-le falls {i = k} h)

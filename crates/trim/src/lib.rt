@@ -58,10 +58,7 @@ fn end_of(table: &Table, found: Option<usize>, own: u32) -> u32
     ensures { Within (end_of (symbol_of table.now.bytes.now table.now.places.now) own found) 4026531840 result }
 {
     match found {
-        Some(i) => {
-            let y = table.record::<Symbol>(i);
-            y.address + y.size
-        }
+        Some(i) => table.record::<Symbol>(i).end() as u32,
         None => own,
     }
 }
@@ -104,7 +101,7 @@ fn fall_of(
     Ok(0)
 }
 
-// The falls of all splits, in the table's order; 11 is at the split whose fall is asked.
+// The falls of all splits, in the table's order; 11 is at the split whose fall is asked. By number: a turn reads a row from four columns, and the row behind it.
 fn find_falls(
     tables: &CheckedTables,
     splits: &SplitColumns,
@@ -169,8 +166,8 @@ fn carry_out(table: &mut SplitEnds, falls: &[u32]) -> Result<(), Refusal>
     ensures rows { seen result (ends_rows table.new) ≡ carry_from 0 (take table.old.count falls.now) (ends_rows table.old) }
     ensures others { OnlyEnds table.old table.new }
 {
-    for k in 0..table.count {
-        carry_one(table, k, falls[k])?;
+    for (k, end) in falls[..table.count].iter().enumerate() {
+        carry_one(table, k, *end)?;
     }
     Ok(())
 }
@@ -212,13 +209,13 @@ fn cut_section(tables: &CheckedTables, table: &mut SplitEnds, k: usize) -> Resul
     let head = tables.obj.heads.record::<Section>(k);
     let end = sections::end_of(&tables.obj, &tables.image, k);
     let low = end.map_err(|_| Refusal::new(10, k as u16, head.address))?;
-    if head.address + head.size != low {
+    if head.end() != u64::from(low) {
         cut_last(table, k as u16, low);
     }
     Ok(())
 }
 
-// All sections, in their order.
+// All sections, in their order. What a turn takes of a section is its number.
 fn cut_sections(tables: &CheckedTables, table: &mut SplitEnds) -> Result<(), Refusal>
     ensures rows { seen result (ends_rows table.new)
         ≡ cut_from (image_in tables.now.obj) (sections_in tables.now.obj tables.now.image) (length tables.now.obj.heads.places.now) 0 (ends_rows table.old) }

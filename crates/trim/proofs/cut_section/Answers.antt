@@ -24,16 +24,16 @@ returns-in_err-low-clause-rows c =
     rw (is_err _ c.from_residual.ensures.1)
     (sym (section_short (image_in a.tables.now.obj) (sections_in a.tables.now.obj a.tables.now.image) a.k _ _ _ _ is))
 
-pub returns-then-head-low-clause-rows : goal.returns-then-head-low-clause-rows
-returns-then-head-low-clause-rows c =
+pub returns-then-end-from-clause-rows : goal.returns-then-end-from-clause-rows
+returns-then-end-from-clause-rows c =
     let a = c.args in
-    let whole = ap (λ (h : Section). h.address + h.size) c.record-head.ensures in
+    let whole = c.end.ensures ∙ ap (λ (h : Section). h.address + h.size) c.record-head.ensures in
     let is = sym c.end_of-end.ensures ∙ end_else a.k (head_in a.tables.now.obj a.k).address c.end_of-end.result c.map_err.result c.map_err.ensures.cases (λ e d q. search rules) ∙ ap meaning c.in_ok-low.was in
-    ap accepted c.cut_last.ensures.rows ∙ sym (section_cut (image_in a.tables.now.obj) (sections_in a.tables.now.obj a.tables.now.image) a.k _ _ is (λ e. c.if-head-low.true (whole ∙ e)))
+    ap accepted c.cut_last.ensures.rows ∙ sym (section_cut (image_in a.tables.now.obj) (sections_in a.tables.now.obj a.tables.now.image) a.k _ _ is (λ e. c.if-end-from.true (whole ∙ e ∙ sym c.from.ensures)))
 
-pub returns-else-head-low-clause-rows : goal.returns-else-head-low-clause-rows
-returns-else-head-low-clause-rows c =
+pub returns-else-end-from-clause-rows : goal.returns-else-end-from-clause-rows
+returns-else-end-from-clause-rows c =
     let a = c.args in
-    let whole = ap (λ (h : Section). h.address + h.size) c.record-head.ensures in
+    let whole = c.end.ensures ∙ ap (λ (h : Section). h.address + h.size) c.record-head.ensures in
     let is = sym c.end_of-end.ensures ∙ end_else a.k (head_in a.tables.now.obj a.k).address c.end_of-end.result c.map_err.result c.map_err.ensures.cases (λ e d q. search rules) ∙ ap meaning c.in_ok-low.was in
-    sym (section_whole (image_in a.tables.now.obj) (sections_in a.tables.now.obj a.tables.now.image) a.k _ _ is (sym whole ∙ c.if-head-low.false))
+    sym (section_whole (image_in a.tables.now.obj) (sections_in a.tables.now.obj a.tables.now.image) a.k _ _ is (sym whole ∙ c.if-end-from.false ∙ c.from.ensures))

@@ -8,19 +8,19 @@ use Rattle.symbol_order.proofs.Parts.{held}
 use Rattle.trim.specs.Trim.{end_of}
 use Rattle.trim.proofs.end_of.Goals as goal
 
-pub record-y-requires : goal.record-y-requires
-record-y-requires c = held _ _ c.requires.0 _ (c.requires.3 c.in-Some.i c.in-Some.is)
+pub record-requires : goal.record-requires
+record-requires c = held _ _ c.requires.0 _ (c.requires.3 c.in-Some.i c.in-Some.is)
 
-pub overflow_add-result : goal.overflow_add-result
-overflow_add-result c =
-    let e = ap (λ (y : Symbol). y.address + y.size) c.record-y.ensures in
+pub overflow_cast-result : goal.overflow_cast-result
+overflow_cast-result c =
+    let e = c.end.ensures ∙ ap (λ (y : Symbol). y.address + y.size) c.record.ensures in
     omega (arith, e, c.requires.1.ends _ (c.requires.3 c.in-Some.i c.in-Some.is))
 
 pub returns-in-Some : goal.returns-in-Some
 unfolding end_of
 returns-in-Some c =
     let a = c.args in
-    let e = ap (λ (y : Symbol). y.address + y.size) c.record-y.ensures in
+    let e = c.end.ensures ∙ ap (λ (y : Symbol). y.address + y.size) c.record.ensures in
     record {
       is = e ∙ ap (end_of (symbol_of a.table.now.bytes.now a.table.now.places.now) a.own) (sym c.in-Some.is);
       small = omega (arith, e, c.requires.1.ends _ (c.requires.3 c.in-Some.i c.in-Some.is));
