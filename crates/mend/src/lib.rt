@@ -35,10 +35,8 @@ fn wrong_end(start: u32, end: u32, next: Option<u32>) -> bool
 fn limit_of(section_ends: &[u32], section: u16, next: Option<u32>) -> u32
     ensures { result ≡ limit_of section_ends.now section next }
 {
-    match next {
-        Some(at) => at,
-        None => section_ends.get(section as usize).copied().unwrap_or(0),
-    }
+    next.or(section_ends.get(usize::from(section)).copied())
+        .unwrap_or(0)
 }
 
 // The start of the split after row i, if that is of the section too.
