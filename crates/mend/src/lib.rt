@@ -14,7 +14,7 @@ ghost use Rattle.mend.specs.Steps.{Joins, Turned, Fills, Mends, LowHeads};
 
 use lines::Text;
 use names::put_bytes;
-use obj::{Refusal, Section, Table, refuse};
+use obj::{Refusal, Section, Split, Table, refuse};
 use splits::{SplitColumns, SplitEnds, row, section_of};
 
 const SPACE: u8 = 32;
@@ -88,32 +88,26 @@ pub fn check_ends(splits: &SplitColumns, section_ends: &[u32]) -> Result<(), Ref
 
 // "section number, start, old end and new end"
 #[tactic(auto, using(lines::proofs::Puts::fields))]
-fn write_line(out: &mut [u8], section: u16, start: u32, old: u32, new: u32) -> usize
+fn write_line(out: &mut [u8], s: Split, end: u32) -> usize
     requires { 208 ≤ length out.old }
-    ensures { Written out.old out.new (mend_line section start old new) result }
+    ensures { Written out.old out.new (mend_line s.section s.start s.end end) result }
 {
     let mut text = Text { bytes: out, at: 0 };
-    text.put_decimal(section as u64, SPACE);
-    text.put_hex8(start, SPACE);
-    text.put_hex8(old, SPACE);
-    text.put_hex8(new, NEWLINE);
+    text.put_decimal(s.section as u64, SPACE);
+    text.put_hex8(s.start, SPACE);
+    text.put_hex8(s.end, SPACE);
+    text.put_hex8(end, NEWLINE);
     text.at
 }
 
-// A line behind the lines so far, if it fits: where they end then.
-fn put_line(
-    lines: &mut [u8],
-    at: usize,
-    section: u16,
-    start: u32,
-    old: u32,
-    new: u32,
-) -> Option<usize>
+// The line of a split that gets another end, behind the lines so far, if it fits: where they end then. `lines` and `at` stay two: with `lines::Text`, which has both, whether the
+// line fitted would be a flag, while where they end, or none, is handed on by `?`.
+fn put_line(lines: &mut [u8], at: usize, s: Split, end: u32) -> Option<usize>
     requires { at ≤ length lines.old }
-    ensures { Joins lines.old lines.new at (mend_line section start old new) result }
+    ensures { Joins lines.old lines.new at (mend_line s.section s.start s.end end) result }
 {
     let mut buffer = [0u8; 208];
-    let size = write_line(&mut buffer, section, start, old, new);
+    let size = write_line(&mut buffer, s, end);
     if lines.len() - at < size {
         return None;
     }
@@ -142,7 +136,7 @@ fn mend_row(
     match decide(&splits, section_ends, i) {
         Some(end) => {
             table.ends[i] = end;
-            put_line(lines, at, s.section, s.start, s.end, end)
+            put_line(lines, at, s, end)
         }
         None => Some(at),
     }

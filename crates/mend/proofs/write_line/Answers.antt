@@ -9,8 +9,8 @@ use Rattle.mend.proofs.write_line.Goals as goal
 pub returns : goal.returns
 unfolding line
 returns c =
-    let line = adds_more (decimal c.args.section) 32 c.put_decimal.ensures
-    (adds_more (hex8 c.args.start) 32 c.put_hex8.ensures
-    (adds_more (hex8 c.args.old) 32 c.put_hex8-2.ensures
+    let line = adds_more (decimal c.args.s.section) 32 c.put_decimal.ensures
+    (adds_more (hex8 c.args.s.start) 32 c.put_hex8.ensures
+    (adds_more (hex8 c.args.s.end) 32 c.put_hex8-2.ensures
     c.put_hex8-3.ensures)) in
     rw (c.out-1.given.1.1 (sym line.lent)) (written _ line.put (grind (arith, fields)))
