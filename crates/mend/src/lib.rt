@@ -75,6 +75,7 @@ fn decide(splits: &SplitColumns, section_ends: &[u32], i: usize) -> Option<u32>
 pub fn check_ends(splits: &SplitColumns, section_ends: &[u32]) -> Result<(), Refusal>
     ensures { meaning result ≡ mend_check section_ends.now (rows_of splits.now) }
 {
+    // by number: what row i gets depends on the row after it too
     for i in 0..splits.count {
         let end = decide(splits, section_ends, i).unwrap_or(splits.ends[i]);
         if (end == 0) | (end < splits.starts[i]) {
@@ -148,6 +149,7 @@ pub fn mend_rows(table: &mut SplitEnds, section_ends: &[u32], lines: &mut [u8]) 
     ensures others { OnlyEnds table.old table.new }
 {
     let mut at: usize = 0;
+    // by number: a turn reads rows i and i + 1, all columns of them, and writes the end of row i
     for i in 0..table.count {
         at = mend_row(table, section_ends, i, lines, at)?;
     }
@@ -175,8 +177,9 @@ pub fn fill_section_ends(heads: &Table, section_ends: &mut [u32])
     ensures { take (length heads.now.places.now) section_ends.new
         ≡ section_ends_of (map (section_at heads.now.bytes.now) heads.now.places.now) }
 {
-    for k in 0..heads.places.len() {
+    let n = heads.places.len();
+    for (k, end) in section_ends[..n].iter_mut().enumerate() {
         let head = heads.record::<Section>(k);
-        section_ends[k] = head.address + head.size;
+        *end = head.address + head.size;
     }
 }

@@ -7,4 +7,4 @@ use Rattle.mend.specs.Mend.{section_ends_of}
 use Rattle.mend.proofs.fill_section_ends.Given as goal
 
 abbrev pub invariant-loop-k : goal.invariant-loop-k
-invariant-loop-k l = take l.k l.section_ends ≡ take l.k (section_ends_of (map (section_at l.heads.bytes.now) l.heads.places.now))
+invariant-loop-k l = take l.k l.end-items ≡ take l.k (section_ends_of (map (section_at l.heads.bytes.now) l.heads.places.now))
