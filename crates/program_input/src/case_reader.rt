@@ -1,11 +1,11 @@
 // Cases that stand in text: for each its title and its bytes. The reader knows what more than one program has in its cases; what a character means beyond that is for the
 // program, which is handed it.
-ghost use Rattle.std.specs.Prelude.{◌≡◌, ℕ, ◌+◌, ◌*◌, ◌<◌, length, None, Some};
+ghost use Rattle.std.specs.Prelude.{◌≡◌, ℕ, ◌+◌, ◌-◌, ◌*◌, ◌<◌, length, None, Some};
 ghost use Rattle.std.proofs.Common.{set};
 ghost use Rattle.names.specs.GapName.{digit};
 ghost use Rattle.program_input.specs.declared.case_reader.Mode.TheVariants as mode;
 ghost use Rattle.program_input.specs.declared.case_reader.Turn.TheVariants.{Taken, Begins, Title, Sign};
-ghost use Rattle.program_input.specs.Cases.{Added, NoDigit, ReadByte, LineOf, Starts};
+ghost use Rattle.program_input.specs.Cases.{Added, NoDecimal, ReadByte, LineOf, Starts, Repeats, gathered, before, again, repeated};
 
 use crate::{Gathered, digit, longer};
 
@@ -19,7 +19,7 @@ pub enum Mode {
     // `# comment` up to the line's end
     Comment,
     // `*count`: the last byte, or the last `width` bytes, stand so many times in all
-    Count,
+    Count { width: usize, count: usize },
 }
 
 // What a character is to the program.
@@ -41,8 +41,6 @@ pub struct CaseReader<'b> {
     pub bytes: Gathered<'b>,
     pub mode: Mode,
     pub high: Option<u8>,
-    pub width: usize,
-    pub count: usize,
 }
 
 impl<'b> CaseReader<'b> {
@@ -55,8 +53,6 @@ impl<'b> CaseReader<'b> {
             bytes: Gathered { buffer, used: 0 },
             mode: Mode::Bytes,
             high: None,
-            width: 1,
-            count: 0,
         }
     }
 }
@@ -82,53 +78,56 @@ impl CaseReader<'_> {
 
     // A number of times begins, for the last `width` bytes.
     pub fn start_count(&mut self, width: usize)
-        ensures counts { Starts self.old self.new mode.Count }
-        ensures width { (self.new.width ≡ width) × (self.new.count ≡ 0) }
+        ensures counts { Starts self.old self.new (mode.Count width 0) }
         ensures lent { self.new.bytes.buffer.ghost_name ≡ self.old.bytes.buffer.ghost_name }
     {
-        self.mode = Mode::Count;
-        self.width = width;
-        self.count = 0;
+        self.mode = Mode::Count { width, count: 0 };
     }
 
     // The byte `width` before the end, 0 if there is none.
-    fn before(&self) -> u8 {
+    fn before(&self, width: usize) -> u8
+        ensures { result ≡ before width (gathered self.now.bytes) }
+    {
         let bytes = self.bytes.bytes();
-        if (self.width == 0) | (bytes.len() < self.width) {
+        if (width == 0) | (bytes.len() < width) {
             return 0;
         }
-        bytes[bytes.len() - self.width]
+        bytes[bytes.len() - width]
     }
 
     // The last `width` bytes once more.
-    fn again(&mut self)
+    fn again(&mut self, width: usize)
+        ensures is { gathered self.new.bytes ≡ again (length self.old.bytes.buffer.now) width width (gathered self.old.bytes) }
+        ensures long { length self.new.bytes.buffer.now ≡ length self.old.bytes.buffer.now }
         ensures lent { self.new.bytes.buffer.ghost_name ≡ self.old.bytes.buffer.ghost_name }
     {
-        for _ in 0..self.width {
-            let byte = self.before();
+        for _i in 0..width {
+            let byte = self.before(width);
             self.bytes.push(byte);
         }
     }
 
     // The last `width` bytes so many times in all.
-    fn repeat(&mut self)
+    fn repeat(&mut self, width: usize, count: usize)
+        ensures is { gathered self.new.bytes ≡ repeated (length self.old.bytes.buffer.now) width (count - 1) (gathered self.old.bytes) }
         ensures lent { self.new.bytes.buffer.ghost_name ≡ self.old.bytes.buffer.ghost_name }
     {
-        for _ in 1..self.count {
-            self.again();
+        for _i in 1..count {
+            self.again(width);
         }
     }
 
-    fn in_count(&mut self, c: u8)
-        ensures digit { (k : ℕ) → k < 10 → digit k ≡ c → self.old.count < 100000 → (self.new.count ≡ self.old.count * 10 + k) × Starts self.old self.new self.old.mode }
-        ensures end { NoDigit c → self.new.mode ≡ mode.Bytes }
+    fn in_count(&mut self, width: usize, count: usize, c: u8)
+        ensures digit { (k : ℕ) → k < 10 → digit k ≡ c → count < 100000 → Starts self.old self.new (mode.Count width (count * 10 + k)) }
+        ensures end { NoDecimal c → Repeats self.old self.new width count }
         ensures lent { self.new.bytes.buffer.ghost_name ≡ self.old.bytes.buffer.ghost_name }
     {
         if let Some(d @ 0..=9) = digit(c) {
-            self.count = longer(self.count, d);
+            let count = longer(count, d);
+            self.mode = Mode::Count { width, count };
             return;
         }
-        self.repeat();
+        self.repeat(width, count);
         self.high = None;
         self.mode = Mode::Bytes;
     }
@@ -162,7 +161,7 @@ impl CaseReader<'_> {
     fn on_sign(&mut self, c: u8) -> Turn
         ensures begins { c ≡ 61 → (result ≡ Begins) × Starts self.old self.new mode.Title }
         ensures comments { c ≡ 35 → (result ≡ Taken) × Starts self.old self.new mode.Comment }
-        ensures counts { c ≡ 42 → (result ≡ Taken) × Starts self.old self.new mode.Count }
+        ensures counts { c ≡ 42 → (result ≡ Taken) × Starts self.old self.new (mode.Count 1 0) }
         ensures byte { (c ≡ 61 → ⊥) → (c ≡ 35 → ⊥) → (c ≡ 42 → ⊥) → ReadByte self.old self.new c result }
         ensures lent { self.new.bytes.buffer.ghost_name ≡ self.old.bytes.buffer.ghost_name }
     {
@@ -189,11 +188,11 @@ impl CaseReader<'_> {
         ensures comment { self.old.mode ≡ mode.Comment → (result ≡ Taken) × LineOf self.old self.new c }
         ensures begins { self.old.mode ≡ mode.Bytes → c ≡ 61 → (result ≡ Begins) × Starts self.old self.new mode.Title }
         ensures comments { self.old.mode ≡ mode.Bytes → c ≡ 35 → (result ≡ Taken) × Starts self.old self.new mode.Comment }
-        ensures counts { self.old.mode ≡ mode.Bytes → c ≡ 42 → (result ≡ Taken) × Starts self.old self.new mode.Count }
+        ensures counts { self.old.mode ≡ mode.Bytes → c ≡ 42 → (result ≡ Taken) × Starts self.old self.new (mode.Count 1 0) }
         ensures byte { self.old.mode ≡ mode.Bytes → (c ≡ 61 → ⊥) → (c ≡ 35 → ⊥) → (c ≡ 42 → ⊥) → ReadByte self.old self.new c result }
-        ensures count { self.old.mode ≡ mode.Count → result ≡ Taken }
-        ensures counted { self.old.mode ≡ mode.Count → (k : ℕ) → k < 10 → digit k ≡ c → self.old.count < 100000 → (self.new.count ≡ self.old.count * 10 + k) × Starts self.old self.new self.old.mode }
-        ensures count_ends { self.old.mode ≡ mode.Count → NoDigit c → self.new.mode ≡ mode.Bytes }
+        ensures count { (w n : ℕ) → self.old.mode ≡ mode.Count w n → result ≡ Taken }
+        ensures counted { (w n k : ℕ) → self.old.mode ≡ mode.Count w n → k < 10 → digit k ≡ c → n < 100000 → Starts self.old self.new (mode.Count w (n * 10 + k)) }
+        ensures count_ends { (w n : ℕ) → self.old.mode ≡ mode.Count w n → NoDecimal c → Repeats self.old self.new w n }
         ensures lent { self.new.bytes.buffer.ghost_name ≡ self.old.bytes.buffer.ghost_name }
     {
         match self.mode {
@@ -206,8 +205,8 @@ impl CaseReader<'_> {
                 self.in_line(c);
                 Turn::Taken
             }
-            Mode::Count => {
-                self.in_count(c);
+            Mode::Count { width, count } => {
+                self.in_count(width, count, c);
                 Turn::Taken
             }
         }
