@@ -4,7 +4,7 @@ use mathlib.Core.Path.{◌≡◌, refl, sym, ap, ap₂, subst, ◌∙◌}
 use mathlib.Core.List.{List, [], ◌∷◌, ◌++◌, append_assoc}
 use Prim.Native.Nat.{ℕ, suc, ◌+◌, ◌≤◌, ◌<◌}
 use native.Mathlib.Omega.{arith}
-use lib.ListN.{length, take, drop, set, length-append}
+use lib.ListN.{length, take, drop, set, replicate, length-append}
 use lib.Seq.{append_snoc, take_at, sets, sets-eq, length-sets, length-take-le}
 use Rattle.lists.proofs.Stores.{sets-sets}
 use lib.IntN.{ℤ, pos, negsuc}
@@ -41,10 +41,10 @@ put_ended {before} {mid} {part} at text byte e p h =
     long : length (text ++ (byte ∷ [])) ≡ length text + 1
     long = length-append text (byte ∷ [])
 
--- a store more behind a run of stores
-pub store_more : {b : List ℕ} (l : List ℕ) (at : ℕ) (vs : List ℕ) (k x : ℕ) → b ≡ sets l at vs → k ≡ length vs → set b (at + k) x ≡ sets l at (vs ++ (x ∷ []))
-store_more l at vs k x e q =
-    ap (λ (m : List ℕ). set m (at + k) x) e ∙ sets-sets l at vs (at + k) (x ∷ []) (ap (λ (m : ℕ). at + m) q)
+-- eight digits over eight zeros
+pub eight_over : (v : ℕ) → sets (replicate 8 0) 0 (hex8 v) ≡ hex8 v
+unfolding hex8
+eight_over v = refl
 
 -- a field and its end, and what follows
 pub put_more : {a b c : List ℕ} {i j k : ℕ} (text : List ℕ) (byte : ℕ) {rest : List ℕ} → Put a b i (text ++ (byte ∷ [])) j → Put b c j rest k
@@ -102,9 +102,9 @@ owner_few (Some n) = digits_few 20 n
 -- where a field ends, by its text's length
 pub ruleset fields = (length-append, decimal_few, decimal16_few, decimal32_few, hex_long, signed_few, shown_few, owner_few)
 
--- a number handed on is that number
-pub signed_as : {a b : Text} {y : ℤ} (z : ℤ) (byte : ℕ) → y ≡ z → Adds a b (signed_decimal y ++ (byte ∷ [])) → Adds a b (signed_decimal z ++ (byte ∷ []))
-signed_as {a} {b} {y} z byte e p = subst (λ (x : ℤ). Adds a b (signed_decimal x ++ (byte ∷ []))) e p
+-- a text handed on is that text
+pub adds_as : {a b : Text} {l m : List ℕ} (byte : ℕ) → l ≡ m → Adds a b (l ++ (byte ∷ [])) → Adds a b (m ++ (byte ∷ []))
+adds_as {a} {b} byte e p = subst (λ (k : List ℕ). Adds a b (k ++ (byte ∷ []))) e p
 
 -- ---- an empty name is shown as `-`
 

@@ -10,6 +10,8 @@ ghost use Rattle.names.specs.Fixed.{codes};
 ghost use Rattle.lines.specs.Lines.{shown, owner_of, unit_line, piece_line, sym_line, reloc_line, total_line, refused_line, Adds, Written};
 
 use names::put_bytes;
+use obj::Reloc;
+use pieces::Piece;
 
 const SPACE: u8 = 32;
 
@@ -23,15 +25,23 @@ pub struct Text<'b> {
 }
 
 impl Text<'_> {
+    // The field and the byte that ends it.
+    fn put_ended(&mut self, field: &[u8], after: u8)
+        requires { self.old.at + length field.now + 1 ≤ length self.old.bytes.now }
+        ensures { Adds self.old self.new (field.now ++ (after ∷ [])) }
+    {
+        let end = self.at + field.len();
+        put_bytes(self.bytes, self.at, field);
+        self.bytes[end] = after;
+        self.at = end + 1;
+    }
+
     // The field and a space.
     fn put_field(&mut self, field: &[u8])
         requires { self.old.at + length field.now + 1 ≤ length self.old.bytes.now }
         ensures { Adds self.old self.new (field.now ++ (32 ∷ [])) }
     {
-        let end = self.at + field.len();
-        put_bytes(self.bytes, self.at, field);
-        self.bytes[end] = SPACE;
-        self.at = end + 1;
+        self.put_ended(field, SPACE);
     }
 
     // "name (`-` if empty)"
@@ -72,26 +82,19 @@ pub fn write_unit(out: &mut [u8], number: u16, name: &[u8], size: u64) -> usize
 }
 
 // "Piece: number in its unit, name, address, size, alignment.", then its split's origin.
-pub fn write_piece(
-    out: &mut [u8],
-    number: u16,
-    name: &[u8],
-    address: u32,
-    size: u32,
-    alignment: u32,
-    origin: u16,
-) -> usize
+pub fn write_piece(out: &mut [u8], piece: &Piece, name: &[u8]) -> usize
     requires { (208 ≤ length out.old) × (length name.now ≤ 128) }
-    ensures { Written out.old out.new (piece_line number name.now address size alignment origin) result }
+    ensures { Written out.old out.new
+        (piece_line piece.now.number name.now piece.now.address piece.now.size piece.now.alignment piece.now.origin) result }
 {
     let mut text = Text { bytes: out, at: 0 };
     text.put_field(b"piece");
-    text.put_decimal(number as u64, SPACE);
+    text.put_decimal(piece.number as u64, SPACE);
     text.put_field(name);
-    text.put_hex8(address, SPACE);
-    text.put_decimal(size as u64, SPACE);
-    text.put_decimal(alignment as u64, SPACE);
-    text.put_decimal(origin as u64, NEWLINE);
+    text.put_hex8(piece.address, SPACE);
+    text.put_decimal(piece.size as u64, SPACE);
+    text.put_decimal(piece.alignment as u64, SPACE);
+    text.put_decimal(piece.origin as u64, NEWLINE);
     text.at
 }
 
@@ -116,24 +119,17 @@ pub fn write_symbol(
 }
 
 // "`reloc` piece, offset, kind, target, addend"
-pub fn write_reloc(
-    out: &mut [u8],
-    number: u16,
-    offset: u32,
-    kind: u8,
-    target: u32,
-    addend: i64,
-) -> usize
+pub fn write_reloc(out: &mut [u8], number: u16, offset: u32, reloc: &Reloc) -> usize
     requires { 208 ≤ length out.old }
-    ensures { Written out.old out.new (reloc_line number offset kind target addend) result }
+    ensures { Written out.old out.new (reloc_line number offset reloc.now.kind reloc.now.target reloc.now.addend) result }
 {
     let mut text = Text { bytes: out, at: 0 };
     text.put_field(b"reloc");
     text.put_decimal(number as u64, SPACE);
     text.put_hex8(offset, SPACE);
-    text.put_decimal(kind as u64, SPACE);
-    text.put_decimal(target as u64, SPACE);
-    text.put_signed(addend, NEWLINE);
+    text.put_decimal(reloc.kind as u64, SPACE);
+    text.put_decimal(reloc.target as u64, SPACE);
+    text.put_signed(reloc.addend, NEWLINE);
     text.at
 }
 

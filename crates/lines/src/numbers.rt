@@ -5,7 +5,7 @@ ghost use Rattle.lines.specs.Lines.{decimal, signed_decimal, Adds};
 
 use crate::Text;
 use itoa::write_digits;
-use names::{put_bytes, put_hexes};
+use names::put_hexes;
 
 impl Text<'_> {
     // "the rest is decimal"
@@ -15,11 +15,7 @@ impl Text<'_> {
     {
         let mut column = [0u8; 20];
         let first = write_digits(n, &mut column, 20);
-        let digits = &column[first..];
-        let end = self.at + digits.len();
-        put_bytes(self.bytes, self.at, digits);
-        self.bytes[end] = after;
-        self.at = end + 1;
+        self.put_ended(&column[first..], after);
     }
 
     // An addend may be negative.
@@ -42,8 +38,8 @@ impl Text<'_> {
         requires { self.old.at + 9 ≤ length self.old.bytes.now }
         ensures { Adds self.old self.new (hex8 v ++ (after ∷ [])) }
     {
-        put_hexes(self.bytes, self.at, &v.to_be_bytes());
-        self.bytes[self.at + 8] = after;
-        self.at += 9;
+        let mut digits = [0u8; 8];
+        put_hexes(&mut digits, 0, &v.to_be_bytes());
+        self.put_ended(&digits, after);
     }
 }

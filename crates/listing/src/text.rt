@@ -32,15 +32,7 @@ pub fn piece_line(tables: &RunTables, at: usize, out: &mut [u8]) -> usize
 {
     let p: Piece = record_in(tables.lists.pieces, at);
     let name = name_of(tables, p.name as usize);
-    write_piece(
-        out,
-        p.number,
-        name,
-        p.address,
-        p.size,
-        p.alignment,
-        p.origin,
-    )
+    write_piece(out, &p, name)
 }
 
 // "`sym` name (`-` if empty), piece or `common`, address, size"
@@ -65,5 +57,5 @@ pub fn reloc_line(tables: &RunTables, at: usize, out: &mut [u8]) -> usize
     let r: PieceReloc = record_in(tables.lists.relocs, at);
     let p = piece_of(tables.lists, r.piece as usize);
     let i = tables.relocs.record::<Reloc>(r.relocation as usize);
-    write_reloc(out, p.number, r.offset, i.kind, i.target, i.addend)
+    write_reloc(out, p.number, r.offset, &i)
 }

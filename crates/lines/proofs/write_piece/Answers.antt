@@ -12,10 +12,10 @@ pub returns : goal.returns
 unfolding codes line
 returns c =
     let line = adds_more (codes "piece") 32 c.put_field.ensures
-    (adds_more (decimal c.args.number) 32 c.put_decimal.ensures
+    (adds_more (decimal c.args.piece.now.number) 32 c.put_decimal.ensures
     (adds_more (c.args.name.now) 32 c.put_field-2.ensures
-    (adds_more (hex8 c.args.address) 32 c.put_hex8.ensures
-    (adds_more (decimal c.args.size) 32 c.put_decimal-2.ensures
-    (adds_more (decimal c.args.alignment) 32 c.put_decimal-3.ensures
+    (adds_more (hex8 c.args.piece.now.address) 32 c.put_hex8.ensures
+    (adds_more (decimal c.args.piece.now.size) 32 c.put_decimal-2.ensures
+    (adds_more (decimal c.args.piece.now.alignment) 32 c.put_decimal-3.ensures
     c.put_decimal-4.ensures))))) in
     rw (c.out-1.given.1.1 (sym line.lent)) (written _ line.put (grind (arith, fields)))

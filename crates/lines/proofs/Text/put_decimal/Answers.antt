@@ -1,10 +1,9 @@
--- `lines::Text::put_decimal` meets its contract: the digits are stored, and the byte behind them.
+-- `lines::Text::put_decimal` meets its contract: the digits that std's kit wrote at the end of the column are the field.
 -- Assumes nothing.
-use Rattle.std.proofs.Common.{refl, arith, lit<, lit≤}
+use Rattle.std.proofs.Common.{arith, lit<, lit≤}
 use Rattle.std.proofs.lemmas.Fmt.{length-decimal-le}
-use Rattle.lines.specs.Lines.{decimal}
 use Rattle.lines.proofs.Digits.{digits_few, column_digits}
-use Rattle.lines.proofs.Puts.{put_ended}
+use Rattle.lines.proofs.Puts.{adds_as}
 use Rattle.lines.proofs.Text.put_decimal.Goals as goal
 
 pub write_digits-first-requires : goal.write_digits-first-requires
@@ -13,8 +12,4 @@ write_digits-first-requires c = (length-decimal-le 20 c.args.n (lit< tt) (omega 
 pub returns : goal.returns
 returns c =
     let k = digits_few 20 c.args.n in
-    let h = c.requires in
-    record {
-      put = put_ended c.args.self.now.at (decimal c.args.n) c.args.after c.put_bytes.ensures (column_digits _ c.args.n _ (omega arith) c.write_digits-first.auto.buf c.write_digits-first.ensures.written) (omega arith);
-      lent = refl;
-    }
+    adds_as c.args.after (column_digits _ c.args.n _ (omega arith) c.write_digits-first.auto.buf c.write_digits-first.ensures.written) c.put_ended.ensures
