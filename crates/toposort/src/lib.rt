@@ -3,7 +3,7 @@
 
 ghost use Rattle.std.specs.Prelude.{◌≡◌, [], ◌++◌, ℕ, suc, ◌≤◌, ◌<◌, length, drop, MatchOption};
 ghost use Rattle.lists.specs.Outcome.{accepted};
-ghost use Rattle.toposort.specs.Search.{next_edge, bad_edge, is_bad, move_of, node, parent_of, hops, climb, state_at, Reaches, searched, start};
+ghost use Rattle.toposort.specs.Search.{next_edge, bad_edge, is_bad, move_of, node, parent_of, hops, climb, state_at, Reaches, searched};
 ghost use Rattle.toposort.specs.Sorting.{Sorts, Within, Chainable, Chained, Follows, Moves, Ready, sort_of, kept as kept_by, refusal_of, answer_of};
 ghost use Rattle.toposort.specs.Lent.{graph_in};
 ghost use Rattle.toposort.specs.declared.State.TheVariants.{Open, Closed};
@@ -28,6 +28,10 @@ pub enum State {
 pub struct Node {
     pub state: State,
 }
+
+const UNSEEN: Node = Node {
+    state: State::Unseen,
+};
 
 // Why there is no order: the edges close a cycle of so many nodes, which the table holds; the edge of this number joins no node; or the table is too short.
 #[derive(Clone, Copy)]
@@ -82,6 +86,7 @@ pub fn chain_edges(from: &[u16], heads: &mut [u16], chain: &mut [u16])
     ensures { Chained from.now heads.new chain.new }
 {
     heads.fill(from.len() as u16);
+    // by number, from behind: a loop over `iter().enumerate().rev()` was tried, and its proof did not close: the invariant can name the items that came, and not the place
     for i in (0..from.len()).rev() {
         let v = from[i] as usize;
         chain[i] = heads[v];
@@ -189,23 +194,14 @@ pub fn next_move(graph: &EdgeTable, chains: &EdgeChains, cur: usize, next: usize
     }
 }
 
-// All 1,025 records unseen, but the root's.
-fn unseen() -> [Node; 1025]
-    ensures { result ≡ start.nodes }
-{
-    let mut nodes = [Node {
-        state: State::Unseen,
-    }; 1025];
-    nodes[ROOT] = open(0, ROOT);
-    nodes
-}
-
-// The search proper: closed nodes are written from the end of the table's first n places downwards, so the last closed stands first.
+// The search proper: closed nodes are written from the end of the table's first n places downwards, so the last closed stands first. All 1,025 records are unseen at first, but the root's:
+// they are made here, where they are lent, since LLVM copies all of them once where a function answers them.
 pub fn search(graph: &EdgeTable, chains: &EdgeChains, table: &mut [u16]) -> Result<usize, Unsorted>
     requires { Ready (graph_in graph.now) chains.now.heads.now chains.now.chain.now table.old }
     ensures { Sorts (accepted (searched (graph_in graph.now))) (length table.old) result table.new }
 {
-    let mut nodes = unseen();
+    let mut nodes = [UNSEEN; 1025];
+    nodes[ROOT] = open(0, ROOT);
     let mut left = graph.count;
     let mut cur = ROOT;
     // no count: a turn enters a node, leaves one, or passes an edge, as the graph has them
@@ -214,9 +210,7 @@ pub fn search(graph: &EdgeTable, chains: &EdgeChains, table: &mut [u16]) -> Resu
             return Err(Unsorted::Short);
         };
         match next_move(graph, chains, cur, next as usize) {
-            Move::Finish => {
-                return Ok(graph.count);
-            }
+            Move::Finish => return Ok(graph.count),
             Move::Close => {
                 nodes[cur] = closed();
                 left -= 1;
