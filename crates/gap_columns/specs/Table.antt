@@ -1,5 +1,6 @@
 -- The columns that are lent together, and the gaps that they mean: `found_of` of columns to read, `found_in` of a table to write.
 use Rattle.std.specs.Prelude.{◌≡◌, ◌≤◌, ℕ, List, length}
+use Rattle.lists.specs.Slices.{SameSlice}
 use Rattle.lists.specs.Sort.{Rising}
 use Rattle.gap_columns.specs.Columns.{Gap, key_of, placed, gap_of, gaps_in}
 use Rattle.gap_columns.specs.declared.gap_table.GapColumns.{GapColumns}
@@ -20,10 +21,8 @@ pub record Shows (t : GapTable) (s : GapColumns) : Type 0 where
 -- the same columns are lent, of the same lengths, with the same room
 pub record SameLent (t u : GapTable) : Type 0 where
   pub room : u.room ≡ t.room
-  pub keys : u.keys.ghost_name ≡ t.keys.ghost_name
-  pub ends : u.ends.ghost_name ≡ t.ends.ghost_name
-  pub keys_size : length u.keys.now ≡ length t.keys.now
-  pub ends_size : length u.ends.now ≡ length t.ends.now
+  pub keys : SameSlice t.keys u.keys
+  pub ends : SameSlice t.ends u.ends
 
 -- the table has room for one gap among those found
 pub record Placing (t : GapTable) (key end : ℕ) : Type 0 where

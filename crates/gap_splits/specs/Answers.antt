@@ -1,6 +1,7 @@
 -- What the answers of the entering mean, and what it is lent. The names that are added stand beside those of the tables (specs/Added.antt).
 use Rattle.std.specs.Prelude.{ℕ, ◌+◌, ◌≤◌, ◌<◌, ◌≡◌, Bool, true, false, List, [], ◌∷◌, ◌++◌, length, Option, None, Some, Ok, Err}
 use Rattle.lists.specs.Outcome.{Outcome, accepted, refused, ◌>>=◌}
+use Rattle.lists.specs.Slices.{SameSlice}
 use Rattle.lists.specs.Sort.{All, Rising}
 use Rattle.obj.specs.Answers.{Answer}
 use Rattle.obj.specs.declared.Split.{Split}
@@ -40,12 +41,9 @@ pub record Shows (a : AddedNames) (s : Names) : Type 0 where
 pub record SameLent (a b : AddedNames) : Type 0 where
   pub most : b.most.names ≡ a.most.names
   pub most_bytes : b.most.bytes ≡ a.most.bytes
-  pub bytes : b.bytes.ghost_name ≡ a.bytes.ghost_name
-  pub places : b.places.ghost_name ≡ a.places.ghost_name
-  pub lengths : b.lengths.ghost_name ≡ a.lengths.ghost_name
-  pub bytes_size : length b.bytes.now ≡ length a.bytes.now
-  pub places_size : length b.places.now ≡ length a.places.now
-  pub lengths_size : length b.lengths.now ≡ length a.lengths.now
+  pub bytes : SameSlice a.bytes b.bytes
+  pub places : SameSlice a.places b.places
+  pub lengths : SameSlice a.lengths b.lengths
 
 -- the ceilings: so many more names, and bytes, than the tables have
 abbrev pub ceilings : (base : List (List ℕ)) → (most most_bytes : ℕ) → Ceilings

@@ -1,6 +1,7 @@
 -- The names of a table in lent columns, and names to read: the definitions of `Stored` over the structs.
-use Rattle.std.specs.Prelude.{ℕ, ◌≡◌, List, length}
+use Rattle.std.specs.Prelude.{ℕ, List}
 use Rattle.lists.specs.Outcome.{Outcome}
+use Rattle.lists.specs.Slices.{SameSlice}
 use Rattle.names.specs.declared.Names.{Names}
 use Rattle.name_table.specs.declared.columns.NameColumns.{NameColumns}
 use Rattle.name_table.specs.declared.arrays.NameArrays.{NameArrays}
@@ -14,14 +15,10 @@ StoresIn answer want ends bytes c n = Stores answer want ends bytes c.places.now
 
 -- the same columns are lent: the references to them, and their lengths
 pub record SameLent (before after : NameColumns) : Type 0 where
-  pub places : after.places.ghost_name ≡ before.places.ghost_name
-  pub lengths : after.lengths.ghost_name ≡ before.lengths.ghost_name
-  pub heads : after.heads.ghost_name ≡ before.heads.ghost_name
-  pub chain : after.chain.ghost_name ≡ before.chain.ghost_name
-  pub places_size : length after.places.now ≡ length before.places.now
-  pub lengths_size : length after.lengths.now ≡ length before.lengths.now
-  pub heads_size : length after.heads.now ≡ length before.heads.now
-  pub chain_size : length after.chain.now ≡ length before.chain.now
+  pub places : SameSlice before.places after.places
+  pub lengths : SameSlice before.lengths after.lengths
+  pub heads : SameSlice before.heads after.heads
+  pub chain : SameSlice before.chain after.chain
 
 -- ---- names to read
 abbrev pub ReadableIn : Names → Type 0

@@ -10,6 +10,7 @@ use lib.Seq.{sets, sets-eq, length-sets, length-take-le}
 use lib.Dec.{leb, ltb}
 use Rattle.lists.specs.Rows.{any_of}
 use Rattle.lists.specs.Outcome.{Outcome, accepted, refused, ◌>>=◌}
+use Rattle.lists.proofs.Slices.{slice_same, slice_still}
 use Rattle.lists.proofs.Outcomes.{fails, passes, not_both, same_accepted}
 use Rattle.lists.proofs.Stores.{sets_then, take-sets, part-below-sets}
 use Rattle.lists.proofs.Tests.{none_of}
@@ -267,29 +268,14 @@ short_held {o} {names} n q h = record {
 -- ---- the table itself
 
 pub same_table : {t : NumberedNames} → SameTable t t
-same_table =
-    record {
-      ends = refl;
-      bytes = refl;
-      heads = refl;
-      chain = refl;
-      ends_size = refl;
-      bytes_size = refl;
-      heads_size = refl;
-      chain_size = refl;
-      room = refl;
-    }
+same_table = record { ends = slice_same; bytes = slice_same; heads = slice_same; chain = slice_same; room = refl }
 
 pub same_then : {t u v : NumberedNames} → SameTable u v → SameTable t u → SameTable t v
 same_then h g =
     record {
-      ends = h.ends ∙ g.ends;
-      bytes = h.bytes ∙ g.bytes;
-      heads = h.heads ∙ g.heads;
-      chain = h.chain ∙ g.chain;
-      ends_size = h.ends_size ∙ g.ends_size;
-      bytes_size = h.bytes_size ∙ g.bytes_size;
-      heads_size = h.heads_size ∙ g.heads_size;
-      chain_size = h.chain_size ∙ g.chain_size;
+      ends = slice_still g.ends h.ends;
+      bytes = slice_still g.bytes h.bytes;
+      heads = slice_still g.heads h.heads;
+      chain = slice_still g.chain h.chain;
       room = h.room ∙ g.room;
     }

@@ -1,6 +1,7 @@
 -- The structs of this crate, as the definitions of `Numbers` speak of their columns.
-use Rattle.std.specs.Prelude.{List, ℕ, ◌≡◌, Result, length}
+use Rattle.std.specs.Prelude.{List, ℕ, ◌≡◌, Result}
 use Rattle.lists.specs.Outcome.{Outcome}
+use Rattle.lists.specs.Slices.{SameSlice}
 use Rattle.obj.specs.declared.Refusal.{Refusal}
 use Rattle.number_names.specs.Numbers.{Room, names_in, Held, Entered, Going}
 use Rattle.number_names.specs.declared.table.KnownNames.{KnownNames}
@@ -16,14 +17,10 @@ room_of t = record { names = t.most.names; bytes = t.most.bytes }
 
 -- the same columns are lent, of the same lengths, and there is as much place
 pub record SameTable (before after : NumberedNames) : Type 0 where
-  pub ends : after.ends.ghost_name ≡ before.ends.ghost_name
-  pub bytes : after.bytes.ghost_name ≡ before.bytes.ghost_name
-  pub heads : after.heads.ghost_name ≡ before.heads.ghost_name
-  pub chain : after.chain.ghost_name ≡ before.chain.ghost_name
-  pub ends_size : length after.ends.now ≡ length before.ends.now
-  pub bytes_size : length after.bytes.now ≡ length before.bytes.now
-  pub heads_size : length after.heads.now ≡ length before.heads.now
-  pub chain_size : length after.chain.now ≡ length before.chain.now
+  pub ends : SameSlice before.ends after.ends
+  pub bytes : SameSlice before.bytes after.bytes
+  pub heads : SameSlice before.heads after.heads
+  pub chain : SameSlice before.chain after.chain
   pub room : room_of after ≡ room_of before
 
 -- the table holds these names at the front, and behind them what was lent

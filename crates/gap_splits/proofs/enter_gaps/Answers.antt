@@ -6,7 +6,7 @@ use Rattle.splits.proofs.Lent.{lent_same as table_same, lent_still as table_stil
 use Rattle.merge.specs.Merge.{given}
 use Rattle.gap_splits.specs.Added.{beside}
 use Rattle.gap_splits.specs.Answers.{sections_named, ceilings_in}
-use Rattle.gap_splits.proofs.Lent.{lent_still}
+use Rattle.gap_splits.proofs.Lent.{lent_same, lent_still}
 use Rattle.gap_splits.proofs.Naming.{stand_none, none_added}
 use Rattle.gap_splits.proofs.Turns.{starts, goes_on, refused_here, all_entered, gap_here, section_here, absent_here}
 use Rattle.gap_splits.proofs.enter_gaps.Goals as goal
@@ -18,7 +18,7 @@ pub loop-i-init : goal.loop-i-init
 loop-i-init c =
     let a = c.args.added.now in (
       starts _ _ _ _ _ _ _ _ _ (none_added (beside a.bytes.now a.places.now a.lengths.now)),
-      record { most = refl; most_bytes = refl; bytes = refl; places = refl; lengths = refl; bytes_size = refl; places_size = refl; lengths_size = refl },
+      lent_same,
       table_same,
     )
 

@@ -6,6 +6,7 @@ use Rattle.sections.specs.Sections.{sections_of}
 use Rattle.splits.specs.Table.{columns_of}
 use Rattle.gaps.specs.Found.{searched}
 use Rattle.gaps.proofs.Sections.{search_start, search_space, search_refused, search_on, search_done}
+use Rattle.gap_columns.proofs.Lent.{lent_same}
 use Rattle.gaps.proofs.find_gaps.Goals as goal
 
 pub loop-k-init : goal.loop-k-init
@@ -13,7 +14,7 @@ loop-k-init c =
     let a = c.args in
     let g = image_in a.obj.now in
     let sections = sections_of a.obj.now.heads.bytes.now a.obj.now.heads.places.now a.image.now.bytes.now a.image.now.places.now in
-    record { holds = search_start g sections (columns_of a.splits.now) a.splits.now.count _ _ refl (record { room = refl; keys = refl; ends = refl; keys_size = refl; ends_size = refl }); clean = c.requires.3 }
+    record { holds = search_start g sections (columns_of a.splits.now) a.splits.now.count _ _ refl lent_same; clean = c.requires.3 }
 
 pub gaps_of-requires : goal.gaps_of-requires
 gaps_of-requires c =

@@ -50,14 +50,10 @@ pub returns : goal.returns
 unfolding any_of
 returns c = (
   record {
-    ends = refl;
-    bytes = refl;
-    heads = refl;
-    chain = refl;
-    ends_size = c.put.auto.b;
-    bytes_size = c.put_bytes.auto.out;
-    heads_size = c.enter.auto.heads;
-    chain_size = c.enter.auto.chain;
+    ends = record { name = refl; size = c.put.auto.b };
+    bytes = record { name = refl; size = c.put_bytes.auto.out };
+    heads = record { name = refl; size = c.enter.auto.heads };
+    chain = record { name = refl; size = c.enter.auto.chain };
     room = refl;
   },
   λ names ends₀ bytes₀ h.
