@@ -17,7 +17,7 @@ pub enum Mode {
     // `"text"`
     Text,
     // `@width*count`: the last `width` bytes stand so many times in all
-    Width,
+    Width { width: usize },
     // `<k` keeps the first k tables of the case before
     Keep,
 }
@@ -28,7 +28,6 @@ pub struct Reading<'b> {
     pub case: CaseReader<'b>,
     pub mode: Mode,
     pub table: usize,
-    pub width: usize,
     pub cuts: [usize; 9],
 }
 
@@ -69,13 +68,14 @@ impl Reading<'_> {
         self.case.add(c);
     }
 
-    fn in_width(&mut self, c: u8) {
+    fn in_width(&mut self, width: usize, c: u8) {
         if let Some(d @ 0..=9) = digit(c) {
-            self.width = longer(self.width, d);
+            let width = longer(width, d);
+            self.mode = Mode::Width { width };
             return;
         }
         self.mode = Mode::Case;
-        self.case.start_count(self.width);
+        self.case.start_count(width);
     }
 
     // Table k ends where the bytes so far do.
@@ -100,16 +100,10 @@ impl Reading<'_> {
         self.table = 0;
     }
 
-    // The width of what stands several times begins.
-    fn start_width(&mut self) {
-        self.mode = Mode::Width;
-        self.width = 0;
-    }
-
     fn on_sign(&mut self, rt: &impl Print, c: u8) -> io::Result<()> {
         match c {
             b'"' => self.mode = Mode::Text,
-            b'@' => self.start_width(),
+            b'@' => self.mode = Mode::Width { width: 0 },
             b'<' => self.mode = Mode::Keep,
             b'|' => self.cut(),
             b'N' => self.add_names(),
@@ -135,7 +129,7 @@ impl Reading<'_> {
         match self.mode {
             Mode::Case => return self.in_case(rt, c),
             Mode::Text => self.in_text(c),
-            Mode::Width => self.in_width(c),
+            Mode::Width { width } => self.in_width(width, c),
             Mode::Keep => self.in_keep(c),
         }
         Ok(())
@@ -145,8 +139,9 @@ impl Reading<'_> {
 // ---- a case is run
 
 fn show_counts(rt: &impl Print, counts: &[u8]) -> io::Result<()> {
-    for i in 0..counts.len() / 2 {
-        let count = u16::get(counts, 2 * i);
+    let (pairs, _) = counts.as_chunks::<2>();
+    for pair in pairs {
+        let count = u16::from_le_bytes(*pair);
         print!(rt; " {count}")?;
     }
     println!(rt; "")
@@ -208,7 +203,6 @@ fn run(rt: &impl Print, text: &[u8], buffer: &mut [u8]) -> io::Result<()> {
         case: CaseReader::new(buffer),
         mode: Mode::Case,
         table: 0,
-        width: 0,
         cuts: [0; 9],
     };
     for c in text {
