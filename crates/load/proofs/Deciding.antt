@@ -263,10 +263,10 @@ sought_so {n' = n'} ef en ep el at len r s = rw (← ef, ← en, ← ep, ← el)
 
 -- the columns themselves
 pub same_columns : (k : Columns) → SameColumns k k
-same_columns k = record { places = refl; lengths = refl; heads = refl; chain = refl }
+same_columns k = record { file = refl; most = refl; places = refl; lengths = refl; heads = refl; chain = refl }
 
 pub same_after : {k l m : Columns} → SameColumns l m → SameColumns k l → SameColumns k m
-same_after a b = record { places = a.places ∙ b.places; lengths = a.lengths ∙ b.lengths; heads = a.heads ∙ b.heads; chain = a.chain ∙ b.chain }
+same_after a b = record { file = a.file ∙ b.file; most = a.most ∙ b.most; places = a.places ∙ b.places; lengths = a.lengths ∙ b.lengths; heads = a.heads ∙ b.heads; chain = a.chain ∙ b.chain }
 
 -- ---- by kind
 module _ (c : Ceilings) (file : List ℕ) (at len : ℕ) (t : Loaded) (kind : ℕ) where

@@ -5,3 +5,4 @@ pub mod Parts
 pub mod Keeping
 pub mod Deciding
 pub mod Turns
+pub mod Codes

@@ -24,6 +24,10 @@ use Rattle.tables.specs.declared.Counts.{Counts, Counts as Ceilings}
 use Rattle.tables.specs.Records.{floor_from}
 use Rattle.obj.specs.declared.Refusal.{Refusal}
 use Rattle.load.specs.Load.{Loaded, nothing, names_in, record_number, load_from, load_of}
+use Rattle.load.specs.Kinds.{code_of, Decided}
+use Rattle.load.specs.Reading.{SameColumns}
+use Rattle.load.specs.declared.kind.Kind.{Kind}
+use Rattle.load.specs.declared.reading.Columns.{Columns}
 use Rattle.load.specs.Columns.{part, tables_in, floors_in, no_counts, fault_as, counts_in, Room, Ready, Loads}
 use Rattle.load.proofs.Numbers.{record_passed}
 use Rattle.load.proofs.Laws.{next_loaded, good_nothing}
@@ -173,9 +177,13 @@ ready_none c file places lengths heads chain {cleared} {zeros} room small e z =
 
 -- ---- the loop's steps
 
-pub starts : (c : Ceilings) (file places lengths heads chain : List ℕ) {n : Counts} → n ≡ no_counts → Ready c file no_counts places lengths heads chain
-    → Ready c file n places lengths heads chain × Going c file 0 0 (tables_in n places lengths)
-starts c file places lengths heads chain e ready = rw e (ready, going_starts c file (tables-none places lengths))
+pub starts : (c : Ceilings) (file places lengths : List ℕ) {n : Counts} → n ≡ no_counts → Going c file 0 0 (tables_in n places lengths)
+starts c file places lengths e = rw e (going_starts c file (tables-none places lengths))
+
+-- the whole file, of the same columns
+pub whole_same : {k l : Columns} → SameColumns k l
+    → load_from (length l.file.now) l.most l.file.now 0 0 nothing ≡ load_from (length k.file.now) k.most k.file.now 0 0 nothing
+whole_same s = λ z. load_from (length (s.file z)) (s.most z) (s.file z) 0 0 nothing
 
 -- ---- what the loader gives
 
@@ -203,16 +211,21 @@ none_is {m} e = decide (ltb 0 m) refl e
     decide true t e = absurd (not_ok (sym e))
     decide false t e = omega (arith, ltb-false 0 m t)
 
--- a record's number, handed on as the refusal of record k
-pub fault_of : {m k : ℕ} {d : Refusal} (r : Result (Unit {0}) ℕ) (a : Result (Unit {0}) Refusal) {P : ℕ → Refusal → Type 0} → MatchResult r (λ x. a ≡ Ok x) (λ e. IsErrAnd a (P e))
-    → ((e : ℕ) (d : Refusal) → P e d → d ≡ record { number = e; section = 0; address = k }) → r ≡ fault_as m → a ≡ Err d
+-- the decision on a record, its number handed on as the refusal of record k
+pub fault_of : {m k : ℕ} {d : Refusal} (kind : ℕ) (r : Result Kind ℕ) (a : Result Kind Refusal) {P : ℕ → Refusal → Type 0} → MatchResult r (λ x. a ≡ Ok x) (λ e. IsErrAnd a (P e))
+    → ((e : ℕ) (d : Refusal) → P e d → d ≡ record { number = e; section = 0; address = k }) → Decided m kind r → a ≡ Err d
     → (0 < m) × (d ≡ record { number = m; section = 0; address = k })
-fault_of (Ok x) a h is e given = absurd (not_ok (sym given ∙ h))
-fault_of {m} {k} {d} (Err n) a h is e given =
+fault_of kind (Ok x) a h is e given = absurd (not_ok (sym given ∙ h))
+fault_of {d = d} kind (Err n) a h is e given =
     let p = err_from_is_err_and a h in
-    let f = fault_is e in
     let same : d ≡ p.0 = err_same (sym given ∙ p.1) in
-    (omega (arith, f.0, f.1), rw (same, is n p.0 p.2, f.0))
+    (e.1, rw (same, is n p.0 p.2, e.0))
+
+-- .. or its kind handed on
+pub passed_of : {m kind : ℕ} {x : Kind} (r : Result Kind ℕ) (a : Result Kind Refusal) (P : ℕ → Refusal → Type 0) → MatchResult r (λ x. a ≡ Ok x) (λ e. IsErrAnd a (P e)) → Decided m kind r
+    → a ≡ Ok x → (m ≡ 0) × (code_of x ≡ kind)
+passed_of {x = x} (Ok y) a P h e given = let same : x ≡ y = ok_same (sym given ∙ h) in rw same e
+passed_of (Err n) a P h e given = let p = err_from_is_err_and a h in absurd (not_ok (sym p.1 ∙ given))
 
 module _ (c : Ceilings) (file places lengths heads chain : List ℕ) where
   -- a refusal
@@ -249,10 +262,10 @@ module _ (c : Ceilings) (file places lengths heads chain : List ℕ) where
       subst (λ (o : Outcome Loaded). Loads c file o a places lengths heads chain) (sym (passes _ _ _ _ _ (le-ltb 65536 (length file) h))) l
 
 -- the same columns, said otherwise
-pub loads_in : {c : Ceilings} {file : List ℕ} {o : Outcome Loaded} {a : Result Counts Refusal} {places lengths heads chain places' lengths' heads' chain' : List ℕ}
-    → places' ≡ places → lengths' ≡ lengths → heads' ≡ heads → chain' ≡ chain
-    → Loads c file o a places lengths heads chain → Loads c file o a places' lengths' heads' chain'
-loads_in ep el eh ec l = rw (ep, el, eh, ec) l
+pub loads_in : {c c' : Ceilings} {file file' : List ℕ} {o : Outcome Loaded} {a : Result Counts Refusal} {places lengths heads chain places' lengths' heads' chain' : List ℕ}
+    → c' ≡ c → file' ≡ file → places' ≡ places → lengths' ≡ lengths → heads' ≡ heads → chain' ≡ chain
+    → Loads c file o a places lengths heads chain → Loads c' file' o a places' lengths' heads' chain'
+loads_in {o = o} {a = a} em ef ep el eh ec l = subst (λ (t : Type 0). t) (λ z. Loads (sym em z) (sym ef z) o a (sym ep z) (sym el z) (sym eh z) (sym ec z)) l
 
 -- "a file over 65,536 bytes is refused first, at record 0"
 pub too_long : (c : Ceilings) (file : List ℕ) → 65536 < length file → refused 1 0 0 ≡ load_of c file

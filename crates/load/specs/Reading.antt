@@ -20,21 +20,23 @@ fault_in number p = fault_as (number p.before.most p.before.file.now p.at p.len 
 -- ---- the columns that are written
 
 -- what the columns hold
-abbrev pub loaded_in : Counts → Columns → Loaded
-loaded_in n k = tables_in n k.places.now k.lengths.now
+abbrev pub loaded_in : Columns → Loaded
+loaded_in k = tables_in k.counts k.places.now k.lengths.now
 
--- they are the same lent columns
+-- they are the same lent columns, of the same file and with the same ceilings
 pub record SameColumns (before after : Columns) : Type 0 where
+  pub file : after.file.now ≡ before.file.now
+  pub most : after.most ≡ before.most
   pub places : after.places.ghost_name ≡ before.places.ghost_name
   pub lengths : after.lengths.ghost_name ≡ before.lengths.ghost_name
   pub heads : after.heads.ghost_name ≡ before.heads.ghost_name
   pub chain : after.chain.ghost_name ≡ before.chain.ghost_name
 
-abbrev pub ReadyIn : (c : Ceilings) → (file : List ℕ) → Counts → Columns → Type 0
-ReadyIn c file n k = Ready c file n k.places.now k.lengths.now k.heads.now k.chain.now
+abbrev pub ReadyIn : Columns → Type 0
+ReadyIn k = Ready k.most k.file.now k.counts k.places.now k.lengths.now k.heads.now k.chain.now
 
-abbrev pub KeptIn : (c : Ceilings) → (file : List ℕ) → (at len kind : ℕ) → Loaded → Counts → Columns → Type 0
-KeptIn c file at len kind t n k = Kept c file at len kind t n k.places.now k.lengths.now k.heads.now k.chain.now
+abbrev pub KeptIn : (at len kind : ℕ) → Loaded → Columns → Type 0
+KeptIn at len kind t k = Kept k.most k.file.now at len kind t k.counts k.places.now k.lengths.now k.heads.now k.chain.now
 
-abbrev pub LoadsIn : (c : Ceilings) → (file : List ℕ) → Outcome Loaded → Result Counts Refusal → Columns → Type 0
-LoadsIn c file o r k = Loads c file o r k.places.now k.lengths.now k.heads.now k.chain.now
+abbrev pub LoadsIn : Outcome Loaded → Result Counts Refusal → Columns → Type 0
+LoadsIn o r k = Loads k.most k.file.now o r k.places.now k.lengths.now k.heads.now k.chain.now

@@ -3,6 +3,7 @@
 // are only read, and then kept.
 #![tactic(auto)]
 
+mod kind;
 mod reading;
 
 ghost use Rattle.std.specs.Prelude.{◌≡◌, ◌+◌, ◌≤◌, ◌<◌, length, get_or, set, take, drop};
@@ -13,11 +14,13 @@ ghost use Rattle.obj.specs.Records.{reloc_at};
 ghost use Rattle.names.specs.Index.{Sought};
 ghost use Rattle.tables.specs.Records.{sections_in};
 ghost use Rattle.load.specs.Load.{nothing, names_in, name_number, section_length, section_number, symbol_number, reloc_number, split_number, unit_number, kind_number, record_number, load_from, load_of};
+ghost use Rattle.load.specs.Kinds.{code_of, Decided};
 ghost use Rattle.load.specs.Reading.{so_far, fault_in, loaded_in, SameColumns, ReadyIn, KeptIn, LoadsIn};
 ghost use Rattle.load.specs.Columns.{part, tables_in, floors_in, no_counts, fault_as, one_more, slot_of, Room, Ready, Counted, RelocFits, Kept, Loads};
 
 use faults::{reloc_bad, section_bad, split_bad, symbol_bad, unit_bad};
 use fields::Field;
+use kind::Kind;
 use names::{Names, bad_name, bucket_of, clear_heads, enter, find};
 use obj::{
     PARTIAL_BYTES, Record, Refusal, Reloc, Section, Symbol, Table, Unit, read_partial, refuse,
@@ -85,6 +88,7 @@ fn home_of(before: &SoFar, k: u16) -> Section
 }
 
 // One more than the address of the last relocation of section k, 0 if there is none.
+#[tactic(auto, unfolding(crate::specs::Columns::part))]
 fn floor_of(before: &SoFar, k: u16) -> u32
     ensures { result ≡ get_or (floors_in before.now.places.now) k 0 }
 {
@@ -248,26 +252,25 @@ fn unit_number(payload: &Payload) -> Result<(), u16>
     Ok(())
 }
 
-// By kind; "1 .. unknown kind".
+// By kind.
 #[tactic(auto, unfolding(crate::specs::Load::kind_number))]
-fn kind_number(kind: u16, payload: &Payload) -> Result<(), u16>
-    ensures { result ≡ fault_in (λ c file at len t. kind_number c file at len t kind) payload.now }
+fn kind_number(kind: Kind, payload: &Payload) -> Result<(), u16>
+    ensures { result ≡ fault_in (λ c file at len t. kind_number c file at len t (code_of kind)) payload.now }
 {
     match kind {
-        1 => name_number(payload),
-        2 => section_number(payload),
-        3 => symbol_number(payload),
-        4 => reloc_number(payload),
-        5 => split_number(payload),
-        6 => unit_number(payload),
-        _ => Err(1),
+        Kind::Name => name_number(payload),
+        Kind::Section => section_number(payload),
+        Kind::Symbol => symbol_number(payload),
+        Kind::Relocation => reloc_number(payload),
+        Kind::Split => split_number(payload),
+        Kind::Unit => unit_number(payload),
     }
 }
 
-// The record at `at`: "a four-byte length of its payload, a two-byte kind, the payload"; "1 file cut" within its head or its payload.
-fn record_number(before: &SoFar, at: usize) -> Result<(), u16>
+// The record at `at`: "a four-byte length of its payload, a two-byte kind, the payload"; "1 file cut" within its head or its payload. The answer is its kind.
+fn record_number(before: &SoFar, at: usize) -> Result<Kind, u16>
     requires { at ≤ length before.now.file.now }
-    ensures { result ≡ fault_as (record_number before.now.most before.now.file.now at (so_far before.now)) }
+    ensures { Decided (record_number before.now.most before.now.file.now at (so_far before.now)) (le16 before.now.file.now (at + 4)) result }
 {
     let file = before.file;
     let start = at + 6;
@@ -278,51 +281,71 @@ fn record_number(before: &SoFar, at: usize) -> Result<(), u16>
     if file.len() < start + len {
         return Err(1);
     }
+    let kind = Kind::try_from(u16::get(file, at + 4))?;
     let payload = Payload {
         before: *before,
         at: start,
         len,
     };
-    kind_number(u16::get(file, at + 4), &payload)
+    kind_number(kind, &payload)?;
+    Ok(kind)
 }
 
 // ---- a record without a fault is kept
 
 // One record more of a kind.
-fn one_more(kind: u16, n: Counts) -> Counts
+fn one_more(kind: Kind, n: Counts) -> Counts
     requires { Counted n }
-    ensures { result ≡ one_more kind n }
+    ensures { result ≡ one_more (code_of kind) n }
 {
-    Counts {
-        names: n.names + usize::from(kind == 1),
-        sections: n.sections + usize::from(kind == 2),
-        symbols: n.symbols + usize::from(kind == 3),
-        relocations: n.relocations + usize::from(kind == 4),
-        splits: n.splits + usize::from(kind == 5),
-        units: n.units + usize::from(kind == 6),
+    match kind {
+        Kind::Name => Counts {
+            names: n.names + 1,
+            ..n
+        },
+        Kind::Section => Counts {
+            sections: n.sections + 1,
+            ..n
+        },
+        Kind::Symbol => Counts {
+            symbols: n.symbols + 1,
+            ..n
+        },
+        Kind::Relocation => Counts {
+            relocations: n.relocations + 1,
+            ..n
+        },
+        Kind::Split => Counts {
+            splits: n.splits + 1,
+            ..n
+        },
+        Kind::Unit => Counts {
+            units: n.units + 1,
+            ..n
+        },
     }
 }
 
 // Where the place of the next record of a kind goes.
 #[tactic(auto, unfolding(crate::specs::Columns::slot_of))]
-fn slot_of(kind: u16, n: Counts) -> usize
+fn slot_of(kind: Kind, n: Counts) -> usize
     requires { Counted n }
-    ensures { result ≡ slot_of kind n }
+    ensures { result ≡ slot_of (code_of kind) n }
 {
     match kind {
-        1 => NAMES + n.names,
-        2 => SECTIONS + n.sections,
-        3 => SYMBOLS + n.symbols,
-        4 => RELOCATIONS + n.relocations,
-        5 => SPLITS + n.splits,
-        _ => UNITS + n.units,
+        Kind::Name => NAMES + n.names,
+        Kind::Section => SECTIONS + n.sections,
+        Kind::Symbol => SYMBOLS + n.symbols,
+        Kind::Relocation => RELOCATIONS + n.relocations,
+        Kind::Split => SPLITS + n.splits,
+        Kind::Unit => UNITS + n.units,
     }
 }
 
 // The place of a record's payload.
-fn keep_place(kind: u16, at: usize, n: Counts, places: &mut [u32]) -> Counts
-    requires { Counted n × (at ≤ 65536) × (slot_of kind n < length places.old) }
-    ensures { (result ≡ one_more kind n) × (places.new ≡ set places.old (slot_of kind n) at) }
+fn keep_place(kind: Kind, at: usize, n: Counts, places: &mut [u32]) -> Counts
+    requires { Counted n × (at ≤ 65536) × (slot_of (code_of kind) n < length places.old) }
+    ensures { (result ≡ one_more (code_of kind) n) × (places.new ≡ set places.old (slot_of (code_of kind) n) at) }
 {
     let i = slot_of(kind, n);
     places[i] = at as u32;
@@ -338,67 +361,53 @@ fn keep_reloc(file: &[u8], at: usize, n: Counts, places: &mut [u32]) -> Counts
     let r = Reloc::read(file, at);
     let i = FLOORS + (r.section as usize);
     places[i] = r.address + 1;
-    keep_place(4, at, n, places)
+    keep_place(Kind::Relocation, at, n, places)
 }
 
 // A new name's place and length, and its entry in the index; nothing for a repeated one.
-fn keep_name(
-    file: &[u8],
-    at: usize,
-    len: usize,
-    c: Ceilings,
-    n: Counts,
-    columns: &mut Columns,
-) -> Counts
-    requires { (at + len ≤ length file.now)
-        × ReadyIn c file.now n columns.old
-        × (name_number c file.now at len (loaded_in n columns.old) ≡ 0) }
-    ensures { SameColumns columns.old columns.new × KeptIn c file.now at len 1 (loaded_in n columns.old) result columns.new }
+fn keep_name(at: usize, len: usize, columns: &mut Columns)
+    requires { (at + len ≤ length columns.old.file.now)
+        × ReadyIn columns.old
+        × (name_number columns.old.most columns.old.file.now at len (loaded_in columns.old) ≡ 0) }
+    ensures { SameColumns columns.old columns.new × KeptIn at len 1 (loaded_in columns.old) columns.new }
 {
-    let before = columns.so_far(file, c, n);
+    let before = columns.so_far();
     if find_name(&Payload { before, at, len }).is_some() {
-        return n;
+        return;
     }
-    let known = n.names;
+    let known = columns.counts.names;
     let past = at + len;
-    let bucket = bucket_of(&file[at..past]);
+    let bucket = bucket_of(&columns.file[at..past]);
     columns.lengths[known] = len as u8;
     enter(columns.heads, columns.chain, bucket, known);
-    keep_place(1, at, n, columns.places)
+    columns.counts = keep_place(Kind::Name, at, columns.counts, columns.places);
 }
 
 // By kind.
-fn keep_kind(
-    kind: u16,
-    file: &[u8],
-    at: usize,
-    len: usize,
-    c: Ceilings,
-    n: Counts,
-    columns: &mut Columns,
-) -> Counts
-    requires { (at + len ≤ length file.now)
-        × ReadyIn c file.now n columns.old
-        × (kind_number c file.now at len (loaded_in n columns.old) kind ≡ 0) }
-    ensures { SameColumns columns.old columns.new × KeptIn c file.now at len kind (loaded_in n columns.old) result columns.new }
+fn keep_kind(kind: Kind, at: usize, len: usize, columns: &mut Columns)
+    requires { (at + len ≤ length columns.old.file.now)
+        × ReadyIn columns.old
+        × (kind_number columns.old.most columns.old.file.now at len (loaded_in columns.old) (code_of kind) ≡ 0) }
+    ensures { SameColumns columns.old columns.new × KeptIn at len (code_of kind) (loaded_in columns.old) columns.new }
 {
+    let n = columns.counts;
     match kind {
-        1 => keep_name(file, at, len, c, n, columns),
-        4 => keep_reloc(file, at, n, columns.places),
-        _ => keep_place(kind, at, n, columns.places),
+        Kind::Name => keep_name(at, len, columns),
+        Kind::Relocation => columns.counts = keep_reloc(columns.file, at, n, columns.places),
+        _ => columns.counts = keep_place(kind, at, n, columns.places),
     }
 }
 
-// The record at `at`.
-fn keep_record(file: &[u8], at: usize, c: Ceilings, n: Counts, columns: &mut Columns) -> Counts
-    requires { ReadyIn c file.now n columns.old
-        × (record_number c file.now at (loaded_in n columns.old) ≡ 0) }
+// The record at `at`, of this kind.
+fn keep_record(kind: Kind, at: usize, columns: &mut Columns)
+    requires { ReadyIn columns.old
+        × (record_number columns.old.most columns.old.file.now at (loaded_in columns.old) ≡ 0)
+        × (code_of kind ≡ le16 columns.old.file.now (at + 4)) }
     ensures { SameColumns columns.old columns.new
-        × KeptIn c file.now (at + 6) (le32 file.now at) (le16 file.now (at + 4)) (loaded_in n columns.old) result columns.new }
+        × KeptIn (at + 6) (le32 columns.old.file.now at) (le16 columns.old.file.now (at + 4)) (loaded_in columns.old) columns.new }
 {
-    let len = u32::get(file, at) as usize;
-    let kind = u16::get(file, at + 4);
-    keep_kind(kind, file, at + 6, len, c, n, columns)
+    let len = u32::get(columns.file, at) as usize;
+    keep_kind(kind, at + 6, len, columns);
 }
 
 // Where the record after the one at `at` starts.
@@ -412,24 +421,23 @@ fn next_record(file: &[u8], at: usize) -> usize
 // ---- the whole file
 
 // The records in file order, up to the first that has a fault.
-fn load_records(file: &[u8], c: Ceilings, columns: &mut Columns) -> Result<Counts, Refusal>
-    requires { ReadyIn c file.now no_counts columns.old }
+fn load_records(columns: &mut Columns) -> Result<Counts, Refusal>
+    requires { ReadyIn columns.old × (columns.old.counts ≡ no_counts) }
     ensures { SameColumns columns.old columns.new
-        × LoadsIn c file.now (load_from (length file.now) c file.now 0 0 nothing) result columns.new }
+        × LoadsIn (load_from (length columns.old.file.now) columns.old.most columns.old.file.now 0 0 nothing) result columns.new }
 {
-    let mut n = no_counts();
     let mut at = 0;
     let mut r = 0;
     // no count: each record says where the next one starts
-    while at < file.len() {
-        record_number(&columns.so_far(file, c, n), at).map_err(|number| Refusal::new(
+    while at < columns.file.len() {
+        let kind = record_number(&columns.so_far(), at).map_err(|number| Refusal::new(
             number, 0, r,
         ))?;
-        n = keep_record(file, at, c, n, columns);
-        at = next_record(file, at);
+        keep_record(kind, at, columns);
+        at = next_record(columns.file, at);
         r += 1;
     }
-    Ok(n)
+    Ok(columns.counts)
 }
 
 // No relocation so far: zeros from the floors on.
@@ -459,10 +467,13 @@ pub fn load_file(
     clear_floors(places);
     clear_heads(heads);
     let mut columns = Columns {
+        file,
+        most: c,
+        counts: no_counts(),
         places,
         lengths,
         heads,
         chain,
     };
-    load_records(file, c, &mut columns)
+    load_records(&mut columns)
 }

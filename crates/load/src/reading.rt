@@ -27,35 +27,33 @@ pub struct Payload<'f, 'p, 'l, 'h, 'c> {
     pub ghost inside: { at + len ≤ length before.file.now },
 }
 
-// The columns that hold what is loaded: the places of all records, the lengths of the names, and the index of the names. What they hold (`ReadyIn`) is no ghost field: it
-// is of the file, the ceilings and the counts beside them, and does not hold between the writes that keep a record.
+// A file, how many records it may have and how many are loaded so far, and the columns that hold these: the places of all records, the lengths of the names, and the index of the
+// names. What they hold (`ReadyIn`) is no ghost field: it does not hold between the writes that keep a record.
 #[derive(Drop)]
-pub struct Columns<'p, 'l, 'h, 'c> {
+pub struct Columns<'f, 'p, 'l, 'h, 'c> {
+    pub file: &'f [u8],
+    pub most: Ceilings,
+    pub counts: Counts,
     pub places: &'p mut [u32],
     pub lengths: &'l mut [u8],
     pub heads: &'h mut [u16],
     pub chain: &'c mut [u16],
 }
 
-impl Columns<'_, '_, '_, '_> {
-    // What they hold of a file, to be read.
-    pub fn so_far<'a>(
-        &'a self,
-        file: &'a [u8],
-        most: Ceilings,
-        counts: Counts,
-    ) -> SoFar<'a, 'a, 'a, 'a, 'a>
-        requires { Readable most file.now counts self.now.places.now self.now.lengths.now self.now.heads.now self.now.chain.now }
-        ensures { (result.file.now ≡ file.now)
-            × (result.most ≡ most)
-            × (result.counts ≡ counts)
+impl Columns<'_, '_, '_, '_, '_> {
+    // The same, to be read.
+    pub fn so_far(&self) -> SoFar<'_, '_, '_, '_, '_>
+        requires { Readable self.now.most self.now.file.now self.now.counts self.now.places.now self.now.lengths.now self.now.heads.now self.now.chain.now }
+        ensures { (result.file.now ≡ self.now.file.now)
+            × (result.most ≡ self.now.most)
+            × (result.counts ≡ self.now.counts)
             × (result.places.now ≡ self.now.places.now)
             × (result.lengths.now ≡ self.now.lengths.now) }
     {
         SoFar {
-            file,
-            most,
-            counts,
+            file: self.file,
+            most: self.most,
+            counts: self.counts,
             places: &*self.places,
             lengths: &*self.lengths,
             index: NameIndex {

@@ -11,12 +11,15 @@ returns-then-file-gt65536 c =
 
 pub load_records-requires : goal.load_records-requires
 load_records-requires c =
-    let a = c.args in
-    ready_none a.c a.file.now a.places.now a.lengths.now a.heads.now a.chain.now c.requires c.if-file-gt65536.false c.clear_floors.ensures
-    c.clear_heads.ensures
+    let a = c.args in (
+      rw c.no_counts.ensures (ready_none a.c a.file.now a.places.now a.lengths.now a.heads.now a.chain.now c.requires c.if-file-gt65536.false c.clear_floors.ensures
+          c.clear_heads.ensures),
+      c.no_counts.ensures,
+    )
 
 pub returns : goal.returns
 returns c =
     let a = c.args in
     let s = c.load_records.ensures.0 in
-    loads_in (search (rules, sym s.places)) (search (rules, sym s.lengths)) (search (rules, sym s.heads)) (search (rules, sym s.chain)) (loads_small a.c a.file.now _ _ _ _ c.if-file-gt65536.false c.load_records.ensures.1)
+    loads_small a.c a.file.now _ _ _ _ c.if-file-gt65536.false
+    (loads_in (sym s.most) (sym s.file) (search (rules, sym s.places)) (search (rules, sym s.lengths)) (search (rules, sym s.heads)) (search (rules, sym s.chain)) c.load_records.ensures.1)

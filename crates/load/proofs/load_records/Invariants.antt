@@ -7,9 +7,9 @@ use Rattle.load.proofs.load_records.Given as goal
 abbrev pub invariant-loop-at : goal.invariant-loop-at
 invariant-loop-at l = record {
   same : SameColumns l.initial.columns l.columns;
-  ready : ReadyIn l.c l.file l.n l.columns;
-  going : Going l.c l.file l.at l.r (loaded_in l.n l.columns);
+  ready : ReadyIn l.columns;
+  going : Going l.columns.most l.columns.file.now l.at l.r (loaded_in l.columns);
 }
 
 abbrev pub decreases-loop-at : goal.decreases-loop-at
-decreases-loop-at l = length l.file - l.at
+decreases-loop-at l = length l.columns.file.now - l.at

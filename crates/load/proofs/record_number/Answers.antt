@@ -1,26 +1,55 @@
 -- `load::record_number` meets its contract: head and payload lie in the file, then the number by kind.
 -- Assumes nothing.
-use mathlib.Core.Path.{◌∙◌}
+use Rattle.std.proofs.Common.{◌≡◌, ◌+◌, ◌∙◌, sym, arith}
+use Rattle.obj.proofs.Errors.{is_err}
+use Rattle.load.specs.Kinds.{code_of}
+use Rattle.load.specs.Load.{Loaded, kind_number, record_number}
 use Rattle.load.specs.Columns.{tables_in}
+use Rattle.load.specs.declared.reading.SoFar.{SoFar}
 use Rattle.load.proofs.Deciding.{head_cut, payload_cut, payload_whole}
-use Rattle.std.proofs.Common.{ap}
-use Rattle.load.specs.Columns.{fault_as}
+use Rattle.load.proofs.Codes.{kind_unknown}
+use Rattle.load.proofs.Turns.{fault_is, none_is}
 use Rattle.load.proofs.record_number.Goals as goal
+use Rattle.load.proofs.record_number.Goals.{In_ok-kind}
+
+abbrev tables : SoFar → Loaded
+tables b = tables_in b.counts b.places.now b.lengths.now
+
+-- the number by its kind
+whole : (c : In_ok-kind) → kind_number c.args.before.now.most c.args.before.now.file.now (c.args.at + 6) c.get-len.result (tables c.args.before.now) (code_of c.in_ok-kind.kind)
+    ≡ record_number c.args.before.now.most c.args.before.now.file.now c.args.at (tables c.args.before.now)
+whole c =
+    let b = c.args.before.now in
+    payload_whole b.most b.file.now c.args.at (tables b) c.if-file-start.false c.get-len.ensures (c.in_ok-kind.ensures ∙ c.get.ensures) c.if-file-start-2.false
 
 pub returns-then-file-start : goal.returns-then-file-start
 returns-then-file-start c =
     let b = c.args.before.now in
-    ap fault_as
-    (head_cut b.most b.file.now c.args.at (tables_in b.counts b.places.now b.lengths.now) c.if-file-start.true)
+    let q = head_cut b.most b.file.now c.args.at (tables b) c.if-file-start.true in
+    (q, omega (arith, q))
 
 pub returns-then-file-start-2 : goal.returns-then-file-start-2
 returns-then-file-start-2 c =
     let b = c.args.before.now in
-    ap fault_as
-    (payload_cut b.most b.file.now c.args.at (tables_in b.counts b.places.now b.lengths.now) c.if-file-start.false c.get-len.ensures c.if-file-start-2.true)
+    let q = payload_cut b.most b.file.now c.args.at (tables b) c.if-file-start.false c.get-len.ensures c.if-file-start-2.true in
+    (q, omega (arith, q))
+
+pub returns-in_err-kind : goal.returns-in_err-kind
+returns-in_err-kind c =
+    let b = c.args.before.now in
+    let e = c.in_err-kind.ensures in
+    let q : c.in_err-kind.field-0.0 ≡ record_number b.most b.file.now c.args.at (tables b) =
+    e.0
+    ∙ kind_unknown b.most b.file.now (c.args.at + 6) c.get-len.result (tables b) c.get.result e.1
+    ∙ payload_whole b.most b.file.now c.args.at (tables b) c.if-file-start.false c.get-len.ensures c.get.ensures c.if-file-start-2.false in
+    rw (is_err _ c.from_residual.ensures.1) (q, omega (arith, q, e.0))
+
+pub returns-in_err-kind_number : goal.returns-in_err-kind_number
+returns-in_err-kind_number c =
+    let f = fault_is (sym c.in_err-kind_number.was ∙ c.kind_number.ensures) in
+    let q = f.0 ∙ whole (goal.at.returns-in_err-kind_number c).In_ok-kind in
+    rw (is_err _ c.from_residual-in_err-kind_number.ensures.1) (q, omega (arith, q, f.1))
 
 pub returns : goal.returns
 returns c =
-    let b = c.args.before.now in
-    c.kind_number.ensures ∙ ap fault_as
-    (payload_whole b.most b.file.now c.args.at (tables_in b.counts b.places.now b.lengths.now) c.if-file-start.false c.get-len.ensures c.get.ensures c.if-file-start-2.false)
+    (sym (whole (goal.at.returns c).In_ok-kind) ∙ none_is (sym c.in_ok-kind_number.was ∙ c.kind_number.ensures), c.in_ok-kind.ensures ∙ c.get.ensures)
