@@ -31,10 +31,9 @@ fn put_address(out: &mut [u8], address: u32)
 fn leading_dots(name: &[u8]) -> usize
     ensures { Dots name.now result }
 {
-    match name.iter().position(|byte| *byte != b'.') {
-        Some(dots) => dots,
-        None => name.len(),
-    }
+    name.iter()
+        .position(|byte| *byte != b'.')
+        .unwrap_or(name.len())
 }
 
 // Writes the name of a gap's unit to the front of `out`, and gives its length.
