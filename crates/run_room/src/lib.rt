@@ -13,8 +13,8 @@ fn bytes_of(lengths: &[u8]) -> usize
     ensures { result ≡ sum lengths.now }
 {
     let mut bytes: usize = 0;
-    for i in 0..lengths.len() {
-        bytes += usize::from(lengths[i]);
+    for length in lengths {
+        bytes += usize::from(*length);
     }
     bytes
 }

@@ -6,5 +6,5 @@ use lib.ListN.{drop}
 use Rattle.run_room.specs.Room.{sum}
 use Rattle.run_room.proofs.bytes_of.Given as goal
 
-abbrev pub invariant-loop-i : goal.invariant-loop-i
-invariant-loop-i l = (l.bytes + sum (drop l.i l.lengths) ≡ sum l.lengths) × (l.bytes ≤ 255 * l.i)
+abbrev pub invariant-loop-length : goal.invariant-loop-length
+invariant-loop-length l = (l.bytes + sum (drop l.length-index l.lengths) ≡ sum l.lengths) × (l.bytes ≤ 255 * l.length-index)
