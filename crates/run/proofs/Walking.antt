@@ -17,7 +17,7 @@ use Rattle.sections.specs.Image.{Image, image_of}
 use Rattle.sections.specs.Sections.{sections_of, Kept}
 use Rattle.splits.specs.Columns.{Columns}
 use Rattle.relocs.specs.Relocs.{reloc_of}
-use Rattle.units.specs.Units.{unit_names, Listed, Numbered}
+use Rattle.units.specs.Units.{unit_names, Listed}
 use Rattle.pieces.specs.declared.Counts.{Counts}
 use Rattle.pieces.specs.declared.lent.PieceTables.{PieceTables}
 use Rattle.std.specs.Prelude.{Result}
@@ -48,16 +48,15 @@ units_listed b places column k e w names long =
     })
 
 module _ {file names lengths sections images symbols order relocs us : List ℕ} (p : Prepared file names lengths sections images symbols order relocs us) where
-  pub ready : (unit_table places numbers : List ℕ) (c : Columns) (n : ℕ) → Tabled (length sections) c n → Numbered numbers (unit_names unit_table places)
+  pub ready : (places numbers : List ℕ) (c : Columns) (n : ℕ) → Tabled (length sections) c n
       → length places ≤ 1024 → 4096 ≤ length numbers
-      → Ready file symbols order file names lengths file sections file images file relocs unit_table places numbers c n (length sections)
-  ready unit_table places numbers c n w numbered few long = record {
+      → Ready file symbols order file names lengths file sections file images file relocs places numbers c n (length sections)
+  ready places numbers c n w few long = record {
     asked = record { tables = tables-ordered p.usable order p.order_is; sound = symbols_sound p.usable };
     kept = subst (λ (l : List ℕ). Kept file sections file l names) (sym p.images_are) (sections_kept p.usable);
     whole = relocs_whole p.usable;
     rising = relocs_rising p.usable;
     few_relocs = few_relocs p.usable;
-    numbered = numbered;
     few_units = few;
     named = λ i h. omega (arith, long, (row_homed c n w.homed i h).unit);
     within = omega arith;

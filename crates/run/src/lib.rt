@@ -23,6 +23,7 @@ use splits::SplitColumns;
 use stage_walk::{room_of, walk_columns};
 use tables::fill_places;
 use units::number_units;
+use walk::NumberedUnits;
 
 // What a run leaves: how many names were added, with how many bytes, and how many splits, units and records of the walk there are.
 #[derive(Clone, Copy, Default)]
@@ -72,6 +73,10 @@ fn walk_lent(
         places: &places[..count],
     };
     number_units(&unit_records, &mut unit_numbers);
+    let units = NumberedUnits {
+        table: unit_records,
+        numbers: &unit_numbers,
+    };
     let mut tables = PieceTables {
         room: room_of(pieces.len(), entries.len(), offsets.len()),
         made: Counts::default(),
@@ -88,8 +93,7 @@ fn walk_lent(
         &loaded.image(),
         &relocs,
         splits,
-        &unit_records,
-        &unit_numbers,
+        &units,
         &mut tables,
     )?;
     Ok(tables.made)

@@ -22,7 +22,7 @@ use pieces::PieceTables;
 use relocs::for_section;
 use sections::{Obj, end_of};
 use splits::{SectionRange, SplitColumns, next_row, row, start_of};
-use walk::{Target, choose, give, refuse_at};
+use walk::{NumberedUnits, Target, choose, give, refuse_at};
 
 // Where section n starts.
 fn section_start(heads: &Table, n: usize) -> u32
@@ -53,16 +53,15 @@ pub fn walk_sections(
     image: &Table,
     relocs: &Table,
     splits: &SplitColumns,
-    unit_table: &Table,
-    unit_numbers: &[u16],
+    units: &NumberedUnits,
     first: usize,
     last: usize,
 ) -> Result<(), Refusal>
-    requires { Ready obj.now.symbols.bytes.now obj.now.symbols.places.now obj.now.order.now obj.now.names.bytes.now obj.now.names.places.now obj.now.names.lengths.now obj.now.heads.bytes.now obj.now.heads.places.now image.now.bytes.now image.now.places.now relocs.now.bytes.now relocs.now.places.now unit_table.now.bytes.now unit_table.now.places.now unit_numbers.now (columns_of splits.now) splits.now.count last
-        × Tabled (length obj.now.symbols.places.now) (length relocs.now.places.now) (length unit_table.now.places.now) scratch.old part.old tables.old
+    requires { Ready obj.now.symbols.bytes.now obj.now.symbols.places.now obj.now.order.now obj.now.names.bytes.now obj.now.names.places.now obj.now.names.lengths.now obj.now.heads.bytes.now obj.now.heads.places.now image.now.bytes.now image.now.places.now relocs.now.bytes.now relocs.now.places.now units.now.table.places.now units.now.numbers.now (columns_of splits.now) splits.now.count last
+        × Tabled (length obj.now.symbols.places.now) (length relocs.now.places.now) (length units.now.table.places.now) scratch.old part.old tables.old
         × (first ≤ last) }
     ensures { (gave_meaning tables.new result
-        ≡ walk_sections (input_of (image_in obj.now) (sections_of obj.now.heads.bytes.now obj.now.heads.places.now image.now.bytes.now image.now.places.now) (reloc_of relocs.now.bytes.now relocs.now.places.now) (length relocs.now.places.now) (rows_of splits.now) (unit_names unit_table.now.bytes.now unit_table.now.places.now) tables.old.room) first (last - first) (output_of tables.old))
+        ≡ walk_sections (input_of (image_in obj.now) (sections_of obj.now.heads.bytes.now obj.now.heads.places.now image.now.bytes.now image.now.places.now) (reloc_of relocs.now.bytes.now relocs.now.places.now) (length relocs.now.places.now) (rows_of splits.now) (unit_names units.now.table.bytes.now units.now.table.places.now) tables.old.room) first (last - first) (output_of tables.old))
         × Besides (length obj.now.symbols.places.now) scratch.new tables.new result
         × SameLent tables.old tables.new }
 {
@@ -86,7 +85,7 @@ pub fn walk_sections(
                 let s = row(splits, k);
                 i = next_row(splits, range, k + 1);
                 let next = start_of(splits, i, end);
-                let target = choose(obj, image, unit_table, unit_numbers, n, s, current, next)?;
+                let target = choose(obj, image, units, n, s, current, next)?;
                 if let Some(Target { unit, alignment }) = target {
                     let mut a = alignment;
                     let alignment = loop {

@@ -21,6 +21,7 @@ use splits::{SplitColumns, SplitTable};
 use stage_splits::take_split_columns;
 use stage_tables::take_units;
 use units::number_units;
+use walk::NumberedUnits;
 
 // How many records lent tables of these sizes may take.
 pub fn room_of(pieces: usize, symbols: usize, relocs: usize) -> Counts
@@ -52,14 +53,13 @@ pub fn walk_columns(
     image: &Table,
     relocs: &Table,
     splits: &SplitColumns,
-    unit_table: &Table,
-    unit_numbers: &[u16],
+    units: &NumberedUnits,
     tables: &mut PieceTables,
 ) -> Result<(), Refusal>
-    requires { Ready obj.now.symbols.bytes.now obj.now.symbols.places.now obj.now.order.now obj.now.names.bytes.now obj.now.names.places.now obj.now.names.lengths.now obj.now.heads.bytes.now obj.now.heads.places.now image.now.bytes.now image.now.places.now relocs.now.bytes.now relocs.now.places.now unit_table.now.bytes.now unit_table.now.places.now unit_numbers.now (columns_of splits.now) splits.now.count (length obj.now.heads.places.now)
+    requires { Ready obj.now.symbols.bytes.now obj.now.symbols.places.now obj.now.order.now obj.now.names.bytes.now obj.now.names.places.now obj.now.names.lengths.now obj.now.heads.bytes.now obj.now.heads.places.now image.now.bytes.now image.now.places.now relocs.now.bytes.now relocs.now.places.now units.now.table.places.now units.now.numbers.now (columns_of splits.now) splits.now.count (length obj.now.heads.places.now)
         × (length obj.now.symbols.places.now ≤ 4096) }
     ensures { Gives
-        (walk_of (image_in obj.now) (sections_lent obj.now.heads image.now) (reloc_of relocs.now.bytes.now relocs.now.places.now) (length relocs.now.places.now) (rows_of splits.now) (unit_names unit_table.now.bytes.now unit_table.now.places.now) (within_ceilings tables.old.room))
+        (walk_of (image_in obj.now) (sections_lent obj.now.heads image.now) (reloc_of relocs.now.bytes.now relocs.now.places.now) (length relocs.now.places.now) (rows_of splits.now) (unit_names units.now.table.bytes.now units.now.table.places.now) (within_ceilings tables.old.room))
         tables.old tables.new result }
 {
     let mut scratch = [0u16; 9216];
@@ -75,8 +75,7 @@ pub fn walk_columns(
         image,
         relocs,
         splits,
-        unit_table,
-        unit_numbers,
+        units,
         0,
         obj.heads.places.len(),
     );
@@ -108,15 +107,11 @@ fn with_units(
         places: &places[..n],
     };
     number_units(&unit_records, &mut unit_numbers);
-    walk_columns(
-        obj,
-        image,
-        relocs,
-        splits,
-        &unit_records,
-        &unit_numbers,
-        tables,
-    )
+    let units = NumberedUnits {
+        table: unit_records,
+        numbers: &unit_numbers,
+    };
+    walk_columns(obj, image, relocs, splits, &units, tables)
 }
 
 // The splits, and the tables after them.

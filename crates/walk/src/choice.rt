@@ -4,11 +4,11 @@ ghost use Rattle.align.specs.Align.{bad_align};
 ghost use Rattle.obj.specs.Answers.{meaning};
 ghost use Rattle.sections.specs.Image.{image_in};
 ghost use Rattle.sections.specs.Sections.{sections_of, head_of};
-ghost use Rattle.units.specs.Units.{unit_names, Numbered};
+ghost use Rattle.units.specs.Units.{unit_names};
 ghost use Rattle.walk.specs.Walk.{alignment_in};
 ghost use Rattle.walk.specs.Steps.{SectionThere, SectionNamed, Asked, between_of, AlignedAt, decide, Sane};
 
-use crate::{Target, refuse_at};
+use crate::{NumberedUnits, Target, refuse_at};
 use fields::number;
 use obj::{Refusal, Section, Split, Table};
 use pieces::piece_bytes;
@@ -84,8 +84,7 @@ fn alignment_at(obj: &Obj, n: usize, s: Split, start: u32) -> Result<u32, Backwa
 pub fn choose(
     obj: &Obj,
     image: &Table,
-    unit_table: &Table,
-    unit_numbers: &[u16],
+    units: &NumberedUnits,
     n: usize,
     s: Split,
     current: u32,
@@ -94,11 +93,10 @@ pub fn choose(
     requires { Asked obj.now.symbols.bytes.now obj.now.symbols.places.now obj.now.order.now obj.now.names.bytes.now obj.now.names.places.now obj.now.names.lengths.now
         × SectionThere obj.now.heads.bytes.now obj.now.heads.places.now image.now.bytes.now image.now.places.now n
         × SectionNamed obj.now.heads.bytes.now obj.now.heads.places.now obj.now.names.places.now n
-        × Numbered unit_numbers.now (unit_names unit_table.now.bytes.now unit_table.now.places.now)
-        × (s.unit < length unit_numbers.now)
+        × (s.unit < length units.now.numbers.now)
         × (bad_align s.alignment ≡ false) }
-    ensures { (meaning result ≡ decide (image_in obj.now) (sections_of obj.now.heads.bytes.now obj.now.heads.places.now image.now.bytes.now image.now.places.now) (unit_names unit_table.now.bytes.now unit_table.now.places.now) n current next s)
-        × Sane (length unit_table.now.places.now) current s result }
+    ensures { (meaning result ≡ decide (image_in obj.now) (sections_of obj.now.heads.bytes.now obj.now.heads.places.now image.now.bytes.now image.now.places.now) (unit_names units.now.table.bytes.now units.now.table.places.now) n current next s)
+        × Sane (length units.now.table.places.now) current s result }
 {
     if s.start != current {
         return refuse_at(71, n, current);
@@ -107,8 +105,8 @@ pub fn choose(
     if s.is_skipped() {
         return Ok(None);
     }
-    let unit = number(unit_numbers, s.unit as usize);
-    if unit == unit_table.places.len() {
+    let unit = number(units.numbers, s.unit as usize);
+    if unit == units.table.places.len() {
         return refuse_at(74, n, current);
     }
     let asked = alignment_at(obj, n, s, current);

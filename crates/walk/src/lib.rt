@@ -4,11 +4,13 @@
 
 mod choice;
 mod entries;
+mod numbered_units;
 mod output;
 
 ghost use Rattle.std.specs.Prelude.{◌≡◌, ◌<◌, Err};
 
 pub use choice::choose;
+pub use numbered_units::NumberedUnits;
 use obj::{Refusal, refuse};
 pub use output::give;
 

@@ -34,7 +34,7 @@ walk_columns-requires c =
     let placed = places_front 8 a.count _ c.fill_places.new.places (omega (arith, q.2.few)) c.fill_places.ensures in
     let count = ap length placed ∙ length-stage_places 8 a.count in
     rw (c.obj.ensures, c.image.ensures) (
-      ready q.0 a.unit_table.now _ n.new.column (columns_of a.splits.now) a.splits.now.count q.1 n.ensures
+      ready q.0 _ n.new.column (columns_of a.splits.now) a.splits.now.count q.1
           (omega (arith, count, q.2.few)) (omega (arith, n.auto.column)),
       few_symbols q.0.usable,
     )

@@ -38,7 +38,7 @@ returns-in_err-end c =
     let n = p.n in
     let below : n < a.last = c.loop-n-test.true in
     let k = columns_of a.splits.now in
-    let t = tables_input a.obj.now.symbols.bytes.now a.obj.now.symbols.places.now a.obj.now.names.bytes.now a.obj.now.names.places.now a.obj.now.names.lengths.now a.obj.now.heads.bytes.now a.obj.now.heads.places.now a.image.now.bytes.now a.image.now.places.now a.relocs.now.bytes.now a.relocs.now.places.now k a.splits.now.count a.unit_table.now.bytes.now a.unit_table.now.places.now p.tables.room in
+    let t = tables_input a.obj.now.symbols.bytes.now a.obj.now.symbols.places.now a.obj.now.names.bytes.now a.obj.now.names.places.now a.obj.now.names.lengths.now a.obj.now.heads.bytes.now a.obj.now.heads.places.now a.image.now.bytes.now a.image.now.places.now a.relocs.now.bytes.now a.relocs.now.places.now k a.splits.now.count a.units.now.table.bytes.now a.units.now.table.places.now p.tables.room in
     refused_at _ _ _ _ _ c.in_err-end.field-0.0 _ (is_err _ c.from_residual.ensures.1)
     (ends_short t n a.last (output_of p.tables) _ p.invariant.0.same below c.section_start-low.result c.section_start-low.ensures _ _ _ c.in_err-end.ensures)
     (p.invariant.1)
@@ -51,7 +51,7 @@ returns-in_default c =
     let below : n < a.last = c.loop-n-test.true in
     let k = columns_of a.splits.now in
     let q = c.loop-current in
-    let lent = tables_input a.obj.now.symbols.bytes.now a.obj.now.symbols.places.now a.obj.now.names.bytes.now a.obj.now.names.places.now a.obj.now.names.lengths.now a.obj.now.heads.bytes.now a.obj.now.heads.places.now a.image.now.bytes.now a.image.now.places.now a.relocs.now.bytes.now a.relocs.now.places.now k a.splits.now.count a.unit_table.now.bytes.now a.unit_table.now.places.now in
+    let lent = tables_input a.obj.now.symbols.bytes.now a.obj.now.symbols.places.now a.obj.now.names.bytes.now a.obj.now.names.places.now a.obj.now.names.lengths.now a.obj.now.heads.bytes.now a.obj.now.heads.places.now a.image.now.bytes.now a.image.now.places.now a.relocs.now.bytes.now a.relocs.now.places.now k a.splits.now.count a.units.now.table.bytes.now a.units.now.table.places.now in
     let t = lent q.tables.room in
     let tp = lent p.tables.room in
     let low = c.section_start-low.result in
@@ -70,7 +70,7 @@ abbrev lent : After-start_of-next → Counts → Input
 lent c =
     let a = c.args in
     let k = columns_of a.splits.now in
-    tables_input a.obj.now.symbols.bytes.now a.obj.now.symbols.places.now a.obj.now.names.bytes.now a.obj.now.names.places.now a.obj.now.names.lengths.now a.obj.now.heads.bytes.now a.obj.now.heads.places.now a.image.now.bytes.now a.image.now.places.now a.relocs.now.bytes.now a.relocs.now.places.now k a.splits.now.count a.unit_table.now.bytes.now a.unit_table.now.places.now
+    tables_input a.obj.now.symbols.bytes.now a.obj.now.symbols.places.now a.obj.now.names.bytes.now a.obj.now.names.places.now a.obj.now.names.lengths.now a.obj.now.heads.bytes.now a.obj.now.heads.places.now a.image.now.bytes.now a.image.now.places.now a.relocs.now.bytes.now a.relocs.now.places.now k a.splits.now.count a.units.now.table.bytes.now a.units.now.table.places.now
 
 abbrev section_left : After-start_of-next → Outcome Output
 section_left c =
@@ -104,8 +104,8 @@ turn c =
     }
 
 -- the target of a split that gives
-gives : (c : In-Some-target) → Gives (length c.args.unit_table.now.places.now) c.loop-current.current c.row-s.result c.in-Some-target.field-0.unit c.in-Some-target.field-0.alignment
-gives c = subst (λ (x : Option Target). Sane (length c.args.unit_table.now.places.now) c.loop-current.current c.row-s.result (Ok x)) c.in-Some-target.is c.in_ok-target.ensures.1
+gives : (c : In-Some-target) → Gives (length c.args.units.now.table.places.now) c.loop-current.current c.row-s.result c.in-Some-target.field-0.unit c.in-Some-target.field-0.alignment
+gives c = subst (λ (x : Option Target). Sane (length c.args.units.now.table.places.now) c.loop-current.current c.row-s.result (Ok x)) c.in-Some-target.is c.in_ok-target.ensures.1
 
 decided : (c : In-Some-target) → let g = lent (goal.at.In-Some-target c).After-start_of-next c.loop-current.tables.room in
     accepted (Some (record { unit = c.in-Some-target.field-0.unit; alignment = c.in-Some-target.field-0.alignment }))
@@ -126,8 +126,7 @@ choose-requires c =
       ready.asked,
       record { held = kept-held _ _ _ _ _ kept n there; below = kept.below n there; lies = kept_lies _ _ _ _ _ kept n there },
       record { held = kept-held _ _ _ _ _ kept n there; named = kept.named n there; few = omega (arith, few) },
-      ready.numbered,
-      subst (λ (y : Split). y.unit < length a.unit_numbers.now) (sym c.row-s.ensures) (ready.named c.in-Some.k (split_small q.invariant.0 c.in-Some.is)),
+      subst (λ (y : Split). y.unit < length a.units.now.numbers.now) (sym c.row-s.ensures) (ready.named c.in-Some.k (split_small q.invariant.0 c.in-Some.is)),
       ap (λ (y : Split). bad_align y.alignment) c.row-s.ensures ∙ alignment_good _ (good_row _ _ _ _),
     )
 
@@ -233,7 +232,7 @@ loop-n-preserved c =
     let below : n < a.last = c.loop-n-test.true in
     let k = columns_of a.splits.now in
     let q = c.loop-current in
-    let lent = tables_input a.obj.now.symbols.bytes.now a.obj.now.symbols.places.now a.obj.now.names.bytes.now a.obj.now.names.places.now a.obj.now.names.lengths.now a.obj.now.heads.bytes.now a.obj.now.heads.places.now a.image.now.bytes.now a.image.now.places.now a.relocs.now.bytes.now a.relocs.now.places.now k a.splits.now.count a.unit_table.now.bytes.now a.unit_table.now.places.now in
+    let lent = tables_input a.obj.now.symbols.bytes.now a.obj.now.symbols.places.now a.obj.now.names.bytes.now a.obj.now.names.places.now a.obj.now.names.lengths.now a.obj.now.heads.bytes.now a.obj.now.heads.places.now a.image.now.bytes.now a.image.now.places.now a.relocs.now.bytes.now a.relocs.now.places.now k a.splits.now.count a.units.now.table.bytes.now a.units.now.table.places.now in
     let t = lent q.tables.room in
     let tp = lent p.tables.room in
     let low = c.section_start-low.result in
@@ -263,5 +262,5 @@ returns-after-loop-n c =
     let a = c.args in
     let p = c.loop-n in
     let k = columns_of a.splits.now in
-    let t = tables_input a.obj.now.symbols.bytes.now a.obj.now.symbols.places.now a.obj.now.names.bytes.now a.obj.now.names.places.now a.obj.now.names.lengths.now a.obj.now.heads.bytes.now a.obj.now.heads.places.now a.image.now.bytes.now a.image.now.places.now a.relocs.now.bytes.now a.relocs.now.places.now k a.splits.now.count a.unit_table.now.bytes.now a.unit_table.now.places.now p.tables.room in
+    let t = tables_input a.obj.now.symbols.bytes.now a.obj.now.symbols.places.now a.obj.now.names.bytes.now a.obj.now.names.places.now a.obj.now.names.lengths.now a.obj.now.heads.bytes.now a.obj.now.heads.places.now a.image.now.bytes.now a.image.now.places.now a.relocs.now.bytes.now a.relocs.now.places.now k a.splits.now.count a.units.now.table.bytes.now a.units.now.table.places.now p.tables.room in
     (sections_done t p.n a.last (output_of p.tables) _ p.invariant.0.same (let h = p.invariant.0.up in let d = c.loop-n-test.false in omega arith), p.invariant.0.tabled.beside, p.invariant.1)

@@ -24,7 +24,7 @@ pub walk_sections-walked-requires : goal.walk_sections-walked-requires
 walk_sections-walked-requires c =
     let a = c.args in (
       c.requires.0,
-      tabled_none (replicate 9216 0) (λ i. get_or_same 9216 i 0) (length a.obj.now.symbols.places.now) (length a.relocs.now.places.now) (length a.unit_table.now.places.now) (replicate 4096 0) _ (search (rules, c.default-tables.ensures))
+      tabled_none (replicate 9216 0) (λ i. get_or_same 9216 i 0) (length a.obj.now.symbols.places.now) (length a.relocs.now.places.now) (length a.units.now.table.places.now) (replicate 4096 0) _ (search (rules, c.default-tables.ensures))
           (subst Ceilings (sym c.within_ceilings-tables.ensures) (within_low a.tables.now.room))
           (length-replicate {A = ℕ} 9216 0) c.requires.0.few_units (omega (arith, c.requires.0.few_relocs, length-replicate {A = ℕ} 4096 0)) c.requires.1,
       omega arith,
@@ -39,7 +39,7 @@ returns c =
     let g = image_in a.obj.now in
     let sections = sections_of a.obj.now.heads.bytes.now a.obj.now.heads.places.now a.image.now.bytes.now a.image.now.places.now in
     let reloc = reloc_of a.relocs.now.bytes.now a.relocs.now.places.now in
-    let units = unit_names a.unit_table.now.bytes.now a.unit_table.now.places.now in
+    let units = unit_names a.units.now.table.bytes.now a.units.now.table.places.now in
     walked_all g sections reloc (length a.relocs.now.places.now) (rows_of a.splits.now) units (within_ceilings a.tables.now.room) a.tables.now _ a.tables.now.pieces.now a.tables.now.symbols.now a.tables.now.relocs.now w.result
     (w.ensures.0
     ∙ (λ d. walk_sections (input_of g sections reloc (length a.relocs.now.places.now) (rows_of a.splits.now) units (c.within_ceilings-tables.ensures d)) 0 (sections.count - 0)

@@ -31,40 +31,40 @@ pub returns-then-is_skipped : goal.returns-then-is_skipped
 returns-then-is_skipped c =
     (decide_skip _ _ _ _ _ _ _ c.if-s-current.false c.in_ok-between.ensures (sym c.is_skipped.ensures ∙ c.if-is_skipped.true), tt)
 
-pub returns-then-unit-unit_table : goal.returns-then-unit-unit_table
-returns-then-unit-unit_table c =
+pub returns-then-unit-units : goal.returns-then-unit-units
+returns-then-unit-units c =
     let a = c.args in
-    let number = c.number-unit.ensures ∙ c.requires.3.each a.s.unit c.requires.4 in
-    let count = length-map a.unit_table.now.places.now (λ (at : ℕ). (unit_at a.unit_table.now.bytes.now at).name) in
-    rw c.refuse_at-then-unit-unit_table.ensures
-    (decide_unlisted _ _ _ _ _ _ _ c.if-s-current.false c.in_ok-between.ensures (sym c.is_skipped.ensures ∙ c.if-is_skipped.false) (sym number ∙ c.if-unit-unit_table.true ∙ sym count), tt)
+    let number = c.number-unit.ensures ∙ a.units.now.numbered.each a.s.unit c.requires.3 in
+    let count = length-map a.units.now.table.places.now (λ (at : ℕ). (unit_at a.units.now.table.bytes.now at).name) in
+    rw c.refuse_at-then-unit-units.ensures
+    (decide_unlisted _ _ _ _ _ _ _ c.if-s-current.false c.in_ok-between.ensures (sym c.is_skipped.ensures ∙ c.if-is_skipped.false) (sym number ∙ c.if-unit-units.true ∙ sym count), tt)
 
 pub returns-in_err-alignment : goal.returns-in_err-alignment
 returns-in_err-alignment c =
     let a = c.args in
-    let number = c.number-unit.ensures ∙ c.requires.3.each a.s.unit c.requires.4 in
-    let count = length-map a.unit_table.now.places.now (λ (at : ℕ). (unit_at a.unit_table.now.bytes.now at).name) in
+    let number = c.number-unit.ensures ∙ a.units.now.numbered.each a.s.unit c.requires.3 in
+    let count = length-map a.units.now.table.places.now (λ (at : ℕ). (unit_at a.units.now.table.bytes.now at).name) in
     let wanted = alignment_in (image_in a.obj.now) (head_of a.obj.now.heads.bytes.now a.obj.now.heads.places.now a.n) a.n a.current a.s in
     let r = c.in_err-alignment.field-0.0 in
     let at : Refusal = record { number = 11; section = a.n; address = a.current } in
     let stopped = subst (Left (AlignedAt wanted a.n a.current) at) c.in_err-alignment.was (left (AlignedAt wanted a.n a.current) at c.alignment_at-asked.result c.map_err.result c.map_err.ensures.cases (λ e d q. search rules) c.alignment_at-asked.ensures) in
     rw (is_err _ c.from_residual-in_err-alignment.ensures.1)
-    (decide_backwards _ _ _ _ _ _ _ c.if-s-current.false c.in_ok-between.ensures (sym c.is_skipped.ensures ∙ c.if-is_skipped.false) (λ e. c.if-unit-unit_table.false (number ∙ e ∙ count)) r.number r.section r.address (stopped.1 ∙ ap (λ (e : Refusal). refused e.number e.section e.address) (sym stopped.2)), tt)
+    (decide_backwards _ _ _ _ _ _ _ c.if-s-current.false c.in_ok-between.ensures (sym c.is_skipped.ensures ∙ c.if-is_skipped.false) (λ e. c.if-unit-units.false (number ∙ e ∙ count)) r.number r.section r.address (stopped.1 ∙ ap (λ (e : Refusal). refused e.number e.section e.address) (sym stopped.2)), tt)
 
 pub returns : goal.returns
 returns c =
     let a = c.args in
-    let number = c.number-unit.ensures ∙ c.requires.3.each a.s.unit c.requires.4 in
-    let count = length-map a.unit_table.now.places.now (λ (at : ℕ). (unit_at a.unit_table.now.bytes.now at).name) in
+    let number = c.number-unit.ensures ∙ a.units.now.numbered.each a.s.unit c.requires.3 in
+    let count = length-map a.units.now.table.places.now (λ (at : ℕ). (unit_at a.units.now.table.bytes.now at).name) in
     let wanted = alignment_in (image_in a.obj.now) (head_of a.obj.now.heads.bytes.now a.obj.now.heads.places.now a.n) a.n a.current a.s in
     let at : Refusal = record { number = 11; section = a.n; address = a.current } in
     let valued = subst (Left (AlignedAt wanted a.n a.current) at) c.in_ok-alignment.was (left (AlignedAt wanted a.n a.current) at c.alignment_at-asked.result c.map_err.result c.map_err.ensures.cases (λ e d q. search rules) c.alignment_at-asked.ensures) in
     let alignment = c.in_ok-alignment.alignment in (
       ap (λ (u : ℕ). accepted (Some (record { unit = u; alignment = alignment }))) number
-          ∙ decide_gives _ _ _ _ _ _ _ c.if-s-current.false c.in_ok-between.ensures (sym c.is_skipped.ensures ∙ c.if-is_skipped.false) (λ e. c.if-unit-unit_table.false (number ∙ e ∙ count)) alignment valued,
+          ∙ decide_gives _ _ _ _ _ _ _ c.if-s-current.false c.in_ok-between.ensures (sym c.is_skipped.ensures ∙ c.if-is_skipped.false) (λ e. c.if-unit-units.false (number ∙ e ∙ count)) alignment valued,
       record {
         starts = c.if-s-current.false;
-        listed = let h = c.if-unit-unit_table.false in omega (arith, unit_le (unit_names a.unit_table.now.bytes.now a.unit_table.now.places.now) a.s.unit, number, count);
+        listed = let h = c.if-unit-units.false in omega (arith, unit_le (unit_names a.units.now.table.bytes.now a.units.now.table.places.now) a.s.unit, number, count);
         least = valued.least;
         most = valued.most;
       },
