@@ -81,7 +81,8 @@ fn is_object_below(y: Symbol, end: u32) -> bool
     (y.address < end) & is_sized_unstripped(y, true)
 }
 
-// "while the last .. has one of the five linker object names, that symbol's address"; over a section's symbols, the last first.
+// "while the last .. has one of the five linker object names, that symbol's address"; over a section's symbols, the last first. By place: of
+// `iter().rev()` only the list of what it has yielded is known, where the definition's law goes by what is left, the first j numbers of the part.
 fn lower(table: &Table, part: &[u16], names: &Names, end: u32) -> u32
     requires { Part table.now.bytes.now table.now.places.now part.now names.now.bytes.now names.now.places.now names.now.lengths.now }
     ensures { Within (lowered (image_of table.now.bytes.now table.now.places.now names.now.bytes.now names.now.places.now names.now.lengths.now) end (reverse part.now)) end result }
@@ -201,24 +202,34 @@ pub fn default_of(names: &Names, heads: &Table, n: usize) -> u32
     default_alignment(head, name_at(names, name))
 }
 
-// "Alignment of a split", of a split of a stage's table; the range is asked from `start` on. Inlined for the same reason.
+// "Alignment of a split" in section n, whose range is asked from `start` on. Inlined for the same reason.
 #[inline(always)]
-pub fn split_alignment(obj: &Obj, s: Split, start: u32) -> Result<Alignment, Backwards>
-    requires { TablesIn obj.now × Heads obj.now.heads.bytes.now obj.now.heads.places.now obj.now.names.places.now × (s.section < length obj.now.heads.places.now) }
-    ensures { alignment_meaning s.section start result ≡ alignment_from (image_in obj.now) (head_of obj.now.heads.bytes.now obj.now.heads.places.now) start s }
+pub fn alignment_in(obj: &Obj, n: usize, s: Split, start: u32) -> Result<Alignment, Backwards>
+    requires { TablesIn obj.now × Held 15 obj.now.heads.bytes.now obj.now.heads.places.now n × ((head_in obj.now n).name < length obj.now.names.places.now) × (n < 65536) }
+    ensures { alignment_meaning n start result
+        ≡ alignment_of (image_in obj.now).symbol (image_in obj.now).count n (default_alignment (head_in obj.now n) ((image_in obj.now).name (head_in obj.now n).name)) s.alignment start s.end }
 {
     // "The given one": the section's name need not be looked at
     if s.alignment != 0 {
         return Ok(Alignment::Given(s.alignment));
     }
-    let least = default_of(&obj.names, &obj.heads, usize::from(s.section));
+    let least = default_of(&obj.names, &obj.heads, n);
     alignment_of(
         &obj.symbols,
         obj.order,
-        s.section,
+        n as u16,
         least,
         s.alignment,
         start,
         s.end,
     )
+}
+
+// .. in its own section.
+#[inline(always)]
+pub fn split_alignment(obj: &Obj, s: Split, start: u32) -> Result<Alignment, Backwards>
+    requires { TablesIn obj.now × Heads obj.now.heads.bytes.now obj.now.heads.places.now obj.now.names.places.now × (s.section < length obj.now.heads.places.now) }
+    ensures { alignment_meaning s.section start result ≡ alignment_from (image_in obj.now) (head_of obj.now.heads.bytes.now obj.now.heads.places.now) start s }
+{
+    alignment_in(obj, usize::from(s.section), s, start)
 }

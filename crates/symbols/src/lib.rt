@@ -106,7 +106,7 @@ pub fn is_sized(y: Symbol) -> bool
 pub fn is_sized_unstripped(y: Symbol, objects: bool) -> bool
     ensures { result ≡ sized_unstripped objects y }
 {
-    (!objects | (y.kind == 2)) & ((y.size_known == 1) & (y.size != 0) & !y.is_stripped())
+    (!objects | (y.kind == 2)) & (is_sized(y) & !y.is_stripped())
 }
 
 // Whether the symbol whose number stands at place j is sized and unstripped.

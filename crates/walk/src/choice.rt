@@ -12,7 +12,7 @@ use crate::{NumberedUnits, Target, refuse_at};
 use fields::number;
 use obj::{Refusal, Section, Split, Table};
 use pieces::piece_bytes;
-use sections::{Obj, alignment_of, default_of, is_zero, section_bytes};
+use sections::{Obj, alignment_in, is_zero, section_bytes};
 use symbols::Backwards;
 
 // As `contains_range` of obj/sections.rs.
@@ -53,8 +53,7 @@ fn between(
     refuse_at(73, n, current)
 }
 
-// "Alignment of a split" in section n, asked from `start` on; its range may be asked backwards (11). As `sections::split_alignment`, of a section by number: that one is asked
-// with heads that are all named, `choose` with section n's alone, so calling it would ask more of the walk's callers.
+// The value of the "Alignment of a split" in section n, asked from `start` on; its range may be asked backwards (11).
 fn alignment_at(obj: &Obj, n: usize, s: Split, start: u32) -> Result<u32, Backwards>
     requires { Asked obj.now.symbols.bytes.now obj.now.symbols.places.now obj.now.order.now obj.now.names.bytes.now obj.now.names.places.now obj.now.names.lengths.now
         × SectionNamed obj.now.heads.bytes.now obj.now.heads.places.now obj.now.names.places.now n
@@ -63,20 +62,7 @@ fn alignment_at(obj: &Obj, n: usize, s: Split, start: u32) -> Result<u32, Backwa
         (alignment_in (image_in obj.now) (head_of obj.now.heads.bytes.now obj.now.heads.places.now n) n start s)
         n start result }
 {
-    // "The given one": the section's name need not be looked at
-    if s.alignment != 0 {
-        return Ok(s.alignment);
-    }
-    let least = default_of(&obj.names, &obj.heads, n);
-    let alignment = alignment_of(
-        &obj.symbols,
-        obj.order,
-        n as u16,
-        least,
-        s.alignment,
-        start,
-        s.end,
-    )?;
+    let alignment = alignment_in(obj, n, s, start)?;
     Ok(alignment.value())
 }
 

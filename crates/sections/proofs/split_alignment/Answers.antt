@@ -1,20 +1,7 @@
--- `sections::split_alignment` meets its contract: the given one, else the alignment with the default of the split's section.
-use mathlib.Core.Path.{ap, ◌∙◌}
-use Prim.Native.Nat.{ℕ}
-use lib.ListN.{length}
-use Rattle.symbol_order.specs.Order.{symbol_of}
-use Rattle.sections.specs.Alignment.{alignment_of, alignment_from}
-use Rattle.sections.proofs.Larger.{its_own}
+-- `sections::split_alignment` meets its contract: the alignment of the split in its section.
+use Rattle.sections.specs.Alignment.{alignment_from}
 use Rattle.sections.proofs.split_alignment.Goals as goal
-
-pub returns-then-s-ne0 : goal.returns-then-s-ne0
-unfolding alignment_from
-returns-then-s-ne0 c = its_own _ _ _ _ _ _ _ c.if-s-ne0.true
 
 pub returns : goal.returns
 unfolding alignment_from
-returns c =
-    let a = c.args in
-    let s = a.s in
-    c.alignment_of.ensures
-    ∙ ap (λ (least : ℕ). alignment_of (symbol_of a.obj.now.symbols.bytes.now a.obj.now.symbols.places.now) (length a.obj.now.symbols.places.now) s.section least s.alignment a.start s.end) (rw c.from.ensures at c.default_of-least.ensures)
+returns c = rw c.from.ensures at c.alignment_in.ensures

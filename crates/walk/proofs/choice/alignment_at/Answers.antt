@@ -1,39 +1,18 @@
 -- `walk::choice::alignment_at` meets its contract: the alignment of the split over the section's default, which is good.
-use mathlib.Core.Path.{sym, ap, subst, ◌∙◌}
+use mathlib.Core.Path.{sym, subst}
 use Prim.Native.Nat.{ℕ}
-use lib.ListN.{length}
 use Rattle.std.proofs.lemmas.Result.{err_from_is_err_and}
-use Rattle.symbol_order.specs.Order.{symbol_of}
 use Rattle.sections.specs.Image.{image_in}
 use Rattle.sections.specs.Sections.{head_of}
-use Rattle.sections.specs.Alignment.{Chosen, default_alignment, alignment_of}
-use Rattle.sections.specs.declared.Alignment.TheVariants.{Given}
+use Rattle.sections.specs.Alignment.{Chosen, default_alignment}
 use Rattle.sections.proofs.Good.{default_good, chosen_good}
-use Rattle.sections.proofs.Larger.{its_own}
 use Rattle.walk.specs.Walk.{alignment_in}
 use Rattle.walk.specs.Steps.{Valued}
 use Rattle.walk.proofs.Deciding.{aligned_value}
 use Rattle.walk.proofs.choice.alignment_at.Goals as goal
 
-pub returns-then-s-ne0 : goal.returns-then-s-ne0
-returns-then-s-ne0 c =
-    let a = c.args in
-    let g = image_in a.obj.now in
-    let head = head_of a.obj.now.heads.bytes.now a.obj.now.heads.places.now a.n in
-    let least = default_alignment head (g.name head.name) in
-    aligned_value (alignment_in g head a.n a.start a.s) a.n a.start
-    (λ (x : Chosen) e. chosen_good g.symbol g.count a.n least a.s.alignment a.start a.s.end c.requires.0.sound (default_good head (g.name head.name)) c.requires.2 x e)
-    (Given a.s.alignment)
-    (its_own g.symbol g.count a.n least a.s.alignment a.start a.s.end c.if-s-ne0.true)
-
 pub returns-in_err-alignment : goal.returns-in_err-alignment
-returns-in_err-alignment c =
-    let a = c.args in
-    let g = image_in a.obj.now in
-    let p = err_from_is_err_and c.from_residual.result c.from_residual.ensures.1 in
-    rw p.1
-    (sym (c.in_err-alignment.ensures
-    ∙ ap (λ (l : ℕ). alignment_of (symbol_of a.obj.now.symbols.bytes.now a.obj.now.symbols.places.now) (length a.obj.now.symbols.places.now) a.n l a.s.alignment a.start a.s.end) c.default_of-least.ensures))
+returns-in_err-alignment c = let p = err_from_is_err_and c.from_residual.result c.from_residual.ensures.1 in rw p.1 (sym c.in_err-alignment.ensures)
 
 pub returns : goal.returns
 returns c =
@@ -43,7 +22,5 @@ returns c =
     let wanted = alignment_in g head a.n a.start a.s in
     subst (λ (r : ℕ). Valued wanted r) (sym c.value.ensures)
     (aligned_value wanted a.n a.start
-    (λ (x : Chosen) e. chosen_good (symbol_of a.obj.now.symbols.bytes.now a.obj.now.symbols.places.now) (length a.obj.now.symbols.places.now) a.n (default_alignment head (g.name head.name)) a.s.alignment a.start a.s.end c.requires.0.sound (default_good head (g.name head.name)) c.requires.2 x e)
-    c.in_ok-alignment.alignment
-    (c.in_ok-alignment.ensures
-    ∙ ap (λ (l : ℕ). alignment_of (symbol_of a.obj.now.symbols.bytes.now a.obj.now.symbols.places.now) (length a.obj.now.symbols.places.now) a.n l a.s.alignment a.start a.s.end) c.default_of-least.ensures))
+    (λ (x : Chosen) e. chosen_good g.symbol g.count a.n (default_alignment head (g.name head.name)) a.s.alignment a.start a.s.end c.requires.0.sound (default_good head (g.name head.name)) c.requires.2 x e)
+    c.in_ok-alignment.alignment c.in_ok-alignment.ensures)
