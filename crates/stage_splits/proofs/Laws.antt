@@ -10,14 +10,12 @@ use borrow.Author.Tests.{ltb-true, ltb-false}
 use lib.Dec.{ltb}
 use lib.ListN.{length, take, replicate}
 use Rattle.lists.specs.Outcome.{Outcome, accepted, refused, ◌>>◌}
-use Rattle.lists.specs.Rows.{clear_from}
 use Rattle.lists.specs.Tables.{laid}
-use Rattle.lists.proofs.Clear.{clear_all}
 use Rattle.lists.proofs.Outcomes.{not_both, same_accepted}
 use Rattle.align.specs.Align.{bad_align}
 use Rattle.obj.specs.Answers.{word, meaning, outcome_word}
 use Rattle.obj.specs.Answers.{Answer}
-use Rattle.std.specs.Prelude.{Ok, Err, is_err}
+use Rattle.std.specs.Prelude.{Ok, Err}
 use Rattle.std.proofs.lemmas.List.{get_or-map}
 use Rattle.obj.specs.declared.Section.{Section}
 use Rattle.obj.specs.declared.Split.{Split}
@@ -30,8 +28,8 @@ use Rattle.tables.proofs.Lookups.{held, partial_is}
 use Rattle.tables.proofs.Laws.{partials_aligned, splits_partials}
 use Rattle.stage_tables.specs.StageTables.{partials_check, splits_check, Filled}
 use Rattle.stage_tables.proofs.Laws.{table_passed, taken_places, taken-held}
-use Rattle.outputs.specs.Outputs.{halves, counts_of, store_count, store_counts}
-use Rattle.outputs.proofs.Laws.{counts_stored}
+use Rattle.kept_output.specs.Kept.{kept_of}
+use Rattle.outputs.specs.Outputs.{halves, counts_of}
 use Rattle.splits.specs.Columns.{rows}
 use Rattle.splits.specs.Bytes.{table_bytes, Loadable, Partials}
 use Rattle.stage_splits.specs.StageSplits.{room_of, Leaves, Taken, Laid, Gives}
@@ -110,11 +108,6 @@ pub taken-rows : {answer want : Outcome (Unit {0})} (b places : List ℕ) (rows 
 taken-rows b places rows s at e = record { said = s; taken = λ _. e ∙ ap (splits_in b) at }
 
 -- ---- the counts
-pub one_count : (size n : ℕ) (before : List ℕ) → length before ≡ size → store_count 0 n (clear_from 0 0 before) ≡ counts_of size (n ∷ [])
-unfolding store_counts
-one_count size n before e =
-    ap (store_count 0 n) (clear_all 0 before ∙ ap (λ (k : ℕ). replicate k 0) e) ∙ counts_stored size (n ∷ [])
-
 -- no rows, and a count of 0: zeros throughout
 pub nothing-laid : (size : ℕ) → replicate size 0 ≡ laid size (table_bytes [])
 unfolding table_bytes
@@ -175,7 +168,7 @@ module _ (o : Outcome (List Split)) (out counts : List ℕ) where
 
   -- a refused one has none
   pub leaves_refused : {number section address answer : ℕ} {out' counts' : List ℕ} → answer ≡ word (Err (record { number = number; section = section; address = address }))
-      → Gives o (Err (record { number = number; section = section; address = address })) (length out) (length counts) out counts → out' ≡ clear_from 0 0 out → counts' ≡ clear_from 0 0 counts
+      → Gives o (Err (record { number = number; section = section; address = address })) (length out) (length counts) out counts → out' ≡ replicate (length out) 0 → counts' ≡ replicate (length counts) 0
       → Leaves o (length out) (length counts) answer out' counts'
   leaves_refused {number} {section} {address} {answer} {out'} {counts'} e w f g = go o w
     where
@@ -184,16 +177,16 @@ module _ (o : Outcome (List Split)) (out counts : List ℕ) where
       go (accepted l) v = absurd (not_both v.answered)
       go (refused n s d) v = record {
         said = e ∙ ap outcome_word v.answered;
-        splits = f ∙ clear_all 0 out ∙ nothing-laid (length out);
-        counted = g ∙ clear_all 0 counts ∙ no_count (length counts);
+        splits = f ∙ nothing-laid (length out);
+        counted = g ∙ no_count (length counts);
       }
 
 -- the end of an entry: the outputs are cleared if its answer is a refusal, and else they stay
 pub leaves_cleared : (a : Answer) (o : Outcome (List Split)) (out counts : List ℕ) {answer : ℕ} {out' counts' : List ℕ} → answer ≡ word a
-    → (is_err a ≡ true → (out' ≡ clear_from 0 0 out) × (counts' ≡ clear_from 0 0 counts)) → (is_err a ≡ false → (out' ≡ out) × (counts' ≡ counts))
+    → out' ≡ kept_of out a → counts' ≡ kept_of counts a
     → Gives o a (length out) (length counts) out counts → Leaves o (length out) (length counts) answer out' counts'
-leaves_cleared (Ok u) o out counts {answer} e f g w = rw ((g refl).0, (g refl).1) (leaves_accepted o out counts e w)
-leaves_cleared (Err r) o out counts e f g w = leaves_refused o out counts e w (f refl).0 (f refl).1
+leaves_cleared (Ok u) o out counts {answer} e f g w = rw (f, g) (leaves_accepted o out counts e w)
+leaves_cleared (Err r) o out counts e f g w = leaves_refused o out counts e w f g
 
 -- `finish` after a function that gave its outputs: what was lent has its length still
 pub finished : (o : Outcome (List Split)) {a : Answer} {size counts_size answer : ℕ} (out counts : List ℕ) {out' counts' : List ℕ} → length out ≡ size → length counts ≡ counts_size

@@ -18,9 +18,10 @@ ghost use Rattle.obj.specs.Records.{split_width};
 ghost use Rattle.stage_splits.specs.StageSplits.{room_of, Taken};
 ghost use Rattle.stage_splits.specs.Output.{LaidIn, GivesIn, LeavesIn, SameLent};
 
+use kept_output::clear_refused;
 use obj::{Refusal, SPLIT_BYTES, Table, word_of};
 pub use output::SplitOutput;
-use outputs::{clear_from, put_count, room_for};
+use outputs::{clear_from, put_counts, room_for};
 use splits::{SplitColumns, SplitTable, load, store};
 use stage_tables::take_splits;
 
@@ -74,7 +75,7 @@ pub fn give_splits(splits: &SplitColumns, output: &mut SplitOutput)
 {
     put_splits(splits, output.splits);
     clear_from(output.counts, 0);
-    put_count(output.counts, 0, splits.count as u16);
+    put_counts(output.counts, &[splits.count as u16]);
 }
 
 // The end of an entry: its answer as a word, and all outputs zero after a refusal.
@@ -82,9 +83,7 @@ pub fn finish(a: Result<(), Refusal>, output: &mut SplitOutput) -> u64
     ensures left { (o : Outcome (List Split)) → GivesIn o a output.old output.old → LeavesIn o result output.old output.new }
     ensures lent { SameLent output.old output.new }
 {
-    if a.is_err() {
-        clear_from(output.splits, 0);
-        clear_from(output.counts, 0);
-    }
+    clear_refused(a, output.splits);
+    clear_refused(a, output.counts);
     word_of(a)
 }
