@@ -8,17 +8,16 @@ ghost use Rattle.tables.specs.Records.{sections_in};
 ghost use Rattle.mend.specs.Mend.{section_ends_of};
 ghost use Rattle.mend_outputs.specs.Outputs.{Leaves};
 ghost use Rattle.entry_mend_splits.specs.Entry.{mend_splits_of, NamesTaken};
-ghost use Rattle.stage_splits.specs.Output.{SameLent};
-ghost use Rattle.mend_outputs.specs.Lent.{GivesIn};
+ghost use Rattle.mend_outputs.specs.Lent.{GivesIn, SameLent};
 ghost use Rattle.tables.specs.Lent.{HeadsHeld};
 ghost use Rattle.entry_mend_splits.specs.Lent.{splits_outcome, sections_outcome};
 
 use mend::{fill_section_ends, mend_table};
-use mend_outputs::{finish, give_mended};
+use mend_outputs::{MendOutputs, finish, give_mended};
 use name_table::{NameColumns, check_names};
 use obj::{Refusal, Table};
 use splits::{SplitEnds, SplitTable};
-use stage_splits::{SplitOutput, room_of, take_split_columns};
+use stage_splits::{room_of, take_split_columns};
 use stage_tables::take_sections;
 
 // Names, checked, and how many bytes each has at the front of the column. Only that is asked later: the other columns, 40 kB of the stack, are gone before those
@@ -43,19 +42,17 @@ fn take_lengths(
     check_names(name_ends, name_bytes, 4096, &mut columns)
 }
 
-// The split table, its mending and the outputs. `section_ends` says where each section ends. `output` and `lines` are two parameters of three functions: of a struct of
-// both the entry doesn't know at its end what the slices of the inner struct hold (tried).
+// The split table, its mending and the outputs. `section_ends` says where each section ends.
 fn from_splits(
     lengths: &[u8],
     heads: &Table,
     section_ends: &[u32],
     splits: &[u8],
-    output: &mut SplitOutput,
-    lines: &mut [u8],
+    outputs: &mut MendOutputs,
 ) -> Result<(), Refusal>
     requires { HeadsHeld heads.now × (section_ends.now ≡ section_ends_of (sections_in heads.now.bytes.now heads.now.places.now)) }
-    ensures gives { GivesIn (splits_outcome lengths.now heads.now splits.now (length output.old.splits.now) (length lines.old)) result output.old lines.old output.new lines.new }
-    ensures lent { SameLent output.old output.new }
+    ensures gives { GivesIn (splits_outcome lengths.now heads.now splits.now (length outputs.old.splits.now) (length outputs.old.lines.now)) result outputs.old outputs.new }
+    ensures lent { SameLent outputs.old outputs.new }
 {
     let mut places = [0u32; 1024];
     let mut starts = [0u32; 1024];
@@ -68,7 +65,7 @@ fn from_splits(
         units: &mut units,
         rest: &mut rest,
         count: 0,
-        room: room_of(output.splits.len()),
+        room: room_of(outputs.splits.len()),
     };
     take_split_columns(lengths, heads, splits, &mut places, &mut table)?;
     let count = table.count;
@@ -79,8 +76,8 @@ fn from_splits(
         rest: &rest,
         count,
     };
-    let r = mend_table(&mut mended, section_ends, lines);
-    give_mended(r, &mended.columns(), output)
+    let r = mend_table(&mut mended, section_ends, outputs.lines);
+    give_mended(r, &mended.columns(), outputs)
 }
 
 // The sections and where each ends, and the split table after them.
@@ -88,11 +85,10 @@ fn from_sections(
     lengths: &[u8],
     sections: &[u8],
     splits: &[u8],
-    output: &mut SplitOutput,
-    lines: &mut [u8],
+    outputs: &mut MendOutputs,
 ) -> Result<(), Refusal>
-    ensures gives { GivesIn (sections_outcome lengths.now sections.now splits.now (length output.old.splits.now) (length lines.old)) result output.old lines.old output.new lines.new }
-    ensures lent { SameLent output.old output.new }
+    ensures gives { GivesIn (sections_outcome lengths.now sections.now splits.now (length outputs.old.splits.now) (length outputs.old.lines.now)) result outputs.old outputs.new }
+    ensures lent { SameLent outputs.old outputs.new }
 {
     let mut places = [0u32; 64];
     let mut section_ends = [0u32; 64];
@@ -104,7 +100,7 @@ fn from_sections(
         places: &places[..n],
     };
     fill_section_ends(&heads, &mut section_ends);
-    from_splits(lengths, &heads, &section_ends[..n], splits, output, lines)
+    from_splits(lengths, &heads, &section_ends[..n], splits, outputs)
 }
 
 // All tables, and the outputs where they pass.
@@ -113,21 +109,14 @@ fn checked(
     name_bytes: &[u8],
     sections: &[u8],
     splits: &[u8],
-    output: &mut SplitOutput,
-    lines: &mut [u8],
+    outputs: &mut MendOutputs,
 ) -> Result<(), Refusal>
-    ensures gives { GivesIn (mend_splits_of name_ends.now name_bytes.now sections.now splits.now (length output.old.splits.now) (length lines.old)) result output.old lines.old output.new lines.new }
-    ensures lent { SameLent output.old output.new }
+    ensures gives { GivesIn (mend_splits_of name_ends.now name_bytes.now sections.now splits.now (length outputs.old.splits.now) (length outputs.old.lines.now)) result outputs.old outputs.new }
+    ensures lent { SameLent outputs.old outputs.new }
 {
     let mut lengths = [0u8; 4096];
     take_lengths(name_ends, name_bytes, &mut lengths)?;
-    from_sections(
-        &lengths[..name_ends.len() / 2],
-        sections,
-        splits,
-        output,
-        lines,
-    )
+    from_sections(&lengths[..name_ends.len() / 2], sections, splits, outputs)
 }
 
 // The entry: the mended split table with its lines, or a refusal, and every byte of the outputs.
@@ -143,10 +132,11 @@ pub fn mend_splits(
     ensures { Leaves (mend_splits_of name_ends.now name_bytes.now sections.now splits.now (length out_splits.old) (length lines.old))
         out_splits.old lines.old counts.old result out_splits.new lines.new counts.new }
 {
-    let mut output = SplitOutput {
+    let mut outputs = MendOutputs {
         splits: out_splits,
+        lines,
         counts,
     };
-    let a = checked(name_ends, name_bytes, sections, splits, &mut output, lines);
-    finish(a, &mut output, lines)
+    let a = checked(name_ends, name_bytes, sections, splits, &mut outputs);
+    finish(a, &mut outputs)
 }

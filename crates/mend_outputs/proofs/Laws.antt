@@ -2,18 +2,15 @@
 use Prim.Native.Nat.{ℕ, ◌*◌, ◌≤◌}
 use mathlib.Core.Path.{◌≡◌, refl, sym, ap, ap₂, subst, ◌∙◌}
 use mathlib.Core.List.{List, [], ◌∷◌}
-use mathlib.Core.Bool.{true, false}
 use native.Mathlib.Omega.{arith}
 use lib.ListN.{length, take, replicate}
 use lib.Seq.{sets, length-take-le, length-sets}
 use Rattle.lists.specs.Outcome.{Outcome, accepted, refused, ◌>>◌}
-use Rattle.lists.specs.Rows.{clear_from}
-use Rattle.lists.proofs.Clear.{clear_all}
 use Rattle.lists.proofs.Outcomes.{not_both, same_accepted}
 use Rattle.lists.proofs.Rows.{length-tabulate}
-use Rattle.obj.specs.Answers.{word, meaning, outcome_word}
+use Rattle.obj.specs.Answers.{meaning, outcome_word}
 use Rattle.obj.specs.Answers.{Answer}
-use Rattle.std.specs.Prelude.{Result, Ok, Err, is_err}
+use Rattle.std.specs.Prelude.{Result, Ok, Err}
 use Rattle.obj.specs.declared.Split.{Split}
 use Rattle.splits.specs.Columns.{Columns, row_at, rows}
 use Rattle.splits.specs.Bytes.{table_bytes}
@@ -81,15 +78,6 @@ stored_gives {o} (Ok size) {n} c {a} {out} {lines} {counts} {out'} {lines'} {cou
     }))
 
 -- ---- at the end
-
--- the outputs are cleared if the answer is a refusal, and else they stay
-pub finishes : (a : Answer) {out lines counts out' lines' counts' : List ℕ} {answer : ℕ} → answer ≡ word a
-    → (is_err a ≡ true → (out' ≡ clear_from 0 0 out) × (lines' ≡ clear_from 0 0 lines) × (counts' ≡ clear_from 0 0 counts))
-    → (is_err a ≡ false → (out' ≡ out) × (lines' ≡ lines) × (counts' ≡ counts)) → Finishes a out lines counts answer out' lines' counts'
-finishes (Ok u) said cleared same = let e = same refl in record { said = said; splits = e.0; lined = e.1; counted = e.2 }
-finishes (Err r) {out} {lines} {counts} said cleared same =
-    let e = cleared refl in
-    record { said = said; splits = e.0 ∙ clear_all 0 out; lined = e.1 ∙ clear_all 0 lines; counted = e.2 ∙ clear_all 0 counts }
 
 -- an accepted outcome stays as it was laid, a refused one leaves zeros
 pub leaves : (o : Outcome Mended) (a : Answer) {out lines counts out₁ lines₁ counts₁ out' lines' counts' : List ℕ} {answer : ℕ} → length out₁ ≡ length out → length lines₁ ≡ length lines

@@ -1,44 +1,49 @@
-// The outputs of `mend_splits`: the mended rows and the counts, as the other entries lend both, and the lines. They are given where the mending was accepted, zeros
+// The outputs of `mend_splits`: the mended rows, the lines, and the counts of both. They are given where the mending was accepted, zeros
 // throughout after a refusal; what is lent beyond stays.
 #![tactic(auto)]
 
-ghost use Rattle.std.specs.Prelude.{◌*◌, ◌≤◌, length};
+ghost use Rattle.std.specs.Prelude.{◌≡◌, ◌*◌, ◌≤◌, length};
 ghost use Rattle.mend.specs.Steps.{line_bytes};
 ghost use Rattle.obj.specs.Records.{split_width};
-ghost use Rattle.stage_splits.specs.Output.{SameLent};
-ghost use Rattle.mend_outputs.specs.Lent.{StoresIn, FinishesIn};
+ghost use Rattle.mend_outputs.specs.Lent.{StoresIn, FinishesIn, SameLent};
 
+use kept_output::clear_refused;
 use obj::{Refusal, word_of};
-use outputs::{clear_from, put_count};
+use outputs::put_counts;
 use splits::{SplitColumns, store};
-use stage_splits::SplitOutput;
+
+// The outputs that are lent to the mending.
+#[derive(Drop)]
+pub struct MendOutputs<'s, 'l, 'c> {
+    pub splits: &'s mut [u8],
+    pub lines: &'l mut [u8],
+    pub counts: &'c mut [u8],
+}
 
 // The rows at the front of the output, and in the counts how many they are and how many bytes of lines there are; nothing after a refusal.
 pub fn give_mended(
     r: Result<usize, Refusal>,
     splits: &SplitColumns,
-    output: &mut SplitOutput,
+    outputs: &mut MendOutputs,
 ) -> Result<(), Refusal>
-    requires { (split_width * splits.now.count ≤ length output.old.splits.now) × (splits.now.count ≤ 1024) × (line_bytes r ≤ 49152) }
-    ensures stores { StoresIn r splits.now result output.old output.new }
-    ensures lent { SameLent output.old output.new }
+    requires { (split_width * splits.now.count ≤ length outputs.old.splits.now) × (splits.now.count ≤ 1024) × (line_bytes r ≤ 49152) }
+    ensures stores { StoresIn r splits.now result outputs.old outputs.new }
+    ensures lines { outputs.new.lines.now ≡ outputs.old.lines.now }
+    ensures lent { SameLent outputs.old outputs.new }
 {
     let size = r?;
-    store(splits, output.splits);
-    put_count(output.counts, 0, splits.count as u16);
-    put_count(output.counts, 1, size as u16);
+    store(splits, outputs.splits);
+    put_counts(outputs.counts, &[splits.count as u16, size as u16]);
     Ok(())
 }
 
 // The end of the entry: its answer as a word, and all outputs zero after a refusal.
-pub fn finish(a: Result<(), Refusal>, output: &mut SplitOutput, lines: &mut [u8]) -> u64
-    ensures finishes { FinishesIn a result output.old lines.old output.new lines.new }
-    ensures lent { SameLent output.old output.new }
+pub fn finish(a: Result<(), Refusal>, outputs: &mut MendOutputs) -> u64
+    ensures finishes { FinishesIn a result outputs.old outputs.new }
+    ensures lent { SameLent outputs.old outputs.new }
 {
-    if a.is_err() {
-        clear_from(output.splits, 0);
-        clear_from(lines, 0);
-        clear_from(output.counts, 0);
-    }
+    clear_refused(a, outputs.splits);
+    clear_refused(a, outputs.lines);
+    clear_refused(a, outputs.counts);
     word_of(a)
 }

@@ -66,6 +66,6 @@ returns-clause-gives c =
     let e = ap meaning c.in_ok-take_sections.was in
     gives_goes (sym t.ensures.said ∙ e)
     (gives_as
-    (ap (λ (l : List ℕ). from_splits a.lengths.now (sections_in a.sections.now l) a.splits.now (room_of (length a.output.now.splits.now)) (length a.lines.now))
+    (ap (λ (l : List ℕ). from_splits a.lengths.now (sections_in a.sections.now l) a.splits.now (room_of (length a.outputs.now.splits.now)) (length a.outputs.now.lines.now))
     (taken_places 15 64 a.sections.now _ _ t.ensures e))
     c.from_splits.ensures.gives)

@@ -17,7 +17,7 @@ use Rattle.entry_mend_splits.proofs.from_splits.Goals as goal
 pub invariant_of-table : goal.invariant_of-table
 invariant_of-table c =
     let e = c.room_of.ensures in
-    let low = room_low (length c.args.output.now.splits.now) in
+    let low = room_low (length c.args.outputs.now.splits.now) in
     record {
       long = record { starts = omega (arith, e, low); ends = omega (arith, e, low); units = omega (arith, e, low); rest = omega (arith, e, low) };
       fits = omega arith;
@@ -26,14 +26,14 @@ invariant_of-table c =
 pub take_split_columns-requires : goal.take_split_columns-requires
 take_split_columns-requires c =
     let e = c.room_of.ensures in
-    let low = room_low (length c.args.output.now.splits.now) in
+    let low = room_low (length c.args.outputs.now.splits.now) in
     (c.requires.0, record { few = omega (arith, e, low); long = omega (arith, e, low) })
 
 pub returns-in_err-take_split_columns-clause-gives : goal.returns-in_err-take_split_columns-clause-gives
 unfolding from_splits
 returns-in_err-take_split_columns-clause-gives c =
     let a = c.args in
-    let line-room = length a.lines.now in
+    let line-room = length a.outputs.now.lines.now in
     rw (same_err c.from_residual.result c.take_split_columns.result c.from_residual.ensures.1 c.in_err-take_split_columns.was)
     (gives_as (ap (λ (room : ℕ). from_splits a.lengths.now (sections_in a.heads.now.bytes.now a.heads.now.places.now) a.splits.now room line-room) c.room_of.ensures)
     (gives_stops _ c.take_split_columns.ensures.taken.said (ap meaning c.in_err-take_split_columns.was)))
@@ -42,7 +42,7 @@ pub give_mended-requires : goal.give_mended-requires
 give_mended-requires c =
     let t = c.take_split_columns in
     let w = c.mend_table-r in
-    let size = length c.args.output.now.splits.now in
+    let size = length c.args.outputs.now.splits.now in
     let room = t.ensures.lent.room ∙ c.room_of.ensures in
     let n = c.columns.ensures.count ∙ w.ensures.others.count in (
       omega (arith, room, n, room_fits size),
@@ -66,7 +66,8 @@ returns-clause-gives c =
     let rest = c.rest-2-1.given.1.1 (sym k.rest.name) in
     let mended = rw (starts, ends, units, rest) at w.ensures.mended in
     let e = c.columns.ensures in
-    gives_as (ap (λ (room : ℕ). from_splits a.lengths.now heads a.splits.now room (length a.lines.now)) c.room_of.ensures)
+    rw c.give_mended.ensures.lines
+    (gives_as (ap (λ (room : ℕ). from_splits a.lengths.now heads a.splits.now room (length a.outputs.now.lines.now)) c.room_of.ensures)
     (mended_gives a.lengths.now heads a.splits.now _ (ends_columns w.new.table) w.new.table.count _ t.ensures.taken.said told
-    (omega (arith, room, w.ensures.others.count, room_fits (length a.output.now.splits.now))) c.requires.1 (t.ensures.taken.taken (sym t.ensures.taken.said ∙ told)) mended
-    (rw (e.columns, e.count) at c.give_mended.ensures.stores))
+    (omega (arith, room, w.ensures.others.count, room_fits (length a.outputs.now.splits.now))) c.requires.1 (t.ensures.taken.taken (sym t.ensures.taken.said ∙ told)) mended
+    (rw (e.columns, e.count) at c.give_mended.ensures.stores)))
