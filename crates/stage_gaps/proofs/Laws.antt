@@ -4,10 +4,8 @@ use mathlib.Core.List.{List, [], ◌∷◌, ◌++◌}
 use Prim.Native.Nat.{ℕ, ◌+◌, ◌≤◌, ◌<◌}
 use native.Mathlib.Omega.{arith}
 use lib.ListN.{length, length-append}
-use Rattle.lists.specs.Rows.{clear_from}
 use Rattle.lists.specs.Tables.{laid}
 use Rattle.lists.specs.Outcome.{Outcome, accepted, refused, ◌>>◌}
-use Rattle.lists.proofs.Clear.{clear_all}
 use Rattle.lists.proofs.Outcomes.{not_both, same_accepted}
 use Rattle.lists.proofs.Binds.{after_goes, after-stops}
 use Rattle.lists.proofs.Rows.{length-tabulate}
@@ -16,8 +14,7 @@ use Rattle.obj.specs.Answers.{Answer}
 use Rattle.obj.specs.declared.Section.{Section}
 use Rattle.obj.specs.declared.Split.{Split}
 use Rattle.names.proofs.Laws.{length-names}
-use Rattle.outputs.specs.Outputs.{counts_of, store_count, store_counts}
-use Rattle.outputs.proofs.Laws.{counts_stored}
+use Rattle.outputs.specs.Outputs.{counts_of}
 use Rattle.stage_tables.specs.StageTables.{splits_check}
 use Rattle.stage_names.specs.StageNames.{flat, Fits, Given}
 use Rattle.sections.specs.Image.{Image}
@@ -35,12 +32,6 @@ use Rattle.gap_splits.specs.declared.added_names.AddedNames.{AddedNames}
 use Rattle.gap_splits.proofs.Naming.{bytes_append}
 use Rattle.create_gap_splits.specs.Create.{gaps_filled}
 use Rattle.stage_gaps.specs.StageGaps.{Laid, Gives, from_splits, Space}
-
--- ---- the counts
-pub stored : (counts : List ℕ) (names bytes splits : ℕ) {c₀ c₁ c₂ c₃ : List ℕ} → c₀ ≡ clear_from 0 0 counts → c₁ ≡ store_count 0 names c₀ → c₂ ≡ store_count 1 bytes c₁ → c₃ ≡ store_count 2 splits c₂
-    → c₃ ≡ counts_of (length counts) (names ∷ bytes ∷ splits ∷ [])
-unfolding store_counts
-stored counts names bytes splits e₀ e₁ e₂ e₃ = let all = counts_stored (length counts) (names ∷ bytes ∷ splits ∷ []) in rw (e₃, e₂, e₁, e₀, clear_all 0 counts) all
 
 -- ---- from a line to the next
 module _ {a : Answer} {es bs size cs : ℕ} {ends bytes out counts : List ℕ} where

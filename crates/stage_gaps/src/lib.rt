@@ -2,8 +2,7 @@
 // them on whole.
 #![tactic(auto)]
 
-ghost use Rattle.std.specs.Prelude.{◌≡◌, [], ◌∷◌, ◌++◌, ◌*◌, ◌≤◌, ◌<◌, length};
-ghost use Rattle.outputs.specs.Outputs.{counts_of};
+ghost use Rattle.std.specs.Prelude.{◌≡◌, ◌++◌, ◌*◌, ◌≤◌, length};
 ghost use Rattle.splits.specs.Table.{rows_of, rows_in};
 ghost use Rattle.gap_splits.specs.Answers.{added_in, ceilings, ceilings_in};
 ghost use Rattle.names.specs.Listed.{names_in, NamedIn};
@@ -17,7 +16,7 @@ use gap_columns::GapTable;
 use gap_splits::AddedNames;
 use names::{NameIndex, Names, Room};
 use obj::{Refusal, Table};
-use outputs::{clear_from, put_count};
+use outputs::{clear_from, put_counts};
 use sections::Obj;
 use splits::{SplitColumns, SplitTable};
 use stage_names::{NameOutput, first_names, give_names};
@@ -38,17 +37,6 @@ pub struct GapOutputs<'e, 'b, 's, 'c> {
 
 // ---- the outputs
 
-// Three counts, and zeros after them.
-fn give_counts(counts: &mut [u8], names: usize, bytes: usize, splits: usize)
-    requires { (names < 65536) × (bytes < 65536) × (splits < 65536) }
-    ensures { counts.new ≡ counts_of (length counts.old) (names ∷ bytes ∷ splits ∷ []) }
-{
-    clear_from(counts, 0);
-    put_count(counts, 0, names as u16);
-    put_count(counts, 1, bytes as u16);
-    put_count(counts, 2, splits as u16);
-}
-
 // What the filling left in the columns, in the outputs.
 fn give_filled(names: &Names, added: &AddedNames, splits: &SplitColumns, outputs: &mut GapOutputs)
     requires { NamedIn names.now
@@ -66,7 +54,11 @@ fn give_filled(names: &Names, added: &AddedNames, splits: &SplitColumns, outputs
     let bytes = give_names(names, &more, &mut table);
     put_splits(splits, outputs.splits);
     let count = names.places.len() + added.count;
-    give_counts(outputs.counts, count, bytes, splits.count);
+    clear_from(outputs.counts, 0);
+    put_counts(
+        outputs.counts,
+        &[count as u16, bytes as u16, splits.count as u16],
+    );
 }
 
 // ---- the tables
