@@ -12,17 +12,17 @@ use Rattle.lists.proofs.Rows.{get_or_same}
 use Rattle.lists.specs.Rows.{clear_from}
 use Rattle.lists.specs.Outcome.{Outcome, refused}
 use Rattle.lists.proofs.Clear.{clear_all}
-use Rattle.obj.specs.Answers.{word, outcome_word}
+use Rattle.obj.specs.Answers.{Answer, word}
 use Rattle.obj.specs.declared.Refusal.{Refusal}
 use Rattle.std.specs.Prelude.{Result, Ok, Err}
 use Rattle.outputs.specs.Outputs.{counts_of, store_count, store_counts}
-use Rattle.outputs.proofs.Laws.{counts_stored}
+use Rattle.outputs.proofs.Laws.{counts_stored, counts_cleared}
 use Rattle.tables.specs.declared.Counts.{Counts, Counts as Ceilings}
 use Rattle.tables.specs.Tables.{main_ceilings}
 use Rattle.load.specs.Load.{Loaded, load_of}
-use Rattle.load.specs.Columns.{tables_in, no_counts, Allowed, Room, Loads}
+use Rattle.load.specs.Columns.{tables_in, no_counts, counts_in, Allowed, Room, Loads}
 use Rattle.load.proofs.Keeping.{counted}
-use Rattle.entry_check_file.specs.Entry.{listed, Leaves, Accepted, Answers}
+use Rattle.entry_check_file.specs.Entry.{listed, Leaves, Answers, CountedIn}
 
 -- ---- the loader's columns
 
@@ -59,14 +59,6 @@ pub answers_main : {c : Ceilings} {file : List ℕ} {r : Result Counts Refusal} 
 answers_main {c} {file} {r} {places} {lengths} {heads} {chain} e l =
     subst (λ (d : Ceilings). Answers (load_of d file) r) e (answers c file (load_of c file) places lengths heads chain r l)
 
--- ---- the counts
-
-pub stored : (n : Counts) (c₀ : List ℕ) {c₁ c₂ c₃ c₄ c₅ c₆ : List ℕ} → c₁ ≡ store_count 0 n.names c₀
-    → c₂ ≡ store_count 1 n.sections c₁ → c₃ ≡ store_count 2 n.symbols c₂ → c₄ ≡ store_count 3 n.relocations c₃
-    → c₅ ≡ store_count 4 n.splits c₄ → c₆ ≡ store_count 5 n.units c₅ → c₆ ≡ store_counts 0 (listed n) c₀
-unfolding store_counts
-stored n c₀ e₁ e₂ e₃ e₄ e₅ e₆ = rw (e₆, e₅, e₄, e₃, e₂, e₁) refl
-
 -- ---- after a refusal the counts are zeros throughout
 
 abbrev zeros : ℕ → List ℕ
@@ -95,16 +87,8 @@ leaves_zeros number section address size answer counts l = l.counted ∙ refused
 
 -- ---- the entry
 
--- the counts of what was loaded
-pub leaves_counts : {o : Outcome Loaded} {n : Counts} (old : List ℕ) {cleared new : List ℕ} → Accepted o n → cleared ≡ clear_from 0 0 old
-    → new ≡ store_counts 0 (listed n) cleared → Leaves o (length old) 0 new
-leaves_counts {o} {n} old {cleared} {new} a e f = record {
-  said = sym (ap outcome_word a.said);
-  counted = f ∙ ap (store_counts 0 (listed n)) (e ∙ clear_all 0 old) ∙ counts_stored (length old) (listed n) ∙ ap (λ (m : Counts). counts_of (length old) (listed m)) a.counted;
-}
-
--- a refusal
-pub leaves_none : {o : Outcome Loaded} {r : Refusal} (old : List ℕ) {cleared : List ℕ} {answer : ℕ} → o ≡ refused r.number r.section r.address
-    → answer ≡ word (Err r) → cleared ≡ clear_from 0 0 old → Leaves o (length old) answer cleared
-leaves_none {o} {r} old {cleared} {answer} e w f =
-    rw e (record { said = w; counted = f ∙ clear_all 0 old ∙ sym (refused_zeros (length old)) })
+-- the counts of what was loaded, or a refusal
+pub leaves_counted : {o : Outcome Loaded} (a : Answer) (old : List ℕ) {cleared new : List ℕ} {answer : ℕ} → answer ≡ word a → cleared ≡ clear_from 0 0 old
+    → CountedIn o cleared new a → Leaves o (length old) answer new
+leaves_counted {o} (Ok u) old w e p = record { said = w ∙ sym p.0; counted = p.1 ∙ counts_cleared old (listed (counts_in o)) e }
+leaves_counted (Err r) old w e p = rw p.0 (record { said = w; counted = p.1 ∙ e ∙ clear_all 0 old ∙ sym (refused_zeros (length old)) })

@@ -4,8 +4,8 @@
 use Rattle.std.specs.Prelude.{ℕ, ◌≡◌, List, [], ◌∷◌, Result, Ok, Err}
 use Rattle.lists.specs.Outcome.{Outcome, accepted, refused}
 use Rattle.obj.specs.declared.Refusal.{Refusal}
-use Rattle.obj.specs.Answers.{outcome_word}
-use Rattle.outputs.specs.Outputs.{counts_of}
+use Rattle.obj.specs.Answers.{Answer, outcome_word}
+use Rattle.outputs.specs.Outputs.{counts_of, store_counts}
 use Rattle.load.specs.Load.{Loaded}
 use Rattle.load.specs.Columns.{Counted, counts_in}
 use Rattle.tables.specs.declared.Counts.{Counts}
@@ -32,3 +32,8 @@ pub record Accepted (o : Outcome Loaded) (n : Counts) : Type 0 where
 abbrev pub Answers : Outcome Loaded → Result Counts Refusal → Type 0
 Answers o (Ok n) = Accepted o n
 Answers o (Err r) = o ≡ refused r.number r.section r.address
+
+-- .. and after it: the counts of what was loaded are stored, and a refusal leaves the bytes as they were
+abbrev pub CountedIn : Outcome Loaded → (before after : List ℕ) → Answer → Type 0
+CountedIn o before after (Ok u) = (outcome_word o ≡ 0) × (after ≡ store_counts 0 (listed (counts_in o)) before)
+CountedIn o before after (Err r) = (o ≡ refused r.number r.section r.address) × (after ≡ before)

@@ -1,16 +1,14 @@
 // The entry `check_file` behind its C name: the loader over columns of its own, its answer as a word, and the counts of what it loaded.
 #![tactic(auto)]
 
-ghost use Rattle.std.specs.Prelude.{◌≡◌, length};
+ghost use Rattle.std.specs.Prelude.{length};
 ghost use Rattle.tables.specs.Tables.{main_ceilings};
-ghost use Rattle.outputs.specs.Outputs.{store_counts};
 ghost use Rattle.load.specs.Load.{load_of};
-ghost use Rattle.load.specs.Columns.{Counted};
-ghost use Rattle.entry_check_file.specs.Entry.{listed, Answers, Leaves};
+ghost use Rattle.entry_check_file.specs.Entry.{Answers, CountedIn, Leaves};
 
 use load::{Counts, load_file};
 use obj::{Refusal, word_of};
-use outputs::{clear_from, put_count};
+use outputs::{clear_from, put_counts};
 use tables::main_ceilings;
 
 // The loader under document 01's ceilings, in columns of its own.
@@ -31,17 +29,23 @@ fn answer_of(file: &[u8]) -> Result<Counts, Refusal>
     )
 }
 
-// The six counts, as many as fit.
-fn put_counts(counts: &mut [u8], n: Counts)
-    requires { Counted n }
-    ensures { counts.new ≡ store_counts 0 (listed n) counts.old }
+// The six counts of a file that is accepted, as many as fit.
+fn counted(file: &[u8], counts: &mut [u8]) -> Result<(), Refusal>
+    ensures { CountedIn (load_of main_ceilings file.now) counts.old counts.new result }
 {
-    put_count(counts, 0, n.names as u16);
-    put_count(counts, 1, n.sections as u16);
-    put_count(counts, 2, n.symbols as u16);
-    put_count(counts, 3, n.relocations as u16);
-    put_count(counts, 4, n.splits as u16);
-    put_count(counts, 5, n.units as u16);
+    let n = answer_of(file)?;
+    put_counts(
+        counts,
+        &[
+            n.names as u16,
+            n.sections as u16,
+            n.symbols as u16,
+            n.relocations as u16,
+            n.splits as u16,
+            n.units as u16,
+        ],
+    );
+    Ok(())
 }
 
 // The entry: 0 or a refusal, and every byte of the counts, zeros after them.
@@ -49,11 +53,5 @@ pub fn check_file(file: &[u8], counts: &mut [u8]) -> u64
     ensures { Leaves (load_of main_ceilings file.now) (length counts.old) result counts.new }
 {
     clear_from(counts, 0);
-    match answer_of(file) {
-        Ok(n) => {
-            put_counts(counts, n);
-            0
-        }
-        Err(r) => word_of(Err(r)),
-    }
+    word_of(counted(file, counts))
 }
