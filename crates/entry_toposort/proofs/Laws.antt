@@ -1,7 +1,7 @@
 -- From the sort's answer and table to the entry's word, node table and counts: what each answer leaves, and the outputs after clearing.
 -- Assumes nothing.
 use Prim.Native.Nat.{ℕ, ◌+◌, ◌*◌, ◌/◌, ◌%◌, ◌≤◌, ◌<◌}
-use mathlib.Core.Path.{◌≡◌, refl, sym, ap, ap₂, subst, ◌∙◌}
+use mathlib.Core.Path.{◌≡◌, refl, sym, ap, subst, ◌∙◌}
 use mathlib.Core.List.{List, [], ◌∷◌, ◌++◌}
 use native.Mathlib.Nat.{add-zero}
 use native.Mathlib.Omega.{arith}
@@ -13,16 +13,18 @@ use Rattle.lists.specs.Rows.{clear_from, tabulate}
 use Rattle.lists.proofs.Outcomes.{fails, passes}
 use Rattle.fields.specs.Fields.{le16}
 use Rattle.lists.specs.Outcome.{Outcome, refused, refuse, ◌>>◌}
-use Rattle.lists.proofs.Clear.{clear_all}
 use Rattle.obj.specs.Answers.{word, refusal_word, place}
 use Rattle.std.specs.Prelude.{Result, Ok, Err}
-use Rattle.outputs.specs.Outputs.{halves, store_count, store_counts}
-use Rattle.outputs.proofs.Laws.{length-halves, laid-after, counts_stored}
+use Rattle.lists.specs.Tables.{laid}
+use Rattle.outputs.specs.Outputs.{halves, counts_of}
+use Rattle.outputs.specs.Room.{room_for}
+use Rattle.outputs.proofs.Laws.{length-halves, laid-after}
+use Rattle.outputs.proofs.Room.{room_low, room_fits, room_same}
 use Rattle.toposort.specs.Search.{Graph, End}
 use Rattle.toposort.specs.Sorting.{sort_of, meaning, kept, Sorts, answer_of, nodes_left}
 use Rattle.toposort.specs.declared.Unsorted.{Unsorted}
 use Rattle.toposort.specs.declared.Unsorted.TheVariants.{Cycle, NoNode, Short}
-use Rattle.entry_toposort.specs.Entry.{starts_of, goals_of, graph_of, toposort_of, word_of, Room, Ends, Leaves}
+use Rattle.entry_toposort.specs.Entry.{starts_of, goals_of, graph_of, toposort_of, word_of, Ends, Leaves}
 
 -- what an answer leaves is what its outcome says
 said : (r : Result ℕ Unsorted) (t : List ℕ) (o : Outcome End) → meaning r t ≡ o → word (answer_of r) ≡ word_of o
@@ -38,9 +40,9 @@ left (Err (NoNode i)) t o e = ap nodes_left e
 left (Err Short) t o e = ap nodes_left e
 
 -- a table of more bytes than 1,024 nodes take is as good as one of 1,024
-same_room : (g : Graph) (size room : ℕ) → g.count ≤ 1024 → Room size room → sort_of g room ≡ sort_of g (size / 2)
+same_room : (g : Graph) (size room : ℕ) → g.count ≤ 1024 → room ≡ room_for 1024 2 size → sort_of g room ≡ sort_of g (size / 2)
 unfolding sort_of
-same_room g size room h w = rw (w.same g.count h)
+same_room g size room h w = rw (w, room_same 1024 2 size h)
 
 -- the front of a table whose first part was lent and comes back as `part`
 module _ (part rest : List ℕ) (room m : ℕ) (long : length part ≡ room) (h : m ≤ room) where
@@ -55,7 +57,7 @@ module _ (part rest : List ℕ) (room m : ℕ) (long : length part ≡ room) (h 
 
 -- before the clearing: the sort's answer, and its nodes at the front
 pub sorted_ends : (g : Graph) (size room : ℕ) (r : Result ℕ Unsorted) (part rest before after : List ℕ) (k : ℕ)
-    → g.count ≤ 1024 → Room size room → length before ≡ size → Sorts (sort_of g room) room r part → k ≡ kept r
+    → g.count ≤ 1024 → room ≡ room_for 1024 2 size → length before ≡ size → Sorts (sort_of g room) room r part → k ≡ kept r
     → after ≡ sets before 0 (halves (take k (part ++ rest))) → Ends (sort_of g (size / 2)) r before after
 sorted_ends g size room r part rest before after k few w long s e f =
     let means : meaning r part ≡ sort_of g (size / 2) = s.means ∙ same_room g size room few w in
@@ -65,8 +67,8 @@ sorted_ends g size room r part rest before after k few w long s e f =
       said = said r part _ means;
       counted = sym e ∙ sym (front_long part rest room k s.long (omega (arith, s.room))) ∙ ap length nodes;
       front = f ∙ ap (λ (l : List ℕ). sets before 0 (halves l)) nodes;
-      room = omega (arith, s.room, w.fits);
-      few = omega (arith, s.room, w.low);
+      room = omega (arith, s.room, w, room_fits 1024 2 size);
+      few = omega (arith, s.room, w, room_low 1024 2 size);
       small = s.small;
     }
 
@@ -80,9 +82,8 @@ ends_of room e w = ends_as (ap (λ (x : Graph). sort_of x room) e) w
 
 -- the outputs after the clearing
 pub leaves : (o : Outcome End) (r : Result ℕ Unsorted) (k : ℕ) (before after counts : List ℕ) (answer : ℕ) (out counted : List ℕ) → Ends o r before after
-    → k ≡ kept r → answer ≡ word (answer_of r) → out ≡ clear_from 0 (2 * k) after → counted ≡ store_count 0 k (clear_from 0 0 counts)
+    → k ≡ kept r → answer ≡ word (answer_of r) → out ≡ clear_from 0 (2 * k) after → counted ≡ counts_of (length counts) (k ∷ [])
     → Leaves o (length before) (length counts) answer out counted
-unfolding store_counts
 leaves o r k before after counts answer out counted w is a b c =
     let long : 2 * k ≡ length (halves (nodes_left o)) = omega (arith, length-halves (nodes_left o), w.counted) in
     record {
@@ -90,22 +91,19 @@ leaves o r k before after counts answer out counted w is a b c =
       nodes =
           b ∙ ap (clear_from 0 (2 * k)) w.front
           ∙ laid-after before (halves (nodes_left o)) (2 * k) long (omega (arith, w.room));
-      counted =
-          c ∙ ap₂ (λ (k : ℕ) (l : List ℕ). store_count 0 k l) (is ∙ w.counted) (clear_all 0 counts)
-          ∙ counts_stored (length counts) (length (nodes_left o) ∷ []);
+      counted = c ∙ ap (λ (n : ℕ). counts_of (length counts) (n ∷ [])) (is ∙ w.counted);
     }
 
 -- the outputs after a refusal: nothing is left
-pub refused_leaves : (o : Outcome End) (number section address : ℕ) (before counts : List ℕ) (out counted : List ℕ) → o ≡ refused number section address
-    → out ≡ clear_from 0 0 before → counted ≡ store_count 0 0 (clear_from 0 0 counts)
-    → Leaves o (length before) (length counts) (refusal_word number section address) out counted
-unfolding store_counts halves
-refused_leaves o number section address before counts out counted e b c =
-    rw e record {
-      said = refl;
-      nodes = b ∙ laid-after before [] 0 refl (omega arith);
-      counted = c ∙ ap (store_count 0 0) (clear_all 0 counts) ∙ counts_stored (length counts) (0 ∷ []);
-    }
+pub refused_leaves : (o : Outcome End) {number section address : ℕ} {size counts_size answer : ℕ} {out counted : List ℕ} → o ≡ refused number section address
+    → answer ≡ refusal_word number section address → out ≡ laid size [] → counted ≡ counts_of counts_size (0 ∷ [])
+    → Leaves o size counts_size answer out counted
+unfolding halves
+refused_leaves o e w b c = rw e (record { said = w; nodes = b; counted = c })
+
+-- .. as it is before the checks
+pub none_left : (out : List ℕ) {size : ℕ} {cleared : List ℕ} → cleared ≡ clear_from 0 0 out → size ≡ length out → cleared ≡ laid size []
+none_left out e same = e ∙ laid-after out [] 0 refl (omega arith) ∙ ap (λ (n : ℕ). laid n []) (sym same)
 
 -- ---- the edge table in columns
 

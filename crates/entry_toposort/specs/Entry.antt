@@ -63,12 +63,6 @@ pub record Good (nodes : ℕ) (edges : List ℕ) (size : ℕ) : Type 0 where
 
 -- ---- inside the entry
 
--- room for the nodes of a table of this many bytes, of which no more than 1,024 are asked
-pub record Room (size r : ℕ) : Type 0 where
-  pub low : r ≤ 1024
-  pub fits : 2 * r ≤ size
-  pub same : (n : ℕ) → n ≤ 1024 → ltb r n ≡ ltb (size / 2) n
-
 -- no check of the tables refuses: within the ceilings, so what is left is the sort
 pub record Checked (nodes : ℕ) (edges : List ℕ) : Type 0 where
   pub few_nodes : nodes ≤ 1024

@@ -1,18 +1,20 @@
 // The entry `toposort` behind its C name: the checks of its tables, the sort, and what is left in the lent outputs.
 #![tactic(auto)]
 
-ghost use Rattle.std.specs.Prelude.{◌≡◌, ◌+◌, ◌*◌, ◌/◌, ◌≤◌, ◌<◌, ℕ, length, take, MatchResult};
+ghost use Rattle.std.specs.Prelude.{◌≡◌, ◌+◌, ◌*◌, ◌/◌, ◌≤◌, ℕ, [], ◌∷◌, length, MatchResult};
 ghost use Rattle.lists.specs.Outcome.{refused};
 ghost use Rattle.lists.specs.Rows.{clear_from, tabulate};
-ghost use Rattle.outputs.specs.Outputs.{store_count};
+ghost use Rattle.lists.specs.Tables.{laid};
+ghost use Rattle.obj.specs.Answers.{word};
+ghost use Rattle.outputs.specs.Outputs.{counts_of};
 ghost use Rattle.fields.specs.Fields.{le16};
 ghost use Rattle.toposort.specs.Sorting.{Within, sort_of};
 ghost use Rattle.toposort.specs.Lent.{graph_in};
-ghost use Rattle.entry_toposort.specs.Entry.{graph_of, toposort_of, Checked, Room, Ends, Leaves};
+ghost use Rattle.entry_toposort.specs.Entry.{graph_of, toposort_of, Checked, Ends, Leaves};
 
 use fields::Field;
 use obj::{Refusal, place_of, refuse, word_of};
-use outputs::{clear_from, put_count, put_halves};
+use outputs::{clear_from, put_counts, put_halves, room_for};
 use toposort::{EdgeTable, Unsorted, answer_of, kept};
 
 // One column of the edge table: the number at byte `at` of each edge.
@@ -25,13 +27,6 @@ fn column(edges: &[u8], at: usize, out: &mut [u16])
     }
 }
 
-// As many nodes as the node table has room for; more than 1,024 are never asked.
-fn room_of(size: usize) -> usize
-    ensures { Room size result }
-{
-    (size / 2).min(1024)
-}
-
 // The sort of edges in columns, in the lent `table`; the nodes that it leaves are written to the front of `out`.
 // `table` is what the sort works in and `out` what C lends, so they are no columns of one table.
 fn sort_columns(
@@ -42,7 +37,8 @@ fn sort_columns(
     requires { Within (graph_in graph.now) }
     ensures { Ends (sort_of (graph_in graph.now) (length out.old / 2)) result out.old out.new }
 {
-    let room = room_of(out.len());
+    // "1,024 units"
+    let room = room_for(1024, 2, out.len());
     let r = toposort::toposort(graph, &mut table[..room]);
     let m = kept(r);
     put_halves(out, &table[..m]);
@@ -85,22 +81,28 @@ fn check_tables(nodes: u32, edges: &[u8]) -> Result<(), Refusal>
 // The two outputs, as C lends them, once the nodes stand at the front of the node table: zeros after them, and their number.
 fn leave(kept: usize, out: &mut [u8], counts: &mut [u8])
     requires { kept ≤ 1024 }
-    ensures { (out.new ≡ clear_from 0 (2 * kept) out.old) × (counts.new ≡ store_count 0 kept (clear_from 0 0 counts.old)) }
+    ensures { (out.new ≡ clear_from 0 (2 * kept) out.old) × (counts.new ≡ counts_of (length counts.old) (kept ∷ [])) }
 {
     clear_from(out, 2 * kept);
     clear_from(counts, 0);
-    put_count(counts, 0, kept as u16);
+    put_counts(counts, &[kept as u16]);
+}
+
+// The checks, and the sort with what it leaves, in outputs that hold no nodes yet.
+fn sort_checked(nodes: u32, edges: &[u8], out: &mut [u8], counts: &mut [u8]) -> Result<(), Refusal>
+    requires { (out.old ≡ laid (length out.old) []) × (counts.old ≡ counts_of (length counts.old) (0 ∷ [])) }
+    ensures { Leaves (toposort_of nodes edges.now (length out.old)) (length out.old) (length counts.old) (word result) out.new counts.new }
+{
+    check_tables(nodes, edges)?;
+    let sorted = sort_table(nodes as usize, edges, out);
+    leave(kept(sorted), out, counts);
+    answer_of(sorted)
 }
 
 // The entry: an order, a cycle or a refusal, and every byte of the outputs.
 pub fn toposort(nodes: u32, edges: &[u8], out: &mut [u8], counts: &mut [u8]) -> u64
     ensures { Leaves (toposort_of nodes edges.now (length out.old)) (length out.old) (length counts.old) result out.new counts.new }
 {
-    if let Err(r) = check_tables(nodes, edges) {
-        leave(0, out, counts);
-        return word_of(Err(r));
-    }
-    let sorted = sort_table(nodes as usize, edges, out);
-    leave(kept(sorted), out, counts);
-    word_of(answer_of(sorted))
+    leave(0, out, counts);
+    word_of(sort_checked(nodes, edges, out, counts))
 }
