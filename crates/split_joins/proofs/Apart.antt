@@ -7,15 +7,11 @@ use native.Mathlib.Omega.{arith}
 use borrow.Author.Tests.{eqb-false}
 use lib.Dec.{eqb}
 use lib.ListN.{length, get_or, take, drop}
-use Rattle.std.proofs.lemmas.List.{length-drop, length-take-le}
 use Rattle.lists.specs.Rows.{some}
 use Rattle.lists.proofs.Parts.{get_or-part}
 use Rattle.lists.proofs.Some.{some_false}
+use Rattle.splits.proofs.Blocks.{length_part}
 use Rattle.split_joins.specs.Joins.{Alone}
-
--- how long a part of a list is
-pub length_part : {A : Type 0} (l : List A) (at n : ℕ) → at + n ≤ length l → length (take n (drop at l)) ≡ n
-length_part l at n h = length-take-le n (drop at l) (omega (arith, length-drop at l))
 
 -- no unit of a part is v: place k has another
 other_there : (l : List ℕ) (at n v k : ℕ) → at + n ≤ length l → some (λ (x : ℕ). eqb x v) (take n (drop at l)) ≡ false → at ≤ k → k < at + n → get_or l k 0 ≡ v → ⊥

@@ -1,13 +1,14 @@
 -- The search by blocks, for a unit's row and for a row in a range: a block none of whose numbers passes has no such row. Assumes nothing.
 use mathlib.Core.Path.{◌≡◌, refl, sym, ap, ap₂, ◌∙◌}
-use mathlib.Core.List.{[], ◌∷◌}
+use mathlib.Core.List.{List, [], ◌∷◌}
 use mathlib.Core.Bool.{Bool, true, false, ◌&&◌, ◌||◌}
 use mathlib.Core.Logic.{◌⊎◌, inl, inr}
 use Prim.Native.Nat.{ℕ, zero, suc, ◌+◌, ◌-◌, ◌≤◌, ◌<◌}
 use native.Mathlib.Omega.{arith}
 use borrow.Author.Tests.{lt-ltb, le-ltb}
 use lib.Dec.{eqb, leb, ltb}
-use lib.ListN.{get_or}
+use lib.ListN.{length, get_or, take, drop}
+use Rattle.std.proofs.lemmas.List.{length-drop, length-take-le}
 use Rattle.std.specs.Prelude.{Option, Some, None}
 use Rattle.std.proofs.lemmas.Bool.{cases_lt, and_right}
 use Rattle.lists.specs.Rows.{tabulate, keep_if, some}
@@ -18,6 +19,10 @@ use Rattle.lists.proofs.FilterRows.{filter_hit, filter_miss, filter_none}
 use Rattle.splits.specs.Columns.{Columns, row_of, row_at}
 use Rattle.splits.specs.Questions.{within, of_unit, FirstNumber, NonePasses, FirstPlace, NextHit}
 use Rattle.obj.specs.declared.Split.{Split}
+
+-- how long a part of a list is
+pub length_part : {A : Type 0} (l : List A) (at n : ℕ) → at + n ≤ length l → length (take n (drop at l)) ≡ n
+length_part l at n h = length-take-le n (drop at l) (omega (arith, length-drop at l))
 
 -- ---- whether one of a block's numbers passes: `seen` is the answer of the first k
 module _ {A : Type 0} (p : A → Bool) (f : ℕ → A) (at size : ℕ) where

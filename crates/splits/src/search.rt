@@ -12,8 +12,8 @@ pub fn any_of_block<T: Copy, F: Fn(T) -> bool>(column: &[T], at: usize, passes: 
     ensures { (p : T → Bool) (d : T) → ((x : T) (r : _) → F.post passes x r → r ≡ p x) → result ≡ some p (tabulate (λ (k : ℕ). get_or column.now k d) at 32) }
 {
     let mut any = false;
-    for k in 0..32 {
-        any |= passes(column[at + k]);
+    for x in &column[at..at + 32] {
+        any |= passes(*x);
     }
     any
 }

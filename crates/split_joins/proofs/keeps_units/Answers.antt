@@ -5,10 +5,10 @@ use Prim.Native.Nat.{ℕ, ◌+◌, ◌-◌}
 use native.Mathlib.Omega.{arith}
 use lib.ListN.{length, get_or, take, drop}
 use Rattle.std.proofs.lemmas.Bool.{or_parts}
-use Rattle.splits.proofs.Blocks.{each_more}
+use Rattle.splits.proofs.Blocks.{length_part, each_more}
 use Rattle.lists.proofs.Parts.{get_or-part}
 use Rattle.split_joins.specs.Joins.{Alone}
-use Rattle.split_joins.proofs.Apart.{length_part, alone_same, alone_none}
+use Rattle.split_joins.proofs.Apart.{alone_same, alone_none}
 use Rattle.split_joins.proofs.keeps_units.Goals as goal
 use Rattle.split_joins.proofs.keeps_units.Goals.{then-u-unit+else-before-behind, else-u-unit}
 
