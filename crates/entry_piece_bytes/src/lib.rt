@@ -8,9 +8,9 @@ ghost use Rattle.entry_piece_bytes.specs.Entry.{place_of, outside, reach, Leaves
 ghost use Rattle.entry_piece_bytes.specs.Lent.{of_lent, in_lent, within_lent};
 
 use fields::Field;
-use obj::{Record, Refusal, Section, refuse, word_of};
+use obj::{Record, Refusal, Section, record_in, refuse, word_of};
 use outputs::clear_from;
-use pieces::{PIECE_BYTES, Piece, record_in};
+use pieces::{PIECE_BYTES, Piece};
 use tables::{bytes_cut, image_place, table_size};
 
 // Where a piece's bytes lie in the image.

@@ -1,7 +1,7 @@
 // Numbers read from and written to bytes, little-endian (document 01, "Records and ceilings": "all little-endian").
 #![tactic(auto)]
 
-ghost use Rattle.std.specs.Prelude.{ℕ, List, ◌≡◌, ◌+◌, ◌≤◌, ◌<◌, length, get_or};
+ghost use Rattle.std.specs.Prelude.{ℕ, List, [], ◌∷◌, ◌≡◌, ◌+◌, ◌≤◌, ◌<◌, length, get_or};
 ghost use Rattle.std.proofs.lemmas.List.Edits.{sets};
 ghost use Rattle.fields.specs.Fields.{le16, le32, le64, enc16, enc32, enc64, signed32, signed64, word32, word64};
 
@@ -20,6 +20,22 @@ pub trait Field: Sized {
     fn put(self, b: &mut [u8], at: usize)
         requires { at + WIDTH ≤ length b.old }
         ensures { b.new ≡ sets b.old at (bytes self) };
+}
+
+impl Field for u8 {
+    ghost WIDTH = { 1 };
+
+    ghost stored = { λ s at. get_or s at 0 };
+
+    ghost bytes = { λ v. v ∷ [] };
+
+    fn get(s: &[u8], at: usize) -> u8 {
+        s[at]
+    }
+
+    fn put(self, b: &mut [u8], at: usize) {
+        b[at] = self;
+    }
 }
 
 impl Field for u16 {

@@ -16,7 +16,7 @@ ghost use Rattle.piece_records.specs.Records.{part_at, parts_at, Lying, Whole};
 ghost use Rattle.join_pieces.specs.Joins.{Base, Among, Joins, zeroed};
 
 use names::{put_bytes, same};
-use obj::{Record, Refusal, Section, refuse};
+use obj::{Refusal, Section, record_in, refuse};
 use outputs::clear_from;
 use piece_records::{bytes_at, head_at, next_at};
 use whole_pieces::WholePieces;
@@ -28,7 +28,7 @@ pub fn head_of(sections: &[u8], k: usize) -> Section
     requires { k < length sections.now / 15 }
     ensures { result ≡ get_or (stage_sections sections.now) k nowhere }
 {
-    Section::read(sections, Section::WIDTH * k)
+    record_in(sections, k)
 }
 
 // How many bytes section k holds.

@@ -8,8 +8,8 @@ ghost use Rattle.listing.specs.Lent.{listed_pieces, listed_symbols, piece_on, sy
 use crate::PieceLists;
 use crate::lent::RunTables;
 use names::name_at;
-use obj::Symbol;
-use pieces::{Piece, PieceSymbol, record_in};
+use obj::{Symbol, record_in};
+use pieces::{Piece, PieceSymbol};
 
 // A number below the base's count is a base name, else an added one.
 pub fn name_of<'a>(tables: &RunTables<'a>, k: usize) -> &'a [u8]

@@ -7,7 +7,8 @@ ghost use Rattle.listing.specs.Lent.{listed_pieces, listed_symbols, listed_reloc
 use crate::lent::UnitHere;
 use crate::reading::piece_of;
 use crate::{Cursor, PieceLists};
-use pieces::{Piece, PieceReloc, PieceSymbol, record_in};
+use obj::record_in;
+use pieces::{Piece, PieceReloc, PieceSymbol};
 
 // A relocation is its piece's unit's.
 fn reloc_is(here: &UnitHere, k: usize) -> bool

@@ -10,8 +10,8 @@ ghost use Rattle.listing.specs.Lent.{listed_pieces, piece_on, symbol_on, reloc_o
 use crate::lent::RunTables;
 use crate::reading::{name_of, owner_of, piece_of};
 use lines::{write_piece, write_reloc, write_symbol, write_unit};
-use obj::{Reloc, Symbol, Unit};
-use pieces::{Piece, PieceReloc, PieceSymbol, record_in};
+use obj::{Reloc, Symbol, Unit, record_in};
+use pieces::{Piece, PieceReloc, PieceSymbol};
 
 // "Unit: number, name", and its figure.
 pub fn unit_line(tables: &RunTables, unit: u16, size: u64, out: &mut [u8]) -> usize

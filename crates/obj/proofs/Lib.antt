@@ -1,4 +1,6 @@
-pub mod Made
-pub mod Laws
+pub mod Bytes
 pub mod Errors
+pub mod Laws
+pub mod Made
 pub mod Order
+pub mod Packed

@@ -95,3 +95,7 @@ pub record Held (width : ℕ) (b places : List ℕ) (k : ℕ) : Type 0 where
 -- the places of a stage table's whole records
 unfoldable pub stage_places : ℕ → ℕ → List ℕ
 stage_places width count = tabulate (λ k. width * k) 0 count
+
+-- the first k records of a packed table: record i stands i widths from its start
+abbrev pub records_in : {A : Type 0} → (width : ℕ) → (List ℕ → ℕ → A) → List ℕ → ℕ → List A
+records_in width read b k = tabulate (λ i. read b (width * i)) 0 k

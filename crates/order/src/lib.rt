@@ -17,7 +17,6 @@ use link_graph::{LinkGraph, LinkTables, make_graph};
 use obj::Refusal;
 use order_numbers::{order_twice, order_units};
 use outputs::room_for;
-pub use records::put_unit;
 use records::write_records;
 use toposort::{EdgeTable, Unsorted};
 

@@ -9,7 +9,8 @@ ghost use Rattle.pieces.specs.Questions.{count_of, has};
 ghost use Rattle.piece_columns.specs.Columns.{Counted, ChainedOf, CountedIn, ChainedIn, lasts_in, prevs_in, PutPiece, PutSymbol, PushedPiece, PushedSymbol};
 
 use fields::number;
-use pieces::{Piece, PieceSymbol, PieceTables, put_piece, put_piece_symbol, record_in};
+use obj::{put_record, record_in};
+use pieces::{Piece, PieceSymbol, PieceTables};
 
 // How many of the pieces are the unit's, whichever are counted: the number in its unit of the next one.
 pub fn count_of(counts: &[u16], unit: usize) -> u16
@@ -25,7 +26,7 @@ pub fn put_counted(counts: &mut [u16], out: &mut [u8], k: usize, p: Piece)
     ensures { PutPiece counts.new out.old out.new k p }
 {
     counts[usize::from(p.unit)] += 1;
-    put_piece(out, k, p);
+    put_record(out, k, p);
 }
 
 // .. in the lent tables.
@@ -62,7 +63,7 @@ pub fn put_chained(chains: &mut [u16], out: &mut [u8], k: usize, y: PieceSymbol)
     let i = usize::from(y.symbol);
     chains[4096 + k] = chains[i];
     chains[i] = k as u16 + 1;
-    put_piece_symbol(out, k, y);
+    put_record(out, k, y);
 }
 
 // .. in the lent tables.

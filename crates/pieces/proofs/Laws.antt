@@ -1,52 +1,16 @@
--- The three output tables: their records are read back as they were written, a record more is one more at the end of what is read, and a table's first
--- bytes are its records' bytes. All three by the laws of Tables.antt. Assumes nothing.
-use mathlib.Core.Path.{◌≡◌, refl}
-use mathlib.Core.List.{List, [], ◌∷◌, ◌++◌}
+-- The three output tables: their records are read back as they were written, and a table's first bytes are its records' bytes, by the laws of Tables.antt. Assumes nothing.
+use mathlib.Core.Path.{◌≡◌}
+use mathlib.Core.List.{List}
 use Prim.Native.Nat.{ℕ, ◌+◌, ◌*◌, ◌≤◌, ◌<◌}
 use native.Mathlib.Omega.{arith}
 use lib.ListN.{length, get_or, take, drop}
-use lib.Seq.{sets}
 use Rattle.lists.proofs.Rows.{length-tabulate}
 use Rattle.fields.proofs.Laws.{round16, round32, round64}
-use Rattle.fields.proofs.Alike.{first16, field16, field32, field64}
 use Rattle.pieces.specs.Pieces.{piece_at, symbol_at, reloc_at, piece_head, piece_bytes, symbol_bytes, reloc_bytes, pieces_in, symbols_in, relocs_in, packed, FitsPiece, FitsSymbol, FitsReloc, piece_width}
 use Rattle.pieces.specs.declared.Piece.{Piece}
 use Rattle.pieces.specs.declared.PieceSymbol.{PieceSymbol}
 use Rattle.pieces.specs.declared.PieceReloc.{PieceReloc}
-use Rattle.pieces.proofs.Tables.{record_more, packed-table, parts_join, bytes16, bytes32, bytes64}
-
--- ---- a reader looks at its record's bytes only
-pub piece_same : (b c : List ℕ) (i j : ℕ) → ((k : ℕ) → k < piece_width → get_or b (i + k) 0 ≡ get_or c (j + k) 0) → piece_at b i ≡ piece_at c j
-unfolding piece_at
-piece_same b c i j same = λ z. record {
-  unit = first16 piece_width b c i j same (omega arith) z;
-  number = field16 piece_width b c i j same 2 (omega arith) z;
-  section = field16 piece_width b c i j same 4 (omega arith) z;
-  name = field16 piece_width b c i j same 6 (omega arith) z;
-  address = field32 piece_width b c i j same 8 (omega arith) z;
-  size = field32 piece_width b c i j same 12 (omega arith) z;
-  alignment = field32 piece_width b c i j same 16 (omega arith) z;
-  offset = field64 piece_width b c i j same 20 (omega arith) z;
-  origin = field16 piece_width b c i j same 28 (omega arith) z;
-}
-
-pub symbol_same : (b c : List ℕ) (i j : ℕ) → ((k : ℕ) → k < 12 → get_or b (i + k) 0 ≡ get_or c (j + k) 0) → symbol_at b i ≡ symbol_at c j
-unfolding symbol_at
-symbol_same b c i j same = λ z. record {
-  unit = first16 12 b c i j same (omega arith) z;
-  piece = field16 12 b c i j same 2 (omega arith) z;
-  symbol = field16 12 b c i j same 4 (omega arith) z;
-  flags = field16 12 b c i j same 6 (omega arith) z;
-  address = field32 12 b c i j same 8 (omega arith) z;
-}
-
-pub reloc_same : (b c : List ℕ) (i j : ℕ) → ((k : ℕ) → k < 8 → get_or b (i + k) 0 ≡ get_or c (j + k) 0) → reloc_at b i ≡ reloc_at c j
-unfolding reloc_at
-reloc_same b c i j same = λ z. record {
-  piece = first16 8 b c i j same (omega arith) z;
-  relocation = field16 8 b c i j same 2 (omega arith) z;
-  offset = field32 8 b c i j same 4 (omega arith) z;
-}
+use Rattle.pieces.proofs.Tables.{packed-table, parts_join, bytes16, bytes32, bytes64}
 
 -- ---- a record's bytes give it back
 pub piece_back : (p : Piece) → FitsPiece p → piece_at (piece_bytes p) 0 ≡ p
@@ -81,33 +45,8 @@ reloc_back r f = λ z. record {
   offset = round32 r.offset f.offset z;
 }
 
--- ---- a record's length
-pub length-piece_bytes : (p : Piece) → length (piece_bytes p) ≡ piece_width
-unfolding piece_bytes piece_head
-length-piece_bytes p = refl
-
-pub length-symbol_bytes : (y : PieceSymbol) → length (symbol_bytes y) ≡ 12
-unfolding symbol_bytes
-length-symbol_bytes y = refl
-
-pub length-reloc_bytes : (r : PieceReloc) → length (reloc_bytes r) ≡ 8
-unfolding reloc_bytes
-length-reloc_bytes r = refl
-
--- ---- one record more
+-- ---- how many records are read
 module _ (b : List ℕ) (k : ℕ) where
-  pub pieces_more : (p : Piece) → FitsPiece p → piece_width * k + piece_width ≤ length b → pieces_in (sets b (piece_width * k) (piece_bytes p)) (k + 1) ≡ pieces_in b k ++ (p ∷ [])
-  unfolding pieces_in
-  pieces_more p f h = record_more piece_width piece_at piece_same b (piece_bytes p) k p (length-piece_bytes p) h (piece_back p f)
-
-  pub symbols_more : (y : PieceSymbol) → FitsSymbol y → 12 * k + 12 ≤ length b → symbols_in (sets b (12 * k) (symbol_bytes y)) (k + 1) ≡ symbols_in b k ++ (y ∷ [])
-  unfolding symbols_in
-  symbols_more y f h = record_more 12 symbol_at symbol_same b (symbol_bytes y) k y (length-symbol_bytes y) h (symbol_back y f)
-
-  pub relocs_more : (r : PieceReloc) → FitsReloc r → 8 * k + 8 ≤ length b → relocs_in (sets b (8 * k) (reloc_bytes r)) (k + 1) ≡ relocs_in b k ++ (r ∷ [])
-  unfolding relocs_in
-  relocs_more r f h = record_more 8 reloc_at reloc_same b (reloc_bytes r) k r (length-reloc_bytes r) h (reloc_back r f)
-
   pub length-pieces_in : length (pieces_in b k) ≡ k
   unfolding pieces_in
   length-pieces_in = length-tabulate (λ i. piece_at b (piece_width * i)) 0 k

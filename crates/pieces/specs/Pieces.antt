@@ -1,7 +1,7 @@
 -- What the walk gives, as packed records, little-endian: pieces of 30 bytes (unit 2, number in its unit 2, section 2, name 2, address 4, size 4,
 -- alignment 4, file offset 8, origin of its split 2), piece symbols of 12 (unit 2, piece 2, its place among the pieces or 0xFFFF for common, symbol 2, flags 2, address 4),
 -- piece relocations of 8 (piece 2, relocation 2, offset 4). The first k records of a table are read as a list; `packed` are a list's records, one after
--- another. Callers use the laws of proofs/Laws.antt: a record more is one more at the end, and a table's first bytes are its records' bytes.
+-- another. Callers use the laws of proofs/Laws.antt: a table's first bytes are its records' bytes.
 use Rattle.std.specs.Prelude.{ℕ, ◌+◌, ◌*◌, ◌<◌, List, [], ◌∷◌, ◌++◌}
 use Rattle.lists.specs.Rows.{tabulate}
 use Rattle.fields.specs.Fields.{le16, le32, le64, enc16, enc32, enc64}

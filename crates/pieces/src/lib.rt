@@ -4,13 +4,13 @@
 
 mod lent;
 
-ghost use Rattle.std.specs.Prelude.{◌≡◌, [], ◌∷◌, ◌++◌, ◌+◌, ◌*◌, ◌-◌, ◌≤◌, ◌<◌, length, take, drop};
-ghost use Rattle.std.proofs.lemmas.List.Edits.{sets};
-ghost use Rattle.pieces.specs.Pieces.{piece_width, piece_head, piece_at, symbol_at, reloc_at, pieces_in, symbols_in, relocs_in};
+ghost use Rattle.std.specs.Prelude.{◌≡◌, ◌-◌, ◌<◌, take, drop};
+ghost use Rattle.pieces.specs.Pieces.{piece_width, piece_at, symbol_at, reloc_at, piece_bytes, symbol_bytes, reloc_bytes};
+ghost use Rattle.pieces.specs.Laws.{length-piece_bytes, length-symbol_bytes, length-reloc_bytes, piece_same, symbol_same, reloc_same};
 
 use fields::Field;
 pub use lent::PieceTables;
-use obj::Record;
+use obj::{Record, Written, put_record};
 
 #[derive(Clone, Copy, Default)]
 pub struct Piece {
@@ -114,61 +114,56 @@ impl Record for PieceReloc {
     }
 }
 
-// Record k of a packed table.
-pub fn record_in<R: Record>(b: &[u8], k: usize) -> R
-    requires { R.WIDTH * k + R.WIDTH ≤ length b.now }
-    ensures { result ≡ R.stored b.now (R.WIDTH * k) }
-{
-    R::read(b, R::WIDTH * k)
+// ---- records written
+
+impl Written for Piece {
+    ghost bytes = { piece_bytes };
+
+    ghost long = { length-piece_bytes };
+
+    ghost same = { piece_same };
+
+    fn write(self, out: &mut [u8], at: usize) {
+        self.unit.put(out, at);
+        self.number.put(out, at + 2);
+        self.section.put(out, at + 4);
+        self.name.put(out, at + 6);
+        self.address.put(out, at + 8);
+        self.size.put(out, at + 12);
+        self.alignment.put(out, at + 16);
+        self.offset.put(out, at + 20);
+        self.origin.put(out, at + 28);
+    }
 }
 
-// ---- records written: each field by field at its place, as document 01 lists them; what two kinds have in common is that they have five or seven fields
+impl Written for PieceSymbol {
+    ghost bytes = { symbol_bytes };
 
-// What document 01 gives a piece: all but its origin.
-fn put_head(out: &mut [u8], at: usize, p: Piece)
-    requires { at + 28 ≤ length out.old }
-    ensures { out.new ≡ sets out.old at (piece_head p) }
-{
-    p.unit.put(out, at);
-    p.number.put(out, at + 2);
-    p.section.put(out, at + 4);
-    p.name.put(out, at + 6);
-    p.address.put(out, at + 8);
-    p.size.put(out, at + 12);
-    p.alignment.put(out, at + 16);
-    p.offset.put(out, at + 20);
+    ghost long = { length-symbol_bytes };
+
+    ghost same = { symbol_same };
+
+    fn write(self, out: &mut [u8], at: usize) {
+        self.unit.put(out, at);
+        self.piece.put(out, at + 2);
+        self.symbol.put(out, at + 4);
+        self.flags.put(out, at + 6);
+        self.address.put(out, at + 8);
+    }
 }
 
-// One piece more, behind the k that are there.
-pub fn put_piece(out: &mut [u8], k: usize, p: Piece)
-    requires { piece_width * k + piece_width ≤ length out.old }
-    ensures { pieces_in out.new (k + 1) ≡ pieces_in out.old k ++ (p ∷ []) }
-{
-    let at = PIECE_BYTES * k;
-    put_head(out, at, p);
-    p.origin.put(out, at + 28);
-}
+impl Written for PieceReloc {
+    ghost bytes = { reloc_bytes };
 
-pub fn put_piece_symbol(out: &mut [u8], k: usize, y: PieceSymbol)
-    requires { 12 * k + 12 ≤ length out.old }
-    ensures { symbols_in out.new (k + 1) ≡ symbols_in out.old k ++ (y ∷ []) }
-{
-    let at = 12 * k;
-    y.unit.put(out, at);
-    y.piece.put(out, at + 2);
-    y.symbol.put(out, at + 4);
-    y.flags.put(out, at + 6);
-    y.address.put(out, at + 8);
-}
+    ghost long = { length-reloc_bytes };
 
-pub fn put_piece_reloc(out: &mut [u8], k: usize, r: PieceReloc)
-    requires { 8 * k + 8 ≤ length out.old }
-    ensures { relocs_in out.new (k + 1) ≡ relocs_in out.old k ++ (r ∷ []) }
-{
-    let at = 8 * k;
-    r.piece.put(out, at);
-    r.relocation.put(out, at + 2);
-    r.offset.put(out, at + 4);
+    ghost same = { reloc_same };
+
+    fn write(self, out: &mut [u8], at: usize) {
+        self.piece.put(out, at);
+        self.relocation.put(out, at + 2);
+        self.offset.put(out, at + 4);
+    }
 }
 
 impl PieceTables<'_, '_, '_> {
@@ -179,7 +174,7 @@ impl PieceTables<'_, '_, '_> {
         requires { self.old.made.relocs < self.old.room.relocs }
         ensures { AddedReloc self.old self.new r }
     {
-        put_piece_reloc(self.relocs, self.made.relocs, r);
+        put_record(self.relocs, self.made.relocs, r);
         self.made.relocs += 1;
     }
 }

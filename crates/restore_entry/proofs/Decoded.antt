@@ -13,7 +13,7 @@ use Rattle.fields.proofs.Laws.{round16, round32}
 use Rattle.sections.specs.Sections.{Sections}
 use Rattle.pieces.specs.declared.Piece.{Piece}
 use Rattle.pieces.specs.Pieces.{piece_at, piece_head, piece_bytes, pieces_in, packed, piece_width}
-use Rattle.pieces.proofs.Laws.{length-piece_bytes}
+use Rattle.pieces.specs.Laws.{length-piece_bytes}
 use Rattle.walk.specs.Walk.{Input, start_in}
 use Rattle.obj.specs.Parts.{Part}
 use Rattle.restore.specs.Restoring.{part_of, parts, returned, laid, Inside, Restored}

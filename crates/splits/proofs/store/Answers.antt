@@ -9,7 +9,8 @@ use Rattle.lists.specs.Rows.{tabulate}
 use Rattle.obj.specs.declared.Split.{Split}
 use Rattle.splits.specs.Columns.{row_at}
 use Rattle.splits.specs.Table.{columns_of}
-use Rattle.splits.specs.Bytes.{split_bytes, table_bytes}
+use Rattle.obj.specs.Bytes.{split_bytes}
+use Rattle.splits.specs.Bytes.{table_bytes}
 use Rattle.obj.specs.Records.{split_width}
 use Rattle.splits.proofs.Bytes.{written_turn, written_all}
 use Rattle.splits.proofs.store.Goals as goal
@@ -19,9 +20,9 @@ loop-i-preserved c =
     let l = c.loop-i in
     let a = c.args in
     let f = row_at (columns_of a.splits.now) in
-    let w = c.put_split.ensures ∙ ap (λ (s : Split). sets l.out (split_width * l.i) (split_bytes s)) c.row.ensures in (
+    let w = c.write.ensures.written ∙ ap (λ (s : Split). sets l.out (split_width * l.i) (split_bytes s)) c.row.ensures in (
       omega arith,
-      c.put_split.auto.out ∙ l.invariant.1,
+      c.write.auto.out ∙ l.invariant.1,
       ap (λ (b : List ℕ). sets b (split_width * (l.i + 1)) (table_bytes (tabulate f (l.i + 1) (a.splits.now.count - (l.i + 1))))) w
           ∙ written_turn l.out f a.splits.now.count l.i c.loop-i-test.true
           ∙ l.invariant.2,

@@ -8,7 +8,8 @@ use lib.Seq.{sets}
 use Rattle.lists.proofs.All.{all_at}
 use Rattle.obj.specs.declared.Unit as units
 use Rattle.tables.specs.Records.{units_in}
-use Rattle.order.specs.Bytes.{bytes_of_unit, units_bytes}
+use Rattle.obj.specs.Bytes.{bytes_of_unit}
+use Rattle.order.specs.Bytes.{units_bytes}
 use Rattle.order.specs.Columns.{node_record}
 use Rattle.order.proofs.Bytes.{written_turn, written_all}
 use Rattle.order.proofs.records.write_units.Goals as goal
@@ -25,10 +26,10 @@ loop-i-preserved c =
     let l = c.loop-i in
     let f = node_record (units_in a.unit_table.now.bytes.now a.unit_table.now.places.now) a.column.now a.nodes.now in
     let w =
-    c.put_unit.ensures
+    c.write.ensures.written
     ∙ ap (λ (u : units.Unit). sets l.out (8 * l.i) (bytes_of_unit u)) c.node_record-u.ensures in (
       omega arith,
-      c.put_unit.auto.out ∙ l.invariant.1,
+      c.write.auto.out ∙ l.invariant.1,
       ap (λ (b : List ℕ). sets b (8 * (l.i + 1)) (units_bytes (map f (drop (l.i + 1) a.list.now)))) w
           ∙ written_turn l.out f a.list.now l.i c.loop-i-test.true
           ∙ l.invariant.2,
