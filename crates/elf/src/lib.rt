@@ -7,6 +7,7 @@ ghost use Rattle.elf.specs.Elf.{header_at, section_header_at, symbol_entry_at};
 ghost use Rattle.elf.specs.Strings.{string_at, Spanned, EndedBelow};
 
 use big_endian::BigField;
+use obj::Record;
 
 // The ELF header, 52 bytes. `magic` is e_ident[0..4] as one number, `class` e_ident[4], `order` e_ident[5]; the others are the ABI's without their `e_`, but `kind` is e_type.
 #[derive(Clone, Copy)]
@@ -55,9 +56,38 @@ pub struct SymbolEntry {
     pub shndx: u16,
 }
 
+// ---- the ABI's numbers that are asked
+
+// "sh_type"
+pub const SHT_SYMTAB: u32 = 2;
+
+pub const SHT_NOBITS: u32 = 8;
+
+// "sh_flags"
+pub const SHF_WRITE: u32 = 1;
+
+pub const SHF_ALLOC: u32 = 2;
+
+pub const SHF_EXECINSTR: u32 = 4;
+
+// "st_shndx": no section, and where the reserved numbers start.
+pub const SHN_UNDEF: u16 = 0;
+
+pub const SHN_LORESERVE: u16 = 0xFF00;
+
+// The lower four bits of "st_info".
+pub const STT_OBJECT: u8 = 1;
+
+pub const STT_FUNC: u8 = 2;
+
+pub const STT_SECTION: u8 = 3;
+
+// .. and its upper four.
+pub const STB_LOCAL: u8 = 0;
+
 // ---- the structures
 
-// The header of a file.
+// The header of a file. It stands at its front and nowhere else, so it is no `Record`, which has a place.
 #[tactic(auto, unfolding(crate::specs::Elf::header_at))]
 pub fn read_header(b: &[u8]) -> Header
     requires { 52 ≤ length b.now }
@@ -83,39 +113,47 @@ pub fn read_header(b: &[u8]) -> Header
     }
 }
 
-// The section header at `at`.
-#[tactic(auto, unfolding(crate::specs::Elf::section_header_at))]
-pub fn read_section_header(b: &[u8], at: usize) -> SectionHeader
-    requires { at + 40 ≤ length b.now }
-    ensures { result ≡ section_header_at b.now at }
-{
-    SectionHeader {
-        name: u32::get_be(b, at),
-        kind: u32::get_be(b, at + 4),
-        flags: u32::get_be(b, at + 8),
-        addr: u32::get_be(b, at + 12),
-        offset: u32::get_be(b, at + 16),
-        size: u32::get_be(b, at + 20),
-        link: u32::get_be(b, at + 24),
-        info: u32::get_be(b, at + 28),
-        addralign: u32::get_be(b, at + 32),
-        entsize: u32::get_be(b, at + 36),
+impl Record for SectionHeader {
+    ghost WIDTH = { 40 };
+
+    const WIDTH: usize = 40;
+
+    ghost stored = { section_header_at };
+
+    #[tactic(auto, unfolding(crate::specs::Elf::section_header_at))]
+    fn read(b: &[u8], at: usize) -> SectionHeader {
+        SectionHeader {
+            name: u32::get_be(b, at),
+            kind: u32::get_be(b, at + 4),
+            flags: u32::get_be(b, at + 8),
+            addr: u32::get_be(b, at + 12),
+            offset: u32::get_be(b, at + 16),
+            size: u32::get_be(b, at + 20),
+            link: u32::get_be(b, at + 24),
+            info: u32::get_be(b, at + 28),
+            addralign: u32::get_be(b, at + 32),
+            entsize: u32::get_be(b, at + 36),
+        }
     }
 }
 
-// The symbol table entry at `at`.
-#[tactic(auto, unfolding(crate::specs::Elf::symbol_entry_at))]
-pub fn read_symbol_entry(b: &[u8], at: usize) -> SymbolEntry
-    requires { at + 16 ≤ length b.now }
-    ensures { result ≡ symbol_entry_at b.now at }
-{
-    SymbolEntry {
-        name: u32::get_be(b, at),
-        value: u32::get_be(b, at + 4),
-        size: u32::get_be(b, at + 8),
-        info: b[at + 12],
-        other: b[at + 13],
-        shndx: u16::get_be(b, at + 14),
+impl Record for SymbolEntry {
+    ghost WIDTH = { 16 };
+
+    const WIDTH: usize = 16;
+
+    ghost stored = { symbol_entry_at };
+
+    #[tactic(auto, unfolding(crate::specs::Elf::symbol_entry_at))]
+    fn read(b: &[u8], at: usize) -> SymbolEntry {
+        SymbolEntry {
+            name: u32::get_be(b, at),
+            value: u32::get_be(b, at + 4),
+            size: u32::get_be(b, at + 8),
+            info: b[at + 12],
+            other: b[at + 13],
+            shndx: u16::get_be(b, at + 14),
+        }
     }
 }
 

@@ -10,10 +10,10 @@ ghost use Rattle.number_names.specs.Tables.{room_of, SameTable, HeldBy, EnteredB
 ghost use Rattle.elf_names.specs.Names.{section_names, symbol_names, enter_section};
 ghost use Rattle.elf_names.specs.Seen.{Seen, EnteredSeen};
 
-use elf::{read_symbol_entry, string_at};
+use elf::{SymbolEntry, string_at};
 use elf_file::{header_of, is_allocated};
 use number_names::{NumberedNames, enter_name};
-use obj::Refusal;
+use obj::{Refusal, record_in};
 
 // ---- offsets whose strings are among the names
 //
@@ -106,7 +106,7 @@ pub fn enter_symbols(table: &[u8], strings: &[u8], names: &mut NumberedNames) ->
     let n = table.len() / 16;
     let mut seen = [0usize; 64];
     for i in 1..n {
-        let s = read_symbol_entry(table, 16 * i);
+        let s: SymbolEntry = record_in(table, i);
         enter_string(strings, s.name, &mut seen, i % 64, names)?;
     }
     Ok(())

@@ -20,6 +20,8 @@ use Rattle.lists.specs.Bounds.{Bytes}
 use Rattle.fields.specs.Fields.{le16, le32, enc32, little}
 use Rattle.fields.proofs.Laws.{round16, round32, number_at_same, le16_is, le32_is}
 use Rattle.obj.specs.Records.{section_at, symbol_at, stage_places}
+use Rattle.obj.specs.Bytes.{section_record, symbol_record}
+use Rattle.obj.specs.Laws.{length-section_record, length-symbol_record}
 use Rattle.obj.specs.declared.Section.{Section}
 use Rattle.obj.specs.declared.Symbol.{Symbol}
 use Rattle.obj.specs.Nothing.{no_section, no_symbol}
@@ -38,8 +40,8 @@ use Rattle.elf_file.specs.File.{outside, bytes_in, header_table, header_of, no_b
 use Rattle.import.specs.Import.{Rooms, Tables, tables_of, tables_check, import_of}
 use Rattle.import.proofs.Sections.{made_of, symbol_bytes, sections_count, places_count, section_is, place_is, symbols_count, symbol_is}
 use Rattle.import_laws.proofs.Theorems.{accepted_import}
-use Rattle.import_rows.specs.Rows.{head_of, place_of, reserved, home_of, symbol_of, section_record, symbol_record, sections_table, places_table, symbols_table}
-use Rattle.import_rows.proofs.Laws.{length_section, length_symbol, long_sections, long_places, long_symbols}
+use Rattle.import_rows.specs.Rows.{head_of, place_of, reserved, home_of, symbol_of, sections_table, places_table, symbols_table}
+use Rattle.import_rows.proofs.Laws.{long_sections, long_places, long_symbols}
 
 -- ---- a table of records of one width
 
@@ -87,7 +89,7 @@ le32_same s t p q h = le32_is s p ∙ number_at_same little 4 s t p q h ∙ sym 
 
 module _ (l : List Section) (k : ℕ) (h : k < length l) (f : SectionFits (get_or l k no_section)) where
   section_byte : (i at : ℕ) → i < 15 → at ≡ 15 * k + i → get_or (sections_table l) at 0 ≡ get_or (section_record (get_or l k no_section)) i 0
-  section_byte i at q e = record_byte section_record 15 length_section l k no_section h i at q e
+  section_byte i at q e = record_byte section_record 15 length-section_record l k no_section h i at q e
 
   section_word : (i : ℕ) → i + 4 ≤ 15 → le32 (sections_table l) (15 * k + i) ≡ le32 (section_record (get_or l k no_section)) i
   section_word i q = le32_same (sections_table l) (section_record (get_or l k no_section)) (15 * k + i) i (λ j p. section_byte (i + j) (15 * k + i + j) (omega arith) (omega arith))
@@ -105,7 +107,7 @@ module _ (l : List Section) (k : ℕ) (h : k < length l) (f : SectionFits (get_o
 
 module _ (l : List Symbol) (k : ℕ) (h : k < length l) (f : SymbolFits (get_or l k no_symbol)) where
   symbol_byte : (i at : ℕ) → i < 20 → at ≡ 20 * k + i → get_or (symbols_table l) at 0 ≡ get_or (symbol_record (get_or l k no_symbol)) i 0
-  symbol_byte i at q e = record_byte symbol_record 20 length_symbol l k no_symbol h i at q e
+  symbol_byte i at q e = record_byte symbol_record 20 length-symbol_record l k no_symbol h i at q e
 
   symbol_half : (i : ℕ) → i + 2 ≤ 20 → le16 (symbols_table l) (20 * k + i) ≡ le16 (symbol_record (get_or l k no_symbol)) i
   symbol_half i q = le16_same (symbols_table l) (symbol_record (get_or l k no_symbol)) (20 * k + i) i (λ j p. symbol_byte (i + j) (20 * k + i + j) (omega arith) (omega arith))

@@ -17,11 +17,13 @@ use Rattle.lists.proofs.Rows.{rest-cons, rest-none}
 use Rattle.lists.proofs.Stores.{sets-sets}
 use Rattle.lists.proofs.Keep.{keep_more}
 use Rattle.fields.specs.Fields.{enc32}
+use Rattle.obj.specs.Bytes.{section_record, symbol_record}
+use Rattle.obj.specs.Laws.{length-section_record, length-symbol_record}
 use Rattle.obj.specs.declared.Section.{Section}
 use Rattle.obj.specs.declared.Symbol.{Symbol}
 use Rattle.stage_names.specs.StageNames.{flat}
 use Rattle.elf_file.specs.File.{count, header_of, allocated, taken}
-use Rattle.import_rows.specs.Rows.{reserved, home_of, section_record, symbol_record, sections_table, places_table, symbols_table}
+use Rattle.import_rows.specs.Rows.{reserved, home_of, sections_table, places_table, symbols_table}
 use Rattle.import_rows.specs.Taken.{Taken}
 
 -- ---- a table written record by record
@@ -73,22 +75,14 @@ flat-width rec w h (x ∷ l) =
     swap : (a b : ℕ) → a + b ≡ b + a
     swap a b = omega arith
 
-pub length_section : (s : Section) → length (section_record s) ≡ 15
-unfolding section_record
-length_section s = refl
-
-pub length_symbol : (s : Symbol) → length (symbol_record s) ≡ 20
-unfolding symbol_record
-length_symbol s = refl
-
 pub long_sections : (l : List Section) → length (sections_table l) ≡ 15 * length l
-long_sections l = flat-width section_record 15 length_section l
+long_sections l = flat-width section_record 15 length-section_record l
 
 pub long_places : (l : List ℕ) → length (places_table l) ≡ 4 * length l
 long_places l = flat-width (λ p. enc32 p) 4 (λ p. refl) l
 
 pub long_symbols : (l : List Symbol) → length (symbols_table l) ≡ 20 * length l
-long_symbols l = flat-width symbol_record 20 length_symbol l
+long_symbols l = flat-width symbol_record 20 length-symbol_record l
 
 -- ---- the sections taken over
 

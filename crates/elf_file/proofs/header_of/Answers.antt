@@ -4,4 +4,4 @@ use Rattle.elf_file.proofs.header_of.Goals as goal
 
 pub returns : goal.returns
 unfolding header_of
-returns c = c.read_section_header.ensures
+returns c = c.record_in.ensures

@@ -16,13 +16,13 @@ enter_string-requires c = omega (arith, c.loop-i.invariant.sized)
 pub returns-in_err-enter_string : goal.returns-in_err-enter_string
 returns-in_err-enter_string c =
     rw (is_err _ c.from_residual.ensures.1)
-    (entering_stops _ _ _ _ (λ (room : Room) (names : List (List ℕ)). enter_name room names (string_at c.args.strings.now c.read_symbol_entry-s.result.name)) c.loop-i.invariant
-    (λ names. rw c.read_symbol_entry-s.ensures (symbols_turn _ _ _ names _ c.loop-i-test.true)) c.enter_string.new.names c.enter_string.new.seen _ c.in_err-enter_string.ensures)
+    (entering_stops _ _ _ _ (λ (room : Room) (names : List (List ℕ)). enter_name room names (string_at c.args.strings.now c.record_in-s.result.name)) c.loop-i.invariant
+    (λ names. rw c.record_in-s.ensures (symbols_turn _ _ _ names _ c.loop-i-test.true)) c.enter_string.new.names c.enter_string.new.seen _ c.in_err-enter_string.ensures)
 
 pub loop-i-preserved : goal.loop-i-preserved
 loop-i-preserved c =
-    entering_on _ _ _ _ (λ (room : Room) (names : List (List ℕ)). enter_name room names (string_at c.args.strings.now c.read_symbol_entry-s.result.name)) c.loop-i.invariant
-    (λ names. rw c.read_symbol_entry-s.ensures (symbols_turn _ _ _ names _ c.loop-i-test.true)) c.enter_string.new.names c.enter_string.new.seen c.in_ok-enter_string.ensures c.enter_string.auto.seen
+    entering_on _ _ _ _ (λ (room : Room) (names : List (List ℕ)). enter_name room names (string_at c.args.strings.now c.record_in-s.result.name)) c.loop-i.invariant
+    (λ names. rw c.record_in-s.ensures (symbols_turn _ _ _ names _ c.loop-i-test.true)) c.enter_string.new.names c.enter_string.new.seen c.in_ok-enter_string.ensures c.enter_string.auto.seen
 
 pub returns : goal.returns
 returns c = entering_done _ _ _ _ c.loop-i.invariant (λ names. symbols_done _ _ _ names _ c.loop-i-test.false)

@@ -5,7 +5,8 @@ use lib.ListN.{drop}
 use Rattle.obj.specs.declared.Section.{Section}
 use Rattle.elf_file.specs.File.{header_of}
 use Rattle.number_names.specs.Tables.{listed}
-use Rattle.import_rows.specs.Rows.{head_of, section_record, sections_table}
+use Rattle.import_rows.specs.Rows.{head_of, sections_table}
+use Rattle.obj.specs.Bytes.{section_record}
 use Rattle.import_rows.proofs.Laws.{Writing}
 use Rattle.import_rows.proofs.put_sections.Given as goal
 

@@ -6,7 +6,8 @@ use Rattle.lists.specs.Rows.{tabulate}
 use Rattle.elf.specs.Elf.{symbol_entry_at}
 use Rattle.elf_file.specs.File.{entries_of}
 use Rattle.number_names.specs.Tables.{listed}
-use Rattle.import_rows.specs.Rows.{symbol_of, symbol_record, symbols_table}
+use Rattle.import_rows.specs.Rows.{symbol_of, symbols_table}
+use Rattle.obj.specs.Bytes.{symbol_record}
 use Rattle.import_rows.proofs.Laws.{Writing}
 use Rattle.import_rows.proofs.put_symbols.Given as goal
 
