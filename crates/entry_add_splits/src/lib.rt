@@ -1,5 +1,5 @@
 // The entry `add_splits` behind its C name: the checks of its tables, the merge of the partial list into the split table, and what is left in the lent outputs.
-// An array stands in the lowest function that needs it, which lends it to the check and then reads it.
+// An array stands in the lowest function that needs it, which lends it to the check and reads the table that this gives.
 #![tactic(auto)]
 
 ghost use Rattle.std.specs.Prelude.{length};
@@ -11,7 +11,7 @@ ghost use Rattle.entry_add_splits.specs.Lent.{tables_outcome, splits_outcome};
 
 use lent_tables::{NO_TABLES, StageTables};
 use name_table::NameArrays;
-use obj::{PARTIAL_BYTES, Refusal, Table};
+use obj::{Refusal, Table};
 use splits::SplitTable;
 use stage_splits::{SplitOutput, finish, give_splits, room_of, take_split_columns};
 use stage_tables::{take_partials, take_sections};
@@ -39,12 +39,7 @@ fn from_splits(
     };
     take_split_columns(lengths, heads, lent.splits, &mut places, &mut table)?;
     // "1,024 splits"
-    take_partials(lengths, lent.partials, 1024, &mut places)?;
-    let m = lent.partials.len() / PARTIAL_BYTES;
-    let partials = Table {
-        bytes: lent.partials,
-        places: &places[..m],
-    };
+    let partials = take_partials(lengths, lent.partials, 1024, &mut places)?;
     merge::add_splits(&mut table, heads, &partials)?;
     give_splits(&table.columns(), output);
     Ok(())
@@ -60,12 +55,7 @@ fn checked(lent: &StageTables, output: &mut SplitOutput) -> Result<(), Refusal>
     columns.check(lent.name_ends, lent.name_bytes, 4096)?;
     let named = &columns.lengths[..lent.name_ends.len() / 2];
     // "64 sections"
-    take_sections(named, lent.sections, 64, &mut columns.places)?;
-    let n = lent.sections.len() / 15;
-    let heads = Table {
-        bytes: lent.sections,
-        places: &columns.places[..n],
-    };
+    let heads = take_sections(named, lent.sections, 64, &mut columns.places)?;
     from_splits(named, &heads, lent, output)
 }
 

@@ -23,14 +23,14 @@ fn with_symbols(lengths: &[u8], heads: &Table, lent: &StageTables) -> Result<(),
     // the places of the table that is looked at, and a number of each section
     let mut places = [0u32; 4096];
     let mut floors = [0u32; 64];
-    take_symbols(
+    let symbols = take_symbols(
         lengths.len(),
         heads,
         lent.symbols,
         most.symbols,
         &mut places,
     )?;
-    let count = lent.symbols.len() / 20;
+    let count = symbols.places.len();
     take_relocs(
         heads,
         count,
@@ -40,7 +40,8 @@ fn with_symbols(lengths: &[u8], heads: &Table, lent: &StageTables) -> Result<(),
         &mut floors,
     )?;
     take_splits(lengths, heads, lent.splits, most.splits, &mut places)?;
-    take_units(lengths, lent.units, most.units, &mut places)
+    take_units(lengths, lent.units, most.units, &mut places)?;
+    Ok(())
 }
 
 // All tables: the names, the sections, and what comes after them.
@@ -52,7 +53,7 @@ fn checked(lent: &StageTables) -> Result<(), Refusal>
     columns.check(lent.name_ends, lent.name_bytes, most.names)?;
     let names = columns.names(lent.name_ends, lent.name_bytes);
     let mut places = [0u32; 64];
-    take_image(
+    let heads = take_image(
         names.lengths,
         lent.section_places,
         lent.image.len(),
@@ -60,11 +61,6 @@ fn checked(lent: &StageTables) -> Result<(), Refusal>
         most.sections,
         &mut places,
     )?;
-    let n = lent.sections.len() / 15;
-    let heads = Table {
-        bytes: lent.sections,
-        places: &places[..n],
-    };
     with_symbols(names.lengths, &heads, lent)
 }
 

@@ -13,7 +13,6 @@ use name_table::{NameArrays, start_of};
 use names::{NameIndex, Names, Room};
 use obj::{Refusal, Table, word_of};
 use outputs::clear_from;
-use sections::Obj;
 use stage_gaps::{GapOutputs, with_splits};
 use stage_names::{bytes_room, fit_names, names_room};
 use stage_sections::{SectionArrays, SymbolArrays};
@@ -35,20 +34,8 @@ fn from_symbols(
     ensures lent { SameLent outputs.old outputs.new }
 {
     let mut symbols = SymbolArrays::new();
-    symbols.check(names.lengths.len(), heads, lent.symbols)?;
-    with_splits(
-        &Obj {
-            symbols: symbols.symbols(lent.symbols),
-            order: symbols.order(),
-            names: *names,
-            heads: *heads,
-        },
-        index,
-        image,
-        lent.splits,
-        most,
-        outputs,
-    )
+    let obj = symbols.take(names, heads, lent.symbols)?;
+    with_splits(&obj, index, image, lent.splits, most, outputs)
 }
 
 // The sections and the places of their bytes, and the tables after them.
@@ -64,7 +51,7 @@ fn from_sections(
     ensures lent { SameLent outputs.old outputs.new }
 {
     let mut sections = SectionArrays::new();
-    sections.check(
+    let headed = sections.take(
         names.lengths,
         lent.sections,
         lent.section_places,
@@ -73,8 +60,8 @@ fn from_sections(
     from_symbols(
         names,
         index,
-        &sections.heads(lent.sections),
-        &sections.image(lent.image, lent.section_places),
+        &headed.heads,
+        &headed.image,
         lent,
         most,
         outputs,

@@ -1,10 +1,10 @@
 -- What the tables before leave is what the definition asks: the lengths of the names, the sections with their ends, and the columns that were mended.
 -- Assumes nothing.
 use Prim.Native.Nat.{ℕ, ◌+◌, ◌*◌, ◌/◌, ◌≤◌, ◌<◌}
-use mathlib.Core.Path.{◌≡◌, sym, ap, ap₂, ◌∙◌}
+use mathlib.Core.Path.{◌≡◌, refl, sym, ap, ap₂, ◌∙◌}
 use mathlib.Core.List.{List}
 use native.Mathlib.Omega.{arith}
-use lib.ListN.{length, get_or, take}
+use lib.ListN.{length, get_or}
 use Rattle.lists.specs.Outcome.{Outcome, accepted}
 use Rattle.lists.proofs.Outcomes.{then_goes}
 use Rattle.lists.proofs.Rows.{length-tabulate}
@@ -12,6 +12,7 @@ use Rattle.obj.specs.Records.{section_at, stage_places, split_width}
 use Rattle.obj.specs.Answers.{Answer}
 use Rattle.obj.specs.declared.Section.{Section}
 use Rattle.obj.specs.declared.Split.{Split}
+use Rattle.obj.specs.declared.Table.{Table}
 use Rattle.obj.proofs.Laws.{length-stage_places}
 use Rattle.tables.specs.Tables.{main_ceilings, records_check, AllHeld}
 use Rattle.tables.specs.Records.{sections_in, section_fault}
@@ -19,12 +20,12 @@ use Rattle.tables.proofs.Lookups.{held}
 use Rattle.tables.proofs.Laws.{sections_end}
 use Rattle.name_table.specs.NameTable.{names_check}
 use Rattle.name_table.specs.Stored as names
-use Rattle.stage_tables.specs.StageTables.{stage_sections, stage_splits, sections_check, splits_check, Filled}
-use Rattle.stage_tables.proofs.Laws.{table_passed, taken_few, taken_places, taken-count, taken-held}
+use Rattle.stage_tables.specs.StageTables.{stage_sections, stage_splits, sections_check, splits_check, Taken}
+use Rattle.stage_tables.proofs.Laws.{table_passed, taken_few, taken-count}
 use Rattle.splits.specs.Columns.{Columns, row_at, rows}
 use Rattle.mend.specs.Mend.{section_ends_of, mend}
 use Rattle.mend.specs.Steps.{LowHeads, Mends, line_bytes}
-use Rattle.std.specs.Prelude.{Result}
+use Rattle.std.specs.Prelude.{Result, Ok}
 use Rattle.std.proofs.lemmas.List.{get_or-map}
 use Rattle.obj.specs.declared.Refusal.{Refusal}
 use Rattle.obj.specs.Nothing.{no_section}
@@ -57,19 +58,15 @@ low_heads lengths b {places} passed e all = record { held = held all; low = low 
         let end = ap (λ (s : Section). s.address + s.size) same in
         omega (arith, top, end)
 
-module _ (lengths b places : List ℕ) {answer : Outcome (Unit {0})} (f : Filled answer (sections_check main_ceilings.sections lengths b) 15 (length b) places) where
-  module _ (e : answer ≡ accepted tt) where
-    -- what the column of their ends asks
-    pub heads_low : LowHeads b (take (length b / 15) places)
-    heads_low =
-        low_heads lengths b (table_passed 15 main_ceilings.sections b (section_fault lengths (stage_sections b)) (sym f.said ∙ e)).2 (taken_places 15 _ b places _ f e)
-        (taken-held 15 _ b places _ f e (omega arith))
+module _ (lengths b : List ℕ) {t : Table} (k : Taken (sections_check main_ceilings.sections lengths b) 15 b (Ok t)) where
+  -- what the column of their ends asks
+  pub heads_low : LowHeads t.bytes.now t.places.now
+  heads_low =
+      rw (k.table.bytes, k.table.places)
+      (low_heads lengths b (table_passed 15 main_ceilings.sections b (section_fault lengths (stage_sections b)) (sym k.said)).2 refl (rw (k.table.bytes, k.table.places) at k.table.held))
 
-    pub heads_few : length b / 15 ≤ 64
-    heads_few = taken_few 15 _ b places _ f e
-
-    pub heads_count : length (take (length b / 15) places) ≡ length b / 15
-    heads_count = taken-count 15 _ b places _ f e
+  pub heads_few : length t.places.now ≤ 64
+  heads_few = omega (arith, taken-count 15 b k.table, taken_few 15 _ b _ k)
 
 -- ---- the split table
 

@@ -93,12 +93,8 @@ fn from_sections(
     let mut places = [0u32; 64];
     let mut section_ends = [0u32; 64];
     // "64 sections"
-    take_sections(lengths, sections, 64, &mut places)?;
-    let n = sections.len() / 15;
-    let heads = Table {
-        bytes: sections,
-        places: &places[..n],
-    };
+    let heads = take_sections(lengths, sections, 64, &mut places)?;
+    let n = heads.places.len();
     fill_section_ends(&heads, &mut section_ends);
     from_splits(lengths, &heads, &section_ends[..n], splits, outputs)
 }

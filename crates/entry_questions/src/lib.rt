@@ -14,7 +14,7 @@ use fields::Field;
 use lent_tables::{NO_TABLES, StageTables};
 use name_table::NameArrays;
 use names::Names;
-use obj::{Refusal, SPLIT_BYTES, Section, Split, Table, refuse, word_of};
+use obj::{Refusal, Section, Split, Table, refuse, word_of};
 use outputs::clear_from;
 use sections::Obj;
 use stage_sections::{SectionArrays, SymbolArrays};
@@ -69,19 +69,9 @@ fn with_symbols(
     ensures { meaning result ≡ from_symbols_in names.now heads.now image.now lent.now question }
 {
     let mut symbols = SymbolArrays::new();
-    symbols.check(names.lengths.len(), heads, lent.symbols)?;
-    let obj = Obj {
-        symbols: symbols.symbols(lent.symbols),
-        order: symbols.order(),
-        names: *names,
-        heads: *heads,
-    };
+    let obj = symbols.take(names, heads, lent.symbols)?;
     let mut split_places = [0u32; 1024];
-    take_splits(names.lengths, heads, lent.splits, 1024, &mut split_places)?;
-    let splits = Table {
-        bytes: lent.splits,
-        places: &split_places[..lent.splits.len() / SPLIT_BYTES],
-    };
+    let splits = take_splits(names.lengths, heads, lent.splits, 1024, &mut split_places)?;
     match question {
         Question::End { section } => splitting_end(&obj, image, section),
         Question::Alignment { split } => alignment(&obj, &splits, split),
@@ -96,19 +86,13 @@ fn answered(lent: &StageTables, question: Question) -> Result<u32, Refusal>
     columns.check(lent.name_ends, lent.name_bytes, 4096)?;
     let names = columns.names(lent.name_ends, lent.name_bytes);
     let mut sections = SectionArrays::new();
-    sections.check(
+    let headed = sections.take(
         names.lengths,
         lent.sections,
         lent.section_places,
         lent.image,
     )?;
-    with_symbols(
-        &names,
-        &sections.heads(lent.sections),
-        &sections.image(lent.image, lent.section_places),
-        lent,
-        question,
-    )
+    with_symbols(&names, &headed.heads, &headed.image, lent, question)
 }
 
 // The number into the lent output, where it was given and fits whole; zeros else.

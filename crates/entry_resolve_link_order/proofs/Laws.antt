@@ -5,7 +5,7 @@ use mathlib.Core.List.{List, [], ◌∷◌}
 use mathlib.Core.Bool.{Bool}
 use native.Mathlib.Nat.{zero-add}
 use native.Mathlib.Omega.{arith}
-use lib.ListN.{length, get_or, take, length-map}
+use lib.ListN.{length, get_or, length-map}
 use lib.Seq.{get_or-take}
 use Rattle.lists.specs.Rows.{clear_from}
 use Rattle.lists.specs.Outcome.{Outcome, accepted, refused, ◌>>◌}
@@ -21,6 +21,7 @@ use Rattle.std.proofs.lemmas.List.{get_or-map}
 use Rattle.obj.specs.declared.Refusal.{Refusal}
 use Rattle.obj.specs.declared.Split.{Split}
 use Rattle.obj.specs.declared.Section.{Section}
+use Rattle.obj.specs.declared.Table.{Table}
 use Rattle.obj.specs.declared.Unit as units
 use Rattle.obj.proofs.Laws.{length-stage_places}
 use Rattle.obj.specs.Nothing.{no_section, no_split, no_unit}
@@ -34,8 +35,8 @@ use Rattle.tables.proofs.Laws as tables
 use Rattle.name_table.specs.NameTable.{name_in, stage_names, names_check}
 use Rattle.name_table.specs.Stored.{Stored, Readable, name_starts, name_lengths, stage_lengths}
 use Rattle.name_table.proofs.Laws.{length-stage_lengths}
-use Rattle.stage_tables.specs.StageTables.{stage_sections, stage_splits, stage_units, sections_check, splits_check, units_check, Filled}
-use Rattle.stage_tables.proofs.Laws.{table_passed, taken_places, taken-count, taken-held, length_sections}
+use Rattle.stage_tables.specs.StageTables.{stage_sections, stage_splits, stage_units, sections_check, splits_check, units_check, Taken as TakenTable}
+use Rattle.stage_tables.proofs.Laws.{table_passed, taken-count, length_sections}
 use Rattle.stage_splits.specs.StageSplits.{Taken}
 use Rattle.splits.specs.Columns.{Columns, rows, row_at}
 use Rattle.toposort.specs.Search.{End}
@@ -93,22 +94,20 @@ module _ (lengths b : List ℕ) (e : sections_check 64 lengths b ≡ accepted tt
       let named = (tables.sections_named lengths (stage_sections b) (length b / 15) passed_sections k h).0 in
       rw (sym (ap (λ (s : Section). s.name) (head_at k h))) (has_place lengths (get_or (stage_sections b) k no_section).name named)
 
-pub sections_taken : (lengths b places name_bytes name_places : List ℕ) {answer : Outcome (Unit {0})} → Filled answer (sections_check 64 lengths b) 15 (length b) places
-    → answer ≡ accepted tt → Readable name_bytes name_places lengths → length lengths ≤ 4096 → SectionsTaken b (take (length b / 15) places) name_bytes name_places lengths
-sections_taken lengths b places name_bytes name_places f e names few =
-    let fault = section_fault lengths (stage_sections b) in
-    let check : sections_check 64 lengths b ≡ accepted tt = sym f.said ∙ e in
-    let held = taken-held 15 64 b places fault f e (omega arith) in
-    let count = taken-count 15 64 b places fault f e in
-    let where-they-are = taken_places 15 64 b places fault f e in
+pub sections_taken : (lengths b name_bytes name_places : List ℕ) {t : Table} → TakenTable (sections_check 64 lengths b) 15 b (Ok t)
+    → Readable name_bytes name_places lengths → length lengths ≤ 4096 → SectionsTaken t.bytes.now t.places.now name_bytes name_places lengths
+sections_taken lengths b name_bytes name_places {t} k names few =
+    let w = k.table in
+    let n : length t.places.now ≡ length b / 15 = taken-count 15 b w in
     record {
-      held = held;
+      held = w.held;
       sections = record {
-        held = λ k h. record { there = h; inside = held.each k h };
+        held = λ i h. record { there = h; inside = w.held.each i h };
         names = names.named;
-        named = λ k h.
-            let q : k < length b / 15 = omega arith in
-            omega (arith, names.paired, subst (λ (l : List ℕ). (section_at b (get_or l k 0)).name < length lengths) (sym where-they-are) (head_named lengths b check k q));
+        named = λ i h.
+            let q : i < length b / 15 = omega (arith, n, h) in
+            let at : (section_at t.bytes.now (get_or t.places.now i 0)).name ≡ (section_at b (get_or (stage_places 15 (length b / 15)) i 0)).name = λ z. (section_at (w.bytes z) (get_or (w.places z) i 0)).name in
+            omega (arith, names.paired, at, head_named lengths b (sym k.said) i q);
       };
       few = few;
     }
@@ -148,22 +147,20 @@ module _ (lengths heads head_places name_bytes name_places b : List ℕ) (c : Co
   }
 
 -- ---- units
-pub units_taken : (lengths b places : List ℕ) {answer : Outcome (Unit {0})} → Filled answer (units_check 1024 lengths b) 8 (length b) places → answer ≡ accepted tt
-    → length lengths ≤ 4096 → UnitsTaken b (take (length b / 8) places)
-units_taken lengths b places f e few =
-    let fault = unit_fault lengths (stage_units b) in
-    let passed = table_passed 8 1024 b fault (sym f.said ∙ e) in
-    let count = taken-count 8 1024 b places fault f e in
-    let there = taken_places 8 1024 b places fault f e in
+pub units_taken : (lengths b : List ℕ) {t : Table} → TakenTable (units_check 1024 lengths b) 8 b (Ok t) → length lengths ≤ 4096 → UnitsTaken t.bytes.now t.places.now
+units_taken lengths b {t} k few =
+    let w = k.table in
+    let passed = table_passed 8 1024 b (unit_fault lengths (stage_units b)) (sym k.said) in
+    let count : length t.places.now ≡ length b / 8 = taken-count 8 b w in
     record {
-      whole = record { each = λ k h. (taken-held 8 1024 b places fault f e (omega arith)).each k h };
-      few = omega (arith, passed.1);
-      named = λ k h.
-          let q : k < length b / 8 = omega arith in
-          let at : get_or (stage_units b) k no_unit ≡ unit_at b (get_or (stage_places 8 (length b / 8)) k 0) = get_or-map (unit_at b) (stage_places 8 (length b / 8)) k 0 no_unit (omega (arith, length-stage_places 8 (length b / 8))) in
-          let n = has_place lengths (get_or (stage_units b) k no_unit).name (tables.units_named lengths (stage_units b) (length b / 8) passed.2 k q) in
-          let m : (unit_at b (get_or (stage_places 8 (length b / 8)) k 0)).name < 4096 = omega (arith, ap (λ (u : units.Unit). u.name) at) in
-          subst (λ (l : List ℕ). (unit_at b (get_or l k 0)).name < 4096) (sym there) m;
+      whole = record { each = λ i h. w.held.each i h };
+      few = omega (arith, passed.1, count);
+      named = λ i h.
+          let q : i < length b / 8 = omega (arith, count, h) in
+          let at : get_or (stage_units b) i no_unit ≡ unit_at b (get_or (stage_places 8 (length b / 8)) i 0) = get_or-map (unit_at b) (stage_places 8 (length b / 8)) i 0 no_unit (omega (arith, q, length-stage_places 8 (length b / 8))) in
+          let n = has_place lengths (get_or (stage_units b) i no_unit).name (tables.units_named lengths (stage_units b) (length b / 8) passed.2 i q) in
+          let same : (unit_at t.bytes.now (get_or t.places.now i 0)).name ≡ (unit_at b (get_or (stage_places 8 (length b / 8)) i 0)).name = λ z. (unit_at (w.bytes z) (get_or (w.places z) i 0)).name in
+          omega (arith, n, few, same, ap (λ (u : units.Unit). u.name) at);
     }
 
 -- after a refusal nothing is asked

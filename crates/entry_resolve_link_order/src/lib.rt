@@ -40,16 +40,12 @@ fn with_splits(
     };
     take_split_columns(names.lengths, heads, lent.splits, &mut places, &mut table)?;
     // "1,024 units"
-    take_units(names.lengths, lent.units, 1024, &mut places)?;
-    let k = lent.units.len() / 8;
+    let units = take_units(names.lengths, lent.units, 1024, &mut places)?;
     let tables = LinkTables {
         splits: table.columns(),
         heads: *heads,
         names: *names,
-        units: Table {
-            bytes: lent.units,
-            places: &places[..k],
-        },
+        units,
     };
     ordered(&tables, out)
 }
@@ -64,12 +60,7 @@ fn checked(lent: &StageTables, out: &mut [u8]) -> Result<usize, Unlinked>
     let names = columns.names(lent.name_ends, lent.name_bytes);
     let mut places = [0u32; 64];
     // "64 sections"
-    take_sections(names.lengths, lent.sections, 64, &mut places)?;
-    let n = lent.sections.len() / 15;
-    let heads = Table {
-        bytes: lent.sections,
-        places: &places[..n],
-    };
+    let heads = take_sections(names.lengths, lent.sections, 64, &mut places)?;
     with_splits(&heads, &names, lent, out)
 }
 

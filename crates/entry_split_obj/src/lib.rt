@@ -16,7 +16,6 @@ use names::Names;
 use obj::{Refusal, Table, word_of};
 use outputs::{clear_from, put_count};
 use pieces::{Counts, PIECE_BYTES, PieceTables};
-use sections::Obj;
 use stage_sections::{SectionArrays, SymbolArrays};
 use stage_tables::take_relocs;
 use stage_walk::{room_of, with_splits};
@@ -35,26 +34,16 @@ fn with_symbols(
     ensures { Gives (from_symbols_in names.now heads.now image.now lent.now (within_ceilings tables.old.room)) tables.old tables.new result }
 {
     let mut symbols = SymbolArrays::new();
-    symbols.check(names.lengths.len(), heads, lent.symbols)?;
-    let n = lent.symbols.len() / 20;
-    let obj = Obj {
-        symbols: symbols.symbols(lent.symbols),
-        order: symbols.order(),
-        names: *names,
-        heads: *heads,
-    };
+    let obj = symbols.take(names, heads, lent.symbols)?;
+    let n = obj.symbols.places.len();
     let mut reloc_places = [0u32; 4096];
     let mut floors = [0u32; 64];
-    take_relocs(heads, n, lent.relocs, 4096, &mut reloc_places, &mut floors)?;
-    let relocs = Table {
-        bytes: lent.relocs,
-        places: &reloc_places[..lent.relocs.len() / 23],
-    };
+    let relocs = take_relocs(heads, n, lent.relocs, 4096, &mut reloc_places, &mut floors)?;
     with_splits(&obj, image, &relocs, lent.splits, lent.units, tables)
 }
 
 // All tables: the names, the sections with the places of their bytes, and the tables after them.
-// The first two as in `entry_questions::answered`, by the same two structs; what is asked after them differs.
+// `entry_questions::answered` begins with the same two calls. One function for both would be lent the two structs of arrays, which own what it gives, and give a pair, to save a `?`.
 fn checked(lent: &StageTables, tables: &mut PieceTables) -> Result<(), Refusal>
     ensures { Gives (split_obj_in lent.now (within_ceilings tables.old.room)) tables.old tables.new result }
 {
@@ -62,19 +51,13 @@ fn checked(lent: &StageTables, tables: &mut PieceTables) -> Result<(), Refusal>
     columns.check(lent.name_ends, lent.name_bytes, 4096)?;
     let names = columns.names(lent.name_ends, lent.name_bytes);
     let mut sections = SectionArrays::new();
-    sections.check(
+    let headed = sections.take(
         names.lengths,
         lent.sections,
         lent.section_places,
         lent.image,
     )?;
-    with_symbols(
-        &names,
-        &sections.heads(lent.sections),
-        &sections.image(lent.image, lent.section_places),
-        lent,
-        tables,
-    )
+    with_symbols(&names, &headed.heads, &headed.image, lent, tables)
 }
 
 // How many records are left of each: none after a refusal.

@@ -1,5 +1,5 @@
 // The entry `trim_splits` behind its C name: the checks of its tables, the trim, and what is left in the lent outputs. An array stands in the lowest function that needs
-// it, which lends it to the check and then reads it.
+// it, which lends it to the check and reads the table that this gives.
 #![tactic(auto)]
 
 ghost use Rattle.std.specs.Prelude.{length};
@@ -85,18 +85,8 @@ fn from_symbols(
     ensures lent { SameLent output.old output.new }
 {
     let mut symbols = SymbolArrays::new();
-    symbols.check(names.lengths.len(), heads, lent.symbols)?;
-    from_splits(
-        &Obj {
-            symbols: symbols.symbols(lent.symbols),
-            order: symbols.order(),
-            names: *names,
-            heads: *heads,
-        },
-        image,
-        lent.splits,
-        output,
-    )
+    let obj = symbols.take(names, heads, lent.symbols)?;
+    from_splits(&obj, image, lent.splits, output)
 }
 
 // The sections and the places of their bytes, and the tables after them.
@@ -106,19 +96,13 @@ fn from_sections(names: &Names, lent: &StageTables, output: &mut SplitOutput) ->
     ensures lent { SameLent output.old output.new }
 {
     let mut sections = SectionArrays::new();
-    sections.check(
+    let headed = sections.take(
         names.lengths,
         lent.sections,
         lent.section_places,
         lent.image,
     )?;
-    from_symbols(
-        names,
-        &sections.heads(lent.sections),
-        &sections.image(lent.image, lent.section_places),
-        lent,
-        output,
-    )
+    from_symbols(names, &headed.heads, &headed.image, lent, output)
 }
 
 // All tables.

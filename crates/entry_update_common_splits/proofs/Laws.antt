@@ -25,6 +25,7 @@ use Rattle.std.proofs.lemmas.List.{get_or-map}
 use Rattle.obj.specs.declared.Refusal.{Refusal}
 use Rattle.obj.specs.declared.Section.{Section}
 use Rattle.obj.specs.declared.Split.{Split}
+use Rattle.obj.specs.declared.Table.{Table}
 use Rattle.obj.proofs.Laws.{length-stage_places}
 use Rattle.obj.specs.Nothing.{no_section}
 use Rattle.names.specs.Names.{name_at}
@@ -36,8 +37,8 @@ use Rattle.tables.specs.Tables.{main_ceilings}
 use Rattle.name_table.specs.NameTable.{stage_names, names_check}
 use Rattle.name_table.specs.Stored.{stage_lengths, name_lengths, name_starts, Stored, Readable}
 use Rattle.name_table.proofs.Laws.{length-stage_names}
-use Rattle.stage_tables.specs.StageTables.{stage_sections, stage_splits, sections_check, splits_check, Filled}
-use Rattle.stage_tables.proofs.Laws.{table_passed, taken_few, taken_places, taken-count, taken-held}
+use Rattle.stage_tables.specs.StageTables.{stage_sections, stage_splits, sections_check, splits_check, Taken}
+use Rattle.stage_tables.proofs.Laws.{table_passed, taken_few, taken-count}
 use Rattle.stage_splits.specs.StageSplits.{room_of, Laid, Gives}
 use Rattle.stage_splits.proofs.Laws.{gives_as, gives_goes}
 use Rattle.common.specs.Common.{bss_sections, common_start, common_of, answered}
@@ -67,25 +68,24 @@ update_goes lengths heads bss splits given start size fits passed taken w =
 -- ---- the sections
 
 -- sections that were accepted, with the names that they have
-pub sections_of_lem : {name_bytes name_places name_lengths : List ℕ} (b places : List ℕ) {answer : Outcome (Unit {0})} → Readable name_bytes name_places name_lengths
-    → Filled answer (sections_check 64 name_lengths b) 15 (length b) places → answer ≡ accepted tt
-    → Sections name_bytes name_places name_lengths b (take (length b / 15) places)
-sections_of_lem {name_bytes} {name_places} {name_lengths} b places names f e = record {
-  few = omega (arith, taken-count 15 64 b places _ f e, taken_few 15 64 b places _ f e);
-  held = held (taken-held 15 64 b places _ f e (omega arith));
+pub sections_of_lem : {name_bytes name_places name_lengths : List ℕ} (b : List ℕ) {t : Table} → Readable name_bytes name_places name_lengths
+    → Taken (sections_check 64 name_lengths b) 15 b (Ok t) → Sections name_bytes name_places name_lengths t.bytes.now t.places.now
+sections_of_lem {name_bytes} {name_places} {name_lengths} b {t} names k = record {
+  few = omega (arith, taken-count 15 b k.table, taken_few 15 64 b _ k);
+  held = held k.table.held;
   names = names.named;
-  named = λ k h. named_at k (omega (arith, h, taken-count 15 64 b places _ f e));
+  named = λ i h. named_at i (omega (arith, h, taken-count 15 b k.table));
 }
   where
     n : ℕ
     n = length b / 15
 
-    named_at : (k : ℕ) → k < n → (section_at b (get_or (take n places) k 0)).name < length name_places
-    named_at k h =
-        let at = ap (λ (l : List ℕ). (section_at b (get_or l k 0)).name) (taken_places 15 64 b places _ f e) in
-        let there = ap (λ (s : Section). s.name) (get_or-map (section_at b) (stage_places 15 n) k 0 no_section (omega (arith, h, length-stage_places 15 n))) in
-        let named = (sections_named name_lengths (stage_sections b) n (table_passed 15 64 b _ (sym f.said ∙ e)).2 k h).0 in
-        omega (arith, at, there, has_place name_lengths (get_or (stage_sections b) k no_section).name named, names.paired)
+    named_at : (i : ℕ) → i < n → (section_at t.bytes.now (get_or t.places.now i 0)).name < length name_places
+    named_at i h =
+        let at : (section_at t.bytes.now (get_or t.places.now i 0)).name ≡ (section_at b (get_or (stage_places 15 n) i 0)).name = λ z. (section_at (k.table.bytes z) (get_or (k.table.places z) i 0)).name in
+        let there = ap (λ (s : Section). s.name) (get_or-map (section_at b) (stage_places 15 n) i 0 no_section (omega (arith, h, length-stage_places 15 n))) in
+        let named = (sections_named name_lengths (stage_sections b) n (table_passed 15 64 b _ (sym k.said)).2 i h).0 in
+        omega (arith, at, there, has_place name_lengths (get_or (stage_sections b) i no_section).name named, names.paired)
 
 -- ---- the sections named `.bss`
 

@@ -1,5 +1,5 @@
 // The entry `update_common_splits` behind its C name: the checks of its tables, the stage, and what is left in the lent outputs. An array stands in the lowest function
-// that needs it, which lends it to the check and then reads it.
+// that needs it, which lends it to the check and reads the table that this gives.
 #![tactic(auto)]
 
 ghost use Rattle.std.specs.Prelude.{length};
@@ -71,18 +71,8 @@ fn from_sections(
     ensures lent { SameLent output.old output.new }
 {
     let mut places = [0u32; 64];
-    take_sections(names.lengths, lent.sections, 64, &mut places)?;
-    let n = lent.sections.len() / 15;
-    from_splits(
-        names,
-        &Table {
-            bytes: lent.sections,
-            places: &places[..n],
-        },
-        lent.splits,
-        given,
-        output,
-    )
+    let heads = take_sections(names.lengths, lent.sections, 64, &mut places)?;
+    from_splits(names, &heads, lent.splits, given, output)
 }
 
 // All tables.

@@ -3,7 +3,7 @@
 
 ghost use Rattle.std.specs.Prelude.{◌≡◌, length};
 ghost use Rattle.obj.specs.Answers.{meaning, outcome_word};
-ghost use Rattle.tables.specs.Tables.{AllHeld};
+ghost use Rattle.tables.specs.Lent.{HeadsHeld};
 ghost use Rattle.symbol_order.specs.Order.{symbol_of, Order};
 ghost use Rattle.symbols.specs.Sound.{Sound};
 ghost use Rattle.entry_validate_splits.specs.Entry.{validate_of};
@@ -11,25 +11,21 @@ ghost use Rattle.entry_validate_splits.specs.Lines.{from_splits_in, from_symbols
 
 use lent_tables::{NO_TABLES, StageTables};
 use name_table::NameArrays;
+use names::Names;
 use obj::{Refusal, Table, word_of};
+use sections::Obj;
 use splits::SplitTable;
 use stage_sections::SymbolArrays;
 use stage_splits::take_split_columns;
 use stage_tables::take_sections;
 use validate::validate;
 
-// The splits, and the check. `lengths` are those of the names, `heads` the sections at their places.
-fn with_splits(
-    lengths: &[u8],
-    heads: &Table,
-    symbols: &Table,
-    order: &[u16],
-    splits: &[u8],
-) -> Result<(), Refusal>
-    requires { AllHeld 15 heads.now.bytes.now heads.now.places.now
-        × Order symbols.now.bytes.now symbols.now.places.now order.now
-        × Sound (symbol_of symbols.now.bytes.now symbols.now.places.now) (length symbols.now.places.now) }
-    ensures { meaning result ≡ from_splits_in lengths.now heads.now symbols.now splits.now }
+// The splits, and the check.
+fn with_splits(obj: &Obj, splits: &[u8]) -> Result<(), Refusal>
+    requires { HeadsHeld obj.now.heads
+        × Order obj.now.symbols.bytes.now obj.now.symbols.places.now obj.now.order.now
+        × Sound (symbol_of obj.now.symbols.bytes.now obj.now.symbols.places.now) (length obj.now.symbols.places.now) }
+    ensures { meaning result ≡ from_splits_in obj.now.names.lengths.now obj.now.heads obj.now.symbols splits.now }
 {
     let mut places = [0u32; 1024];
     let mut table = SplitTable {
@@ -40,25 +36,25 @@ fn with_splits(
         count: 0,
         room: 1024,
     };
-    take_split_columns(lengths, heads, splits, &mut places, &mut table)?;
-    validate(symbols, order, &table.columns())
+    take_split_columns(
+        obj.names.lengths,
+        &obj.heads,
+        splits,
+        &mut places,
+        &mut table,
+    )?;
+    validate(&obj.symbols, obj.order, &table.columns())
 }
 
 // The symbols with their order, and the tables after them.
-fn with_symbols(lengths: &[u8], heads: &Table, lent: &StageTables) -> Result<(), Refusal>
-    requires { AllHeld 15 heads.now.bytes.now heads.now.places.now }
-    ensures { meaning result ≡ from_symbols_in lengths.now heads.now lent.now }
+fn with_symbols(names: &Names, heads: &Table, lent: &StageTables) -> Result<(), Refusal>
+    requires { HeadsHeld heads.now }
+    ensures { meaning result ≡ from_symbols_in names.now.lengths.now heads.now lent.now }
 {
     let mut symbols = SymbolArrays::new();
-    symbols.check(lengths.len(), heads, lent.symbols)?;
+    let obj = symbols.take(names, heads, lent.symbols)?;
     // a function of its own, so that the order is made without the columns of the splits on the stack
-    with_splits(
-        lengths,
-        heads,
-        &symbols.symbols(lent.symbols),
-        symbols.order(),
-        lent.splits,
-    )
+    with_splits(&obj, lent.splits)
 }
 
 // All tables: the names, the sections, and what comes after them.
@@ -69,13 +65,8 @@ fn checked(lent: &StageTables) -> Result<(), Refusal>
     columns.check(lent.name_ends, lent.name_bytes, 4096)?;
     let names = columns.names(lent.name_ends, lent.name_bytes);
     let mut places = [0u32; 64];
-    take_sections(names.lengths, lent.sections, 64, &mut places)?;
-    let n = lent.sections.len() / 15;
-    let heads = Table {
-        bytes: lent.sections,
-        places: &places[..n],
-    };
-    with_symbols(names.lengths, &heads, lent)
+    let heads = take_sections(names.lengths, lent.sections, 64, &mut places)?;
+    with_symbols(&names, &heads, lent)
 }
 
 // The entry: 0, or the first refusal of the tables or of the check.

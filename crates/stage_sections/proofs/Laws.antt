@@ -1,15 +1,11 @@
 -- What sections and symbols that passed are to the questions of `symbols` and `sections`. Assumes nothing.
-use Prim.Native.Nat.{ℕ, ◌*◌, ◌/◌, ◌<◌, ◌≤◌}
-use mathlib.Core.Path.{◌≡◌, sym, ap, ◌∙◌}
+use Prim.Native.Nat.{ℕ, ◌/◌, ◌<◌, ◌≤◌}
+use mathlib.Core.Path.{◌≡◌}
 use mathlib.Core.List.{List}
 use native.Mathlib.Omega.{arith}
-use lib.ListN.{length, get_or, take, length-take}
-use lib.Seq.{get_or-take, length-take-le}
-use Rattle.std.specs.Prelude.{min}
+use lib.ListN.{length, get_or, take}
+use lib.Seq.{get_or-take}
 use Rattle.lists.specs.Outcome.{accepted}
-use Rattle.lists.specs.Rows.{tabulate}
-use Rattle.lists.proofs.Rows.{length-tabulate}
-use Rattle.fields.specs.Fields.{le32}
 use Rattle.obj.specs.Records.{stage_places}
 use Rattle.obj.specs.declared.Section.{Section}
 use Rattle.names.specs.Names.{Named}
@@ -19,19 +15,7 @@ use Rattle.stage_tables.specs.StageTables.{symbols_check, image_check}
 use Rattle.symbol_order.specs.Order.{symbol_of, order_of, Order}
 use Rattle.sections.specs.Image.{Tables}
 use Rattle.sections.specs.Sections.{Kept}
-use Rattle.stage_symbols.specs.StageSymbols.{Placed}
 use Rattle.stage_sections.proofs.Taken.{few, all_held, kept_there, order_there, tables_there}
-
--- ---- the places of the sections' bytes: as many as there are and an entry's array has
-pub places_held : (b : List ℕ) {n : ℕ} → n ≡ min (length b / 4) 64 → n ≡ length (take 64 (image_places_of b))
-unfolding image_places_of
-places_held b e = rw (length-take 64 (tabulate (λ k. le32 b (4 * k)) 0 (length b / 4)), length-tabulate (λ k. le32 b (4 * k)) 0 (length b / 4)) (omega (arith, e))
-
-pub placed_held : {l column : List ℕ} {r : ℕ} → Placed l column r → length column ≡ 64 → Placed l column (length (take 64 l))
-placed_held {l} {column} {r} p long =
-    let is = p.is ∙ ap (λ (n : ℕ). take n l) long in
-    let count = sym (length-take-le r column p.inside) ∙ ap length is in
-    record { is = ap (λ (n : ℕ). take n column) (sym count) ∙ p.is; inside = omega (arith, count, p.inside) }
 
 -- ---- sections with bytes in an image
 module _ (lengths places image b : List ℕ) (passed : image_check 64 lengths places (length image) b ≡ accepted tt) where

@@ -7,13 +7,11 @@ use native.Mathlib.Nat.{mul-div-le}
 use native.Mathlib.Omega.{arith}
 use lib.ListN.{length, get_or, take, length-take}
 use lib.Seq.{get_or-take}
-use Rattle.std.specs.Prelude.{Result}
 use Rattle.std.proofs.lemmas.List.{get_or-map}
 use Rattle.lists.specs.Outcome.{accepted}
 use Rattle.lists.proofs.Rows.{has_place}
 use Rattle.obj.specs.Records.{section_at, stage_places}
 use Rattle.obj.specs.declared.Section.{Section}
-use Rattle.obj.specs.declared.Refusal.{Refusal}
 use Rattle.obj.proofs.Laws.{length-stage_places}
 use Rattle.obj.specs.Nothing.{no_section}
 use Rattle.names.specs.Names.{Named}
@@ -26,7 +24,6 @@ use Rattle.stage_tables.proofs.Laws.{table_passed}
 use Rattle.symbol_order.specs.Order.{symbol_of, order_of, Order}
 use Rattle.sections.specs.Image.{Tables, Lies}
 use Rattle.sections.specs.Sections.{head_of, Kept}
-use Rattle.stage_symbols.specs.StageSymbols.{ordered, Ordered, Placed}
 use Rattle.stage_symbols.proofs.Laws.{symbol_named, symbol_whole}
 
 -- ---- symbols
@@ -50,14 +47,6 @@ module _ (ceiling names : ℕ) (sections : List Section) (b : List ℕ) (passed 
           named = λ i h. rw count (symbol_named ceiling names sections b passed i (rw length-stage_places at h));
         };
       }
-
-  -- .. in any columns that the table was taken into
-  pub tables-taken : ceiling ≤ 4096 → (places order name_bytes name_places name_lengths : List ℕ) (r : Result ℕ Refusal)
-      → Ordered (symbols_check ceiling names sections b) b places order r → length name_places ≡ names
-      → Named name_bytes name_places name_lengths (length name_places)
-      → Tables b (take (length b / 20) places) (take (ordered r) order) name_bytes name_places name_lengths
-  tables-taken low places order name_bytes name_places name_lengths r o count named =
-      rw (o.placed passed, o.is passed) (tables_there low name_bytes name_places name_lengths count named)
 
 -- ---- sections with bytes in an image
 module _ (ceiling : ℕ) (lengths places image b : List ℕ) (passed : image_check ceiling lengths places (length image) b ≡ accepted tt) where
@@ -102,11 +91,3 @@ module _ (ceiling : ℕ) (lengths places image b : List ℕ) (passed : image_che
             there = λ q. rw (length-take m (image_places_of places)) (omega (arith, h, long, (bytes q).0));
             inside = λ q. rw (get_or-take m (image_places_of places) n 0 (omega (arith, h, long))) (bytes q).1;
           })
-
-  -- .. in any columns that the table was taken into
-  pub sections_kept : ceiling ≤ 64 → (head_places column name_places : List ℕ) (r : ℕ)
-      → take (length b / 15) head_places ≡ stage_places 15 (length b / 15) → length lengths ≡ length name_places
-      → Placed (image_places_of places) column r → length column ≡ 64
-      → Kept b (take (length b / 15) head_places) image (take r column) name_places
-  sections_kept low head_places column name_places r there count p long =
-      rw (there, p.is) (kept_there low (length column) (omega (arith, few, low, long)) name_places count)

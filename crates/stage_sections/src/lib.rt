@@ -5,5 +5,5 @@
 mod section_arrays;
 mod symbol_arrays;
 
-pub use section_arrays::SectionArrays;
+pub use section_arrays::{SectionArrays, SectionTables};
 pub use symbol_arrays::SymbolArrays;

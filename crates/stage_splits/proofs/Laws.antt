@@ -19,6 +19,7 @@ use Rattle.std.specs.Prelude.{Ok, Err}
 use Rattle.std.proofs.lemmas.List.{get_or-map}
 use Rattle.obj.specs.declared.Section.{Section}
 use Rattle.obj.specs.declared.Split.{Split}
+use Rattle.obj.specs.declared.Table.{Table}
 use Rattle.obj.specs.Records.{split_at, stage_places, split_width, partial_width}
 use Rattle.obj.proofs.Laws.{length-stage_places}
 use Rattle.obj.specs.Nothing.{no_split}
@@ -26,13 +27,13 @@ use Rattle.tables.specs.Tables.{records_check, AllHeld}
 use Rattle.tables.specs.Records.{partials_in, splits_in, partial_fault}
 use Rattle.tables.proofs.Lookups.{held, partial_is}
 use Rattle.tables.proofs.Laws.{partials_aligned, splits_partials}
-use Rattle.stage_tables.specs.StageTables.{partials_check, splits_check, Filled}
-use Rattle.stage_tables.proofs.Laws.{table_passed, taken_places, taken-held}
+use Rattle.stage_tables.specs.StageTables.{partials_check, splits_check, Taken as TakenTable}
+use Rattle.stage_tables.proofs.Laws.{table_passed}
 use Rattle.kept_output.specs.Kept.{kept_of}
 use Rattle.outputs.specs.Outputs.{halves, counts_of}
 use Rattle.splits.specs.Columns.{rows}
 use Rattle.splits.specs.Bytes.{table_bytes, Loadable, Partials}
-use Rattle.stage_splits.specs.StageSplits.{room_of, Leaves, Taken, Laid, Gives}
+use Rattle.stage_splits.specs.StageSplits.{room_of, Leaves, Laid, Gives}
 
 -- ---- the room
 pub room_low : (size : ℕ) → room_of size ≤ 1024
@@ -73,39 +74,27 @@ loadable_of lengths b places all e = record {
       ∙ partials_aligned lengths (splits_in b places) (length places) e k h;
 }
 
-module _ (ceiling : ℕ) (lengths b places : List ℕ) (few : ceiling ≤ 4096) {answer : Outcome (Unit {0})} (e : answer ≡ accepted tt) where
+module _ (ceiling : ℕ) (lengths b : List ℕ) {t : Table} where
   -- a partial list
-  pub partials_mergeable : Filled answer (partials_check ceiling lengths b) partial_width (length b) places → Partials b (take (length b / partial_width) places)
-  partials_mergeable f =
+  pub partials_mergeable : TakenTable (partials_check ceiling lengths b) partial_width b (Ok t) → ceiling ≤ 4096 → Partials t.bytes.now t.places.now
+  partials_mergeable k few =
       let n = length b / partial_width in
-      let passed = (table_passed partial_width ceiling b _ (sym f.said ∙ e)).2 in
-      let there = taken-held partial_width ceiling b places _ f e few in
-      let at = taken_places partial_width ceiling b places _ f e in
-      let low = (table_passed partial_width ceiling b _ (sym f.said ∙ e)).1 in
-      let count = ap length at ∙ length-stage_places partial_width n in
-      partials_of lengths b (take n places) there (omega (arith, low, count))
-      (ap (λ (l : List ℕ). records_check (partial_fault lengths (partials_in b l)) (length l)) at
-      ∙ ap (records_check (partial_fault lengths (partials_in b (stage_places partial_width n)))) (length-stage_places partial_width n)
-      ∙ passed)
+      let passed = table_passed partial_width ceiling b _ (sym k.said) in
+      let count = length-stage_places partial_width n in
+      rw (k.table.bytes, k.table.places)
+      (partials_of lengths b (stage_places partial_width n) (rw (k.table.bytes, k.table.places) at k.table.held) (omega (arith, passed.1, count))
+      (ap (records_check (partial_fault lengths (partials_in b (stage_places partial_width n)))) count ∙ passed.2))
 
   -- a split table
-  pub splits_loadable : (sections : List Section) → Filled answer (splits_check ceiling lengths sections b) split_width (length b) places
-      → Loadable b (take (length b / split_width) places)
-  splits_loadable sections f =
+  pub splits_loadable : (sections : List Section) → TakenTable (splits_check ceiling lengths sections b) split_width b (Ok t) → Loadable t.bytes.now t.places.now
+  splits_loadable sections k =
       let n = length b / split_width in
-      let passed = (table_passed split_width ceiling b _ (sym f.said ∙ e)).2 in
-      let there = taken-held split_width ceiling b places _ f e few in
-      let at = taken_places split_width ceiling b places _ f e in
-      loadable_of lengths b (take n places) there
-      (ap (λ (l : List ℕ). records_check (partial_fault lengths (splits_in b l)) (length l)) at
-      ∙ ap (records_check (partial_fault lengths (splits_in b (stage_places split_width n)))) (length-stage_places split_width n)
-      ∙ splits_partials lengths sections (splits_in b (stage_places split_width n)) n passed)
-
--- it was accepted: the rows loaded from the places are its splits
-pub taken-rows : {answer want : Outcome (Unit {0})} (b places : List ℕ) (rows : List Split) → answer ≡ want
-    → take (length b / split_width) places ≡ stage_places split_width (length b / split_width) → rows ≡ splits_in b (take (length b / split_width) places)
-    → Taken answer want b rows
-taken-rows b places rows s at e = record { said = s; taken = λ _. e ∙ ap (splits_in b) at }
+      let passed = table_passed split_width ceiling b _ (sym k.said) in
+      let count = length-stage_places split_width n in
+      rw (k.table.bytes, k.table.places)
+      (loadable_of lengths b (stage_places split_width n) (rw (k.table.bytes, k.table.places) at k.table.held)
+      (ap (records_check (partial_fault lengths (splits_in b (stage_places split_width n)))) count
+      ∙ splits_partials lengths sections (splits_in b (stage_places split_width n)) n passed.2))
 
 -- ---- the counts
 -- no rows, and a count of 0: zeros throughout

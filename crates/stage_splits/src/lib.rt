@@ -46,15 +46,8 @@ pub fn take_split_columns(
         (rows_in table.new) }
     ensures lent { SameTable table.old table.new }
 {
-    take_splits(lengths, heads, b, table.room, places)?;
-    let n = b.len() / SPLIT_BYTES;
-    load(
-        &Table {
-            bytes: b,
-            places: &places[..n],
-        },
-        table,
-    );
+    let splits = take_splits(lengths, heads, b, table.room, places)?;
+    load(&splits, table);
     Ok(())
 }
 

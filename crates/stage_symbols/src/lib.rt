@@ -12,30 +12,33 @@ use obj::{Refusal, Table};
 use stage_tables::take_symbols;
 use symbol_order::make_order;
 
-// The symbols, "5 symbol: ..", in a column of places, and their order: how many symbols it has, so it is `order[..]` up to there. `names` is a count, `heads` are the sections
-// at their places. The three slices are no columns of one table: a caller reads the places and the order, and what the sort works in may hold anything.
-pub fn take_symbol_order(
+// The symbols of a table, and their order by address.
+#[derive(Clone, Copy)]
+pub struct OrderedSymbols<'b, 'p, 'o> {
+    pub table: Table<'b, 'p>,
+    pub order: &'o [u16],
+}
+
+// The symbols, "5 symbol: ..", at places in a lent column, and their order in another. `names` is a count, `heads` are the sections at their places. The three slices are no
+// columns of one table: the answer holds the places and the order, and what the sort works in may hold anything.
+pub fn take_symbol_order<'b, 'p, 'o>(
     names: usize,
     heads: &Table,
-    symbols: &[u8],
+    symbols: &'b [u8],
     ceiling: usize,
-    places: &mut [u32],
-    order: &mut [u16],
+    places: &'p mut [u32],
+    order: &'o mut [u16],
     scratch: &mut [u16],
-) -> Result<usize, Refusal>
+) -> Result<OrderedSymbols<'b, 'p, 'o>, Refusal>
     requires { AllHeld 15 heads.now.bytes.now heads.now.places.now × Room ceiling places.old order.old scratch.old }
-    ensures { Ordered (symbols_check ceiling names (sections_in heads.now.bytes.now heads.now.places.now) symbols.now) symbols.now places.new order.new result }
+    ensures { Ordered (symbols_check ceiling names (sections_in heads.now.bytes.now heads.now.places.now) symbols.now) symbols.now result }
 {
-    take_symbols(names, heads, symbols, ceiling, places)?;
-    let n = symbols.len() / 20;
-    Ok(make_order(
-        &Table {
-            bytes: symbols,
-            places: &places[..n],
-        },
-        order,
-        scratch,
-    ))
+    let table = take_symbols(names, heads, symbols, ceiling, places)?;
+    let n = make_order(&table, order, scratch);
+    Ok(OrderedSymbols {
+        table,
+        order: &order[..n],
+    })
 }
 
 // The places of the sections' bytes, four bytes each, at the front of a column; as many as both have, and how many these are.

@@ -2,15 +2,18 @@
 -- 2, then its kind's number" (DECISIONS.md, 9). One outcome for each table, so that an entry's definition has a line for each table that it takes.
 -- `lengths` are the lengths of the names, `sections` the sections that a record may refer to. What a table that passed is: `table_passed` of
 -- proofs/Laws.antt, and the laws of `tables` on its records.
-use Rattle.std.specs.Prelude.{ℕ, ◌/◌, ◌≤◌, ◌≡◌, List, length, take}
+use Rattle.std.specs.Prelude.{ℕ, ◌/◌, ◌≤◌, ◌≡◌, List, length, Result, Ok, Err, IfOk}
 use Rattle.lists.specs.Outcome.{Outcome, accepted, ◌>>◌}
 use Rattle.obj.specs.Records.{stage_places, split_width, partial_width}
+use Rattle.obj.specs.Answers.{Answer, meaning}
+use Rattle.obj.specs.declared.Refusal.{Refusal}
+use Rattle.obj.specs.declared.Table.{Table}
 use Rattle.obj.specs.declared.Section.{Section}
 use Rattle.obj.specs.declared.Symbol.{Symbol}
 use Rattle.obj.specs.declared.Reloc.{Reloc}
 use Rattle.obj.specs.declared.Split.{Split}
 use Rattle.obj.specs.declared.Unit as units
-use Rattle.tables.specs.Tables.{size_check, records_check}
+use Rattle.tables.specs.Tables.{size_check, records_check, AllHeld}
 use Rattle.tables.specs.Records.{sections_in, symbols_in, relocs_in, partials_in, splits_in, units_in, image_places_of, section_fault, image_fault, symbol_fault, reloc_fault, partial_fault, split_fault, unit_fault}
 
 -- the records of a stage table lie one after another
@@ -71,7 +74,18 @@ pub record Room (ceiling : ℕ) (places : List ℕ) : Type 0 where
   pub few : ceiling ≤ 4096
   pub long : ceiling ≤ length places
 
--- what was answered of a table of `size` bytes, and the places of its records if it was accepted
-pub record Filled (answer want : Outcome (Unit {0})) (width size : ℕ) (places : List ℕ) : Type 0 where
-  pub said : answer ≡ want
-  pub filled : want ≡ accepted tt → take (size / width) places ≡ stage_places width (size / width)
+-- what was answered, whatever comes with it
+abbrev pub answered : {A : Type 0} → Result A Refusal → Answer
+answered (Ok a) = Ok tt
+answered (Err r) = Err r
+
+-- the whole records of these bytes, one after another
+pub record Whole (width : ℕ) (b : List ℕ) (t : Table) : Type 0 where
+  pub bytes : t.bytes.now ≡ b
+  pub places : t.places.now ≡ stage_places width (length b / width)
+  pub held : AllHeld width t.bytes.now t.places.now
+
+-- what was answered of the bytes b, and their table if it was accepted
+pub record Taken (want : Outcome (Unit {0})) (width : ℕ) (b : List ℕ) (r : Result Table Refusal) : Type 0 where
+  pub said : meaning (answered r) ≡ want
+  pub table : IfOk r (Whole width b)

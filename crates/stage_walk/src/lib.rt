@@ -100,12 +100,7 @@ fn with_units(
 {
     let mut places = [0u32; 1024];
     let mut unit_numbers = [0u16; 4096];
-    take_units(obj.names.lengths, unit_table, 1024, &mut places)?;
-    let n = unit_table.len() / 8;
-    let unit_records = Table {
-        bytes: unit_table,
-        places: &places[..n],
-    };
+    let unit_records = take_units(obj.names.lengths, unit_table, 1024, &mut places)?;
     number_units(&unit_records, &mut unit_numbers);
     let units = NumberedUnits {
         table: unit_records,

@@ -1,15 +1,13 @@
 -- `entry_add_splits::from_splits` meets its contract. A refused table is the answer; else the split table holds its splits, the partial list has its places, and the merge
 -- over both is that of the tables: its refusal is the answer, or its rows are laid into the outputs. Assumes nothing.
-use mathlib.Core.Path.{sym, ap, ◌∙◌}
+use mathlib.Core.Path.{refl, sym, ap, ◌∙◌}
 use native.Mathlib.Omega.{arith}
 use Prim.Native.Nat.{ℕ}
 use lib.ListN.{length}
 use Rattle.obj.specs.Answers.{meaning}
-use Rattle.obj.specs.Records.{partial_width}
-use Rattle.obj.proofs.Errors.{same_err}
+use Rattle.obj.proofs.Errors.{is_err, same_err}
 use Rattle.tables.specs.Records.{sections_in, partials_in}
 use Rattle.stage_tables.specs.StageTables.{splits_check}
-use Rattle.stage_tables.proofs.Laws.{taken_few, taken_places, taken-count}
 use Rattle.stage_splits.specs.StageSplits.{room_of}
 use Rattle.stage_splits.proofs.Laws.{room_low, room_fits, partials_mergeable, gives_stops, gives_goes}
 use Rattle.entry_add_splits.specs.Entry.{from_splits}
@@ -39,40 +37,27 @@ returns-in_err-take_split_columns-clause-gives c =
     let said = t.ensures.taken.said ∙ ap (λ (k : ℕ). splits_check k a.lengths.now (sections_in a.heads.now.bytes.now a.heads.now.places.now) a.lent.now.splits.now) c.room_of.ensures in
     rw (same_err c.from_residual.result t.result c.from_residual.ensures.1 c.in_err-take_split_columns.was) (gives_stops _ said (ap meaning c.in_err-take_split_columns.was))
 
-pub returns-in_err-take_partials-clause-gives : goal.returns-in_err-take_partials-clause-gives
+pub returns-in_err-partials-clause-gives : goal.returns-in_err-partials-clause-gives
 unfolding from_splits
-returns-in_err-take_partials-clause-gives c =
+returns-in_err-partials-clause-gives c =
     let a = c.args in
     let t = c.take_split_columns in
-    let u = c.take_partials in
     let said = t.ensures.taken.said ∙ ap (λ (k : ℕ). splits_check k a.lengths.now (sections_in a.heads.now.bytes.now a.heads.now.places.now) a.lent.now.splits.now) c.room_of.ensures in
-    rw (same_err c.from_residual-in_err-take_partials.result u.result c.from_residual-in_err-take_partials.ensures.1 c.in_err-take_partials.was)
-    (gives_goes (sym said ∙ ap meaning c.in_ok-take_split_columns.was) (gives_stops _ u.ensures.said (ap meaning c.in_err-take_partials.was)))
-
-pub slice_bounds-places-end : goal.slice_bounds-places-end
-slice_bounds-places-end c =
-    let u = c.take_partials in
-    omega (arith, taken_few partial_width 1024 c.args.lent.now.partials.now _ _ u.ensures (ap meaning c.in_ok-take_partials.was), u.auto.places, c.take_split_columns.auto.places)
-
-pub slice_bounds-partials-end : goal.slice_bounds-partials-end
-slice_bounds-partials-end c = sym (taken-count partial_width 1024 c.args.lent.now.partials.now _ _ c.take_partials.ensures (ap meaning c.in_ok-take_partials.was))
+    rw (is_err _ c.from_residual-in_err-partials.ensures.1) (gives_goes (sym said ∙ ap meaning c.in_ok-take_split_columns.was) (gives_stops _ c.in_err-partials.ensures.said refl))
 
 pub add_splits-requires : goal.add_splits-requires
-add_splits-requires c =
-    (c.requires, partials_mergeable _ _ c.args.lent.now.partials.now _ (omega arith) (ap meaning c.in_ok-take_partials.was) c.take_partials.ensures)
+add_splits-requires c = (c.requires, partials_mergeable _ _ c.args.lent.now.partials.now c.in_ok-partials.ensures (omega arith))
 
 pub returns-in_err-add_splits-clause-gives : goal.returns-in_err-add_splits-clause-gives
 returns-in_err-add_splits-clause-gives c =
     let a = c.args in
     let t = c.take_split_columns in
-    let u = c.take_partials in
+    let k = c.in_ok-partials.ensures in
     let heads = sections_in a.heads.now.bytes.now a.heads.now.places.now in
     let passed = sym t.ensures.taken.said ∙ ap meaning c.in_ok-take_split_columns.was in
-    let told = ap meaning c.in_ok-take_partials.was in
     rw (same_err c.from_residual-in_err-add_splits.result c.add_splits.result c.from_residual-in_err-add_splits.ensures.1 c.in_err-add_splits.was)
     (merge_goes a.lengths.now heads a.lent.now.splits.now a.lent.now.partials.now (room_of (length a.output.now.splits.now)) c.room_of.ensures passed (t.ensures.taken.taken passed)
-    (sym u.ensures.said ∙ told) (ap (partials_in a.lent.now.partials.now) (taken_places partial_width 1024 a.lent.now.partials.now _ _ u.ensures told))
-    (merge_refused _ (rw t.ensures.lent.room at c.add_splits.ensures.rows) c.in_err-add_splits.was))
+    (sym k.said) (λ z. partials_in (k.table.bytes z) (k.table.places z)) (merge_refused _ (rw t.ensures.lent.room at c.add_splits.ensures.rows) c.in_err-add_splits.was))
 
 pub give_splits-requires : goal.give_splits-requires
 give_splits-requires c =
@@ -87,10 +72,9 @@ pub returns-clause-gives : goal.returns-clause-gives
 returns-clause-gives c =
     let a = c.args in
     let t = c.take_split_columns in
-    let u = c.take_partials in
+    let k = c.in_ok-partials.ensures in
     let heads = sections_in a.heads.now.bytes.now a.heads.now.places.now in
     let passed = sym t.ensures.taken.said ∙ ap meaning c.in_ok-take_split_columns.was in
-    let told = ap meaning c.in_ok-take_partials.was in
     merge_goes a.lengths.now heads a.lent.now.splits.now a.lent.now.partials.now (room_of (length a.output.now.splits.now)) c.room_of.ensures passed (t.ensures.taken.taken passed)
-    (sym u.ensures.said ∙ told) (ap (partials_in a.lent.now.partials.now) (taken_places partial_width 1024 a.lent.now.partials.now _ _ u.ensures told))
+    (sym k.said) (λ z. partials_in (k.table.bytes z) (k.table.places z))
     (merge_laid _ (rw t.ensures.lent.room at c.add_splits.ensures.rows) c.in_ok-add_splits.was (rw c.columns.ensures.rows at c.give_splits.ensures.laid))

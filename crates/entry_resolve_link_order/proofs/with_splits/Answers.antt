@@ -1,11 +1,11 @@
 -- `entry_resolve_link_order::with_splits` meets its contract: a refused table is the answer; else the columns hold the splits, the units have their places, and the stage is asked.
-use mathlib.Core.Path.{sym, ap, ◌∙◌}
+use mathlib.Core.Path.{refl, sym, ap, ◌∙◌}
 use native.Mathlib.Omega.{arith}
 use lib.ListN.{length}
 use Rattle.lists.proofs.Outcomes.{then_goes}
 use Rattle.obj.specs.Answers.{meaning}
 use Rattle.tables.specs.Records.{sections_in}
-use Rattle.stage_tables.proofs.Laws.{taken_few, taken_places, taken-count}
+use Rattle.std.specs.Prelude.{Err}
 use Rattle.splits.specs.Table.{columns_in}
 use Rattle.order.proofs.Stage.{resolves_as}
 use Rattle.entry_resolve_link_order.specs.Lines.{from_splits}
@@ -23,19 +23,13 @@ returns-in_err-take_split_columns c =
     refused_table _ _ _ _ _ c.from_residual.result c.take_split_columns.ensures.taken.said c.in_err-take_split_columns.was c.from_residual.ensures.1
     (low_splits a.names.now.lengths.now (sections_in a.heads.now.bytes.now a.heads.now.places.now) a.lent.now.splits.now)
 
-pub returns-in_err-take_units : goal.returns-in_err-take_units
+pub returns-in_err-units : goal.returns-in_err-units
 unfolding from_splits
-returns-in_err-take_units c =
+returns-in_err-units c =
     let a = c.args in
-    let f = c.from_residual-in_err-take_units in
+    let f = c.from_residual-in_err-units in
     resolves_as (then_goes c.take_split_columns.ensures.taken.said _ (ap meaning c.in_ok-take_split_columns.was))
-    (refused_table _ _ _ _ _ f.result c.take_units.ensures.said c.in_err-take_units.was f.ensures.1 (low_units a.names.now.lengths.now a.lent.now.units.now))
-
-pub slice_bounds-places-end : goal.slice_bounds-places-end
-slice_bounds-places-end c = omega (arith, taken_few 8 _ c.args.lent.now.units.now _ _ c.take_units.ensures (ap meaning c.in_ok-take_units.was))
-
-pub slice_bounds-tables-end : goal.slice_bounds-tables-end
-slice_bounds-tables-end c = sym (taken-count 8 _ c.args.lent.now.units.now _ _ c.take_units.ensures (ap meaning c.in_ok-take_units.was))
+    (refused_table _ _ _ _ (Err _) f.result c.in_err-units.ensures.said refl f.ensures.1 (low_units a.names.now.lengths.now a.lent.now.units.now))
 
 pub invariant_of-tables-clause-held : goal.invariant_of-tables-clause-held
 invariant_of-tables-clause-held c =
@@ -48,11 +42,11 @@ invariant_of-tables-clause-held c =
 
 pub invariant_of-tables-clause-whole : goal.invariant_of-tables-clause-whole
 invariant_of-tables-clause-whole c =
-    (units_taken c.args.names.now.lengths.now c.args.lent.now.units.now _ c.take_units.ensures (ap meaning c.in_ok-take_units.was) c.requires.few).whole
+    (units_taken c.args.names.now.lengths.now c.args.lent.now.units.now c.in_ok-units.ensures c.requires.few).whole
 
 pub invariant_of-tables-clause-few_units : goal.invariant_of-tables-clause-few_units
 invariant_of-tables-clause-few_units c =
-    (units_taken c.args.names.now.lengths.now c.args.lent.now.units.now _ c.take_units.ensures (ap meaning c.in_ok-take_units.was) c.requires.few).few
+    (units_taken c.args.names.now.lengths.now c.args.lent.now.units.now c.in_ok-units.ensures c.requires.few).few
 
 pub ordered-requires : goal.ordered-requires
 ordered-requires c =
@@ -64,7 +58,7 @@ ordered-requires c =
           rw (e.starts, e.ends, e.units, e.rest, e.count)
           (splits-taken a.names.now.lengths.now a.heads.now.bytes.now a.heads.now.places.now a.names.now.bytes.now a.names.now.places.now a.lent.now.splits.now (columns_in t.new.table) t.new.table.count
           t.ensures.taken (ap meaning c.in_ok-take_split_columns.was) c.requires).named;
-      records = (units_taken a.names.now.lengths.now a.lent.now.units.now _ c.take_units.ensures (ap meaning c.in_ok-take_units.was) c.requires.few).named;
+      records = (units_taken a.names.now.lengths.now a.lent.now.units.now c.in_ok-units.ensures c.requires.few).named;
     }
 
 pub returns : goal.returns
@@ -72,9 +66,8 @@ returns c =
     let a = c.args in
     let t = c.take_split_columns in
     let told = ap meaning c.in_ok-take_split_columns.was in
-    let u = c.take_units in
-    let units_told = ap meaning c.in_ok-take_units.was in
+    let u = c.in_ok-units.ensures in
     from_splits_as _ _ a.names.now.lengths.now _ a.lent.now.splits.now a.lent.now.units.now (length a.out.now) _
     (c.columns.ensures.rows
     ∙ rows_taken a.names.now.lengths.now a.heads.now.bytes.now a.heads.now.places.now a.names.now.bytes.now a.names.now.places.now a.lent.now.splits.now (columns_in t.new.table) t.new.table.count t.ensures.taken told)
-    (sym t.ensures.taken.said ∙ told) (taken_places 8 _ a.lent.now.units.now _ _ u.ensures units_told) (sym u.ensures.said ∙ units_told) c.ordered.ensures
+    (sym t.ensures.taken.said ∙ told) u.table.places (sym u.said) (rw u.table.bytes at c.ordered.ensures)

@@ -22,26 +22,25 @@ unfolding split_obj_of
 returns-in_err-check c =
     gives_stops _ (is_err _ c.from_residual.ensures.1) c.in_err-check.ensures.said lent_same
 
-pub returns-in_err-check-2 : goal.returns-in_err-check-2
+pub returns-in_err-headed : goal.returns-in_err-headed
 unfolding split_obj_of
-returns-in_err-check-2 c =
+returns-in_err-headed c =
     let t = c.args.lent.now in
     gives_goes (sym c.check.ensures.said ∙ ap meaning c.in_ok-check.was)
-    (gives_stops _ (is_err _ c.from_residual-in_err-check-2.ensures.1)
-    (c.in_err-check-2.ensures.said ∙ ap (λ (l : List ℕ). image_check 64 l t.section_places.now (length t.image.now) t.sections.now) c.names-names.ensures.lengths) lent_same)
+    (gives_stops _ (is_err _ c.from_residual-in_err-headed.ensures.1)
+    (c.in_err-headed.ensures.said ∙ ap (λ (l : List ℕ). image_check 64 l t.section_places.now (length t.image.now) t.sections.now) c.names-names.ensures.lengths) lent_same)
 
 pub with_symbols-requires : goal.with_symbols-requires
 with_symbols-requires c =
     let t = c.args.lent.now in
     let names = c.names-names in
-    let heads = c.heads.ensures in
-    let image = c.image.ensures in
-    let lengths = names.result.lengths.now in
-    let passed = sym c.check-2.ensures.said ∙ ap meaning c.in_ok-check-2.was in (
+    let k = c.in_ok-headed.ensures in
+    let h = k.tables in
+    let lengths = names.result.lengths.now in (
       names.ensures.readable,
-      rw (heads.bytes, heads.places, image.bytes, image.places) (record {
-        all = heads_held lengths t.section_places.now t.image.now t.sections.now passed;
-        kept = sections_kept lengths t.section_places.now t.image.now t.sections.now passed _ names.ensures.readable.paired;
+      rw (h.heads.bytes, h.heads.places, h.image_bytes, h.image_places) (record {
+        all = heads_held lengths t.section_places.now t.image.now t.sections.now (sym k.said);
+        kept = sections_kept lengths t.section_places.now t.image.now t.sections.now (sym k.said) _ names.ensures.readable.paired;
       }),
       rw (names.ensures.lengths, length-stage_lengths) (names_passed 4096 t.name_ends.now t.name_bytes.now (sym c.check.ensures.said ∙ ap meaning c.in_ok-check.was)).few,
     )
@@ -51,13 +50,12 @@ unfolding split_obj_of
 returns c =
     let t = c.args.lent.now in
     let names = c.names-names.ensures in
-    let heads = c.heads.ensures in
-    let image = c.image.ensures in
-    let passed = sym c.check-2.ensures.said ∙ ap meaning c.in_ok-check-2.was in
+    let k = c.in_ok-headed.ensures in
+    let h = k.tables in
     gives_goes (sym c.check.ensures.said ∙ ap meaning c.in_ok-check.was)
-    (gives_goes (ap (λ (l : List ℕ). image_check 64 l t.section_places.now (length t.image.now) t.sections.now) (sym names.lengths) ∙ passed)
+    (gives_goes (ap (λ (l : List ℕ). image_check 64 l t.section_places.now (length t.image.now) t.sections.now) (sym names.lengths) ∙ sym k.said)
     (gives_as
     (symbols_as t.name_ends.now t.name_bytes.now t.sections.now t.image.now t.section_places.now t.symbols.now t.relocs.now t.splits.now t.units.now (within_ceilings c.args.tables.now.room)
-    _ _ _ _ _ names.bytes names.places names.lengths heads.places
-    (λ n h. rw image.places (place_same c.names-names.result.lengths.now t.section_places.now t.image.now t.sections.now passed n h)))
-    (rw (heads.bytes, image.bytes) at c.with_symbols.ensures)))
+    _ _ _ _ _ names.bytes names.places names.lengths h.heads.places
+    (λ n i. rw h.image_places (place_same c.names-names.result.lengths.now t.section_places.now t.image.now t.sections.now (sym k.said) n i)))
+    (rw (h.heads.bytes, h.image_bytes) at c.with_symbols.ensures)))

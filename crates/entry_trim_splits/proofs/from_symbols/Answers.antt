@@ -1,11 +1,10 @@
 -- `entry_trim_splits::from_symbols` meets its contract. Symbols that are refused are the answer; else the arrays have their places and their order, and the splits are
 -- asked with them. Assumes nothing.
-use mathlib.Core.Path.{sym, ap, ◌∙◌}
+use mathlib.Core.Path.{refl, sym, ap}
 use mathlib.Core.List.{List}
 use Prim.Native.Nat.{ℕ}
 use lib.ListN.{length}
-use Rattle.obj.specs.Answers.{meaning}
-use Rattle.obj.proofs.Errors.{same_err}
+use Rattle.obj.proofs.Errors.{is_err}
 use Rattle.obj.proofs.Laws.{length-stage_places}
 use Rattle.tables.specs.Records.{sections_in}
 use Rattle.sections.specs.Image.{image_of}
@@ -16,25 +15,22 @@ use Rattle.stage_splits.proofs.Laws.{gives_as, gives_stops, gives_goes}
 use Rattle.entry_trim_splits.specs.Entry.{from_symbols, from_splits}
 use Rattle.entry_trim_splits.proofs.from_symbols.Goals as goal
 
-pub returns-in_err-check-clause-gives : goal.returns-in_err-check-clause-gives
+pub returns-in_err-obj-clause-gives : goal.returns-in_err-obj-clause-gives
 unfolding from_symbols
-returns-in_err-check-clause-gives c =
-    rw (same_err c.from_residual.result c.check.result c.from_residual.ensures.1 c.in_err-check.was)
-    (gives_stops _ c.check.ensures.said (ap meaning c.in_err-check.was))
+returns-in_err-obj-clause-gives c = rw (is_err _ c.from_residual.ensures.1) (gives_stops _ c.in_err-obj.ensures.said refl)
 
 pub from_splits-requires : goal.from_splits-requires
 from_splits-requires c =
     let a = c.args in
-    let s = c.symbols.ensures in
+    let k = c.in_ok-obj.ensures in
+    let o = k.asked in
     let q = c.requires in
-    let passed = sym c.check.ensures.said ∙ ap meaning c.in_ok-check.was in
-    let held = c.check.ensures.stored passed in
     let names = length a.names.now.lengths.now in
     let heads = sections_in a.heads.now.bytes.now a.heads.now.places.now in (
-      rw (s.bytes, s.places, c.order.ensures, held.order) (symbols_asked names heads a.lent.now.symbols.now passed _ _ _ (sym q.0.paired) q.0.named),
-      rw (s.bytes, s.places, length-stage_places) (symbols_sound 4096 names heads a.lent.now.symbols.now passed),
-      q.1.all,
-      q.1.kept,
+      rw (o.names, o.symbols.bytes, o.symbols.places, o.order) (symbols_asked names heads a.lent.now.symbols.now (sym k.said) _ _ _ (sym q.0.paired) q.0.named),
+      rw (o.symbols.bytes, o.symbols.places, length-stage_places) (symbols_sound 4096 names heads a.lent.now.symbols.now (sym k.said)),
+      rw o.heads q.1.all,
+      rw (o.names, o.heads) q.1.kept,
     )
 
 pub returns-clause-gives : goal.returns-clause-gives
@@ -44,12 +40,13 @@ returns-clause-gives c =
     let heads = c.args.heads.now in
     let image = c.args.image.now in
     let lent = c.args.lent.now in
-    let s = c.symbols.ensures in
-    gives_goes (sym c.check.ensures.said ∙ ap meaning c.in_ok-check.was)
+    let k = c.in_ok-obj.ensures in
+    let o = k.asked in
+    gives_goes (sym k.said)
     (gives_as
     (ap
     (λ (l : List ℕ).
     from_splits n.lengths.now (sections_in heads.bytes.now heads.places.now) (image_of lent.symbols.now l n.bytes.now n.places.now n.lengths.now)
     (sections_of heads.bytes.now heads.places.now image.bytes.now image.places.now) lent.splits.now (length c.args.output.now.splits.now))
-    s.places)
-    (rw s.bytes at c.from_splits.ensures.gives))
+    o.symbols.places)
+    (rw (o.names, o.heads, o.symbols.bytes) at c.from_splits.ensures.gives))

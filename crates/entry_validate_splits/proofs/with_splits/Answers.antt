@@ -27,5 +27,5 @@ returns c =
     let taken = c.take_split_columns.ensures.taken in
     let e = ap meaning c.in_ok-take_split_columns.was in
     c.validate.ensures
-    ∙ ap (validate (symbol_of a.symbols.now.bytes.now a.symbols.now.places.now) (length a.symbols.now.places.now)) (c.columns.ensures.rows ∙ taken.taken (sym taken.said ∙ e))
+    ∙ ap (validate (symbol_of a.obj.now.symbols.bytes.now a.obj.now.symbols.places.now) (length a.obj.now.symbols.places.now)) (c.columns.ensures.rows ∙ taken.taken (sym taken.said ∙ e))
     ∙ then_goes taken.said _ e

@@ -1,32 +1,28 @@
 -- `stage_symbols::take_symbol_order` meets its contract: a refused table has no order, the order of one that passed is made of its records' places.
 -- Assumes nothing.
-use mathlib.Core.Path.{sym, ap}
+use mathlib.Core.Path.{sym}
 use native.Mathlib.Omega.{arith}
-use Rattle.obj.specs.Answers.{meaning}
+use lib.Seq.{length-take-le}
 use Rattle.obj.proofs.Errors.{is_err}
 use Rattle.stage_tables.proofs.Laws.{taken_few, taken-count}
-use Rattle.stage_symbols.proofs.Orders.{none-ordered, order_room, room_kept, symbols_whole, all_ordered}
+use Rattle.stage_symbols.proofs.Orders.{order_room, symbols_whole, order_is}
 use Rattle.stage_symbols.proofs.take_symbol_order.Goals as goal
 
-pub returns-in_err-take_symbols : goal.returns-in_err-take_symbols
-returns-in_err-take_symbols c =
-    rw (is_err _ c.from_residual.ensures.1) (none-ordered _ _ _ c.in_err-take_symbols.ensures)
+pub returns-in_err-table : goal.returns-in_err-table
+returns-in_err-table c = rw (is_err _ c.from_residual.ensures.1) (record { said = c.in_err-table.ensures.said; symbols = tt })
 
-pub slice_bounds-make_order-end : goal.slice_bounds-make_order-end
-slice_bounds-make_order-end c =
-    omega (arith, taken_few 20 c.args.ceiling c.args.symbols.now c.take_symbols.new.places _ c.take_symbols.ensures (ap meaning c.in_ok-take_symbols.was), c.take_symbols.auto.places, c.requires.1.places_long)
+pub make_order-n-requires : goal.make_order-n-requires
+make_order-n-requires c =
+    let k = c.in_ok-table.ensures in
+    (order_room c.args.ceiling c.args.symbols.now _ k c.requires.1, symbols_whole c.args.ceiling c.args.symbols.now _ k)
 
-pub slice_bounds-make_order-end-2 : goal.slice_bounds-make_order-end-2
-slice_bounds-make_order-end-2 c =
-    sym (taken-count 20 c.args.ceiling c.args.symbols.now c.take_symbols.new.places _ c.take_symbols.ensures (ap meaning c.in_ok-take_symbols.was))
-
-pub make_order-requires : goal.make_order-requires
-make_order-requires c =
-    let t = c.take_symbols in
-    let e = ap meaning c.in_ok-take_symbols.was in
-    (order_room c.args.ceiling c.args.symbols.now _ _ t.result t.ensures e _ _ (room_kept t.auto.places c.requires.1), symbols_whole c.args.ceiling c.args.symbols.now _ _ t.result t.ensures e c.requires.1.few)
+pub slice_bounds-result-end : goal.slice_bounds-result-end
+slice_bounds-result-end c =
+    let k = c.in_ok-table.ensures in
+    let o = c.make_order-n in
+    sym (length-take-le _ _ (omega (arith, o.ensures.small, taken-count 20 c.args.symbols.now k.table, taken_few 20 c.args.ceiling c.args.symbols.now _ k, o.auto.order, c.requires.1.order_long)))
 
 pub returns : goal.returns
 returns c =
-    let t = c.take_symbols in
-    all_ordered c.args.ceiling c.args.symbols.now _ _ t.result t.ensures (ap meaning c.in_ok-take_symbols.was) _ c.make_order.ensures
+    let k = c.in_ok-table.ensures in
+    record { said = k.said; symbols = record { table = k.table; order = order_is c.args.ceiling c.args.symbols.now _ k _ c.make_order-n.ensures } }
