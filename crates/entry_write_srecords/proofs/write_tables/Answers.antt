@@ -14,35 +14,35 @@ pub returns-in_err-n : goal.returns-in_err-n
 unfolding write_srecords
 returns-in_err-n c =
     let a = c.args in
-    rw (is_err _ c.from_residual.ensures.1) (writes_refused (count_stops a.name_ends.now a.name_bytes.now a.sections.now a.pieces.now _ c.in_err-n.ensures) refl)
+    rw (is_err _ c.from_residual.ensures.1) (writes_refused (count_stops a.lent.now.name_ends.now a.lent.now.name_bytes.now a.lent.now.sections.now a.lent.now.pieces.now _ c.in_err-n.ensures) refl)
 
 pub write-requires : goal.write-requires
 write-requires c =
     let a = c.args in
     let counts = c.in_ok-n.ensures in
-    let passed = tables_passed a.name_ends.now a.name_bytes.now a.sections.now a.pieces.now counts in (
-      sections_few a.name_ends.now a.name_bytes.now a.sections.now a.pieces.now counts,
-      parts_whole a.name_ends.now a.name_bytes.now a.sections.now a.pieces.now counts,
-      tables_ended a.name_ends.now a.name_bytes.now a.sections.now passed,
-      parts_few a.name_ends.now a.name_bytes.now a.sections.now a.pieces.now counts,
+    let passed = tables_passed a.lent.now.name_ends.now a.lent.now.name_bytes.now a.lent.now.sections.now a.lent.now.pieces.now counts in (
+      sections_few a.lent.now.name_ends.now a.lent.now.name_bytes.now a.lent.now.sections.now a.lent.now.pieces.now counts,
+      parts_whole a.lent.now.name_ends.now a.lent.now.name_bytes.now a.lent.now.sections.now a.lent.now.pieces.now counts,
+      tables_ended a.lent.now.name_ends.now a.lent.now.name_bytes.now a.lent.now.sections.now passed,
+      parts_few a.lent.now.name_ends.now a.lent.now.name_bytes.now a.lent.now.sections.now a.lent.now.pieces.now counts,
     )
 
 pub returns-in_err-write : goal.returns-in_err-write
 unfolding write_srecords
 returns-in_err-write c =
     let a = c.args in
-    let same = count_goes a.name_ends.now a.name_bytes.now a.sections.now a.pieces.now _ c.in_ok-n.ensures in
+    let same = count_goes a.lent.now.name_ends.now a.lent.now.name_bytes.now a.lent.now.sections.now a.lent.now.pieces.now _ c.in_ok-n.ensures in
     rw (is_err _ c.from_residual-in_err-write.ensures.1) (writes_stopped _ (joins_as same c.in_err-write.ensures))
 
 pub lines_room-total-requires : goal.lines_room-total-requires
 lines_room-total-requires c =
     let a = c.args in
-    sections_few a.name_ends.now a.name_bytes.now a.sections.now a.pieces.now c.in_ok-n.ensures
+    sections_few a.lent.now.name_ends.now a.lent.now.name_bytes.now a.lent.now.sections.now a.lent.now.pieces.now c.in_ok-n.ensures
 
 pub returns : goal.returns
 unfolding write_srecords
 returns c =
     let a = c.args in
-    let heads = stage_sections a.sections.now in
-    let same = count_goes a.name_ends.now a.name_bytes.now a.sections.now a.pieces.now (write_of heads (length a.lines.now)) c.in_ok-n.ensures in
+    let heads = stage_sections a.lent.now.sections.now in
+    let same = count_goes a.lent.now.name_ends.now a.lent.now.name_bytes.now a.lent.now.sections.now a.lent.now.pieces.now (write_of heads (length a.lines.now)) c.in_ok-n.ensures in
     writes_made _ (joins_as same c.in_ok-write.ensures) (λ bytes q. c.lines_room-total.ensures ∙ sym (write_size heads _ _ bytes (same ∙ q)))
