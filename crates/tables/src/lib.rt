@@ -2,6 +2,8 @@
 // its kind's number". A table is lent bytes and a column of places, as the readers of `obj` take it; names come in as a column of their lengths.
 #![tactic(auto)]
 
+mod held_table;
+
 ghost use Rattle.std.specs.Prelude.{ℕ, ◌≡◌, ◌*◌, ◌<◌, ◌≤◌, length, get_or, take, replicate};
 ghost use Rattle.obj.specs.Records.{stage_places, Held, split_width, partial_width};
 ghost use Rattle.obj.specs.Answers.{meaning};
@@ -11,6 +13,7 @@ ghost use Rattle.tables.specs.Records.{sections_in, symbols_in, relocs_in, parti
 
 use faults::{reloc_bad, section_bad, split_bad, split_misplaced, symbol_bad, unit_bad};
 use fields::Field;
+use held_table::HeldTable;
 use obj::{Refusal, Reloc, Section, Split, Symbol, Table, Unit, place_of, read_partial, refuse};
 
 // How many records of each kind there are, or how many there may be.
@@ -75,8 +78,8 @@ pub fn length_of(lengths: &[u8], k: usize) -> usize
     usize::from(lengths.get(k).copied().unwrap_or(0))
 }
 
-// Section k, or an empty one: each fault that looks at a section also asks whether there is one of that number, so what the bounds of an empty one say is of no matter,
-// and no Option is taken apart.
+// Section k, or an empty one: each fault that looks at a section also asks whether there is one of that number, so what the bounds of an empty one say is of no matter.
+// An `if`, here and in `image_place`: `(k < n).then(|| ..).unwrap_or_default()` has the same two cases, by an Option and a closure more.
 pub fn section_or_none(table: &Table, k: usize) -> Section
     requires { AllHeld 15 table.now.bytes.now table.now.places.now }
     ensures { result ≡ get_or (sections_in table.now.bytes.now table.now.places.now) k no_section }
@@ -87,8 +90,9 @@ pub fn section_or_none(table: &Table, k: usize) -> Section
     Section::default()
 }
 
-// The faults below are asked of a table and a number k, as their definitions are, and each says that the records are held and that there is a k: `Table` is every table of
-// records, of any width, so it has no such fact of its own, and a struct of a table and a number would be made anew for each record.
+// The faults below are asked of a table and a number k, as their definitions are. That there is a k stays a clause: a struct of a table and a number would be made anew for each
+// record. What other crates call takes a `Table`, asks that its records are held, and makes the `HeldTable`: `Table` is every table of records, of any width. Of partial splits, which
+// are no `Record`, it stays a clause.
 
 // A fault and a check for each kind of record, with `check_records` in common. One check over every `Record`, its test a closure, would serve symbols, splits and units alone:
 // a section with bytes in an image can be refused by two numbers, a partial split is no `Record`, and the floors of a relocation change from one to the next.
@@ -120,11 +124,11 @@ fn check_records<F: Fn(usize) -> Result<(), Refusal>>(n: usize, check: F) -> Res
 // ---- sections
 
 // The fault of section k.
-fn section_fault(lengths: &[u8], table: &Table, k: usize) -> Result<(), Refusal>
-    requires { AllHeld 15 table.now.bytes.now table.now.places.now × (k < length table.now.places.now) }
-    ensures { meaning result ≡ record_check (section_fault lengths.now (sections_in table.now.bytes.now table.now.places.now) k) k }
+fn section_fault(lengths: &[u8], sections: &HeldTable<Section>, k: usize) -> Result<(), Refusal>
+    requires { k < length sections.now.table.places.now }
+    ensures { meaning result ≡ record_check (section_fault lengths.now (sections_in sections.now.table.bytes.now sections.now.table.places.now) k) k }
 {
-    let s = table.record::<Section>(k);
+    let s = sections.record(k);
     refuse_if(4, k, section_bad(s, length_of(lengths, s.name as usize)))
 }
 
@@ -133,7 +137,8 @@ pub fn check_sections(lengths: &[u8], table: &Table) -> Result<(), Refusal>
     requires { AllHeld 15 table.now.bytes.now table.now.places.now }
     ensures { meaning result ≡ records_check (section_fault lengths.now (sections_in table.now.bytes.now table.now.places.now)) (length table.now.places.now) }
 {
-    check_records(table.places.len(), |k| section_fault(lengths, table, k))
+    let sections = HeldTable::<Section>::of(table);
+    check_records(table.places.len(), |k| section_fault(lengths, &sections, k))
 }
 
 // The place of section k's bytes in the image, 0 of one that has none. Who reads the bytes has asked `bytes_cut`, which refuses a section without a place: an Option would
@@ -152,7 +157,7 @@ pub fn bytes_cut(places: &[u8], image: usize, k: usize, s: Section) -> bool
     ensures { result ≡ bytes_cut (image_places_of places.now) image k s }
 {
     let start = image_place(places, k);
-    (s.kind != 3) & ((places.len() / 4 <= k) | ((image as u64) < (start as u64) + (s.size as u64)))
+    !s.is_bss() & ((places.len() / 4 <= k) | ((image as u64) < (start as u64) + (s.size as u64)))
 }
 
 // The fault of section k in a table whose sections have bytes in an image.
@@ -160,16 +165,16 @@ fn image_fault(
     lengths: &[u8],
     image_places: &[u8],
     image: usize,
-    table: &Table,
+    sections: &HeldTable<Section>,
     k: usize,
 ) -> Result<(), Refusal>
-    requires { AllHeld 15 table.now.bytes.now table.now.places.now × (k < length table.now.places.now) }
-    ensures { meaning result ≡ record_check (image_fault lengths.now (image_places_of image_places.now) image (sections_in table.now.bytes.now table.now.places.now) k) k }
+    requires { k < length sections.now.table.places.now }
+    ensures { meaning result ≡ record_check (image_fault lengths.now (image_places_of image_places.now) image (sections_in sections.now.table.bytes.now sections.now.table.places.now) k) k }
 {
-    if bytes_cut(image_places, image, k, table.record::<Section>(k)) {
+    if bytes_cut(image_places, image, k, sections.record(k)) {
         return refuse(1, 0, k as u32);
     }
-    section_fault(lengths, table, k)
+    section_fault(lengths, sections, k)
 }
 
 // Every section of a table whose sections have bytes in an image of `image` bytes: 1 where they are cut, else 4.
@@ -182,22 +187,28 @@ pub fn check_image(
     requires { AllHeld 15 table.now.bytes.now table.now.places.now }
     ensures { meaning result ≡ records_check (image_fault lengths.now (image_places_of image_places.now) image (sections_in table.now.bytes.now table.now.places.now)) (length table.now.places.now) }
 {
+    let sections = HeldTable::<Section>::of(table);
     check_records(
         table.places.len(),
-        |k| image_fault(lengths, image_places, image, table, k),
+        |k| image_fault(lengths, image_places, image, &sections, k),
     )
 }
 
 // ---- symbols
 
 // The fault of symbol k.
-fn symbol_fault(names: usize, heads: &Table, table: &Table, k: usize) -> Result<(), Refusal>
-    requires { AllHeld 15 heads.now.bytes.now heads.now.places.now × AllHeld 20 table.now.bytes.now table.now.places.now × (k < length table.now.places.now) }
-    ensures { meaning result ≡ record_check (symbol_fault names (sections_in heads.now.bytes.now heads.now.places.now) (symbols_in table.now.bytes.now table.now.places.now) k) k }
+fn symbol_fault(
+    names: usize,
+    heads: &HeldTable<Section>,
+    symbols: &HeldTable<Symbol>,
+    k: usize,
+) -> Result<(), Refusal>
+    requires { k < length symbols.now.table.places.now }
+    ensures { meaning result ≡ record_check (symbol_fault names (sections_in heads.now.table.bytes.now heads.now.table.places.now) (symbols_in symbols.now.table.bytes.now symbols.now.table.places.now) k) k }
 {
-    let s = table.record::<Symbol>(k);
-    let home = section_or_none(heads, s.section as usize);
-    refuse_if(5, k, symbol_bad(s, names, heads.places.len(), home))
+    let s = symbols.record(k);
+    let home = section_or_none(&heads.table, s.section as usize);
+    refuse_if(5, k, symbol_bad(s, names, heads.table.places.len(), home))
 }
 
 // Every symbol: "5 symbol: ..". `names` is a count, `heads` are the sections.
@@ -205,25 +216,34 @@ pub fn check_symbols(names: usize, heads: &Table, table: &Table) -> Result<(), R
     requires { AllHeld 15 heads.now.bytes.now heads.now.places.now × AllHeld 20 table.now.bytes.now table.now.places.now }
     ensures { meaning result ≡ records_check (symbol_fault names (sections_in heads.now.bytes.now heads.now.places.now) (symbols_in table.now.bytes.now table.now.places.now)) (length table.now.places.now) }
 {
-    check_records(table.places.len(), |k| symbol_fault(names, heads, table, k))
+    let sections = HeldTable::<Section>::of(heads);
+    let symbols = HeldTable::<Symbol>::of(table);
+    check_records(
+        table.places.len(),
+        |k| symbol_fault(names, &sections, &symbols, k),
+    )
 }
 
 // ---- relocations
 
 // The fault of a relocation that follows others: `floors` has for each section one more than the address of its last one, 0 if there is none.
 fn reloc_fault(
-    heads: &Table,
+    heads: &HeldTable<Section>,
     symbols: usize,
     floors: &[u32],
     k: usize,
     r: Reloc,
 ) -> Result<(), Refusal>
-    requires { AllHeld 15 heads.now.bytes.now heads.now.places.now × (k ≤ 4294967295) }
-    ensures { meaning result ≡ record_check (reloc_fault_above (sections_in heads.now.bytes.now heads.now.places.now) symbols (get_or floors.now r.section 0) r) k }
+    requires { k ≤ 4294967295 }
+    ensures { meaning result ≡ record_check (reloc_fault_above (sections_in heads.now.table.bytes.now heads.now.table.places.now) symbols (get_or floors.now r.section 0) r) k }
 {
-    let home = section_or_none(heads, r.section as usize);
+    let home = section_or_none(&heads.table, r.section as usize);
     let floor = floors.get(r.section as usize).copied().unwrap_or(0);
-    refuse_if(6, k, reloc_bad(r, heads.places.len(), symbols, home, floor))
+    refuse_if(
+        6,
+        k,
+        reloc_bad(r, heads.table.places.len(), symbols, home, floor),
+    )
 }
 
 // Every relocation: "6 relocation: ..". `floors` is room for a number of each section; what it holds at first is of no matter.
@@ -236,10 +256,12 @@ pub fn check_relocs(
     requires { AllHeld 15 heads.now.bytes.now heads.now.places.now × AllHeld 23 table.now.bytes.now table.now.places.now × (length heads.now.places.now ≤ length floors.old) }
     ensures { meaning result ≡ records_check (reloc_fault (sections_in heads.now.bytes.now heads.now.places.now) symbols (relocs_in table.now.bytes.now table.now.places.now)) (length table.now.places.now) }
 {
+    let sections = HeldTable::<Section>::of(heads);
+    let relocs = HeldTable::<Reloc>::of(table);
     floors.fill(0);
     for i in 0..table.places.len() {
-        let r = table.record::<Reloc>(i);
-        reloc_fault(heads, symbols, floors, i, r)?;
+        let r = relocs.record(i);
+        reloc_fault(&sections, symbols, floors, i, r)?;
         floors[r.section as usize] = r.address + 1;
     }
     Ok(())
@@ -280,20 +302,25 @@ pub fn split_before(table: &Table, k: usize) -> Split
 }
 
 // The fault of split k of a stage table.
-fn split_fault(lengths: &[u8], heads: &Table, table: &Table, k: usize) -> Result<(), Refusal>
-    requires { AllHeld 15 heads.now.bytes.now heads.now.places.now × AllHeld split_width table.now.bytes.now table.now.places.now × (k < length table.now.places.now) }
-    ensures { meaning result ≡ record_check (split_fault lengths.now (sections_in heads.now.bytes.now heads.now.places.now) (splits_in table.now.bytes.now table.now.places.now) k) k }
+fn split_fault(
+    lengths: &[u8],
+    heads: &HeldTable<Section>,
+    splits: &HeldTable<Split>,
+    k: usize,
+) -> Result<(), Refusal>
+    requires { k < length splits.now.table.places.now }
+    ensures { meaning result ≡ record_check (split_fault lengths.now (sections_in heads.now.table.bytes.now heads.now.table.places.now) (splits_in splits.now.table.bytes.now splits.now.table.places.now) k) k }
 {
-    let s = table.record::<Split>(k);
+    let s = splits.record(k);
     let unit_len = length_of(lengths, s.unit as usize);
     let rename_len = length_of(lengths, s.rename as usize);
-    let home = section_or_none(heads, s.section as usize);
-    let before = split_before(table, k);
+    let home = section_or_none(&heads.table, s.section as usize);
+    let before = split_before(&splits.table, k);
     let bad = split_bad(s, unit_len, rename_len);
     refuse_if(
         7,
         k,
-        bad | split_misplaced(s, heads.places.len(), home, before),
+        bad | split_misplaced(s, heads.table.places.len(), home, before),
     )
 }
 
@@ -302,20 +329,22 @@ pub fn check_splits(lengths: &[u8], heads: &Table, table: &Table) -> Result<(), 
     requires { AllHeld 15 heads.now.bytes.now heads.now.places.now × AllHeld split_width table.now.bytes.now table.now.places.now }
     ensures { meaning result ≡ records_check (split_fault lengths.now (sections_in heads.now.bytes.now heads.now.places.now) (splits_in table.now.bytes.now table.now.places.now)) (length table.now.places.now) }
 {
+    let sections = HeldTable::<Section>::of(heads);
+    let splits = HeldTable::<Split>::of(table);
     check_records(
         table.places.len(),
-        |k| split_fault(lengths, heads, table, k),
+        |k| split_fault(lengths, &sections, &splits, k),
     )
 }
 
 // ---- units
 
 // The fault of unit k.
-fn unit_fault(lengths: &[u8], table: &Table, k: usize) -> Result<(), Refusal>
-    requires { AllHeld 8 table.now.bytes.now table.now.places.now × (k < length table.now.places.now) }
-    ensures { meaning result ≡ record_check (unit_fault lengths.now (units_in table.now.bytes.now table.now.places.now) k) k }
+fn unit_fault(lengths: &[u8], units: &HeldTable<Unit>, k: usize) -> Result<(), Refusal>
+    requires { k < length units.now.table.places.now }
+    ensures { meaning result ≡ record_check (unit_fault lengths.now (units_in units.now.table.bytes.now units.now.table.places.now) k) k }
 {
-    let u = table.record::<Unit>(k);
+    let u = units.record(k);
     refuse_if(8, k, unit_bad(u, length_of(lengths, u.name as usize)))
 }
 
@@ -324,5 +353,6 @@ pub fn check_units(lengths: &[u8], table: &Table) -> Result<(), Refusal>
     requires { AllHeld 8 table.now.bytes.now table.now.places.now }
     ensures { meaning result ≡ records_check (unit_fault lengths.now (units_in table.now.bytes.now table.now.places.now)) (length table.now.places.now) }
 {
-    check_records(table.places.len(), |k| unit_fault(lengths, table, k))
+    let units = HeldTable::<Unit>::of(table);
+    check_records(table.places.len(), |k| unit_fault(lengths, &units, k))
 }

@@ -5,6 +5,4 @@ use Rattle.tables.proofs.bytes_cut.Goals as goal
 
 pub returns : goal.returns
 returns c =
-    let looked = c in
-    let s = looked in
-    bytes_cut_is s.args.places.now _ _ _ looked.image_place-start.ensures
+    rw c.is_bss.ensures (bytes_cut_is c.args.places.now _ _ _ c.image_place-start.ensures)

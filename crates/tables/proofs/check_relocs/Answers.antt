@@ -19,28 +19,28 @@ returns-in_err-reloc_fault c =
     let l = c.loop-i in
     rw (is_err _ c.from_residual.ensures.1)
     (stops l.invariant.going c.loop-i-test.true
-    (reloc_fault_here a.heads.now.bytes.now a.heads.now.places.now _ a.table.now.bytes.now a.table.now.places.now _ l.floors c.record-r.ensures c.in_err-reloc_fault.ensures l.invariant.left c.loop-i-test.true))
+    (reloc_fault_here a.heads.now.bytes.now a.heads.now.places.now _ a.table.now.bytes.now a.table.now.places.now _ l.floors (rw c.of-relocs.ensures at c.record-r.ensures) (rw c.of-sections.ensures at c.in_err-reloc_fault.ensures) l.invariant.left c.loop-i-test.true))
 
 pub overflow_add-floors : goal.overflow_add-floors
 overflow_add-floors c =
     let a = c.args in
-    omega (arith, reloc_passed a.heads.now.bytes.now a.heads.now.places.now a.symbols a.table.now.bytes.now a.table.now.places.now c.loop-i.i c.loop-i.floors c.record-r.ensures c.in_ok-reloc_fault.ensures)
+    omega (arith, reloc_passed a.heads.now.bytes.now a.heads.now.places.now a.symbols a.table.now.bytes.now a.table.now.places.now c.loop-i.i c.loop-i.floors (rw c.of-relocs.ensures at c.record-r.ensures) (rw c.of-sections.ensures at c.in_ok-reloc_fault.ensures))
 
 pub bounds-floors-r : goal.bounds-floors-r
 bounds-floors-r c =
     let a = c.args in
-    omega (arith, reloc_passed a.heads.now.bytes.now a.heads.now.places.now a.symbols a.table.now.bytes.now a.table.now.places.now c.loop-i.i c.loop-i.floors c.record-r.ensures c.in_ok-reloc_fault.ensures)
+    omega (arith, reloc_passed a.heads.now.bytes.now a.heads.now.places.now a.symbols a.table.now.bytes.now a.table.now.places.now c.loop-i.i c.loop-i.floors (rw c.of-relocs.ensures at c.record-r.ensures) (rw c.of-sections.ensures at c.in_ok-reloc_fault.ensures))
 
 pub loop-i-preserved : goal.loop-i-preserved
 loop-i-preserved c =
     let a = c.args in
     let l = c.loop-i in
-    let r = found (reloc_at a.table.now.bytes.now) a.table.now.places.now l.i no_reloc c.loop-i-test.true c.record-r.ensures in
+    let r = found (reloc_at a.table.now.bytes.now) a.table.now.places.now l.i no_reloc c.loop-i-test.true (rw c.of-relocs.ensures at c.record-r.ensures) in
     let h : l.i < length (relocs_in a.table.now.bytes.now a.table.now.places.now) = rw (length-map a.table.now.places.now (reloc_at a.table.now.bytes.now)) c.loop-i-test.true in
-    let passed = reloc_passed a.heads.now.bytes.now a.heads.now.places.now a.symbols a.table.now.bytes.now a.table.now.places.now l.i l.floors c.record-r.ensures c.in_ok-reloc_fault.ensures in
+    let passed = reloc_passed a.heads.now.bytes.now a.heads.now.places.now a.symbols a.table.now.bytes.now a.table.now.places.now l.i l.floors (rw c.of-relocs.ensures at c.record-r.ensures) (rw c.of-sections.ensures at c.in_ok-reloc_fault.ensures) in
     record {
       going = goes_on l.invariant.going c.loop-i-test.true
-          (reloc_fault_here a.heads.now.bytes.now a.heads.now.places.now _ a.table.now.bytes.now a.table.now.places.now _ l.floors c.record-r.ensures c.in_ok-reloc_fault.ensures l.invariant.left c.loop-i-test.true);
+          (reloc_fault_here a.heads.now.bytes.now a.heads.now.places.now _ a.table.now.bytes.now a.table.now.places.now _ l.floors (rw c.of-relocs.ensures at c.record-r.ensures) (rw c.of-sections.ensures at c.in_ok-reloc_fault.ensures) l.invariant.left c.loop-i-test.true);
       left = floors_more (relocs_in a.table.now.bytes.now a.table.now.places.now) _ _ l.invariant.left h r (omega (arith, passed.0));
     }
 

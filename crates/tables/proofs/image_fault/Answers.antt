@@ -11,10 +11,10 @@ returns-then-bytes_cut c =
     let a = c.args in
     ap meaning c.refuse.ensures
     ∙ some_fault 1 a.k (omega arith)
-    ∙ ap (λ (n : ℕ). record_check n a.k) (image_cut a.lengths.now _ _ a.table.now.bytes.now a.table.now.places.now _ c.requires.1 c.record.ensures c.bytes_cut.ensures c.if-bytes_cut.true)
+    ∙ ap (λ (n : ℕ). record_check n a.k) (image_cut a.lengths.now _ _ a.sections.now.table.bytes.now a.sections.now.table.places.now _ c.requires c.record.ensures c.bytes_cut.ensures c.if-bytes_cut.true)
 
 pub returns : goal.returns
 returns c =
     let a = c.args in
     c.section_fault.ensures
-    ∙ ap (λ (n : ℕ). record_check n a.k) (image_whole a.lengths.now _ _ a.table.now.bytes.now a.table.now.places.now _ c.requires.1 c.record.ensures c.bytes_cut.ensures c.if-bytes_cut.false refl)
+    ∙ ap (λ (n : ℕ). record_check n a.k) (image_whole a.lengths.now _ _ a.sections.now.table.bytes.now a.sections.now.table.places.now _ c.requires c.record.ensures c.bytes_cut.ensures c.if-bytes_cut.false refl)

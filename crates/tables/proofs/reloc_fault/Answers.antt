@@ -9,4 +9,4 @@ returns c =
     let a = c.args in
     c.refuse_if.ensures
     ∙ ap (λ (n : ℕ). record_check n a.k)
-    (reloc_fault_is a.heads.now.bytes.now a.heads.now.places.now _ a.floors.now _ c.section_or_none-home.ensures (search rules) c.reloc_bad.ensures refl)
+    (reloc_fault_is a.heads.now.table.bytes.now a.heads.now.table.places.now _ a.floors.now _ c.section_or_none-home.ensures (search rules) c.reloc_bad.ensures refl)

@@ -8,4 +8,4 @@ pub returns : goal.returns
 returns c =
     let a = c.args in
     c.refuse_if.ensures
-    ∙ ap (λ (n : ℕ). record_check n a.k) (section_fault_is a.lengths.now a.table.now.bytes.now a.table.now.places.now _ c.requires.1 c.record-s.ensures c.length_of.ensures c.section_bad.ensures refl)
+    ∙ ap (λ (n : ℕ). record_check n a.k) (section_fault_is a.lengths.now a.sections.now.table.bytes.now a.sections.now.table.places.now _ c.requires c.record-s.ensures c.length_of.ensures c.section_bad.ensures refl)

@@ -9,6 +9,6 @@ returns c =
     let a = c.args in
     c.refuse_if.ensures
     ∙ ap (λ (n : ℕ). record_check n a.k)
-    (split_fault_is a.lengths.now a.heads.now.bytes.now a.heads.now.places.now a.table.now.bytes.now a.table.now.places.now _ c.requires.2
+    (split_fault_is a.lengths.now a.heads.now.table.bytes.now a.heads.now.table.places.now a.splits.now.table.bytes.now a.splits.now.table.places.now _ c.requires
     c.record-s.ensures c.length_of-unit_len.ensures c.length_of-rename_len.ensures c.section_or_none-home.ensures
     c.split_before-before.ensures c.split_bad-bad.ensures c.split_misplaced.ensures refl)

@@ -9,4 +9,4 @@ returns c =
     let a = c.args in
     c.refuse_if.ensures
     ∙ ap (λ (n : ℕ). record_check n a.k)
-    (symbol_fault_is a.names a.heads.now.bytes.now a.heads.now.places.now a.table.now.bytes.now a.table.now.places.now _ c.requires.2 c.record-s.ensures c.section_or_none-home.ensures c.symbol_bad.ensures refl)
+    (symbol_fault_is a.names a.heads.now.table.bytes.now a.heads.now.table.places.now a.symbols.now.table.bytes.now a.symbols.now.table.places.now _ c.requires c.record-s.ensures c.section_or_none-home.ensures c.symbol_bad.ensures refl)

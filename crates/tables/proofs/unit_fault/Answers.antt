@@ -8,4 +8,4 @@ pub returns : goal.returns
 returns c =
     let a = c.args in
     c.refuse_if.ensures
-    ∙ ap (λ (n : ℕ). record_check n a.k) (unit_fault_is a.lengths.now a.table.now.bytes.now a.table.now.places.now _ c.requires.1 c.record-u.ensures c.length_of.ensures c.unit_bad.ensures refl)
+    ∙ ap (λ (n : ℕ). record_check n a.k) (unit_fault_is a.lengths.now a.units.now.table.bytes.now a.units.now.table.places.now _ c.requires c.record-u.ensures c.length_of.ensures c.unit_bad.ensures refl)
