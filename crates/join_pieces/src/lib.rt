@@ -1,6 +1,6 @@
 // Putting an image back: document 02, (e). The pieces are laid over zeros, each in its place among the sections' bytes, and then each is compared with what lies
 // there: that finds 83 in time proportional to the bytes. What other crates call takes the sections, the records and their number as they have them, and asks that the
-// records are whole; `WholePieces` is what is known once 82 is passed.
+// records are whole; `WholePieces` is what is known once 82 is passed. A public struct of the three would ask of `any_outside` what only the others ask: 64 sections at most.
 #![tactic(auto)]
 
 mod whole_pieces;

@@ -1,4 +1,5 @@
 // The lines of all sections, written from the front of the lent bytes on while their joined bytes are read behind: document 02, (n).
+// Sections, records and their number are three parameters, as the functions of join_pieces take them.
 #![tactic(auto)]
 
 ghost use Rattle.std.specs.Prelude.{◌≡◌, ◌+◌, ◌*◌, ◌≤◌, ◌<◌, ◌/◌, length, get_or, take, drop, ◌++◌};
