@@ -13,6 +13,7 @@ use Rattle.obj.specs.Answers.{meaning, word, outcome_word}
 use Rattle.obj.specs.Answers.{Answer}
 use Rattle.std.specs.Prelude.{Ok, Err, true, false}
 use Rattle.std.specs.Result.{is_err}
+use Rattle.kept_output.specs.Kept.{kept_of}
 use Rattle.outputs.specs.Outputs.{halves, counts_of}
 use Rattle.stage_names.specs.StageNames.{ends_from, flat}
 use Rattle.stage_splits.specs.StageSplits.{said}
@@ -69,7 +70,7 @@ module _ (o : Outcome Filled) (ends bytes out counts : List ℕ) where
   -- a refused one has none
   pub leaves_refused : {a : Answer} {number section address answer : ℕ} {ends' bytes' out' counts' : List ℕ} → a ≡ Err (record { number = number; section = section; address = address }) → answer ≡ word a
       → Gives o a (length ends) (length bytes) (length out) (length counts) ends bytes out counts
-      → ends' ≡ clear_from 0 0 ends → bytes' ≡ clear_from 0 0 bytes → out' ≡ clear_from 0 0 out → counts' ≡ clear_from 0 0 counts
+      → ends' ≡ replicate (length ends) 0 → bytes' ≡ replicate (length bytes) 0 → out' ≡ replicate (length out) 0 → counts' ≡ replicate (length counts) 0
       → Leaves o (length ends) (length bytes) (length out) (length counts) answer ends' bytes' out' counts'
   unfolding flat
   leaves_refused {a} {number} {section} {address} {answer} {ends'} {bytes'} {out'} {counts'} q e w f g h i = go o (sym (ap meaning q) ∙ w.answered)
@@ -79,20 +80,20 @@ module _ (o : Outcome Filled) (ends bytes out counts : List ℕ) where
       go (refused n s d) v = record {
         answered = e ∙ ap word q ∙ ap outcome_word v;
         laid_out = record {
-          ends = f ∙ clear_all 0 ends ∙ no_ends (length ends);
-          bytes = g ∙ clear_all 0 bytes ∙ no_bytes (length bytes);
-          splits = h ∙ clear_all 0 out ∙ nothing-laid (length out);
-          counted = i ∙ clear_all 0 counts ∙ no_counts (length counts);
+          ends = f ∙ no_ends (length ends);
+          bytes = g ∙ no_bytes (length bytes);
+          splits = h ∙ nothing-laid (length out);
+          counted = i ∙ no_counts (length counts);
         };
       }
 
   -- the end of the entry: a refusal clears the outputs, an accepted answer leaves them
-  pub leaves_ended : (a : Answer) {answer : ℕ} {ends' bytes' out' counts' : List ℕ} → answer ≡ word a → (is_err a ≡ true → (ends' ≡ clear_from 0 0 ends) × (bytes' ≡ clear_from 0 0 bytes) × (out' ≡ clear_from 0 0 out) × (counts' ≡ clear_from 0 0 counts))
-      → (is_err a ≡ false → (ends' ≡ ends) × (bytes' ≡ bytes) × (out' ≡ out) × (counts' ≡ counts))
+  pub leaves_ended : (a : Answer) {answer : ℕ} {ends' bytes' out' counts' : List ℕ} → answer ≡ word a
+      → ends' ≡ kept_of ends a → bytes' ≡ kept_of bytes a → out' ≡ kept_of out a → counts' ≡ kept_of counts a
       → Gives o a (length ends) (length bytes) (length out) (length counts) ends bytes out counts
       → Leaves o (length ends) (length bytes) (length out) (length counts) answer ends' bytes' out' counts'
-  leaves_ended (Ok u) e f g w = let q = g refl in rw (q.0, q.1, q.2, q.3) (leaves_accepted refl e w)
-  leaves_ended (Err r) e f g w = let q = f refl in leaves_refused refl e w q.0 q.1 q.2 q.3
+  leaves_ended (Ok u) e f g h i w = rw (f, g, h, i) (leaves_accepted refl e w)
+  leaves_ended (Err r) e f g h i w = leaves_refused refl e w f g h i
 
 -- the outputs are those that were lent, of the same lengths
 pub leaves_at : (o : Outcome Filled) {a : Answer} {es bs size cs es' bs' size' cs' answer : ℕ} {ends bytes out counts ends' bytes' out' counts' ends₁ bytes₁ out₁ counts₁ : List ℕ}

@@ -8,11 +8,11 @@ ghost use Rattle.gap_splits.specs.Entering.{Filled};
 ghost use Rattle.stage_gaps.specs.StageGaps.{NamesIn, HeadedIn, SpaceIn, GivesIn, SameLent};
 ghost use Rattle.entry_create_gap_splits.specs.Entry.{gap_splits_of, tables_outcome, symbols_outcome, sections_outcome, Leaves, LeavesIn};
 
+use kept_output::clear_refused;
 use lent_tables::{NO_TABLES, StageTables};
 use name_table::{NameArrays, start_of};
 use names::{NameIndex, Names, Room};
 use obj::{Refusal, Table, word_of};
-use outputs::clear_from;
 use stage_gaps::{GapOutputs, with_splits};
 use stage_names::{bytes_room, fit_names, names_room};
 use stage_sections::{SectionArrays, SymbolArrays};
@@ -99,12 +99,10 @@ fn finish(a: Result<(), Refusal>, outputs: &mut GapOutputs) -> u64
     ensures leaves { (o : Outcome Filled) → GivesIn o a outputs.old outputs.old → LeavesIn o result outputs.old outputs.new }
     ensures lent { SameLent outputs.old outputs.new }
 {
-    if a.is_err() {
-        clear_from(outputs.ends, 0);
-        clear_from(outputs.bytes, 0);
-        clear_from(outputs.splits, 0);
-        clear_from(outputs.counts, 0);
-    }
+    clear_refused(a, outputs.ends);
+    clear_refused(a, outputs.bytes);
+    clear_refused(a, outputs.splits);
+    clear_refused(a, outputs.counts);
     word_of(a)
 }
 
