@@ -1,4 +1,5 @@
-// The split table, of which one column is written: who lends it needs the other three only to read. Three structs for three columns, since a field is `&` or `&mut`.
+// The split table, of which one column is written: who lends it needs the other three only to read. Three structs for three columns, since a field is `&` or `&mut`. One struct with a
+// type for each column takes a trait that says which numbers a slice has, and then every definition over it names the four types and that trait's words for each of them.
 ghost use Rattle.std.specs.Prelude.{◌≡◌, length};
 ghost use Rattle.splits.specs.Columns.{columns, Long};
 
