@@ -51,7 +51,7 @@ fn ask_next(
     Ok(())
 }
 
-// "the end of the last such symbol in start..end"; the split's own end where there is none.
+// "the end of the last such symbol in start..end"; the split's own end where there is none. With `map_or` the closure would need both clauses of its own, and be the longer.
 fn end_of(table: &Table, found: Option<usize>, own: u32) -> u32
     requires { Whole table.now.bytes.now table.now.places.now × Sound (symbol_of table.now.bytes.now table.now.places.now) (length table.now.places.now) × (own ≤ 4026531840)
         × ((i : ℕ) → found ≡ Some i → i < length table.now.places.now) }
