@@ -157,12 +157,6 @@ module _ (g : ℕ → Part) (order : List ℕ) (far : Part) (i : ℕ) where
   unfolding sweep_from
   sweep_ended h = ap (λ (l : List ℕ). sweep_from far (map g l)) (drop_of_length-le order h)
 
--- the first piece is passed before the loop
-pub sweep_first : (g : ℕ → Part) (order : List ℕ) → 0 < length order → sweep (map g order) ≡ sweep_from (g (get_or order 0 0)) (map g (drop 1 order))
-unfolding sweep
-sweep_first g [] h = absurd (omega arith)
-sweep_first g (k ∷ order) h = refl
-
 pub sweep-none : (g : ℕ → Part) (order : List ℕ) → length order ≡ 0 → sweep (map g order) ≡ false
 unfolding sweep
 sweep-none g [] h = refl

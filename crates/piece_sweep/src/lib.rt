@@ -2,7 +2,7 @@
 // piece is the bytes and the place where its record lies whole; a struct of the two would be made anew for each comparison.
 #![tactic(auto)]
 
-ghost use Rattle.std.specs.Prelude.{◌≡◌, map, ◌≤◌, ◌<◌, length, get_or};
+ghost use Rattle.std.specs.Prelude.{◌≡◌, map, ◌≤◌, ◌<◌, length};
 ghost use Rattle.lists.specs.Sort.{All};
 ghost use Rattle.join.specs.Join.{differ};
 ghost use Rattle.piece_records.specs.Records.{part_at, parts_at, Lying, Whole};
@@ -64,25 +64,17 @@ fn farther(b: &[u8], far: usize, at: usize) -> usize
     far
 }
 
-// Where the piece starts whose number stands at place i.
-fn start_of(starts: &[usize], order: &[u16], i: usize) -> usize
-    requires { (i < length order.now) × All (λ k. k < length starts.now) order.now }
-    ensures { result ≡ get_or starts.now (get_or order.now i 0) 0 }
-{
-    starts[order[i] as usize]
-}
-
 // Each piece, in this order, is compared with the one before it in its section that reaches farthest.
 fn pass(b: &[u8], starts: &[usize], order: &[u16]) -> bool
     requires { Placed b.now starts.now × All (λ k. k < length starts.now) order.now }
     ensures { result ≡ sweep (map (part_in b.now starts.now) order.now) }
 {
-    if order.is_empty() {
+    let Some((first, later)) = order.split_first() else {
         return false;
-    }
-    let mut far = start_of(starts, order, 0);
-    for i in 1..order.len() {
-        let at = start_of(starts, order, i);
+    };
+    let mut far = starts[usize::from(*first)];
+    for i in later {
+        let at = starts[usize::from(*i)];
         if is_unequal(b, far, at) {
             return true;
         }

@@ -9,4 +9,4 @@ use Rattle.piece_sweep.specs.Sweep.{sweep_from, sweep}
 use Rattle.piece_sweep.proofs.pass.Given as goal
 
 abbrev pub invariant-loop-i : goal.invariant-loop-i
-invariant-loop-i l = Lying l.b l.far × (sweep_from (part_at l.b l.far) (map (part_in l.b l.starts) (drop l.i l.order)) ≡ sweep (map (part_in l.b l.starts) l.order))
+invariant-loop-i l = Lying l.b l.far × (sweep_from (part_at l.b l.far) (map (part_in l.b l.starts) (drop l.i-index l.later)) ≡ sweep (map (part_in l.b l.starts) l.order))
