@@ -6,7 +6,7 @@ ghost use Rattle.names.specs.Names.{name_at};
 ghost use Rattle.names.specs.Listed.{NamedIn};
 ghost use Rattle.obj.specs.Records.{Held};
 ghost use Rattle.symbol_order.specs.Order.{symbol_of, Order};
-ghost use Rattle.sections.specs.Image.{image_of, Tables, Part, Whole, Lies, image_in, TablesIn};
+ghost use Rattle.sections.specs.Image.{image_of, Part, Whole, Lies, image_in, TablesIn};
 ghost use Rattle.sections.specs.Bytes.{bytes_of, all_zero};
 ghost use Rattle.sections.specs.Ends.{object_below, lowered, less_four, splitting_end, end_meaning, Four};
 ghost use Rattle.symbols.specs.Ranges.{Within};
@@ -53,17 +53,17 @@ impl Alignment {
     }
 }
 
-// The bytes of section n: a part of the image, none for kind 3. n is a section's number and no length, and the image and its places are two slices since they have two owners.
-pub fn section_bytes<'a>(image: &'a [u8], places: &[u32], n: usize, head: Section) -> &'a [u8]
-    requires { Lies image.now places.now n head }
-    ensures { result.now ≡ bytes_of image.now places.now n head }
+// The bytes of section n: a part of the image, none for kind 3.
+pub fn section_bytes<'a, 'p>(image: &Table<'a, 'p>, n: usize, head: Section) -> &'a [u8]
+    requires { Lies image.now.bytes.now image.now.places.now n head }
+    ensures { result.now ≡ bytes_of image.now.bytes.now image.now.places.now n head }
 {
     if head.is_bss() {
-        return &image[..0];
+        return &image.bytes[..0];
     }
-    let from = places[n] as usize;
+    let from = image.places[n] as usize;
     let to = from + (head.size as usize);
-    &image[from..to]
+    &image.bytes[from..to]
 }
 
 // Whether all of these bytes are zero.
@@ -115,29 +115,23 @@ fn less_four(bytes: &[u8], list: bool, end: u32) -> u32
 }
 
 // The splitting end of a section that has this head and these bytes.
-pub fn end_for_section(
-    table: &Table,
-    order: &[u16],
-    names: &Names,
-    section: u16,
-    head: Section,
-    bytes: &[u8],
-) -> Result<u32, Short>
-    requires { Tables table.now.bytes.now table.now.places.now order.now names.now.bytes.now names.now.places.now names.now.lengths.now × Whole head bytes.now names.now.places.now }
-    ensures { end_meaning section head.address result ≡ splitting_end (image_of table.now.bytes.now table.now.places.now names.now.bytes.now names.now.places.now names.now.lengths.now) section head bytes.now }
+pub fn end_for_section(obj: &Obj, section: u16, head: Section, bytes: &[u8]) -> Result<u32, Short>
+    requires { TablesIn obj.now × Whole head bytes.now obj.now.names.places.now }
+    ensures { end_meaning section head.address result ≡ splitting_end (image_in obj.now) section head bytes.now }
 {
     let end = head.address + head.size;
     if head.is_bss() | (head.size == 0) {
         return Ok(end);
     }
     let k = usize::from(head.name);
-    let list = is_pointer_list(name_at(names, k));
+    let list = is_pointer_list(name_at(&obj.names, k));
     if list & (head.size < 4) {
         return Err(Short);
     }
     let last = less_four(bytes, list, end);
-    let part = for_section(table.bytes, table.places, order, section);
-    Ok(lower(table, part, names, last))
+    let symbols = &obj.symbols;
+    let part = for_section(symbols.bytes, symbols.places, obj.order, section);
+    Ok(lower(symbols, part, &obj.names, last))
 }
 
 // The splitting end of section n, over the bytes that it has in the image.
@@ -147,8 +141,8 @@ pub fn end_of(obj: &Obj, image: &Table, n: usize) -> Result<u32, Short>
         ≡ splitting_end (image_in obj.now) n (head_in obj.now n) (bytes_of image.now.bytes.now image.now.places.now n (head_in obj.now n)) }
 {
     let head = obj.heads.record::<Section>(n);
-    let bytes = section_bytes(image.bytes, image.places, n, head);
-    end_for_section(&obj.symbols, obj.order, &obj.names, n as u16, head, bytes)
+    let bytes = section_bytes(image, n, head);
+    end_for_section(obj, n as u16, head, bytes)
 }
 
 // "the default (code, `.ctors`, `.dtors`, `extab`, `extabindex`: 4; else 8)"

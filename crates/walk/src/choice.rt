@@ -44,7 +44,7 @@ fn between(
     if !is_inside(head, from, to) {
         return refuse_at(72, n, current);
     }
-    let bytes = section_bytes(image.bytes, image.places, n, head);
+    let bytes = section_bytes(image, n, head);
     let start = head.address;
     let part = piece_bytes(bytes, (from - start) as usize, (to - start) as usize);
     if is_zero(part) {

@@ -7,14 +7,14 @@ use Prim.Native.Nat.{ℕ, ◌+◌}
 use lib.Dec.{eqb, ltb}
 use Rattle.names.specs.Fixed.{is_pointer_list}
 use Rattle.symbols.proofs.Parts.{section_readable}
-use Rattle.sections.specs.Image.{Image, image_of}
+use Rattle.sections.specs.Image.{Image, image_in}
 use Rattle.sections.specs.Ends.{lowered, less_four}
 use Rattle.sections.proofs.Laws.{end_whole, end_short, end_lowered}
 use Rattle.sections.proofs.end_for_section.Goals as goal
 use Rattle.sections.proofs.end_for_section.Goals.{After-is_pointer_list-list}
 
 abbrev image : After-is_pointer_list-list → Image
-image c = let s = c.args in image_of s.table.now.bytes.now s.table.now.places.now s.names.now.bytes.now s.names.now.places.now s.names.now.lengths.now
+image c = image_in c.args.obj.now
 
 -- whether it is a list of pointers
 listed : (c : After-is_pointer_list-list) → c.is_pointer_list-list.result ≡ is_pointer_list ((image c).name c.args.head.name)

@@ -15,5 +15,5 @@ unfolding bytes_of
 returns c =
     let a = c.args in
     rw (sym c.is_bss.ensures ∙ c.if-is_bss.false)
-    (let e : get_or a.places.now a.n 0 + a.head.size - get_or a.places.now a.n 0 ≡ a.head.size = omega arith in
-    ap (λ (m : ℕ). take m (drop (get_or a.places.now a.n 0) a.image.now)) e)
+    (let e : get_or a.image.now.places.now a.n 0 + a.head.size - get_or a.image.now.places.now a.n 0 ≡ a.head.size = omega arith in
+    ap (λ (m : ℕ). take m (drop (get_or a.image.now.places.now a.n 0) a.image.now.bytes.now)) e)
