@@ -20,7 +20,7 @@ pub fn address_in(table: &Table, part: &[u16], i: usize) -> u32
     table.record::<Reloc>(number(part, i)).address
 }
 
-// The section's relocations, in the order of the table, and how many they are: they are `part[..r]`.
+// The section's relocations, in the order of the table, and how many they are: they are `part[..r]`. A count, since the column is lent anew for the next section.
 pub fn for_section(table: &Table, section: u16, part: &mut [u16]) -> usize
     requires { Room table.now.places.now part.old × Whole table.now.bytes.now table.now.places.now }
     ensures { Leads part.new (relocs_of (reloc_of table.now.bytes.now table.now.places.now) (length table.now.places.now) section) table.now.places.now result }

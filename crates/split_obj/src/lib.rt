@@ -44,7 +44,8 @@ fn end_in(obj: &Obj, image: &Table, n: usize, low: u32) -> Result<u32, Refusal>
 
 // The walk of the sections first..last, behind what is made already. What is carried from one section to the next is the output. `scratch` and `part` are columns to work
 // in, of other lengths and for other things. `scratch` is three columns in one, and cut only where they are used: a struct of three would be lent on by three functions and taken
-// apart there all the same. `obj` and `image` stay two: `trim::CheckedTables`, which has both, promises what all checks found, and the walk is asked of less.
+// apart there all the same. The tables that are only read stay five, as in `stage_walk`: in a struct they would be nineteen lifetimes and a literal at two callers, and each call of the
+// loop takes one to three of them. `trim::CheckedTables`, which has `obj` and `image`, is private to the trim and holds another fact of the symbols.
 pub fn walk_sections(
     scratch: &mut [u16],
     part: &mut [u16],

@@ -45,7 +45,7 @@ fn within_ceilings(room: Counts) -> Counts
     }
 }
 
-// The tables of the next three stay apart, since each comes from a check of its own, and the splits and the units are still bytes in the last of the three.
+// The tables of the next three stay apart: each of the three has other ones, since the splits and the units are still bytes in the last, and a struct of all would have nineteen lifetimes.
 
 // The walk of all sections from nothing, with columns of its own beside the outputs. However much room is lent, no more than the ceilings is taken.
 pub fn walk_columns(

@@ -118,7 +118,8 @@ fn is_sized_at(table: &Table, part: &[u16], j: usize, objects: bool) -> bool
     is_sized_unstripped(table.record::<Symbol>(i), objects)
 }
 
-// The last sized unstripped symbol of a part. Here and in `last_below` `objects` stays, though all callers ask for every kind: the definition has both cases, and so has what is promised.
+// The last sized unstripped symbol of a part, by place, as the law of a search from behind goes. Here and in `last_below` `objects` stays, though all callers ask for every kind: the
+// definition has both cases, and so has what is promised.
 pub fn last_of(table: &Table, part: &[u16], objects: bool) -> Option<usize>
     requires { Readable table.now.bytes.now table.now.places.now part.now }
     ensures { result ≡ last_or None (keep_if (λ i. sized_unstripped objects (symbol_of table.now.bytes.now table.now.places.now i)) part.now) }

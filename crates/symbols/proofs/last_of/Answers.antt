@@ -29,6 +29,7 @@ returns c =
     let t = c.args.table.now in
     let l = c.args.part.now in
     let p = λ (i : ℕ). sized_unstripped c.args.objects (symbol_of t.bytes.now t.places.now i) in
+    -- `map` keeps the cases, which is all that `search` takes of its clause
     let is : c.map.result ≡ option_map (λ j. get_or l j 0) c.find-last.result = search rules in
     is ∙ last p l c.find-last.result
     (rw c.rev.ensures.source at
