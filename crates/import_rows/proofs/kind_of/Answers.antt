@@ -1,5 +1,5 @@
 -- `import_rows::kind_of` meets its contract: the tests are the definition's, in its order. Assumes nothing.
-use Rattle.std.proofs.Common.{◌≡◌, ◌%◌, ℕ, arith}
+use Rattle.std.proofs.Common.{◌≡◌, ◌%◌, arith}
 use borrow.Author.Tests.{eq-eqb, ne_eqb}
 use Rattle.import_rows.specs.Rows.{kind_of}
 use Rattle.import_rows.proofs.kind_of.Goals as goal
