@@ -14,7 +14,9 @@ use Rattle.splits.specs.Columns.{Columns, row_at, rows}
 use Rattle.splits.proofs.Blocks.{none_kept, first_kept}
 use Rattle.common.specs.declared.Bss.TheVariants as the_bss
 use Rattle.common.specs.declared.Bss.TheVariants.{One, Many}
-use Rattle.std.specs.Prelude.{Option, None, Some, MatchOption}
+use Rattle.std.specs.Prelude.{Option, None, Some, MatchOption, Result, Ok, Err}
+use Rattle.obj.specs.declared.Refusal.{Refusal}
+use Rattle.common.specs.declared.Start.{Start}
 use Rattle.common.specs.Common.{nowhere, on, bss_sections, given_start, first_common, start_of, common_in, common_start, marked_from, marked, common_of, start_meaning, First}
 use Rattle.common.specs.Sections.{bss_of, first_of, given_of}
 
@@ -81,16 +83,16 @@ module _ (section : ℕ) (c : Columns) (n : ℕ) (r : Option ℕ) (h : First (co
   unfolding start_of
   start_past e = sym (ap (start_of section) (sym all_rows ∙ h.none e))
 
--- ---- the stage, by the cases of the start
-module _ (given : Bool) (start : ℕ) (bss : List ℕ) (l : List Split) where
-  pub common_nowhere : accepted nowhere ≡ common_start given start bss l → accepted l ≡ common_of given start bss l
+-- ---- the stage, by the cases of what the search for the start answers
+module _ (given : Bool) (start : ℕ) (bss : List ℕ) (l : List Split) (r : Result (Option Start) Refusal) (is : start_meaning r ≡ common_start given start bss l) where
+  pub common_nowhere : r ≡ Ok None → accepted l ≡ common_of given start bss l
   unfolding common_of ◌>>=◌ marked_from
-  common_nowhere e = rw (sym e)
+  common_nowhere e = rw (sym is ∙ ap start_meaning e)
 
-  pub common_on : {section address : ℕ} → accepted (on section address) ≡ common_start given start bss l → accepted (map (marked section address) l) ≡ common_of given start bss l
+  pub common_on : {s : Start} → r ≡ Ok (Some s) → accepted (map (marked s.section s.address) l) ≡ common_of given start bss l
   unfolding common_of ◌>>=◌ marked_from
-  common_on e = rw (sym e)
+  common_on e = rw (sym is ∙ ap start_meaning e)
 
-  pub common_refused : {number section address : ℕ} → refused number section address ≡ common_start given start bss l → refused number section address ≡ common_of given start bss l
+  pub common_refused : {e : Refusal} → r ≡ Err e → refused e.number e.section e.address ≡ common_of given start bss l
   unfolding common_of ◌>>=◌
-  common_refused e = rw (sym e)
+  common_refused e = rw (sym is ∙ ap start_meaning e)

@@ -13,7 +13,10 @@ use Rattle.lists.proofs.Rows.{get_d_tabulate}
 use Rattle.obj.specs.declared.Split.{Split}
 use Rattle.obj.specs.Nothing.{no_split}
 use Rattle.splits.specs.Columns.{Good, columns, row_of, row_at, rows}
+use Rattle.splits.specs.Table.{columns_of, rows_of, rest_columns, rest_rows}
 use Rattle.splits.specs.Updates.{with_common}
+use Rattle.splits.specs.declared.split_table.SplitColumns.{SplitColumns}
+use Rattle.splits.specs.declared.one_column.SplitRest.{SplitRest}
 use Rattle.splits.proofs.Rows.{good_row}
 use Rattle.common.specs.Common.{marked}
 use Rattle.common.specs.Records.{Kept}
@@ -90,8 +93,8 @@ module _ (section address : ℕ) (starts ends units rest : List ℕ) (table : Li
       get_or-map (marked section address) table k no_split no_split (omega arith)
       ∙ ap (marked section address) (sym (get_or-take n table k no_split l) ∙ ap (λ (t : List Split). get_or t k no_split) q ∙ get_d_tabulate f 0 n k no_split l ∙ ap f (zero-add k))
 
-  pub marked-kept : Kept (columns starts ends units rest) (map (marked section address) table) n
-  marked-kept = record {
+  rows_kept : Kept (columns starts ends units rest) (map (marked section address) table) n
+  rows_kept = record {
     start = λ k l. ap (λ (s : Split). s.start) (marked_at k l) ∙ marked_start section address (get_or starts k 0) (get_or ends k 0) (get_or units k 0) (get_or rest k 0);
     end = λ k l. ap (λ (s : Split). s.end) (marked_at k l) ∙ marked_end section address (get_or starts k 0) (get_or ends k 0) (get_or units k 0) (get_or rest k 0);
     unit = λ k l. ap (λ (s : Split). s.unit) (marked_at k l) ∙ marked_unit section address (get_or starts k 0) (get_or ends k 0) (get_or units k 0) (get_or rest k 0);
@@ -100,5 +103,14 @@ module _ (section address : ℕ) (starts ends units rest : List ℕ) (table : Li
         (good_row (get_or starts k 0) (get_or ends k 0) (get_or units k 0) (get_or rest k 0));
   }
 
-  pub marked_front : take n (map (marked section address) table) ≡ map (marked section address) (rows (columns starts ends units rest) n)
-  marked_front = take-map (marked section address) n table ∙ ap (map (marked section address)) q
+  rows_front : take n (map (marked section address) table) ≡ map (marked section address) (rows (columns starts ends units rest) n)
+  rows_front = take-map (marked section address) n table ∙ ap (map (marked section address)) q
+
+-- .. of a table's columns to read, which were made the first of 1,024 records
+module _ (section address : ℕ) (s : SplitColumns) (t : SplitRest) (shown : columns_of s ≡ rest_columns t) (count : s.count ≡ t.count) (table after : List Split)
+    (long : length table ≡ 1024) (few : t.count ≤ 1024) (are : take s.count table ≡ rows_of s) (is : after ≡ map (marked section address) table) where
+  pub marked-kept : Kept (rest_columns t) after t.count
+  marked-kept = rw is (rows_kept section address t.starts.now t.ends.now t.units.now t.rest.now table t.count (omega arith) (rw (shown, count) at are))
+
+  pub marked_front : take t.count after ≡ map (marked section address) (rest_rows t)
+  marked_front = ap (take t.count) is ∙ rows_front section address t.starts.now t.ends.now t.units.now t.rest.now table t.count (omega arith) (rw (shown, count) at are)
