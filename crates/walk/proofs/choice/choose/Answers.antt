@@ -9,7 +9,8 @@ use Rattle.obj.specs.declared.Refusal.{Refusal}
 use Rattle.obj.specs.Records.{unit_at}
 use Rattle.units.specs.Units.{unit_names}
 use Rattle.units.proofs.Laws.{unit_le}
-use Rattle.std.specs.Prelude.{Some}
+use Rattle.std.specs.Prelude.{Some, Result}
+use Rattle.symbols.specs.declared.Backwards.{Backwards}
 use Rattle.walk.proofs.Deciding.{decide-start, decide-between, decide_skip, decide_unlisted, decide_backwards, decide_gives}
 use Rattle.obj.proofs.Errors.{is_err}
 use Rattle.sections.specs.Image.{image_in}
@@ -18,6 +19,7 @@ use Rattle.walk.specs.Walk.{alignment_in}
 use Rattle.walk.proofs.Refused.{Left, left}
 use Rattle.walk.specs.Steps.{AlignedAt}
 use Rattle.walk.proofs.choice.choose.Goals as goal
+use Rattle.walk.proofs.choice.choose.Goals.{After-map_err}
 
 pub returns-then-s-current : goal.returns-then-s-current
 returns-then-s-current c = rw c.refuse_at.ensures (decide-start _ _ _ _ _ _ _ c.if-s-current.true, tt)
@@ -39,15 +41,26 @@ returns-then-unit-units c =
     rw c.refuse_at-then-unit-units.ensures
     (decide_unlisted _ _ _ _ _ _ _ c.if-s-current.false c.in_ok-between.ensures (sym c.is_skipped.ensures ∙ c.if-is_skipped.false) (sym number ∙ c.if-unit-units.true ∙ sym count), tt)
 
+-- the alignment that is wanted, or 11
+abbrev Aligned : After-map_err → Result ℕ Backwards → Type 0
+Aligned c =
+    let a = c.args in
+    AlignedAt (alignment_in (image_in a.obj.now) (head_of a.obj.now.heads.bytes.now a.obj.now.heads.places.now a.n) a.n a.current a.s) a.n a.current
+
+abbrev backwards : After-map_err → Refusal
+backwards c = record { number = 11; section = c.args.n; address = c.args.current }
+
+aligned : (c : After-map_err) → Left (Aligned c) (backwards c) c.map_err.result
+aligned c = left (Aligned c) (backwards c) c.alignment_at-asked.result c.map_err.result c.map_err.ensures.cases (λ e d q. search rules) c.alignment_at-asked.ensures
+
 pub returns-in_err-alignment : goal.returns-in_err-alignment
 returns-in_err-alignment c =
     let a = c.args in
     let number = c.number-unit.ensures ∙ a.units.now.numbered.each a.s.unit c.requires.3 in
     let count = length-map a.units.now.table.places.now (λ (at : ℕ). (unit_at a.units.now.table.bytes.now at).name) in
-    let wanted = alignment_in (image_in a.obj.now) (head_of a.obj.now.heads.bytes.now a.obj.now.heads.places.now a.n) a.n a.current a.s in
     let r = c.in_err-alignment.field-0.0 in
-    let at : Refusal = record { number = 11; section = a.n; address = a.current } in
-    let stopped = subst (Left (AlignedAt wanted a.n a.current) at) c.in_err-alignment.was (left (AlignedAt wanted a.n a.current) at c.alignment_at-asked.result c.map_err.result c.map_err.ensures.cases (λ e d q. search rules) c.alignment_at-asked.ensures) in
+    let h = (goal.at.returns-in_err-alignment c).After-map_err in
+    let stopped = subst (Left (Aligned h) (backwards h)) c.in_err-alignment.was (aligned h) in
     rw (is_err _ c.from_residual-in_err-alignment.ensures.1)
     (decide_backwards _ _ _ _ _ _ _ c.if-s-current.false c.in_ok-between.ensures (sym c.is_skipped.ensures ∙ c.if-is_skipped.false) (λ e. c.if-unit-units.false (number ∙ e ∙ count)) r.number r.section r.address (stopped.1 ∙ ap (λ (e : Refusal). refused e.number e.section e.address) (sym stopped.2)), tt)
 
@@ -56,9 +69,8 @@ returns c =
     let a = c.args in
     let number = c.number-unit.ensures ∙ a.units.now.numbered.each a.s.unit c.requires.3 in
     let count = length-map a.units.now.table.places.now (λ (at : ℕ). (unit_at a.units.now.table.bytes.now at).name) in
-    let wanted = alignment_in (image_in a.obj.now) (head_of a.obj.now.heads.bytes.now a.obj.now.heads.places.now a.n) a.n a.current a.s in
-    let at : Refusal = record { number = 11; section = a.n; address = a.current } in
-    let valued = subst (Left (AlignedAt wanted a.n a.current) at) c.in_ok-alignment.was (left (AlignedAt wanted a.n a.current) at c.alignment_at-asked.result c.map_err.result c.map_err.ensures.cases (λ e d q. search rules) c.alignment_at-asked.ensures) in
+    let h = (goal.at.returns c).After-map_err in
+    let valued = subst (Left (Aligned h) (backwards h)) c.in_ok-alignment.was (aligned h) in
     let alignment = c.in_ok-alignment.alignment in (
       ap (λ (u : ℕ). accepted (Some (record { unit = u; alignment = alignment }))) number
           ∙ decide_gives _ _ _ _ _ _ _ c.if-s-current.false c.in_ok-between.ensures (sym c.is_skipped.ensures ∙ c.if-is_skipped.false) (λ e. c.if-unit-units.false (number ∙ e ∙ count)) alignment valued,
