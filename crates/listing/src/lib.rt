@@ -7,18 +7,16 @@ mod reading;
 mod seek;
 mod text;
 
-ghost use Rattle.std.specs.Prelude.{◌^◌, ◌<◌, ◌≤◌, length};
+ghost use Rattle.std.specs.Prelude.{◌≤◌, length};
 ghost use Rattle.listing.specs.Cursor.{Valid, Ready, NextLine};
-ghost use Rattle.listing.specs.Tables.{run_of, Readable};
+ghost use Rattle.listing.specs.Tables.{run_of};
 ghost use Rattle.listing.specs.Lent.{listed_pieces, listed_symbols, listed_relocs, tables_of};
 
-use crate::lent::RunTables;
 use crate::reading::figure_of;
 use crate::seek::seek;
 use crate::text::{piece_line, reloc_line, symbol_line, unit_line};
+pub use lent::ListedTables;
 use lines::write_total;
-use names::Names;
-use obj::Table;
 pub use piece_lists::PieceLists;
 
 // Where the next line begins, and the sum of the figures so far.
@@ -40,10 +38,9 @@ pub struct Line {
 }
 
 // The line at a cursor that stands at a record of its unit, if one is left.
-fn line_at(tables: &RunTables, cursor: Cursor, out: &mut [u8]) -> Option<Line>
+fn line_at(tables: &ListedTables, cursor: Cursor, out: &mut [u8]) -> Option<Line>
     requires { Valid (length tables.now.units.now.places.now) cursor
         × Ready (length tables.now.units.now.places.now) (listed_pieces tables.now.lists.now) (listed_symbols tables.now.lists.now) (listed_relocs tables.now.lists.now) cursor
-        × (tables.now.lists.now.made.relocs < 2 ^ 64)
         × (208 ≤ length out.old) }
     ensures { NextLine (run_of (tables_of tables.now.base.now tables.now.added.now tables.now.symbols.now tables.now.relocs.now tables.now.units.now tables.now.lists.now)) cursor out.old out.new result }
 {
@@ -85,30 +82,11 @@ fn line_at(tables: &RunTables, cursor: Cursor, out: &mut [u8]) -> Option<Line>
 }
 
 // The next line of the listing, if one is left.
-// The tables become one struct here and not at the caller: tried, it is proved in this crate, and in `print_run`, which would owe `Readable` at its literal, it was not.
-pub fn next_line<'a>(
-    base: &Names<'a, '_, '_>,
-    added: &Names<'a, '_, '_>,
-    symbols: &Table,
-    relocs: &Table,
-    unit_table: &Table,
-    lists: &PieceLists,
-    cursor: Cursor,
-    out: &mut [u8],
-) -> Option<Line>
-    requires { Valid (length unit_table.now.places.now) cursor
-        × Readable (tables_of base.now added.now symbols.now relocs.now unit_table.now lists.now)
+pub fn next_line(tables: &ListedTables, cursor: Cursor, out: &mut [u8]) -> Option<Line>
+    requires { Valid (length tables.now.units.now.places.now) cursor
         × (208 ≤ length out.old) }
-    ensures { NextLine (run_of (tables_of base.now added.now symbols.now relocs.now unit_table.now lists.now)) cursor out.old out.new result }
+    ensures { NextLine (run_of (tables_of tables.now.base.now tables.now.added.now tables.now.symbols.now tables.now.relocs.now tables.now.units.now tables.now.lists.now)) cursor out.old out.new result }
 {
-    let tables = RunTables {
-        base,
-        added,
-        symbols,
-        relocs,
-        units: unit_table,
-        lists,
-    };
-    let units = unit_table.places.len() as u16;
-    line_at(&tables, seek(units, lists, cursor), out)
+    let units = tables.units.places.len() as u16;
+    line_at(tables, seek(units, tables.lists, cursor), out)
 }

@@ -5,14 +5,13 @@ ghost use Rattle.listing.specs.Cursor.{piece_of, owner_at};
 ghost use Rattle.listing.specs.Tables.{Known, Name, Adds, Summed, Figure};
 ghost use Rattle.listing.specs.Lent.{listed_pieces, listed_symbols, piece_on, symbol_on, symbol_of, columns_of};
 
-use crate::PieceLists;
-use crate::lent::RunTables;
+use crate::{ListedTables, PieceLists};
 use names::name_at;
 use obj::{Symbol, record_in};
 use pieces::{Piece, PieceSymbol};
 
 // A number below the base's count is a base name, else an added one.
-pub fn name_of<'a>(tables: &RunTables<'a>, k: usize) -> &'a [u8]
+pub fn name_of<'a>(tables: &ListedTables<'a>, k: usize) -> &'a [u8]
     requires { Known (columns_of tables.now.base.now) (columns_of tables.now.added.now) k }
     ensures { Name (columns_of tables.now.base.now) (columns_of tables.now.added.now) k result.now }
 {
@@ -67,7 +66,7 @@ fn pieces_size(lists: &PieceLists, unit: u16) -> u64
 }
 
 // What piece symbol k adds to the figure of the unit: the size of the image's symbol, if it is listed as common and that size is known.
-fn common_in(tables: &RunTables, k: usize, unit: u16) -> u64
+fn common_in(tables: &ListedTables, k: usize, unit: u16) -> u64
     requires { k < tables.now.lists.now.made.symbols }
     ensures { Adds unit (symbol_on tables.now.lists.now k).unit (common_size (symbol_of tables.now.symbols.now) (symbol_on tables.now.lists.now k)) result }
 {
@@ -86,7 +85,7 @@ fn common_in(tables: &RunTables, k: usize, unit: u16) -> u64
 }
 
 // "the sizes of the unit's symbols of known size that are listed as `common`, each once"
-fn commons_size(tables: &RunTables, unit: u16) -> u64
+fn commons_size(tables: &ListedTables, unit: u16) -> u64
     ensures { Summed tables.now.lists.now.made.symbols (commons (symbol_of tables.now.symbols.now) (symbols_of unit (listed_symbols tables.now.lists.now))) result }
 {
     let mut sum: u64 = 0;
@@ -97,7 +96,7 @@ fn commons_size(tables: &RunTables, unit: u16) -> u64
 }
 
 // "the unit figure is the pieces' sizes plus ..", in 64 bits
-pub fn figure_of(tables: &RunTables, unit: u16) -> u64
+pub fn figure_of(tables: &ListedTables, unit: u16) -> u64
     ensures { Figure (symbol_of tables.now.symbols.now) (listed_pieces tables.now.lists.now) (listed_symbols tables.now.lists.now) unit result }
 {
     let of_pieces = pieces_size(tables.lists, unit);

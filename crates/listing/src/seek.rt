@@ -67,6 +67,7 @@ fn seek_piece(here: &UnitHere, at: usize) -> Cursor
 }
 
 // The cursor at the next record of its unit, at the next unit, or at the total.
+// A variant for each kind of record, and not one with the kind in it: `rest` and `Ready` say a case for each, so that an enum of kinds would put a second match into them, here and into `line_at`.
 pub fn seek(units: u16, lists: &PieceLists, cursor: Cursor) -> Cursor
     requires { Valid units cursor }
     ensures { Sought units (listed_pieces lists.now) (listed_symbols lists.now) (listed_relocs lists.now) cursor result }

@@ -7,14 +7,14 @@ ghost use Rattle.listing.specs.Cursor.{piece_text, symbol_text, reloc_text};
 ghost use Rattle.listing.specs.Tables.{name_in};
 ghost use Rattle.listing.specs.Lent.{listed_pieces, piece_on, symbol_on, reloc_on, symbol_of, reloc_of, columns_of};
 
-use crate::lent::RunTables;
+use crate::ListedTables;
 use crate::reading::{name_of, owner_of, piece_of};
 use lines::{write_piece, write_reloc, write_symbol, write_unit};
 use obj::{Reloc, Symbol, Unit, record_in};
 use pieces::{Piece, PieceReloc, PieceSymbol};
 
 // "Unit: number, name", and its figure.
-pub fn unit_line(tables: &RunTables, unit: u16, size: u64, out: &mut [u8]) -> usize
+pub fn unit_line(tables: &ListedTables, unit: u16, size: u64, out: &mut [u8]) -> usize
     requires { (unit < length tables.now.units.now.places.now) × (208 ≤ length out.old) }
     ensures { Written out.old out.new
         (unit_line unit (name_in (columns_of tables.now.base.now) (columns_of tables.now.added.now) (unit_at tables.now.units.now.bytes.now (get_or tables.now.units.now.places.now unit 0)).name) size) result }
@@ -25,7 +25,7 @@ pub fn unit_line(tables: &RunTables, unit: u16, size: u64, out: &mut [u8]) -> us
 }
 
 // "Piece: number in its unit, name, address, size, alignment."
-pub fn piece_line(tables: &RunTables, at: usize, out: &mut [u8]) -> usize
+pub fn piece_line(tables: &ListedTables, at: usize, out: &mut [u8]) -> usize
     requires { (at < tables.now.lists.now.made.pieces) × (208 ≤ length out.old) }
     ensures { Written out.old out.new
         (piece_text (name_in (columns_of tables.now.base.now) (columns_of tables.now.added.now)) (piece_on tables.now.lists.now at)) result }
@@ -36,7 +36,7 @@ pub fn piece_line(tables: &RunTables, at: usize, out: &mut [u8]) -> usize
 }
 
 // "`sym` name (`-` if empty), piece or `common`, address, size"
-pub fn symbol_line(tables: &RunTables, at: usize, out: &mut [u8]) -> usize
+pub fn symbol_line(tables: &ListedTables, at: usize, out: &mut [u8]) -> usize
     requires { (at < tables.now.lists.now.made.symbols) × (208 ≤ length out.old) }
     ensures { Written out.old out.new
         (symbol_text (name_in (columns_of tables.now.base.now) (columns_of tables.now.added.now)) (symbol_of tables.now.symbols.now) (listed_pieces tables.now.lists.now) (symbol_on tables.now.lists.now at)) result }
@@ -49,7 +49,7 @@ pub fn symbol_line(tables: &RunTables, at: usize, out: &mut [u8]) -> usize
 }
 
 // "`reloc` piece, offset, kind, target, addend"
-pub fn reloc_line(tables: &RunTables, at: usize, out: &mut [u8]) -> usize
+pub fn reloc_line(tables: &ListedTables, at: usize, out: &mut [u8]) -> usize
     requires { (at < tables.now.lists.now.made.relocs) × (208 ≤ length out.old) }
     ensures { Written out.old out.new
         (reloc_text (reloc_of tables.now.relocs.now) (listed_pieces tables.now.lists.now) (reloc_on tables.now.lists.now at)) result }

@@ -14,7 +14,7 @@ ghost use Rattle.print_run.specs.Printed.{PrintableLists, lists_text, PrintableI
 
 use gap_splits::AddedNames;
 use lines::write_refused;
-use listing::{Cursor, PieceLists, next_line};
+use listing::{Cursor, Line, ListedTables, PieceLists, next_line};
 use load::{Counts, NAMES, RELOCATIONS, SYMBOLS};
 use names::{Names, Room};
 use obj::Table;
@@ -29,6 +29,23 @@ use tables::fill_places;
 
 // The listing, line by line: a unit, "After a unit's pieces come `sym` ..; then `reloc` ..", and at the end the total.
 // A line says which comes next: there is nothing to count.
+fn print_listed<W: Write>(
+    out: &mut W,
+    tables: &ListedTables,
+    line: &mut [u8; 208],
+) -> io::Result<()>
+    ensures { OnOk result (Appends (W.contents out.old) (W.contents out.new)
+        (listing (run_of (tables_of tables.now.base.now tables.now.added.now tables.now.symbols.now tables.now.relocs.now tables.now.units.now tables.now.lists.now)))) }
+{
+    let mut cursor = Cursor::Units { unit: 0, bytes: 0 };
+    while let Some(Line { length, next }) = next_line(tables, cursor, line) {
+        out.write_all(&line[..length])?;
+        cursor = next;
+    }
+    Ok(())
+}
+
+// The listing of these tables.
 fn print_lines<'a, W: Write>(
     out: &mut W,
     base: &Names<'a, '_, '_>,
@@ -43,17 +60,15 @@ fn print_lines<'a, W: Write>(
     ensures { OnOk result (Appends (W.contents out.old) (W.contents out.new)
         (listing (run_of (tables_of base.now added.now symbols.now relocs.now unit_table.now lists.now)))) }
 {
-    let mut cursor = Cursor::Units { unit: 0, bytes: 0 };
-    loop {
-        let Some(next) = next_line(
-            base, added, symbols, relocs, unit_table, lists, cursor, line,
-        ) else {
-            return Ok(());
-        };
-        let n = next.length;
-        out.write_all(&line[..n])?;
-        cursor = next.next;
-    }
+    let tables = ListedTables {
+        base,
+        added,
+        symbols,
+        relocs,
+        units: unit_table,
+        lists,
+    };
+    print_listed(out, &tables, line)
 }
 
 // The listing of a run that was done, of n units: the parts of the column of places are the tables of names, symbols and relocations.

@@ -9,16 +9,16 @@ use Rattle.listing.proofs.Nexts.{unit_ready, unit_before, piece_ready, symbol_re
 use Rattle.listing.proofs.line_at.Goals as goal
 
 pub unit_line-length-requires : goal.unit_line-length-requires
-unit_line-length-requires c = (unit_ready c.args.tables.now.readable (sought_here c.args.cursor c.requires.0 c.requires.1) c.in-Units.is, c.requires.3)
+unit_line-length-requires c = (unit_ready c.args.tables.now.readable (sought_here c.args.cursor c.requires.0 c.requires.1) c.in-Units.is, c.requires.2)
 
 pub piece_line-length-requires : goal.piece_line-length-requires
-piece_line-length-requires c = (piece_ready c.args.tables.now.readable (sought_here c.args.cursor c.requires.0 c.requires.1) c.in-Pieces.is, c.requires.3)
+piece_line-length-requires c = (piece_ready c.args.tables.now.readable (sought_here c.args.cursor c.requires.0 c.requires.1) c.in-Pieces.is, c.requires.2)
 
 pub symbol_line-length-requires : goal.symbol_line-length-requires
-symbol_line-length-requires c = (symbol_ready c.args.tables.now.readable (sought_here c.args.cursor c.requires.0 c.requires.1) c.in-Symbols.is, c.requires.3)
+symbol_line-length-requires c = (symbol_ready c.args.tables.now.readable (sought_here c.args.cursor c.requires.0 c.requires.1) c.in-Symbols.is, c.requires.2)
 
 pub reloc_line-length-requires : goal.reloc_line-length-requires
-reloc_line-length-requires c = (reloc_ready c.args.tables.now.readable (sought_here c.args.cursor c.requires.0 c.requires.1) c.in-Relocs.is, c.requires.3)
+reloc_line-length-requires c = (reloc_ready c.args.tables.now.readable (sought_here c.args.cursor c.requires.0 c.requires.1) c.in-Relocs.is, c.requires.2)
 
 -- the sum of the figures has 64 bits, and so has the next number of a record
 pub overflow_add-bytes : goal.overflow_add-bytes
@@ -31,7 +31,7 @@ pub overflow_add-at-in-Symbols : goal.overflow_add-at-in-Symbols
 overflow_add-at-in-Symbols c = omega (arith, symbol_ready c.args.tables.now.readable (sought_here c.args.cursor c.requires.0 c.requires.1) c.in-Symbols.is)
 
 pub overflow_add-at-in-Relocs : goal.overflow_add-at-in-Relocs
-overflow_add-at-in-Relocs c = omega (arith, reloc_ready c.args.tables.now.readable (sought_here c.args.cursor c.requires.0 c.requires.1) c.in-Relocs.is)
+overflow_add-at-in-Relocs c = omega (arith, reloc_ready c.args.tables.now.readable (sought_here c.args.cursor c.requires.0 c.requires.1) c.in-Relocs.is, c.args.tables.now.counted)
 
 pub returns-in-Units : goal.returns-in-Units
 returns-in-Units c =
