@@ -67,8 +67,8 @@ pub fn share_address(s: Section, t: Section) -> bool
 {
     let s_end = (s.address as u64) + (s.size as u64);
     let t_end = (t.address as u64) + (t.size as u64);
-    (s.kind != 3)
-        & (t.kind != 3)
+    !s.is_bss()
+        & !t.is_bss()
         & (s.size != 0)
         & (t.size != 0)
         & ((s.address as u64) < t_end)
