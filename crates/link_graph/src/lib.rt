@@ -128,10 +128,8 @@ fn node_at(unit_table: &Table, graph: &LinkGraph, k: usize) -> Option<u16>
         (λ v. (v ≡ get_or graph.now.column.now (unit_of unit_table.now.bytes.now unit_table.now.places.now k).name 0) × (v ≢ 65535)) }
 {
     let u = unit_table.record::<Unit>(k);
-    match graph.column[u.name as usize] {
-        NONE => None,
-        v => Some(v),
-    }
+    let v = graph.column[u.name as usize];
+    (v != NONE).then_some(v)
 }
 
 // "chain those that have splits": the records' numbers become nodes, and those without a node go.
@@ -161,6 +159,7 @@ fn link_nodes(s: &[u16], graph: &mut LinkGraph)
 {
     let e = graph.edges;
     let more = s.len().saturating_sub(1);
+    // by place: of a pair of neighbours, and in two columns behind the edges that are there
     for i in 0..more {
         graph.from[e + i] = s[i];
         graph.to[e + i] = s[i + 1];
