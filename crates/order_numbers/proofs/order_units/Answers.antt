@@ -15,6 +15,8 @@ sorted-requires-clause-keyed c =
     let t = c.args.table.now in
     (rank_at t.bytes.now t.places.now, record { asked = λ i h. search (rules, held _ _ c.requires.1 i h); gives = λ i r h e. search (rules, e) })
 
+-- The closures' facts again, as in `symbol_order::make_order`. To cite the two goals above was tried: a proof can name no place between the call's arguments and the call. A lemma for both
+-- functions would be about their closures, which each of them makes.
 pub returns : goal.returns
 unfolding ordered_numbers
 returns c =
