@@ -88,6 +88,7 @@ pub fn enter_sections(
 {
     let n = headers.len() / 40;
     let mut seen = [0usize; 64];
+    // by number: a header is read at its number, which also picks its slot
     for i in 0..n {
         enter_section(headers, strings, i, &mut seen, i % 64, names)?;
     }
@@ -105,6 +106,7 @@ pub fn enter_symbols(table: &[u8], strings: &[u8], names: &mut NumberedNames) ->
 {
     let n = table.len() / 16;
     let mut seen = [0usize; 64];
+    // by number, as the sections
     for i in 1..n {
         let s: SymbolEntry = record_in(table, i);
         enter_string(strings, s.name, &mut seen, i % 64, names)?;

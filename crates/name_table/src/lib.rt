@@ -79,6 +79,7 @@ fn take_names(ends: &[u8], bytes: &[u8], columns: &mut NameColumns) -> Result<()
     ensures stored { StoresIn (meaning result) (records_check (name_fault ends.now bytes.now) (length ends.now / 2)) ends.now bytes.now columns.new (length ends.now / 2) }
     ensures lent { SameLent columns.old columns.new }
 {
+    // by number: it is where the name is stored, and what a refusal names
     for i in 0..ends.len() / 2 {
         name_fault(ends, &columns.names(bytes), &columns.index(), i)?;
         add_name(ends, bytes, columns, i);

@@ -14,6 +14,7 @@ pub fn number_units(table: &Table, column: &mut [u16])
     ensures { Numbered column.new (unit_names table.now.bytes.now table.now.places.now) }
 {
     column.fill(table.places.len() as u16);
+    // by number: it is what the column gets
     for k in 0..table.places.len() {
         let name = usize::from(table.record::<Unit>(k).name);
         column[name] = k as u16;
