@@ -13,9 +13,10 @@ use Rattle.lists.proofs.Outcomes.{fails, passes, then_stops, then_goes}
 use Rattle.lists.proofs.Binds.{after_goes, after-stops, bind_goes, bind_stops}
 use Rattle.lists.proofs.Rows.{length-tabulate}
 use Rattle.lists.proofs.Stores.{take-sets}
-use Rattle.obj.specs.Answers.{word}
+use Rattle.obj.specs.Answers.{Answer, word}
 use Rattle.std.specs.Prelude.{Result, Ok, Err}
-use Rattle.outputs.specs.Outputs.{store_count, store_counts}
+use Rattle.outputs.specs.Outputs.{store_counts}
+use Rattle.kept_output.specs.Kept.{kept_of}
 use Rattle.obj.specs.declared.Refusal.{Refusal}
 use Rattle.obj.specs.declared.Section.{Section}
 use Rattle.stage_names.specs.StageNames.{flat, name_ends}
@@ -32,19 +33,12 @@ use Rattle.number_names.specs.declared.Count.{Count}
 use Rattle.import.proofs.Sections.{taken-below, symbol_bytes, sections_count, places_count}
 use Rattle.import_rows.specs.Taken.{Numbers}
 use Rattle.import_rows.specs.Rows.{head_of, place_of, symbol_of, sections_table, places_table, symbols_table}
-use Rattle.entry_import_elf.specs.Entry.{least, Leaves}
+use Rattle.entry_import_elf.specs.Entry.{Leaves}
+use Rattle.entry_import_elf.specs.Structs.{CountedIn, SameRows}
 use Rattle.entry_import_elf.specs.Stages.{symbols_stage, image_stage, sections_stage, SymbolsGiven, RowsWritten, RowsGiven, Written, TablesWritten}
 use Rattle.entry_import_elf.specs.declared.Imported.{Imported}
 use Rattle.entry_import_elf.specs.declared.Rows.{Rows}
-
--- ---- the smaller of two numbers, as `min` gives it
-pub least_is : (a b : ℕ) → min b a ≡ least a b
-unfolding least
-least_is a b = go (ltb a b) refl
-  where
-    go : (t : Bool) → ltb a b ≡ t → min b a ≡ cond t a b
-    go true e = let h = ltb-true a b e in omega arith
-    go false e = let h = ltb-false a b e in omega arith
+use Rattle.entry_import_elf.specs.declared.RowOutputs.{RowOutputs}
 
 -- ---- outputs and counts
 
@@ -246,37 +240,39 @@ tables-written file {ends₀ = ends₀} {bytes₀ = bytes₀} n g = record {
 
 -- ---- what the entry leaves
 
--- five counts, one after another
-pub five_counts : (b₀ : List ℕ) (v w x y z : ℕ) {b₁ b₂ b₃ b₄ b₅ : List ℕ} → b₁ ≡ store_count 0 v b₀ → b₂ ≡ store_count 1 w b₁ → b₃ ≡ store_count 2 x b₂ → b₄ ≡ store_count 3 y b₃ → b₅ ≡ store_count 4 z b₄
-    → b₅ ≡ store_counts 0 (v ∷ w ∷ x ∷ y ∷ z ∷ []) b₀
-unfolding store_counts
-five_counts b₀ v w x y z e₁ e₂ e₃ e₄ e₅ =
-    e₅ ∙ ap (store_count 4 z) (e₄ ∙ ap (store_count 3 y) (e₃ ∙ ap (store_count 2 x) (e₂ ∙ ap (store_count 1 w) e₁)))
-
 module _ {o : Outcome Tables} (ends₀ bytes₀ sections₀ places₀ symbols₀ counts₀ : List ℕ) where
-  -- a refusal: zeros
-  pub leaves_zeros : (e : Refusal) {answer : ℕ} {ends bytes sections places symbols counts : List ℕ} → o ≡ refused e.number e.section e.address → answer ≡ word (Err e)
-      → ends ≡ replicate (length ends₀) 0 → bytes ≡ replicate (length bytes₀) 0 → sections ≡ replicate (length sections₀) 0 → places ≡ replicate (length places₀) 0
-      → symbols ≡ replicate (length symbols₀) 0 → counts ≡ replicate (length counts₀) 0
-      → Leaves o answer ends₀ bytes₀ sections₀ places₀ symbols₀ counts₀ ends bytes sections places symbols counts
-  leaves_zeros e q w a b c d f g = rw q (record { answered = w; ends_left = a; bytes_left = b; sections_left = c; places_left = d; symbols_left = f; counts_left = g })
-
   -- an accepted import: its tables at the front
-  pub leaves_tables : {r : Imported} {ends bytes sections places symbols sections' places' symbols' counts : List ℕ}
+  pub leaves_tables : {r : Imported} {ends bytes sections places symbols counts : List ℕ}
       → TablesWritten o ends₀ bytes₀ sections₀ places₀ symbols₀ ends bytes sections places symbols r
-      → sections' ≡ sections → places' ≡ places → symbols' ≡ symbols
       → counts ≡ store_counts 0 (r.names ∷ r.used ∷ r.sections ∷ r.sections ∷ r.symbols ∷ []) counts₀
-      → Leaves o 0 ends₀ bytes₀ sections₀ places₀ symbols₀ counts₀ ends bytes sections' places' symbols' counts
-  leaves_tables g es ep ey f =
+      → Leaves o 0 ends₀ bytes₀ sections₀ places₀ symbols₀ counts₀ ends bytes sections places symbols counts
+  leaves_tables g f =
       let v = g.written in
       let said = g.said in
       rw said (record {
         answered = refl;
         ends_left = v.ends_written;
         bytes_left = v.bytes_written;
-        sections_left = es ∙ v.sections_written;
-        places_left = ep ∙ v.places_written;
-        symbols_left = ey ∙ v.symbols_written;
+        sections_left = v.sections_written;
+        places_left = v.places_written;
+        symbols_left = v.symbols_written;
         counts_left =
             f ∙ (λ z. store_counts 0 (v.names-counted z ∷ v.used-counted z ∷ v.sections_counted z ∷ v.places_counted z ∷ v.symbols_counted z ∷ []) counts₀);
       })
+
+-- the end of the entry: the tables stay, and after a refusal all is zeros
+pub leaves : {o : Outcome Tables} (a : Answer) (ends₁ bytes₁ counts₁ : List ℕ) {ends₀ bytes₀ counts₀ ends bytes sections places symbols counts : List ℕ} {before after : RowOutputs} {answer : ℕ}
+    → CountedIn o ends₀ bytes₀ before counts₀ ends₁ bytes₁ after counts₁ a → SameRows before after → length ends₁ ≡ length ends₀ → length bytes₁ ≡ length bytes₀
+    → answer ≡ word a → ends ≡ kept_of ends₁ a → bytes ≡ kept_of bytes₁ a
+    → sections ≡ kept_of after.sections.now a → places ≡ kept_of after.places.now a → symbols ≡ kept_of after.symbols.now a → counts ≡ kept_of counts₁ a
+    → Leaves o answer ends₀ bytes₀ before.sections.now before.places.now before.symbols.now counts₀ ends bytes sections places symbols counts
+leaves (Ok u) ends₁ bytes₁ counts₁ given same e b w f g h i j k = rw (w, f, g, h, i, j, k) given
+leaves (Err r) ends₁ bytes₁ counts₁ given same e b w f g h i j k = rw given.0 (record {
+  answered = w;
+  ends_left = f ∙ ap (λ (n : ℕ). replicate n 0) e;
+  bytes_left = g ∙ ap (λ (n : ℕ). replicate n 0) b;
+  sections_left = h ∙ ap (λ (n : ℕ). replicate n 0) same.sections_size;
+  places_left = i ∙ ap (λ (n : ℕ). replicate n 0) same.places_size;
+  symbols_left = j ∙ ap (λ (n : ℕ). replicate n 0) same.symbols_size;
+  counts_left = k ∙ ap (λ (l : List ℕ). replicate (length l) 0) given.1;
+})

@@ -1,6 +1,7 @@
 -- The structs that the steps of the entry hand on, as the definitions speak of their columns.
-use Rattle.std.specs.Prelude.{ℕ, ◌≡◌, List, length, Result}
-use Rattle.lists.specs.Outcome.{Outcome}
+use Rattle.std.specs.Prelude.{ℕ, ◌≡◌, List, length, Result, Ok, Err}
+use Rattle.lists.specs.Outcome.{Outcome, refused}
+use Rattle.obj.specs.Answers.{Answer}
 use Rattle.obj.specs.declared.Refusal.{Refusal}
 use Rattle.elf_file.specs.declared.file.ElfFile.{ElfFile}
 use Rattle.number_names.specs.Numbers as numbers
@@ -11,7 +12,7 @@ use Rattle.entry_import_elf.specs.declared.Imported.{Imported}
 use Rattle.entry_import_elf.specs.declared.Rows.{Rows}
 use Rattle.entry_import_elf.specs.declared.RowOutputs.{RowOutputs}
 use Rattle.entry_import_elf.specs.declared.source.Source.{Source}
-use Rattle.entry_import_elf.specs.Entry.{sections_room, symbols_room, rooms_of}
+use Rattle.entry_import_elf.specs.Entry.{sections_room, symbols_room, rooms_of, Leaves}
 use Rattle.entry_import_elf.specs.Stages.{image_stage, sections_stage, RowsGiven, TablesGiven}
 
 -- the tables of a file whose names are known
@@ -46,6 +47,12 @@ RowsGivenIn o t before after r = RowsGiven o t before.sections.now before.places
 abbrev pub TablesGivenIn : Outcome Tables → (ends₀ bytes₀ : List ℕ) → (before : RowOutputs) → (ends bytes : List ℕ) → (after : RowOutputs) → Result Imported Refusal → Type 0
 TablesGivenIn o ends₀ bytes₀ before ends bytes after r =
     TablesGiven o ends₀ bytes₀ before.sections.now before.places.now before.symbols.now ends bytes after.sections.now after.places.now after.symbols.now r
+
+-- .. with the counts: all that the entry leaves of an accepted import, and why it is refused
+abbrev pub CountedIn : Outcome Tables → (ends₀ bytes₀ : List ℕ) → (before : RowOutputs) → (counts₀ ends bytes : List ℕ) → (after : RowOutputs) → (counts : List ℕ) → Answer → Type 0
+CountedIn o ends₀ bytes₀ before counts₀ ends bytes after counts (Ok u) =
+    Leaves o 0 ends₀ bytes₀ before.sections.now before.places.now before.symbols.now counts₀ ends bytes after.sections.now after.places.now after.symbols.now counts
+CountedIn o ends₀ bytes₀ before counts₀ ends bytes after counts (Err e) = (o ≡ refused e.number e.section e.address) × (counts ≡ counts₀)
 
 -- the outputs are still those that were lent, of the same lengths
 pub record SameRows (before after : RowOutputs) : Type 0 where
