@@ -46,8 +46,8 @@ abbrev pub refusal_of : Unlinked → Refusal
 refusal_of (Cycle k) = record { number = 61; section = 0; address = 0 }
 refusal_of (Refused r) = r
 
--- .. and for each case of the answer, whatever it carries
-abbrev pub answer_of : {T : Type 0} → Result T Unlinked → Answer
+-- .. and for each case of the answer
+abbrev pub answer_of : Result ℕ Unlinked → Answer
 answer_of (Ok n) = Ok tt
 answer_of (Err why) = Err (refusal_of why)
 

@@ -70,8 +70,8 @@ pub fn kept(r: Result<usize, Unlinked>) -> usize
     }
 }
 
-// The answer as a check's, whatever it carries: a refusal, or nothing.
-pub fn answer_of<T: Drop>(r: Result<T, Unlinked>) -> Result<(), Refusal>
+// The answer as a check's: a refusal, or nothing.
+pub fn answer_of(r: Result<usize, Unlinked>) -> Result<(), Refusal>
     ensures { result ≡ answer_of r }
 {
     r?;
