@@ -19,7 +19,7 @@ returns-in_err-number_in c =
     let s = c.in_err-number_in.ensures.0 in
     let e = c.in_err-number_in.ensures.1 a.name_ends.now a.name_bytes.now (held_none (indexed_cleared _ _ _ refl refl (omega arith))) in
     let room = ap (names_of a.file.now.bytes.now) (room_as (length a.name_ends.now) (length a.name_bytes.now) c.names_room.ensures c.bytes_room.ensures) in
-    rw (is_err _ c.from_residual.ensures.1) (numbered_short room (search (rules, sym s.ends)) (search (rules, sym s.bytes)) e)
+    rw (is_err _ c.from_residual.ensures.1) (numbered_short room (search (rules, sym s.ends.name)) (search (rules, sym s.bytes.name)) e)
 
 pub returns : goal.returns
 returns c =
@@ -27,4 +27,4 @@ returns c =
     let s = c.number_in.ensures.0 in
     let e = c.in_ok-number_in.ensures.1 a.name_ends.now a.name_bytes.now (held_none (indexed_cleared _ _ _ refl refl (omega arith))) in
     let room = ap (names_of a.file.now.bytes.now) (room_as (length a.name_ends.now) (length a.name_bytes.now) c.names_room.ensures c.bytes_room.ensures) in
-    numbered_all room (search (rules, sym s.ends)) (search (rules, sym s.bytes)) e
+    numbered_all room (search (rules, sym s.ends.name)) (search (rules, sym s.bytes.name)) e
