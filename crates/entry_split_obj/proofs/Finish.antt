@@ -19,29 +19,23 @@ use Rattle.std.specs.Prelude.{Result, Ok, Err}
 use Rattle.obj.specs.declared.Refusal.{Refusal}
 use Rattle.stage_walk.proofs.Walked.{none_read}
 use Rattle.entry_split_obj.specs.Entry.{Sizes, Laid, Leaves, output_of}
-use Rattle.entry_split_obj.specs.Lines.{made_by, Fits}
-
--- ---- the counts
-pub three_counts : (size a b c : ℕ) (before : List ℕ) → length before ≡ size
-    → store_count 2 c (store_count 1 b (store_count 0 a (clear_from 0 0 before))) ≡ counts_of size (a ∷ b ∷ c ∷ [])
-unfolding store_counts
-three_counts size a b c before e =
-    ap (λ (l : List ℕ). store_count 2 c (store_count 1 b (store_count 0 a l))) (clear_all 0 before ∙ ap (λ (k : ℕ). replicate k 0) e) ∙ counts_stored size (a ∷ b ∷ c ∷ [])
+use Rattle.entry_split_obj.specs.Lines.{made_by}
+use Rattle.stage_walk.specs.Laid.{OutputFits}
 
 -- ---- the entry's end
-pub made_fits : (t : PieceTables) (r : Result (Unit {0}) Refusal) → Ceilings t.room → Fits (made_by r t.made) (length t.pieces.now) (length t.symbols.now) (length t.relocs.now)
+pub made_fits : (t : PieceTables) (r : Result (Unit {0}) Refusal) → Ceilings t.room → OutputFits (made_by r t.made) (length t.pieces.now) (length t.symbols.now) (length t.relocs.now)
 made_fits t (Ok u) m =
     let f = t.fits in
     record {
       pieces_fit = omega (arith, f.pieces_long, f.few_pieces);
-      entries_fit = omega (arith, f.symbols_long, f.few_symbols);
-      offsets_fit = omega (arith, f.relocs_long, f.few_relocs);
+      symbols_fit = omega (arith, f.symbols_long, f.few_symbols);
+      relocs_fit = omega (arith, f.relocs_long, f.few_relocs);
       few_pieces = omega (arith, f.few_pieces, m.pieces);
       few_symbols = omega (arith, f.few_symbols, m.symbols);
       few_relocs = omega (arith, f.few_relocs, m.relocs);
     }
 made_fits t (Err r) m =
-    record { pieces_fit = omega arith; entries_fit = omega arith; offsets_fit = omega arith; few_pieces = omega arith; few_symbols = omega arith; few_relocs = omega arith }
+    record { pieces_fit = omega arith; symbols_fit = omega arith; relocs_fit = omega arith; few_pieces = omega arith; few_symbols = omega arith; few_relocs = omega arith }
 
 pub left_is : (t : PieceTables) (r : Result (Unit {0}) Refusal) → output_in t.pieces.now t.symbols.now t.relocs.now (made_by r t.made) ≡ output_of (gave_meaning t r)
 left_is t (Ok u) = refl
@@ -66,12 +60,12 @@ leaves_at o t made sizes lent answer r before-pieces before-entries before-offse
     }
 
 -- tables of the same sizes
-pub fits_as : (made : Counts) (pieces entries offsets p e f : ℕ) → p ≡ pieces → e ≡ entries → f ≡ offsets → Fits made pieces entries offsets → Fits made p e f
+pub fits_as : (made : Counts) (pieces entries offsets p e f : ℕ) → p ≡ pieces → e ≡ entries → f ≡ offsets → OutputFits made pieces entries offsets → OutputFits made p e f
 fits_as made pieces entries offsets p e f x y z w =
     record {
       pieces_fit = omega (arith, w.pieces_fit, x);
-      entries_fit = omega (arith, w.entries_fit, y);
-      offsets_fit = omega (arith, w.offsets_fit, z);
+      symbols_fit = omega (arith, w.symbols_fit, y);
+      relocs_fit = omega (arith, w.relocs_fit, z);
       few_pieces = w.few_pieces;
       few_symbols = w.few_symbols;
       few_relocs = w.few_relocs;

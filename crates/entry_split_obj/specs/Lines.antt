@@ -1,5 +1,5 @@
 -- Inside the entry `split_obj`: its definition from the symbols on, over what the tables before them leave, and what the functions of the entry answer.
-use Rattle.std.specs.Prelude.{ℕ, ◌*◌, ◌/◌, ◌≤◌, List, length, Result, Ok, Err}
+use Rattle.std.specs.Prelude.{ℕ, ◌/◌, List, length, Result, Ok, Err}
 use Rattle.lists.specs.Outcome.{Outcome, ◌>>◌}
 use Rattle.obj.specs.Records.{stage_places}
 use Rattle.obj.specs.declared.Refusal.{Refusal}
@@ -13,7 +13,6 @@ use Rattle.sections.specs.Image.{image_of}
 use Rattle.sections.specs.Sections.{Sections, sections_lent}
 use Rattle.relocs.specs.Relocs.{reloc_of}
 use Rattle.pieces.specs.declared.Counts.{Counts}
-use Rattle.pieces.specs.Pieces.{piece_width}
 use Rattle.walk.specs.Walk.{Output}
 use Rattle.stage_walk.specs.Lines.{from_splits, heads_in, none}
 use Rattle.entry_split_obj.specs.Entry.{Sizes, split_obj_of}
@@ -44,15 +43,6 @@ split_obj_in t room =
 abbrev pub made_by : Result (Unit {0}) Refusal → Counts → Counts
 made_by (Ok u) made = made
 made_by (Err r) made = none
-
--- so many records are whole in tables of these sizes
-pub record Fits (made : Counts) (pieces entries offsets : ℕ) : Type 0 where
-  pub pieces_fit : piece_width * made.pieces ≤ pieces
-  pub entries_fit : 12 * made.symbols ≤ entries
-  pub offsets_fit : 8 * made.relocs ≤ offsets
-  pub few_pieces : made.pieces ≤ 1024
-  pub few_symbols : made.symbols ≤ 4096
-  pub few_relocs : made.relocs ≤ 4096
 
 abbrev pub sizes_of : (pieces entries offsets counts : List ℕ) → Sizes
 sizes_of pieces entries offsets counts = record { pieces = length pieces; symbols = length entries; relocs = length offsets; counts = length counts }

@@ -7,18 +7,19 @@ ghost use Rattle.name_table.specs.Columns.{ReadableIn};
 ghost use Rattle.walk.specs.Giving.{output_in};
 ghost use Rattle.stage_walk.specs.Room.{room_in, within_ceilings};
 ghost use Rattle.stage_walk.specs.Lines.{Gives, HeadedIn};
+ghost use Rattle.stage_walk.specs.Laid.{OutputFits};
 ghost use Rattle.entry_split_obj.specs.Entry.{split_obj_of, Laid, Leaves};
-ghost use Rattle.entry_split_obj.specs.Lines.{from_symbols_in, split_obj_in, made_by, Fits, sizes_of};
+ghost use Rattle.entry_split_obj.specs.Lines.{from_symbols_in, split_obj_in, made_by, sizes_of};
 
 use lent_tables::StageTables;
 use name_table::NameArrays;
 use names::Names;
 use obj::{Refusal, Table, word_of};
-use outputs::{clear_from, put_count};
-use pieces::{Counts, PIECE_BYTES, PieceTables};
+use outputs::{clear_from, put_counts};
+use pieces::{Counts, PieceTables};
 use stage_sections::{SectionArrays, SymbolArrays};
 use stage_tables::take_relocs;
-use stage_walk::{room_of, with_splits};
+use stage_walk::{lay_output, room_of, with_splits};
 
 // The symbols with their order, the relocations, and the tables after them.
 fn with_symbols(
@@ -64,10 +65,7 @@ fn checked(lent: &StageTables, tables: &mut PieceTables) -> Result<(), Refusal>
 pub fn made_of(r: Result<(), Refusal>, made: Counts) -> Counts
     ensures { result ≡ made_by r made }
 {
-    match r {
-        Ok(_) => made,
-        Err(_) => Counts::default(),
-    }
+    r.map_or(Counts::default(), |_| made)
 }
 
 // Zeros after the records, and their numbers in the counts. The outputs of the C entry one by one: the counts are no part of PieceTables, and `made` is 0 after a refusal.
@@ -78,18 +76,17 @@ pub fn lay(
     offsets: &mut [u8],
     counts: &mut [u8],
 )
-    requires { Fits made (length pieces.old) (length entries.old) (length offsets.old) }
+    requires { OutputFits made (length pieces.old) (length entries.old) (length offsets.old) }
     ensures { Laid (output_in pieces.old entries.old offsets.old made)
         (sizes_of pieces.old entries.old offsets.old counts.old)
         pieces.new entries.new offsets.new counts.new }
 {
-    clear_from(pieces, PIECE_BYTES * made.pieces);
-    clear_from(entries, 12 * made.symbols);
-    clear_from(offsets, 8 * made.relocs);
+    lay_output(made, pieces, entries, offsets);
     clear_from(counts, 0);
-    put_count(counts, 0, made.pieces as u16);
-    put_count(counts, 1, made.symbols as u16);
-    put_count(counts, 2, made.relocs as u16);
+    put_counts(
+        counts,
+        &[made.pieces as u16, made.symbols as u16, made.relocs as u16],
+    );
 }
 
 // The entry: the pieces with their symbols and relocations, or a refusal, and every byte of the outputs.

@@ -3,7 +3,7 @@ use Prim.Native.Nat.{ℕ, ◌*◌, ◌-◌, ◌/◌, ◌≤◌}
 use mathlib.Core.Path.{◌≡◌, refl, sym, ap, ◌∙◌}
 use mathlib.Core.List.{List, ◌++◌}
 use mathlib.Core.Bool.{Bool, true, false, cond}
-use native.Mathlib.Nat.{mul-div-le, min-le_right}
+use native.Mathlib.Nat.{min-le_right}
 use Rattle.std.proofs.Math.Nat.{min-eq_left}
 use native.Mathlib.Omega.{arith}
 use borrow.Author.Tests.{ltb-true, ltb-false}
@@ -16,42 +16,24 @@ use Rattle.lists.proofs.Clear.{clear_is}
 use Rattle.pieces.specs.declared.Counts.{Counts}
 use Rattle.pieces.specs.Room.{Fits, Ceilings}
 use Rattle.outputs.specs.Room.{room_for}
+use Rattle.outputs.proofs.Room as rooms
 use Rattle.stage_walk.specs.Room.{room_in, within_ceilings}
 use Rattle.stage_walk.specs.Lines.{none}
 use Rattle.pieces.specs.Pieces.{piece_width}
 
+-- the room of each kind of record
 module _ (ceiling size : ℕ) where
   pub room_low : (width : ℕ) → room_for ceiling width size ≤ ceiling
-  unfolding room_for
-  room_low width = go (ltb (size / width) ceiling) refl
-    where
-      go : (t : Bool) → ltb (size / width) ceiling ≡ t → cond t (size / width) ceiling ≤ ceiling
-      go true e = omega (arith, ltb-true (size / width) ceiling e)
-      go false e = omega arith
+  room_low width = rooms.room_low ceiling width size
 
   pub room_pieces : piece_width * room_for ceiling piece_width size ≤ size
-  unfolding room_for
-  room_pieces = go (ltb (size / piece_width) ceiling) refl
-    where
-      go : (t : Bool) → ltb (size / piece_width) ceiling ≡ t → piece_width * cond t (size / piece_width) ceiling ≤ size
-      go true e = mul-div-le size piece_width
-      go false e = omega (arith, ltb-false (size / piece_width) ceiling e, mul-div-le size piece_width)
+  room_pieces = rooms.room_fits ceiling piece_width size
 
   pub room_12 : 12 * room_for ceiling 12 size ≤ size
-  unfolding room_for
-  room_12 = go (ltb (size / 12) ceiling) refl
-    where
-      go : (t : Bool) → ltb (size / 12) ceiling ≡ t → 12 * cond t (size / 12) ceiling ≤ size
-      go true e = mul-div-le size 12
-      go false e = omega (arith, ltb-false (size / 12) ceiling e, mul-div-le size 12)
+  room_12 = rooms.room_fits ceiling 12 size
 
   pub room_8 : 8 * room_for ceiling 8 size ≤ size
-  unfolding room_for
-  room_8 = go (ltb (size / 8) ceiling) refl
-    where
-      go : (t : Bool) → ltb (size / 8) ceiling ≡ t → 8 * cond t (size / 8) ceiling ≤ size
-      go true e = mul-div-le size 8
-      go false e = omega (arith, ltb-false (size / 8) ceiling e, mul-div-le size 8)
+  room_8 = rooms.room_fits ceiling 8 size
 
 -- lent tables with that room, in which nothing is made
 pub fits_none : (pieces symbols relocs : List ℕ) (room made : Counts) → room ≡ room_in (length pieces) (length symbols) (length relocs) → made ≡ none

@@ -9,11 +9,13 @@ ghost use Rattle.relocs.specs.Relocs.{reloc_of};
 ghost use Rattle.units.specs.Units.{unit_names};
 ghost use Rattle.split_obj.specs.Loop.{Ready};
 ghost use Rattle.stage_walk.specs.Room.{room_in, within_ceilings};
+ghost use Rattle.stage_walk.specs.Laid.{OutputFits, OutputLaid};
+ghost use Rattle.walk.specs.Giving.{output_in};
 ghost use Rattle.sections.specs.Sections.{sections_lent};
 ghost use Rattle.stage_walk.specs.Lines.{walk_of, from_units, from_splits, Gives, Passed, heads_in, Rowed};
 
 use obj::{Refusal, Table};
-use outputs::room_for;
+use outputs::{clear_from, room_for};
 use pieces::{Counts, PIECE_BYTES, PieceTables};
 use sections::Obj;
 use split_obj::walk_sections;
@@ -32,6 +34,17 @@ pub fn room_of(pieces: usize, symbols: usize, relocs: usize) -> Counts
         symbols: room_for(4096, 12, symbols),
         relocs: room_for(4096, 8, relocs),
     }
+}
+
+// Zeros after the records of the walk. The tables are lent one by one: only of what is lent so is it known that its numbers are bytes.
+pub fn lay_output(made: Counts, pieces: &mut [u8], entries: &mut [u8], offsets: &mut [u8])
+    requires { OutputFits made (length pieces.old) (length entries.old) (length offsets.old) }
+    ensures { OutputLaid (output_in pieces.old entries.old offsets.old made)
+        (length pieces.old) (length entries.old) (length offsets.old) pieces.new entries.new offsets.new }
+{
+    clear_from(pieces, PIECE_BYTES * made.pieces);
+    clear_from(entries, 12 * made.symbols);
+    clear_from(offsets, 8 * made.relocs);
 }
 
 // A room of which no more is taken than document 01's ceilings: "1,024 pieces, 4,096 piece symbols, 4,096 piece relocations".

@@ -7,7 +7,7 @@ use Prim.Native.Nat.{ℕ}
 use lib.ListN.{length}
 use Rattle.pieces.specs.declared.Counts.{Counts}
 use Rattle.stage_walk.proofs.Room.{fits_none, room_low_all as low, within_same}
-use Rattle.entry_split_obj.specs.Lines.{Fits}
+use Rattle.stage_walk.specs.Laid.{OutputFits}
 use Rattle.entry_split_obj.specs.Entry.{split_obj_of}
 use Rattle.entry_split_obj.proofs.Finish.{made_fits, fits_as, leaves_at}
 use Rattle.entry_split_obj.proofs.split_obj.Goals as goal
@@ -19,7 +19,7 @@ pub lay-requires : goal.lay-requires
 lay-requires c =
     let w = c.checked-r in
     let t = w.new.tables in
-    subst (λ (m : Counts). Fits m (length c.pieces-1.given.0) (length c.entries-1.given.0) (length c.offsets-1.given.0)) (sym c.made_of-made.ensures)
+    subst (λ (m : Counts). OutputFits m (length c.pieces-1.given.0) (length c.entries-1.given.0) (length c.offsets-1.given.0)) (sym c.made_of-made.ensures)
     (fits_as _ _ _ _ _ _ _ (ap (λ (l : List ℕ). length l) (c.pieces-1.given.1.1 (sym w.ensures.lent.pieces))) (ap (λ (l : List ℕ). length l) (c.entries-1.given.1.1 (sym w.ensures.lent.symbols))) (ap (λ (l : List ℕ). length l) (c.offsets-1.given.1.1 (sym w.ensures.lent.relocs)))
     (made_fits t w.result (rw w.ensures.lent.room (low c.args.pieces.now c.args.entries.now c.args.offsets.now _ c.room_of.ensures))))
 
