@@ -1,4 +1,4 @@
--- What the entry's ends rest on: names put at the front of their tables, counts stored one after another, and what an answer of the run keeps is what its outcome leaves.
+-- What the entry's ends rest on: names put at the front of their tables, and what an answer of the run keeps is what its outcome leaves.
 -- Assumes nothing.
 use Prim.Native.Nat.{ℕ, ◌*◌, ◌≤◌}
 use mathlib.Core.Path.{◌≡◌, sym, ap, ◌∙◌}
@@ -40,16 +40,6 @@ module _ (names : List (List ℕ)) (e₀ b₀ e₁ b₁ : List ℕ) {r : ℕ} (p
   bytes_laid {b₂} {n} q h e =
       let long = flat_bytes names in
       e ∙ ap (clear_from 0 n) p.filled ∙ laid-after b₀ (flat names) n (omega (arith, long, q)) (omega (arith, long, q, h))
-
--- ---- counts
-
-pub stored : (size : ℕ) (k : Ran) (before : List ℕ) → length before ≡ size
-    → store_count 6 k.made.relocs (store_count 5 k.made.symbols (store_count 4 k.made.pieces (store_count 3 k.units (store_count 2 k.splits (store_count 1 k.used (store_count 0 k.names (clear_from 0 0 before)))))))
-    ≡ counts_of size (listed k)
-unfolding store_counts
-stored size k before e =
-    ap (λ (l : List ℕ). store_count 6 k.made.relocs (store_count 5 k.made.symbols (store_count 4 k.made.pieces (store_count 3 k.units (store_count 2 k.splits (store_count 1 k.used (store_count 0 k.names l)))))))
-    (clear_all 0 before ∙ ap (λ (n : ℕ). replicate n 0) e) ∙ counts_stored size (listed k)
 
 -- ---- what is kept
 

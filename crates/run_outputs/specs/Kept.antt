@@ -1,13 +1,10 @@
 -- What an answer of the run keeps in each table, and the tables before they are cleared behind it.
 use Rattle.std.specs.Prelude.{ℕ, ◌*◌, ◌≤◌, ◌≡◌, List, [], ◌∷◌, length}
-use Rattle.lists.specs.Tables.{laid}
 use Rattle.obj.specs.Answers.{refusal_word}
 use Rattle.names.specs.Append.{Columns as Beside}
 use Rattle.splits.specs.Columns.{Columns, rows}
 use Rattle.gap_splits.specs.Added.{added}
 use Rattle.pieces.specs.declared.Counts.{Counts}
-use Rattle.pieces.specs.Pieces.{piece_bytes, symbol_bytes, reloc_bytes, packed, piece_width}
-use Rattle.walk.specs.Walk.{Output}
 use Rattle.walk.specs.Giving.{output_in}
 use Rattle.run.specs.Run.{Result}
 use Rattle.run.specs.Answers.{units_at, Names, Units}
@@ -18,6 +15,7 @@ use Rattle.std.specs.Prelude.{Ok, Err}
 use Rattle.std.specs.Prelude as std
 use Rattle.obj.specs.Records.{split_width}
 use Rattle.run_outputs.specs.Laid.{Sizes}
+use Rattle.stage_walk.specs.Laid.{OutputFits}
 use Rattle.stage_walk.specs.Lines.{none}
 
 -- how many records an answer keeps in each table
@@ -40,21 +38,6 @@ left_in c table units pieces entries offsets k = record {
   units = units_at units k.units;
   output = output_in pieces entries offsets k.made;
 }
-
--- the walk's records are whole in tables of these sizes
-pub record OutputFits (made : Counts) (pieces symbols relocs : ℕ) : Type 0 where
-  pub pieces_fit : piece_width * made.pieces ≤ pieces
-  pub symbols_fit : 12 * made.symbols ≤ symbols
-  pub relocs_fit : 8 * made.relocs ≤ relocs
-  pub few_pieces : made.pieces ≤ 1024
-  pub few_symbols : made.symbols ≤ 4096
-  pub few_relocs : made.relocs ≤ 4096
-
--- .. and are there, zeros after them
-pub record OutputLaid (out : Output) (pieces_size symbols-size relocs-size : ℕ) (pieces symbols relocs : List ℕ) : Type 0 where
-  pub pieces_are : pieces ≡ laid pieces_size (packed piece_bytes out.pieces)
-  pub symbols_are : symbols ≡ laid symbols-size (packed symbol_bytes out.symbols)
-  pub relocs_are : relocs ≡ laid relocs-size (packed reloc_bytes out.relocs)
 
 -- each number has two bytes
 pub record Countable (k : Ran) : Type 0 where

@@ -7,21 +7,20 @@ ghost use Rattle.outputs.specs.Outputs.{halves, counts_of};
 ghost use Rattle.stage_names.specs.StageNames.{ends_from, flat};
 ghost use Rattle.stage_names.specs.Output.{SameLent as SameTable};
 ghost use Rattle.gap_splits.specs.Added as entering;
-ghost use Rattle.walk.specs.Giving.{output_in};
 ghost use Rattle.run.specs.Answers.{Names as NamesRead};
-ghost use Rattle.run_outputs.specs.Kept.{kept_by, word_of, OutputFits, OutputLaid, Countable, listed};
+ghost use Rattle.run_outputs.specs.Kept.{kept_by, word_of, Countable, listed};
 ghost use Rattle.run_outputs.specs.Outputs.{beside_of, left_to, FitsIn, LaidIn, SameOutputs};
 
 use names::Names;
 use obj::{refuse, word_of};
 use order::Unlinked;
-use outputs::{clear_from, put_count};
-use pieces::{Counts, PIECE_BYTES};
+use outputs::{clear_from, put_counts};
 use run::Ran;
 pub use run::Ran as Kept;
 use splits::SplitColumns;
 use stage_names::{NameOutput, first_names, put_names};
 use stage_splits::put_splits;
+use stage_walk::lay_output;
 
 // The outputs that are lent to a run: the ends and the bytes of the names that are added, the splits, the tables of its end, and the counts of all of them.
 #[derive(Drop)]
@@ -75,31 +74,25 @@ fn lay_names(added: &Names, names: usize, used: usize, output: &mut NameOutput)
     clear_from(output.bytes, used);
 }
 
-// Zeros after the records of the walk. The tables are lent one by one: only of what is lent so is it known that its numbers are bytes.
-fn lay_output(made: Counts, pieces: &mut [u8], entries: &mut [u8], offsets: &mut [u8])
-    requires { OutputFits made (length pieces.old) (length entries.old) (length offsets.old) }
-    ensures { OutputLaid (output_in pieces.old entries.old offsets.old made)
-        (length pieces.old) (length entries.old) (length offsets.old) pieces.new entries.new offsets.new }
-{
-    clear_from(pieces, PIECE_BYTES * made.pieces);
-    clear_from(entries, 12 * made.symbols);
-    clear_from(offsets, 8 * made.relocs);
-}
-
 // The seven counts, as many as fit, and zeros after them.
-fn put_counts(counts: &mut [u8], k: Kept)
+fn lay_counts(counts: &mut [u8], k: Kept)
     requires { Countable k }
     ensures { counts.new ≡ counts_of (length counts.old) (listed k) }
 {
     let made = k.made;
     clear_from(counts, 0);
-    put_count(counts, 0, k.names as u16);
-    put_count(counts, 1, k.used as u16);
-    put_count(counts, 2, k.splits as u16);
-    put_count(counts, 3, k.units as u16);
-    put_count(counts, 4, made.pieces as u16);
-    put_count(counts, 5, made.symbols as u16);
-    put_count(counts, 6, made.relocs as u16);
+    put_counts(
+        counts,
+        &[
+            k.names as u16,
+            k.used as u16,
+            k.splits as u16,
+            k.units as u16,
+            made.pieces as u16,
+            made.symbols as u16,
+            made.relocs as u16,
+        ],
+    );
 }
 
 // What is kept in each table, and zeros after it.
@@ -117,5 +110,5 @@ pub fn lay(k: Kept, added: &Names, splits: &SplitColumns, outputs: &mut RunOutpu
     put_splits(&splits.first(k.splits), outputs.splits);
     clear_from(outputs.units, 8 * k.units);
     lay_output(k.made, outputs.pieces, outputs.entries, outputs.offsets);
-    put_counts(outputs.counts, k);
+    lay_counts(outputs.counts, k);
 }

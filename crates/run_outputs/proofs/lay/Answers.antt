@@ -30,6 +30,6 @@ returns-clause-laid c =
       pieces_are = output.pieces_are;
       symbols_are = output.symbols_are;
       relocs_are = output.relocs_are;
-      counted = c.put_counts.ensures
+      counted = c.lay_counts.ensures
           ∙ ap (counts_of (length o.counts.now)) (kept-listed (beside_of a.added.now) (columns_of a.splits.now) o.units.now o.pieces.now o.entries.now o.offsets.now k q.names.sum);
     }
