@@ -188,10 +188,11 @@ pub fn next_move(graph: &EdgeTable, chains: &EdgeChains, cur: usize, next: usize
         }
         return Move::Take(next + 1, next);
     }
-    next_edge(graph.from, chains, cur, next).map_or(
-        Move::Close,
-        |e| Move::Take(e + 1, graph.to[e] as usize),
-    )
+    // by `map_or` was tried: it proves, and each turn of the search takes some three instructions more
+    match next_edge(graph.from, chains, cur, next) {
+        None => Move::Close,
+        Some(e) => Move::Take(e + 1, graph.to[e] as usize),
+    }
 }
 
 // The search proper: closed nodes are written from the end of the table's first n places downwards, so the last closed stands first. All 1,025 records are unseen at first, but the root's:
