@@ -104,36 +104,46 @@ module _ (t : Input) (last n low end : ℕ) (c : Columns) (rows current i : ℕ)
     unfolding ◌>>=◌
     ends_none q = sym (ap (λ (m : Outcome Output). m >>= after t last n) (splits-none t n end current out (within n low end) c rows i h q)) ∙ same
 
--- a turn: the split s at place i comes next, and the one after it stands at place j and starts at `next`
-pub record Turn (t : Input) (last n low end : ℕ) (c : Columns) (rows current : ℕ) (out : Output) (whole : Outcome Output) (j next : ℕ) (s : Split) : Type 0 where
+-- a turn: the split s at place i comes next, and r is the one after it, if there is one, where `next` is the splitting end else
+pub record Turn (t : Input) (last n low end : ℕ) (c : Columns) (rows current : ℕ) (out : Output) (whole : Outcome Output) (r : Option ℕ) (next : ℕ) (s : Split) : Type 0 where
   pub i : ℕ
   pub same : splits_left t last n low end c rows current i out ≡ whole
   pub before : current < end
   pub small : i < rows
-  pub hits : Hit (within n low end) c rows (i + 1) j
-  pub follows : next ≡ cond (ltb j rows) (get_or c.starts j 0) end
+  pub first : FirstPlace (within n low end) c (i + 1) rows r
+  pub follows : next ≡ start_of c.starts end r
   pub is : s ≡ row_at c i
 
-module _ {t : Input} {last n low end : ℕ} {c : Columns} {rows current : ℕ} {out : Output} {whole : Outcome Output} {j next : ℕ} {s : Split}
-    (turn : Turn t last n low end c rows current out whole j next s) where
+module _ {t : Input} {last n low end : ℕ} {c : Columns} {rows current : ℕ} {out : Output} {whole : Outcome Output} {r : Option ℕ} {next : ℕ} {s : Split}
+    (turn : Turn t last n low end c rows current out whole r next s) where
+  -- the place of the one after, or the number of rows
+  abbrev j : ℕ
+  j = unwrap_or r rows
+
+  hit : Hit (within n low end) c rows (turn.i + 1) j
+  hit = hit_next (within n low end) c rows (turn.i + 1) r (omega (arith, turn.small)) turn.first
+
+  next_at : next ≡ cond (ltb j rows) (get_or c.starts j 0) end
+  next_at = turn.follows ∙ start_there c.starts end rows r (next_small (within n low end) c rows (turn.i + 1) r turn.first)
+
   abbrev asked : Outcome (Option Target)
   asked = decide t.image t.sections t.units n current next s
 
   at_row : asked ≡ decide t.image t.sections t.units n current next (row_at c turn.i)
   at_row = ap (decide t.image t.sections t.units n current next) turn.is
 
-  pub ends_fault : (r : Refusal) → refused r.number r.section r.address ≡ asked → refused r.number r.section r.address ≡ whole
-  ends_fault r d =
-      sym (turn_fault t n end current out (within n low end) c rows turn.i turn.before turn.small j next turn.hits turn.follows (after t last n) r.number r.section r.address (d ∙ at_row))
+  pub ends_fault : (x : Refusal) → refused x.number x.section x.address ≡ asked → refused x.number x.section x.address ≡ whole
+  ends_fault x d =
+      sym (turn_fault t n end current out (within n low end) c rows turn.i turn.before turn.small j next hit next_at (after t last n) x.number x.section x.address (d ∙ at_row))
       ∙ turn.same
 
   pub goes_skip : accepted None ≡ asked → splits_left t last n low end c rows next j out ≡ whole
-  goes_skip d = sym (turn_skip t n end current out (within n low end) c rows turn.i turn.before turn.small j next turn.hits turn.follows (after t last n) (d ∙ at_row)) ∙ turn.same
+  goes_skip d = sym (turn_skip t n end current out (within n low end) c rows turn.i turn.before turn.small j next hit next_at (after t last n) (d ∙ at_row)) ∙ turn.same
 
   module _ (unit alignment : ℕ) (d : accepted (Some (record { unit = unit; alignment = alignment })) ≡ asked) (a : ℕ) (half : halved 16 alignment current ≡ a) where
     pub ends_misfit : current % a ≢ 0 → refused 75 n current ≡ whole
     ends_misfit m =
-        sym (turn_misfit t n end current out (within n low end) c rows turn.i turn.before turn.small j next turn.hits turn.follows (after t last n) unit alignment (d ∙ at_row) a half m)
+        sym (turn_misfit t n end current out (within n low end) c rows turn.i turn.before turn.small j next hit next_at (after t last n) unit alignment (d ∙ at_row) a half m)
         ∙ turn.same
 
     -- what was given, at the split's own start
@@ -141,12 +151,12 @@ module _ {t : Input} {last n low end : ℕ} {c : Columns} {rows current : ℕ} {
       given_at : on_aligned t n current unit a (row_at c turn.i) out ≡ on_aligned t n s.start unit a s out
       given_at = λ k. on_aligned t n (sym starts k) unit a (sym turn.is k) out
 
-      pub ends_refused : (r : Refusal) → on_aligned t n s.start unit a s out ≡ refused r.number r.section r.address → refused r.number r.section r.address ≡ whole
-      ends_refused r g =
-          sym (turn_refused t n end current out (within n low end) c rows turn.i turn.before turn.small j next turn.hits turn.follows (after t last n) unit alignment (d ∙ at_row) a half r.number r.section r.address (given_at ∙ g))
+      pub ends_refused : (x : Refusal) → on_aligned t n s.start unit a s out ≡ refused x.number x.section x.address → refused x.number x.section x.address ≡ whole
+      ends_refused x g =
+          sym (turn_refused t n end current out (within n low end) c rows turn.i turn.before turn.small j next hit next_at (after t last n) unit alignment (d ∙ at_row) a half x.number x.section x.address (given_at ∙ g))
           ∙ turn.same
 
       pub goes_given : (o : Output) → on_aligned t n s.start unit a s out ≡ accepted o → splits_left t last n low end c rows next j o ≡ whole
       goes_given o g =
-          sym (turn_given t n end current out (within n low end) c rows turn.i turn.before turn.small j next turn.hits turn.follows (after t last n) unit alignment (d ∙ at_row) a half o (given_at ∙ g))
+          sym (turn_given t n end current out (within n low end) c rows turn.i turn.before turn.small j next hit next_at (after t last n) unit alignment (d ∙ at_row) a half o (given_at ∙ g))
           ∙ turn.same

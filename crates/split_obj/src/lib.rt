@@ -42,7 +42,8 @@ fn end_in(obj: &Obj, image: &Table, n: usize, low: u32) -> Result<u32, Refusal>
     end_of(obj, image, n).map_err(|_| Refusal::new(10, n as u16, low))
 }
 
-// The walk of the sections first..last, behind what is made already. What is carried from one section to the next is the output. `scratch` and `part` are columns to work
+// The walk of the sections first..last, behind what is made already. What is carried from one section to the next is the output. `while` counts nothing: a turn goes to where
+// the next split starts. `scratch` and `part` are columns to work
 // in, of other lengths and for other things. `scratch` is three columns in one, and cut only where they are used: a struct of three would be lent on by three functions and taken
 // apart there all the same. The tables that are only read stay five, as in `stage_walk`: in a struct they would be nineteen lifetimes and a literal at two callers, and each call of the
 // loop takes one to three of them. `trim::CheckedTables`, which has `obj` and `image`, is private to the trim and holds another fact of the symbols.
@@ -78,7 +79,6 @@ pub fn walk_sections(
                 to: end,
             };
             let mut i = next_row(splits, range, 0);
-            // No count: a turn goes to where the next split starts.
             while current < end {
                 let Some(k) = i else {
                     return refuse_at(70, n, current);

@@ -14,9 +14,9 @@ use Rattle.sections.specs.Sections.{head_of}
 use Rattle.sections.proofs.Kept.{kept-held, kept_lies}
 use Rattle.splits.specs.Columns.{row_at}
 use Rattle.splits.specs.Table.{columns_of}
-use Rattle.splits.proofs.Rows.{good_row}
 use Rattle.splits.specs.Questions.{within}
-use Rattle.splits.proofs.Next.{next_in, next_small, hit_next, start_there}
+use Rattle.splits.proofs.Next.{NextIn, next_in}
+use Rattle.splits.proofs.Rows.{good_row}
 use Rattle.splits.proofs.Alignment.{alignment_good}
 use Rattle.pieces.specs.declared.Counts.{Counts}
 use Rattle.pieces.proofs.Same.{lent_still}
@@ -85,23 +85,24 @@ section_goes c =
     goes_section (lent c p.tables.room) p.n a.last (output_of p.tables) _ p.invariant.0.same c.loop-n-test.true c.section_start-low.result c.section_start-low.ensures c.in_ok-end.end c.in_ok-end.ensures (columns_of a.splits.now) a.splits.now.count c.next_row-i.result refl c.next_row-i.ensures
 
 turn : (c : After-start_of-next) → let a = c.args in let q = c.loop-current in
-    Turn (lent c q.tables.room) a.last c.loop-n.n c.section_start-low.result c.in_ok-end.end (columns_of a.splits.now) a.splits.now.count q.current (output_of q.tables) (section_left c) (unwrap_or c.next_row-i-in-loop-current.result a.splits.now.count) c.start_of-next.result c.row-s.result
+    Turn (lent c q.tables.room) a.last c.loop-n.n c.section_start-low.result c.in_ok-end.end (columns_of a.splits.now) a.splits.now.count q.current (output_of q.tables) (section_left c) c.next_row-i-in-loop-current.result c.start_of-next.result c.row-s.result
 turn c =
-    let a = c.args in
     let q = c.loop-current in
-    let p = within c.loop-n.n c.section_start-low.result c.in_ok-end.end in
-    let k = columns_of a.splits.now in
-    let small : c.in-Some.k < a.splits.now.count = split_small q.invariant.0 c.in-Some.is in
-    let next = c.next_row-i-in-loop-current in
     record {
       i = c.in-Some.k;
       same = split_same q.invariant.0 c.in-Some.is;
       before = c.loop-current-test.true;
-      small = small;
-      hits = hit_next p k a.splits.now.count (c.in-Some.k + 1) next.result (omega (arith, small)) next.ensures;
-      follows = c.start_of-next.ensures ∙ start_there k.starts c.in_ok-end.end a.splits.now.count next.result (next_small p k a.splits.now.count (c.in-Some.k + 1) next.result next.ensures);
+      small = split_small q.invariant.0 c.in-Some.is;
+      first = c.next_row-i-in-loop-current.ensures;
+      follows = c.start_of-next.ensures;
       is = c.row-s.ensures;
     }
+
+-- the split after it is one of the section's too, where there is one
+next_split : (c : After-start_of-next) → NextIn (within c.loop-n.n c.section_start-low.result c.in_ok-end.end) (columns_of c.args.splits.now) c.args.splits.now.count c.next_row-i-in-loop-current.result
+next_split c =
+    let a = c.args in
+    next_in (within c.loop-n.n c.section_start-low.result c.in_ok-end.end) (columns_of a.splits.now) a.splits.now.count (c.in-Some.k + 1) c.next_row-i-in-loop-current.result c.next_row-i-in-loop-current.ensures
 
 -- the target of a split that gives
 gives : (c : In-Some-target) → Gives (length c.args.units.now.table.places.now) c.loop-current.current c.row-s.result c.in-Some-target.field-0.unit c.in-Some-target.field-0.alignment
@@ -199,7 +200,7 @@ loop-current-preserved-in_ok-give c =
     let made = c.in_ok-give.ensures in
     let tabled = q.invariant.0.tabled in (
       record {
-        next = next_in (within c.loop-n.n c.section_start-low.result c.in_ok-end.end) (columns_of c.args.splits.now) c.args.splits.now.count (c.in-Some.k + 1) c.next_row-i-in-loop-current.result c.next_row-i-in-loop-current.ensures;
+        next = next_split h;
         same =
             subst (λ (room : Counts). splits_left (lent h room) a.last c.loop-n.n c.section_start-low.result c.in_ok-end.end (columns_of a.splits.now) a.splits.now.count c.start_of-next.result (unwrap_or c.next_row-i-in-loop-current.result a.splits.now.count) (output_of c.give.new.tables) ≡ section_left h) (sym made.lent.room)
             (goes_given (turn h) _ _ (decided some) c.loop-a.a (half_fits _ _ _ c.loop-a.invariant c.if-current-a-eq0.true) (gives some).starts _
@@ -215,10 +216,10 @@ loop-current-preserved-in_ok-give c =
 
 pub loop-current-preserved : goal.loop-current-preserved
 loop-current-preserved c =
-    (
+    let h = (goal.at.loop-current-preserved c).After-start_of-next in (
       record {
-        next = next_in (within c.loop-n.n c.section_start-low.result c.in_ok-end.end) (columns_of c.args.splits.now) c.args.splits.now.count (c.in-Some.k + 1) c.next_row-i-in-loop-current.result c.next_row-i-in-loop-current.ensures;
-        same = goes_skip (turn (goal.at.loop-current-preserved c).After-start_of-next) (ap (λ (x : Option Target). accepted x) (sym c.in_default-target.is) ∙ c.in_ok-target.ensures.0);
+        next = next_split h;
+        same = goes_skip (turn h) (ap (λ (x : Option Target). accepted x) (sym c.in_default-target.is) ∙ c.in_ok-target.ensures.0);
         tabled = c.loop-current.invariant.0.tabled;
       },
       c.loop-current.invariant.1,
