@@ -38,13 +38,12 @@ fn reach_of(image: usize) -> usize
     0xFFFF_FFFF
 }
 
-// The piece starts below its section's start, or ends above its end. The ends are summed in 64 bits here: nothing was checked of the two yet, and a method for the end would
-// ask that it is below 2 ^ 32.
+// The piece starts below its section's start, or ends above its end. Nothing was checked of the two yet, so either end may be above all addresses.
 fn is_outside(head: Section, p: Piece) -> bool
     ensures { result ≡ outside head p }
 {
-    let end = (head.address as u64) + (head.size as u64);
-    (p.address < head.address) | (end < (p.address as u64) + (p.size as u64))
+    let end = u64::from(p.address) + u64::from(p.size);
+    (p.address < head.address) | (head.end() < end)
 }
 
 // The bytes of a piece that lies in its section, whose bytes start at `start` of the image: "A piece's bytes are a returned part of the section's bytes, no copy".

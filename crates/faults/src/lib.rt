@@ -2,23 +2,16 @@
 // tests serve the records of a file and those of a stage table.
 #![tactic(auto)]
 
-ghost use Rattle.std.specs.Prelude.{◌≡◌, ◌+◌};
+ghost use Rattle.std.specs.Prelude.{◌≡◌};
 ghost use Rattle.faults.specs.Faults.{section_bad, symbol_bad, reloc_bad, split_bad, split_misplaced, unit_bad};
 
 use obj::{Reloc, Section, Split, Symbol, Unit};
-
-// Where so many bytes from an address on end.
-fn end_of(address: u32, size: u32) -> u64
-    ensures { result ≡ address + size }
-{
-    u64::from(address) + u64::from(size)
-}
 
 // "4 section: end above 0xF0000000, kind unknown, name unknown or of a length not allowed". `len` is the length of its name, 0 of an unknown one.
 pub fn section_bad(s: Section, len: usize) -> bool
     ensures { result ≡ section_bad len s }
 {
-    (0xF000_0000 < end_of(s.address, s.size)) | (3 < s.kind) | (len == 0) | (64 < len)
+    (0xF000_0000 < s.end()) | (3 < s.kind) | (len == 0) | (64 < len)
 }
 
 // "5 symbol: section, name or kind unknown, size known above 1, start outside the section's start..=end, end above 0xF0000000, bad alignment".
@@ -31,8 +24,8 @@ pub fn symbol_bad(s: Symbol, names: usize, sections: usize, home: Section) -> bo
         | (3 < s.kind)
         | (1 < s.size_known)
         | ((s.section != 0xFFFF) & (s.address < home.address))
-        | ((s.section != 0xFFFF) & (end_of(home.address, home.size) < u64::from(s.address)))
-        | (0xF000_0000 < end_of(s.address, s.size))
+        | ((s.section != 0xFFFF) & (home.end() < u64::from(s.address)))
+        | (0xF000_0000 < s.end())
         | align::bad(s.alignment)
 }
 
@@ -46,7 +39,7 @@ pub fn reloc_bad(r: Reloc, sections: usize, symbols: usize, home: Section, floor
         | (symbols <= (r.target as usize))
         | (r.address % 4 != 0)
         | (r.address < home.address)
-        | (end_of(home.address, home.size) <= u64::from(r.address))
+        | (home.end() <= u64::from(r.address))
         | (r.address < floor)
 }
 
@@ -68,7 +61,7 @@ pub fn split_misplaced(s: Split, sections: usize, home: Section, before: Split) 
     ensures { result ≡ split_misplaced sections home before s }
 {
     (sections <= (s.section as usize))
-        | (end_of(home.address, home.size) < u64::from(s.end))
+        | (home.end() < u64::from(s.end))
         | (s.section < before.section)
         | ((s.section == before.section) & (s.start < before.start))
 }

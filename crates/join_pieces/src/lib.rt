@@ -85,8 +85,7 @@ fn is_outside(sections: &[u8], b: &[u8], at: usize) -> bool
         return true;
     }
     let s = head_of(sections, n);
-    let end = (s.address as usize) + (s.size as usize);
-    s.is_bss() | (p.address < s.address) | (end < p.end())
+    s.is_bss() | (p.address < s.address) | (s.end() < p.end())
 }
 
 // Some of the n pieces is.

@@ -19,10 +19,10 @@ pub struct PieceHead {
 
 impl PieceHead {
     // The address after its last byte.
-    pub fn end(&self) -> usize
+    pub fn end(&self) -> u64
         ensures { result ≡ self.now.address + self.now.«length» }
     {
-        (self.address as usize) + (self.length as usize)
+        u64::from(self.address) + u64::from(self.length)
     }
 }
 

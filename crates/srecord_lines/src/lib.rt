@@ -65,12 +65,10 @@ pub fn put_line(out: &mut [u8], at: usize, kind: u8, address: u32, bytes: &[u8])
 pub fn share_address(s: Section, t: Section) -> bool
     ensures { result ≡ share_address s t }
 {
-    let s_end = (s.address as u64) + (s.size as u64);
-    let t_end = (t.address as u64) + (t.size as u64);
     !s.is_bss()
         & !t.is_bss()
         & (s.size != 0)
         & (t.size != 0)
-        & ((s.address as u64) < t_end)
-        & ((t.address as u64) < s_end)
+        & (u64::from(s.address) < t.end())
+        & (u64::from(t.address) < s.end())
 }

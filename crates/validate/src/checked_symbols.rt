@@ -1,7 +1,5 @@
 // The symbols that splits are checked against. A struct with a ghost field imports all that its file does, so it stands in a file of its own.
-ghost use Rattle.std.specs.Prelude.{length};
-ghost use Rattle.symbol_order.specs.Order.{symbol_of, Order};
-ghost use Rattle.symbols.specs.Sound.{Sound};
+ghost use Rattle.symbol_order.specs.Order.{Order};
 
 use obj::Table;
 
@@ -11,5 +9,4 @@ pub struct CheckedSymbols<'b, 'p, 'o> {
     pub table: Table<'b, 'p>,
     pub order: &'o [u16],
     pub ghost ordered: { Order table.bytes.now table.places.now order.now },
-    pub ghost sound: { Sound (symbol_of table.bytes.now table.places.now) (length table.places.now) },
 }

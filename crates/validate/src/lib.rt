@@ -4,7 +4,6 @@
 ghost use Rattle.std.specs.Prelude.{◌≡◌, ltb, length};
 ghost use Rattle.obj.specs.Answers.{meaning};
 ghost use Rattle.symbol_order.specs.Order.{symbol_of, Order};
-ghost use Rattle.symbols.specs.Sound.{Sound};
 ghost use Rattle.splits.specs.Table.{rows_of};
 ghost use Rattle.validate.specs.Check.{end_below, validate_one as validateSplit, validate as validateTable};
 
@@ -32,7 +31,7 @@ fn is_inside(symbols: &CheckedSymbols, section: u16, address: u32) -> bool
     ) {
         Some(i) => {
             let y = table.record::<Symbol>(i);
-            address < y.address + y.size
+            u64::from(address) < y.end()
         }
         None => false,
     }
@@ -59,7 +58,7 @@ fn validate_one(symbols: &CheckedSymbols, before: u16, last: u32, s: Split) -> R
 
 // The splits in the table's order.
 pub fn validate(table: &Table, order: &[u16], splits: &SplitColumns) -> Result<(), Refusal>
-    requires { Order table.now.bytes.now table.now.places.now order.now × Sound (symbol_of table.now.bytes.now table.now.places.now) (length table.now.places.now) }
+    requires { Order table.now.bytes.now table.now.places.now order.now }
     ensures { meaning result ≡ validateTable (symbol_of table.now.bytes.now table.now.places.now) (length table.now.places.now) (rows_of splits.now) }
 {
     let symbols = CheckedSymbols {

@@ -7,4 +7,4 @@ use Rattle.faults.proofs.reloc_bad.Goals as goal
 
 pub returns : goal.returns
 unfolding reloc_bad any_of
-returns c = rw (c.end_of.ensures, c.from.ensures)
+returns c = rw (c.end.ensures, c.from.ensures)

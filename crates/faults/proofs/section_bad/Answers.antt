@@ -7,4 +7,4 @@ use Rattle.faults.proofs.section_bad.Goals as goal
 
 pub returns : goal.returns
 unfolding section_bad any_of
-returns c = rw c.end_of.ensures
+returns c = rw c.end.ensures

@@ -7,4 +7,4 @@ use Rattle.faults.proofs.split_misplaced.Goals as goal
 
 pub returns : goal.returns
 unfolding split_misplaced any_of
-returns c = rw (c.end_of.ensures, c.from.ensures)
+returns c = rw (c.end.ensures, c.from.ensures)

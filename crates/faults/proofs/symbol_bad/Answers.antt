@@ -6,4 +6,4 @@ use Rattle.faults.proofs.symbol_bad.Goals as goal
 
 pub returns : goal.returns
 unfolding symbol_bad any_of
-returns c = rw (c.bad.ensures, c.end_of.ensures, c.end_of-2.ensures, c.from.ensures)
+returns c = rw (c.bad.ensures, c.end.ensures, c.end-2.ensures, c.from.ensures)

@@ -14,4 +14,4 @@ pub returns : goal.returns
 returns c =
     let a = c.args in
     let h = c.head_at-p.ensures in
-    rw (c.is_bss.ensures, c.end.ensures) (outside_there a.sections.now (part_at a.b.now a.at) h.section c.head_of-s.ensures h.address h.«length»)
+    rw (c.is_bss.ensures, c.end.ensures, c.end-2.ensures) (outside_there a.sections.now (part_at a.b.now a.at) h.section c.head_of-s.ensures h.address h.«length»)

@@ -5,7 +5,6 @@ use native.Mathlib.Omega.{arith}
 use borrow.Author.Tests.{le-ltb}
 use lib.Dec.{ltb}
 use lib.ListN.{length}
-use Rattle.obj.specs.declared.Symbol.{Symbol}
 use Rattle.symbol_order.specs.Order.{symbol_of}
 use Rattle.symbol_order.proofs.Parts.{held}
 use Rattle.symbols.proofs.Finds.{below-found}
@@ -17,17 +16,10 @@ record-y-requires c =
     let a = c.args in
     held _ _ a.symbols.now.ordered.whole _ (below-found (symbol_of a.symbols.now.table.bytes.now a.symbols.now.table.places.now) (length a.symbols.now.table.places.now) a.section false a.address c.in-Some.i (sym c.last_below.ensures ∙ c.in-Some.is))
 
-pub overflow_add-result : goal.overflow_add-result
-overflow_add-result c =
-    let a = c.args in
-    let e = ap (λ (y : Symbol). y.address) c.record-y.ensures in
-    let f = ap (λ (y : Symbol). y.size) c.record-y.ensures in
-    omega (arith, e, f, a.symbols.now.sound.ends _ (below-found (symbol_of a.symbols.now.table.bytes.now a.symbols.now.table.places.now) (length a.symbols.now.table.places.now) a.section false a.address c.in-Some.i (sym c.last_below.ensures ∙ c.in-Some.is)))
-
 pub returns-in-Some : goal.returns-in-Some
 returns-in-Some c =
     let a = c.args in
-    ap (ltb a.address) (end_at (symbol_of a.symbols.now.table.bytes.now a.symbols.now.table.places.now) (length a.symbols.now.table.places.now) a.section a.address _ _ c.record-y.ensures (sym c.in-Some.is ∙ c.last_below.ensures))
+    rw (c.from.ensures, c.end.ensures) (ap (ltb a.address) (end_at (symbol_of a.symbols.now.table.bytes.now a.symbols.now.table.places.now) (length a.symbols.now.table.places.now) a.section a.address _ _ c.record-y.ensures (sym c.in-Some.is ∙ c.last_below.ensures)))
 
 pub returns-in-None : goal.returns-in-None
 returns-in-None c =
