@@ -11,7 +11,7 @@ use Rattle.tables.specs.Tables.{main_ceilings}
 use Rattle.load.specs.Load.{Loaded, load_of, names_in}
 use Rattle.load.specs.Columns.{part, tables_in}
 use Rattle.tables.specs.declared.Counts.{Counts}
-use Rattle.load.proofs.Parts.{part-lent}
+use Rattle.load.proofs.Parts.{length_part}
 use Rattle.loaded.specs.Tables.{tables_with}
 use Rattle.loaded.proofs.Bytes.{loaded_usable}
 use Rattle.std.specs.Prelude.{Result, Ok, Err}
@@ -46,49 +46,26 @@ module _ {file : List ℕ} {n : Counts} {ordered : ℕ} {places lengths heads ch
   pub names_long : n.names ≡ length (take n.names lengths)
   names_long = sym (length-take-le n.names lengths (omega (arith, few_names, q.ready.tabled.long_lengths)))
 
-  pub sections_long : n.sections ≡ length (take n.sections places)
-  sections_long = sym (length-take-le n.sections places (omega (arith, few_sections, long_places)))
-
   pub images_long : n.sections ≡ length (take n.sections images)
   images_long = sym (length-take-le n.sections images (omega (arith, few_sections, q.images_long)))
 
   pub order_long : ordered ≡ length (take ordered order)
   order_long = sym (length-take-le ordered order q.done.small)
 
-  -- the parts, as they are lent
-  abbrev pub lent : (base count : ℕ) → List ℕ
-  lent base count = take (base + count - base) (drop base places)
+  -- the parts that are lent are the tables
+  pub parts_are : tables_with (part 10304 n.names places) (take n.names lengths) (part 0 n.sections places) (part 64 n.symbols places) (part 4160 n.relocations places) (part 8256 n.splits places) (part 9280 n.units places) ≡ tables_in n places lengths
+  unfolding tables_in
+  parts_are = refl
 
-  abbrev pub parts : Loaded
-  parts =
-      tables_with (lent 10304 n.names) (take n.names lengths) (take n.sections places) (lent 64 n.symbols) (lent 4160 n.relocations) (lent 8256 n.splits) (lent 9280 n.units)
-
-  pub parts_are : parts ≡ tables_in n places lengths
-  unfolding tables_in part
-  parts_are = λ d. record {
-    names = part-lent 10304 n.names places d;
-    lengths = take n.names lengths;
-    sections = take n.sections places;
-    symbols = part-lent 64 n.symbols places d;
-    relocations = part-lent 4160 n.relocations places d;
-    splits = part-lent 8256 n.splits places d;
-    units = part-lent 9280 n.units places d;
-  }
-
-  sections_are : take n.sections places ≡ (tables_in n places lengths).sections
-  unfolding tables_in part
-  sections_are = refl
-
-  pub parts_ready : Ready file parts.names parts.lengths heads chain parts.sections (take n.sections images) parts.symbols (take ordered order) parts.relocations parts.splits parts.units
-  unfolding names_in
+  pub parts_ready : Ready file (part 10304 n.names places) (take n.names lengths) heads chain (part 0 n.sections places) (take n.sections images) (part 64 n.symbols places) (take ordered order) (part 4160 n.relocations places) (part 8256 n.splits places) (part 9280 n.units places)
+  unfolding names_in tables_in
   parts_ready =
-      subst (λ (t : Loaded). Ready file t.names t.lengths heads chain t.sections (take n.sections images) t.symbols (take ordered order) t.relocations t.splits t.units) (sym parts_are)
-      (record {
+      record {
         usable = q.usable;
         indexed = q.ready.indexed;
-        images_are = ap (λ (k : ℕ). take k images) (sections_long ∙ ap length sections_are) ∙ q.done.images_are;
+        images_are = ap (λ (k : ℕ). take k images) (sym (length_part 0 n.sections places (omega (arith, few_sections, long_places)))) ∙ q.done.images_are;
         order_is = q.done.order_is;
-      })
+      }
 
 -- ---- the file made ready, and the run of it
 module _ {file : List ℕ} {r : Result Prepared Refusal} {places lengths heads chain images order : List ℕ}

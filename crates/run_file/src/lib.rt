@@ -11,7 +11,7 @@ ghost use Rattle.run.specs.Outputs.{room_lent, ran_to, SameLent};
 ghost use Rattle.run_file.specs.RunFile.{rooms_in, beside_in, ReadyIn, LoadedIn, Lent, SameNames, StoredIn, HoldsIn, RunsIn};
 
 use gap_splits::AddedNames;
-use load::{Counts, NAMES, RELOCATIONS, SPLITS, SYMBOLS, UNITS};
+use load::{Counts, NAMES, RELOCATIONS, SECTIONS, SPLITS, SYMBOLS, UNITS, part};
 use loaded::Loaded;
 use names::{NameIndex, Room};
 use order::Unlinked;
@@ -38,22 +38,18 @@ fn loaded_in<'a>(file: &'a [u8], prepared: Prepared, columns: &'a FileColumns) -
     let names = counts.names;
     let sections = counts.sections;
     let ordered = prepared.ordered;
-    let names_end = NAMES + names;
-    let symbols_end = SYMBOLS + counts.symbols;
-    let relocs_end = RELOCATIONS + counts.relocations;
-    let splits_end = SPLITS + counts.splits;
-    let units_end = UNITS + counts.units;
+    let places = &*columns.places;
     Loaded {
         file,
-        names: &columns.places[NAMES..names_end],
+        names: part(places, NAMES, names),
         lengths: &columns.lengths[..names],
-        sections: &columns.places[..sections],
+        sections: part(places, SECTIONS, sections),
         images: &columns.images[..sections],
-        symbols: &columns.places[SYMBOLS..symbols_end],
+        symbols: part(places, SYMBOLS, counts.symbols),
         order: &columns.order[..ordered],
-        relocs: &columns.places[RELOCATIONS..relocs_end],
-        partials: &columns.places[SPLITS..splits_end],
-        units: &columns.places[UNITS..units_end],
+        relocs: part(places, RELOCATIONS, counts.relocations),
+        partials: part(places, SPLITS, counts.splits),
+        units: part(places, UNITS, counts.units),
     }
 }
 
