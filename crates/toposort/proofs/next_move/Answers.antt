@@ -1,10 +1,5 @@
 -- `toposort::next_move`: each way out has the tests of the definition, and the chain gives the next edge.
-use mathlib.Core.Path.{◌≡◌, refl, ◌∙◌}
-use Prim.Native.Nat.{ℕ, ◌+◌, ◌<◌}
-use Rattle.std.proofs.Common.{rules}
-use Rattle.std.specs.Prelude.{Option, Some, None, MatchOption, get_or}
-use Rattle.toposort.specs.declared.Move.TheVariants.{Close, Take}
-use Rattle.toposort.specs.Lent.{graph_in}
+use mathlib.Core.Path.{◌≡◌}
 use lib.ListN.{length}
 use native.Mathlib.Omega.{arith}
 use borrow.Author.Tests.{eq-eqb, ne_eqb}
@@ -19,16 +14,12 @@ pub returns-then-cur-eq-ROOT : goal.returns-then-cur-eq-ROOT
 unfolding move_of
 returns-then-cur-eq-ROOT c = simp (eq-eqb _ _ c.if-cur-eq-ROOT.true, ne_eqb _ _ c.if-next-graph.false)
 
-pub returns : goal.returns
+pub returns-in-None : goal.returns-in-None
 unfolding move_of
-returns c = go c.next_edge.result refl c.next_edge.ensures
-  where
-    next : ℕ
-    next = next_edge c.args.graph.now.from.now c.args.cur c.args.next
+returns-in-None c = simp (ne_eqb _ _ c.if-cur-eq-ROOT.false, eq-eqb _ _ c.in-None.ensures)
 
-    go : (r : Option ℕ) → c.next_edge.result ≡ r → MatchOption r (next ≡ length c.args.graph.now.from.now) (λ e. (e ≡ next) × (e < length c.args.graph.now.from.now))
-        → c.map_or.result ≡ move_of (graph_in c.args.graph.now) c.args.cur c.args.next
-    go None q h = let s : c.map_or.result ≡ Close = search (rules, q) in s ∙ simp (ne_eqb _ _ c.if-cur-eq-ROOT.false, eq-eqb _ _ h)
-    go (Some e) q h =
-        let s : c.map_or.result ≡ Take (e + 1) (get_or c.args.graph.now.to.now e 0) = search (rules, q) in
-        s ∙ rw h.0 (simp (ne_eqb _ _ c.if-cur-eq-ROOT.false, ne_eqb _ _ (λ (z : next ≡ length c.args.graph.now.from.now). omega (arith, h.0, h.1, z))))
+pub returns-in-Some : goal.returns-in-Some
+unfolding move_of
+returns-in-Some c =
+    let e = c.in-Some.ensures in
+    rw e.0 (simp (ne_eqb _ _ c.if-cur-eq-ROOT.false, ne_eqb _ _ (λ (q : next_edge c.args.graph.now.from.now c.args.cur c.args.next ≡ length c.args.graph.now.from.now). omega arith)))
