@@ -15,7 +15,7 @@ ghost use Rattle.sections.specs.Alignment.{default_alignment, larger, alignment_
 
 use fields::number;
 use names::{Names, is_four_aligned, is_linker_generated_object, is_pointer_list, name_at};
-use obj::{Section, Split, Symbol, Table};
+use obj::{CODE, Section, Split, Symbol, Table};
 use symbols::{Backwards, for_section, highest_in, is_sized_unstripped};
 
 // What the stages ask a guest: its symbols with their order by address, its names and the heads of its sections. A lifetime for each slice, as they have
@@ -149,7 +149,7 @@ pub fn end_of(obj: &Obj, image: &Table, n: usize) -> Result<u32, Short>
 pub fn default_alignment(head: Section, name: &[u8]) -> u32
     ensures { result ≡ default_alignment head name.now }
 {
-    if (head.kind == 0) | is_four_aligned(name) {
+    if (head.kind == CODE) | is_four_aligned(name) {
         return 4;
     }
     8

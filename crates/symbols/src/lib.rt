@@ -10,7 +10,7 @@ ghost use Rattle.symbols.specs.Ranges.{sized, sized_unstripped, last_or, highest
 ghost use Rattle.symbols.specs.Ranges.{backwards, last_below, last_in, highest_in, found_meaning, highest_meaning, raise};
 
 use fields::number;
-use obj::{Symbol, Table};
+use obj::{OBJECT_KIND, Symbol, Table};
 use symbol_order::{first_at, key_in, key_of, part};
 
 // 11: a range that ends before it starts, asked of a section that has symbols.
@@ -106,7 +106,7 @@ pub fn is_sized(y: Symbol) -> bool
 pub fn is_sized_unstripped(y: Symbol, objects: bool) -> bool
     ensures { result ≡ sized_unstripped objects y }
 {
-    (!objects | (y.kind == 2)) & (is_sized(y) & !y.is_stripped())
+    (!objects | (y.kind == OBJECT_KIND)) & (is_sized(y) & !y.is_stripped())
 }
 
 // Whether the symbol whose number stands at place j is sized and unstripped.
