@@ -3,7 +3,6 @@
 // sections, symbols, relocations, splits and units. `stdout` has what must come out, by document 01 and the decisions.
 #![tactic(auto)]
 
-use fields::Field;
 use program_input::{Answer, CaseReader, Gathered, Turn, digit, longer, read_full};
 use std::io;
 

@@ -44,7 +44,7 @@ fn with_symbols(
 }
 
 // All tables: the names, the sections with the places of their bytes, and the tables after them.
-// `entry_questions::answered` begins with the same two calls. One function for both would be lent the two structs of arrays, which own what it gives, and give a pair, to save a `?`.
+// `entry_questions::answered` checks the same two tables first, by the same calls. One function for both would be lent the two structs of arrays, which own what it gives, and give a pair, to save a `?`.
 fn checked(lent: &StageTables, tables: &mut PieceTables) -> Result<(), Refusal>
     ensures { Gives (split_obj_in lent.now (within_ceilings tables.old.room)) tables.old tables.new result }
 {

@@ -95,15 +95,12 @@ leaves o r k before after counts answer out counted w is a b c =
     }
 
 -- the outputs after a refusal: nothing is left
-pub refused_leaves : (o : Outcome End) {number section address : ℕ} {size counts_size answer : ℕ} {out counted : List ℕ} → o ≡ refused number section address
-    → answer ≡ refusal_word number section address → out ≡ laid size [] → counted ≡ counts_of counts_size (0 ∷ [])
-    → Leaves o size counts_size answer out counted
+pub refused_leaves : (o : Outcome End) (number section address : ℕ) (before counts : List ℕ) (out counted : List ℕ) → o ≡ refused number section address
+    → out ≡ clear_from 0 0 before → counted ≡ counts_of (length counts) (0 ∷ [])
+    → Leaves o (length before) (length counts) (refusal_word number section address) out counted
 unfolding halves
-refused_leaves o e w b c = rw e (record { said = w; nodes = b; counted = c })
-
--- .. as it is before the checks
-pub none_left : (out : List ℕ) {size : ℕ} {cleared : List ℕ} → cleared ≡ clear_from 0 0 out → size ≡ length out → cleared ≡ laid size []
-none_left out e same = e ∙ laid-after out [] 0 refl (omega arith) ∙ ap (λ (n : ℕ). laid n []) (sym same)
+refused_leaves o number section address before counts out counted e b c =
+    rw e (record { said = refl; nodes = b ∙ laid-after before [] 0 refl (omega arith); counted = c })
 
 -- ---- the edge table in columns
 

@@ -4,8 +4,6 @@
 ghost use Rattle.std.specs.Prelude.{◌≡◌, ◌+◌, ◌*◌, ◌/◌, ◌≤◌, ℕ, [], ◌∷◌, length, MatchResult};
 ghost use Rattle.lists.specs.Outcome.{refused};
 ghost use Rattle.lists.specs.Rows.{clear_from, tabulate};
-ghost use Rattle.lists.specs.Tables.{laid};
-ghost use Rattle.obj.specs.Answers.{word};
 ghost use Rattle.outputs.specs.Outputs.{counts_of};
 ghost use Rattle.fields.specs.Fields.{le16};
 ghost use Rattle.toposort.specs.Sorting.{Within, sort_of};
@@ -88,21 +86,15 @@ fn leave(kept: usize, out: &mut [u8], counts: &mut [u8])
     put_counts(counts, &[kept as u16]);
 }
 
-// The checks, and the sort with what it leaves, in outputs that hold no nodes yet.
-fn sort_checked(nodes: u32, edges: &[u8], out: &mut [u8], counts: &mut [u8]) -> Result<(), Refusal>
-    requires { (out.old ≡ laid (length out.old) []) × (counts.old ≡ counts_of (length counts.old) (0 ∷ [])) }
-    ensures { Leaves (toposort_of nodes edges.now (length out.old)) (length out.old) (length counts.old) (word result) out.new counts.new }
-{
-    check_tables(nodes, edges)?;
-    let sorted = sort_table(nodes as usize, edges, out);
-    leave(kept(sorted), out, counts);
-    answer_of(sorted)
-}
-
-// The entry: an order, a cycle or a refusal, and every byte of the outputs.
+// The entry: an order, a cycle or a refusal, and every byte of the outputs. No `?` here: what is refused leaves zeros too.
 pub fn toposort(nodes: u32, edges: &[u8], out: &mut [u8], counts: &mut [u8]) -> u64
     ensures { Leaves (toposort_of nodes edges.now (length out.old)) (length out.old) (length counts.old) result out.new counts.new }
 {
-    leave(0, out, counts);
-    word_of(sort_checked(nodes, edges, out, counts))
+    if let Err(r) = check_tables(nodes, edges) {
+        leave(0, out, counts);
+        return word_of(Err(r));
+    }
+    let sorted = sort_table(nodes as usize, edges, out);
+    leave(kept(sorted), out, counts);
+    word_of(answer_of(sorted))
 }

@@ -1,11 +1,10 @@
 // The entry `validate_splits` behind its C name: the checks of its tables, then the check of the splits. The columns that the checks fill are local.
 #![tactic(auto)]
 
-ghost use Rattle.std.specs.Prelude.{◌≡◌, length};
+ghost use Rattle.std.specs.Prelude.{◌≡◌};
 ghost use Rattle.obj.specs.Answers.{meaning, outcome_word};
 ghost use Rattle.tables.specs.Lent.{HeadsHeld};
-ghost use Rattle.symbol_order.specs.Order.{symbol_of, Order};
-ghost use Rattle.symbols.specs.Sound.{Sound};
+ghost use Rattle.symbol_order.specs.Order.{Order};
 ghost use Rattle.entry_validate_splits.specs.Entry.{validate_of};
 ghost use Rattle.entry_validate_splits.specs.Lines.{from_splits_in, from_symbols_in, validate_in};
 
@@ -23,8 +22,7 @@ use validate::validate;
 // The splits, and the check.
 fn with_splits(obj: &Obj, splits: &[u8]) -> Result<(), Refusal>
     requires { HeadsHeld obj.now.heads
-        × Order obj.now.symbols.bytes.now obj.now.symbols.places.now obj.now.order.now
-        × Sound (symbol_of obj.now.symbols.bytes.now obj.now.symbols.places.now) (length obj.now.symbols.places.now) }
+        × Order obj.now.symbols.bytes.now obj.now.symbols.places.now obj.now.order.now }
     ensures { meaning result ≡ from_splits_in obj.now.names.lengths.now obj.now.heads obj.now.symbols splits.now }
 {
     let mut places = [0u32; 1024];

@@ -18,7 +18,7 @@ use piece_columns::{has_symbol, push_symbol};
 use pieces::{PieceReloc, PieceSymbol, PieceTables};
 
 // "bit 0 Local, 1 Common, 2 Stripped"
-const COMMON: u16 = 2;
+const COMMON_SYMBOL: u16 = 2;
 
 // The piece of an entry that has none
 const NO_PIECE: u16 = 65535;
@@ -54,7 +54,7 @@ fn common_address(alignment: u32) -> u32
 fn common_flags(flags: u16) -> u16
     ensures { result ≡ flags % 256 / 4 * 4 + 2 }
 {
-    flags % 256 / 4 * 4 + COMMON
+    flags % 256 / 4 * 4 + COMMON_SYMBOL
 }
 
 // The entry of symbol i: "its symbols take their alignment (else 4) as address, and only the flags of `keep_flags` plus Common".

@@ -1,13 +1,19 @@
--- The outputs hold no nodes before the checks; what they leave is the entry's.
-use Rattle.std.proofs.Common.{ℕ, [], ◌∷◌, sym, ap, ◌∙◌}
-use Rattle.outputs.specs.Outputs.{counts_of}
-use Rattle.entry_toposort.proofs.Laws.{none_left}
+-- `entry_toposort::toposort`: what was checked and sorted, and the outputs cleared after what is kept.
+use mathlib.Core.Path.{sym, ap, ◌∙◌}
+use lib.ListN.{length}
+use Rattle.obj.specs.Answers.{word}
+use Rattle.entry_toposort.proofs.Laws.{leaves, refused_leaves, ends_as}
 use Rattle.entry_toposort.proofs.toposort.Goals as goal
 
-pub sort_checked-requires : goal.sort_checked-requires
-sort_checked-requires c =
-    let l = c.leave in
-    (none_left c.args.out.now l.ensures.0 l.auto.out, l.ensures.1 ∙ ap (λ (n : ℕ). counts_of n (0 ∷ [])) (sym l.auto.counts))
+pub returns-in-Err : goal.returns-in-Err
+returns-in-Err c =
+    rw c.word_of.ensures
+    (refused_leaves _ _ _ _ _ _ _ _ (c.in-Err.ensures (length c.args.out.now)) c.leave.ensures.0 c.leave.ensures.1)
 
 pub returns : goal.returns
-returns c = rw (sym c.leave.auto.out, sym c.leave.auto.counts, c.word_of.ensures) c.sort_checked.ensures
+returns c =
+    leaves _ c.sort_table-sorted.result _ _ _ c.args.counts.now _ _ _
+    (ends_as (sym (c.in_default.ensures.sorted (length c.args.out.now))) c.sort_table-sorted.ensures)
+    c.kept.ensures
+    (c.word_of-2.ensures ∙ ap word c.answer_of.ensures)
+    c.leave-2.ensures.0 c.leave-2.ensures.1

@@ -4,9 +4,7 @@ use mathlib.Core.Path.{refl, sym, ◌∙◌}
 use lib.ListN.{length}
 use Rattle.lists.proofs.Outcomes.{then_stops, then_goes}
 use Rattle.obj.proofs.Errors.{is_err}
-use Rattle.obj.proofs.Laws.{length-stage_places}
 use Rattle.tables.specs.Records.{sections_in}
-use Rattle.stage_symbols.proofs.Laws.{symbols_sound}
 use Rattle.stage_sections.proofs.Laws.{symbols_ordered}
 use Rattle.entry_validate_splits.specs.Lines.{from_symbols}
 use Rattle.entry_validate_splits.proofs.Laws.{splits_as}
@@ -25,7 +23,6 @@ with_splits-requires c =
     let b = c.args.lent.now.symbols.now in (
       rw o.heads c.requires,
       rw (o.symbols.bytes, o.symbols.places, o.order) (symbols_ordered names heads b (sym k.said)),
-      rw (o.symbols.bytes, o.symbols.places, length-stage_places) (symbols_sound 4096 names heads b (sym k.said)),
     )
 
 pub returns : goal.returns
