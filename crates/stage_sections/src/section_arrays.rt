@@ -45,14 +45,7 @@ impl SectionArrays {
         let places = &mut self.places;
         let images = &mut self.images;
         let n = take_image_places(section_places, images);
-        let heads = take_image(
-            lengths,
-            section_places,
-            image.len(),
-            sections,
-            64,
-            places,
-        )?;
+        let heads = take_image(lengths, section_places, image.len(), sections, 64, places)?;
         Ok(SectionTables {
             heads,
             image: Table {
