@@ -2,15 +2,17 @@
 -- this order. Each law joins what the code's tests and calls answer to the definition. Assumes nothing.
 use Prim.Native.Nat.{ℕ, ◌+◌, ◌-◌, ◌<◌, ◌≤◌}
 use mathlib.Core.Path.{◌≡◌, refl, sym, ap, ap₂, ◌∙◌}
-use mathlib.Core.Bool.{Bool, true, false, not}
+use mathlib.Core.Bool.{Bool, true, false, cond, not}
 use mathlib.Core.List.{List}
 use native.Mathlib.Omega.{arith}
 use borrow.Author.Tests.{lt-ltb, le-ltb, le-leb, lt-leb, eq-eqb, ne_eqb}
-use lib.Dec.{eqb}
+use lib.Dec.{eqb, ltb}
 use lib.ListN.{length, get_or, take, drop}
 use lib.Seq.{length-take-le}
 use Rattle.std.specs.Prelude.{Option, is_some}
 use Rattle.fields.specs.Fields.{le16, le32}
+use Rattle.frames.specs.Frames.{is_cut}
+use Rattle.frames.proofs.Laws.{not_cut}
 use Rattle.obj.specs.declared.Section.{Section}
 use Rattle.obj.specs.declared.Symbol.{Symbol}
 use Rattle.obj.specs.declared.Reloc.{Reloc}
@@ -276,18 +278,18 @@ module _ (c : Ceilings) (file : List ℕ) (at len : ℕ) (t : Loaded) (kind : �
 
 -- ---- the record
 module _ (c : Ceilings) (file : List ℕ) (at : ℕ) (t : Loaded) where
-  pub head_cut : length file < at + 6 → 1 ≡ record_number c file at t
+  pub file_cut : is_cut file at ≡ true → 1 ≡ record_number c file at t
+  unfolding record_number is_cut
+  file_cut e = go (ltb (length file) (at + 6)) e
+    where
+      go : (p : Bool) → cond p true (ltb (length file) (at + 6 + le32 file at)) ≡ true
+          → 1 ≡ cond p 1 (cond (ltb (length file) (at + 6 + le32 file at)) 1 (kind_number c file (at + 6) (le32 file at) t (le16 file (at + 4))))
+      go true e = refl
+      go false e = rw e refl
+
+  pub file_whole : is_cut file at ≡ false → {len kind : ℕ} → len ≡ le32 file at → kind ≡ le16 file (at + 4) → kind_number c file (at + 6) len t kind ≡ record_number c file at t
   unfolding record_number
-  head_cut h = rw (lt-ltb (length file) (at + 6) h)
-
-  module _ (h : at + 6 ≤ length file) {len : ℕ} (read : len ≡ le32 file at) where
-    pub payload_cut : length file < at + 6 + len → 1 ≡ record_number c file at t
-    unfolding record_number
-    payload_cut q = let p : length file < at + 6 + le32 file at = omega arith in rw (le-ltb (length file) (at + 6) h, lt-ltb (length file) (at + 6 + le32 file at) p)
-
-    pub payload_whole : {kind : ℕ} → kind ≡ le16 file (at + 4) → at + 6 + len ≤ length file → kind_number c file (at + 6) len t kind ≡ record_number c file at t
-    unfolding record_number
-    payload_whole k q =
-        let p : at + 6 + le32 file at ≤ length file = omega arith in
-        rw (le-ltb (length file) (at + 6) h, le-ltb (length file) (at + 6 + le32 file at) p)
-        (ap₂ (λ (l j : ℕ). kind_number c file (at + 6) l t j) read k)
+  file_whole e read k =
+      let w = not_cut file at e in
+      rw (le-ltb (length file) (at + 6) w.0, le-ltb (length file) (at + 6 + le32 file at) w.1)
+      (ap₂ (λ (l j : ℕ). kind_number c file (at + 6) l t j) read k)

@@ -20,6 +20,7 @@ ghost use Rattle.load.specs.Columns.{part, tables_in, floors_in, no_counts, faul
 
 use faults::{reloc_bad, section_bad, split_bad, symbol_bad, unit_bad};
 use fields::Field;
+use frames::{is_cut, next_at};
 use kind::Kind;
 use names::{Names, bad_name, bucket_of, clear_heads, enter, find};
 use obj::{
@@ -273,18 +274,14 @@ fn record_number(before: &SoFar, at: usize) -> Result<Kind, u16>
     ensures { Decided (record_number before.now.most before.now.file.now at (so_far before.now)) (le16 before.now.file.now (at + 4)) result }
 {
     let file = before.file;
-    let start = at + 6;
-    if file.len() < start {
+    if is_cut(file, at) {
         return Err(1);
     }
     let len = u32::get(file, at) as usize;
-    if file.len() < start + len {
-        return Err(1);
-    }
     let kind = Kind::try_from(u16::get(file, at + 4))?;
     let payload = Payload {
         before: *before,
-        at: start,
+        at: at + 6,
         len,
     };
     kind_number(kind, &payload)?;
@@ -410,14 +407,6 @@ fn keep_record(kind: Kind, at: usize, columns: &mut Columns)
     keep_kind(kind, at + 6, len, columns);
 }
 
-// Where the record after the one at `at` starts.
-fn next_record(file: &[u8], at: usize) -> usize
-    requires { (at + 6 ≤ length file.now) × (length file.now ≤ 65536) }
-    ensures { result ≡ at + 6 + le32 file.now at }
-{
-    at + 6 + (u32::get(file, at) as usize)
-}
-
 // ---- the whole file
 
 // The records in file order, up to the first that has a fault.
@@ -434,7 +423,7 @@ fn load_records(columns: &mut Columns) -> Result<Counts, Refusal>
             number, 0, r,
         ))?;
         keep_record(kind, at, columns);
-        at = next_record(columns.file, at);
+        at = next_at(columns.file, at);
         r += 1;
     }
     Ok(columns.counts)

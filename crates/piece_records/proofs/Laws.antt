@@ -7,7 +7,7 @@ use native.Mathlib.Omega.{arith}
 use native.Mathlib.Numerals.{add-one}
 use lib.ListN.{length, drop, length-take, length-drop}
 use lib.Dec.{eqb, ltb, leb}
-use borrow.Author.Tests.{ltb-false, lt-ltb, le-ltb, le-leb, lt-leb}
+use borrow.Author.Tests.{ltb-false, le-ltb, le-leb, lt-leb}
 use Rattle.std.specs.Coded.{×_prop, Unit-prop, le_prop}
 use Rattle.std.proofs.lemmas.Bool.{or_parts}
 use Rattle.lists.specs.Outcome.{accepted, refused, refuse, ◌>>◌}
@@ -15,6 +15,8 @@ use Rattle.lists.proofs.Outcomes.{then_inv, same_accepted, not_both, fails, pass
 use Rattle.lists.specs.Rows.{any_of, some}
 use Rattle.lists.proofs.Tests.{none_of}
 use Rattle.fields.specs.Fields.{le16, le32}
+use Rattle.frames.specs.Frames.{is_cut}
+use Rattle.frames.proofs.Laws.{not_cut}
 use Rattle.obj.specs.Parts.{Part}
 use Rattle.piece_records.specs.Records.{part_at, next_at, record_bad, count_from, parts_at, Lying, Whole}
 
@@ -40,17 +42,18 @@ not_bad_lies b at e = go (ltb (length b) (at + 6)) (ltb (length b) (next_at b at
     go false false h i e = record { head = ltb-false _ _ h; payload = ltb-false _ _ i; long = ltb-false _ _ (none_of _ 1 e) }
 
 module _ (b : List ℕ) (at : ℕ) where
-  pub head_short : length b < at + 6 → true ≡ record_bad b at
-  unfolding record_bad
-  head_short h = rw (lt-ltb _ _ h)
+  pub cut_bad : is_cut b at ≡ true → true ≡ record_bad b at
+  unfolding record_bad is_cut
+  cut_bad e = go (ltb (length b) (at + 6)) e
+    where
+      go : (p : Bool) → cond p true (ltb (length b) (next_at b at)) ≡ true
+          → true ≡ cond p true (cond (ltb (length b) (next_at b at)) true (any_of (not (eqb (le16 b (at + 4)) 7) ∷ ltb (le32 b at) 6 ∷ [])))
+      go true e = refl
+      go false e = rw e refl
 
-  pub payload_short : at + 6 ≤ length b → length b < next_at b at → true ≡ record_bad b at
+  pub whole_bad : is_cut b at ≡ false → any_of (not (eqb (le16 b (at + 4)) 7) ∷ ltb (le32 b at) 6 ∷ []) ≡ record_bad b at
   unfolding record_bad
-  payload_short h l = rw (le-ltb _ _ h, lt-ltb _ _ l)
-
-  pub payload_there : at + 6 ≤ length b → next_at b at ≤ length b → any_of (not (eqb (le16 b (at + 4)) 7) ∷ ltb (le32 b at) 6 ∷ []) ≡ record_bad b at
-  unfolding record_bad
-  payload_there h l = rw (le-ltb _ _ h, le-ltb _ _ l)
+  whole_bad e = let w = not_cut b at e in rw (le-ltb _ _ w.0, le-ltb _ _ w.1)
 
   pub bytes_length : Lying b at → length (part_at b at).bytes ≡ le32 b at - 6
   unfolding part_at

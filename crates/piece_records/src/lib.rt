@@ -4,9 +4,11 @@
 
 ghost use Rattle.std.specs.Prelude.{◌≡◌, ◌+◌, ◌≤◌, length};
 ghost use Rattle.obj.specs.Answers.{meaning};
-ghost use Rattle.piece_records.specs.Records.{part_at, next_at, record_bad, count_from, Lying, IsHead};
+ghost use Rattle.piece_records.specs.Records.{part_at, record_bad, count_from, Lying, IsHead};
 
 use fields::Field;
+use frames::is_cut;
+pub use frames::next_at;
 use obj::{Refusal, refuse};
 
 // A piece without its bytes.
@@ -34,27 +36,13 @@ fn record_bad(b: &[u8], at: usize) -> bool
     requires { at ≤ length b.now }
     ensures { result ≡ record_bad b.now at }
 {
-    let left = b.len() - at;
-    if left < 6 {
+    if is_cut(b, at) {
         return true;
     }
-    let size = u32::get(b, at) as usize;
-    if left - 6 < size {
-        return true;
-    }
-    (u16::get(b, at + 4) != 7) | (size < 6)
+    (u16::get(b, at + 4) != 7) | (u32::get(b, at) < 6)
 }
 
 // What is read below is asked at a place where a record lies whole (`Lying`): a struct of the bytes and the place would be made anew for each record and read once.
-
-// Where the next record starts.
-pub fn next_at(b: &[u8], at: usize) -> usize
-    requires { Lying b.now at }
-    ensures { result ≡ next_at b.now at }
-{
-    let size = u32::get(b, at) as usize;
-    at + 6 + size
-}
 
 // The section, the address and the number of bytes of the piece at `at`.
 pub fn head_at(b: &[u8], at: usize) -> PieceHead

@@ -9,7 +9,7 @@ pub test-requires : goal.test-requires
 test-requires g c = c.requires.asked _ (pass_among _ _ _ _ c.loop-i-test.true c.loop-i.invariant.0)
 
 pub next_at-at-requires : goal.next_at-at-requires
-next_at-at-requires g c = (pass_among _ _ _ _ c.loop-i-test.true c.loop-i.invariant.0).lying
+next_at-at-requires g c = let lying = (pass_among _ _ _ _ c.loop-i-test.true c.loop-i.invariant.0).lying in (lying.head, lying.payload)
 
 pub returns-then-test : goal.returns-then-test
 returns-then-test g c = λ p h.

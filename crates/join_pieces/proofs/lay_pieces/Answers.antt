@@ -36,7 +36,7 @@ put_bytes-requires c =
     omega (arith, spot-fits heads p (inside heads p one), c.spot_of.ensures, ap length c.bytes_at.ensures, c.requires)
 
 pub next_at-at-requires : goal.next_at-at-requires
-next_at-at-requires c = (pass_among _ _ _ _ c.loop-i-test.true c.loop-i.invariant.0).lying
+next_at-at-requires c = let lying = (pass_among _ _ _ _ c.loop-i-test.true c.loop-i.invariant.0).lying in (lying.head, lying.payload)
 
 pub loop-i-preserved : goal.loop-i-preserved
 loop-i-preserved c =

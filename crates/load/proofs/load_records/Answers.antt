@@ -46,10 +46,11 @@ returns-in_err-kind c =
 pub keep_record-requires : goal.keep_record-requires
 keep_record-requires c = let p = passed (goal.at.keep_record-requires c).In_ok-kind in (c.loop-at.invariant.ready, p.0, p.1)
 
-pub next_record-at-requires : goal.next_record-at-requires
-next_record-at-requires c =
-    let p = passed (goal.at.next_record-at-requires c).In_ok-kind in
-    rw c.keep_record.ensures.0.file ((record_passed _ _ _ _ p.0).head, c.loop-at.invariant.ready.tabled.small)
+pub next_at-at-requires : goal.next_at-at-requires
+next_at-at-requires c =
+    let p = passed (goal.at.next_at-at-requires c).In_ok-kind in
+    let whole = record_passed _ _ _ _ p.0 in
+    rw c.keep_record.ensures.0.file (whole.head, whole.whole)
 
 pub overflow_add-r : goal.overflow_add-r
 overflow_add-r c = let i = c.loop-at.invariant in omega (arith, i.going.early, i.going.within, i.ready.tabled.small)
@@ -63,8 +64,8 @@ loop-at-preserved c =
     record {
       same = same_after k.0 c.loop-at.invariant.same;
       ready = k.1.ready;
-      going = subst (λ (t : Type 0). t) (λ z. Going (sym k.0.most z) (sym k.0.file z) c.next_record-at.result (c.loop-at.r + 1) (loaded_in c.keep_record.new.columns))
-          (going_on c.loop-at.invariant.going c.loop-at-test.true p.0 (c.next_record-at.ensures ∙ ap (λ (f : List ℕ). at + 6 + le32 f at) k.0.file)
+      going = subst (λ (t : Type 0). t) (λ z. Going (sym k.0.most z) (sym k.0.file z) c.next_at-at.result (c.loop-at.r + 1) (loaded_in c.keep_record.new.columns))
+          (going_on c.loop-at.invariant.going c.loop-at-test.true p.0 (c.next_at-at.ensures ∙ ap (λ (f : List ℕ). at + 6 + le32 f at) k.0.file)
           (k.1.tables ∙ (λ z. with_record (k.0.most z) (k.0.file z) (at + 6) (le32 old.file.now at) (loaded_in old) (le16 old.file.now (at + 4)))));
     }
 

@@ -1,12 +1,13 @@
 -- `load::record_number` meets its contract: head and payload lie in the file, then the number by kind.
 -- Assumes nothing.
 use Rattle.std.proofs.Common.{◌≡◌, ◌+◌, ◌∙◌, sym, arith}
+use Rattle.frames.proofs.Laws.{not_cut}
 use Rattle.obj.proofs.Errors.{is_err}
 use Rattle.load.specs.Kinds.{code_of}
 use Rattle.load.specs.Load.{Loaded, kind_number, record_number}
 use Rattle.load.specs.Columns.{tables_in}
 use Rattle.load.specs.declared.reading.SoFar.{SoFar}
-use Rattle.load.proofs.Deciding.{head_cut, payload_cut, payload_whole}
+use Rattle.load.proofs.Deciding.{file_cut, file_whole}
 use Rattle.load.proofs.Codes.{kind_unknown}
 use Rattle.load.proofs.Turns.{fault_is, none_is}
 use Rattle.load.proofs.record_number.Goals as goal
@@ -20,19 +21,22 @@ whole : (c : In_ok-kind) → kind_number c.args.before.now.most c.args.before.no
     ≡ record_number c.args.before.now.most c.args.before.now.file.now c.args.at (tables c.args.before.now)
 whole c =
     let b = c.args.before.now in
-    payload_whole b.most b.file.now c.args.at (tables b) c.if-file-start.false c.get-len.ensures (c.in_ok-kind.ensures ∙ c.get.ensures) c.if-file-start-2.false
+    file_whole b.most b.file.now c.args.at (tables b) (sym c.is_cut.ensures ∙ c.if-is_cut.false) c.get-len.ensures (c.in_ok-kind.ensures ∙ c.get.ensures)
 
-pub returns-then-file-start : goal.returns-then-file-start
-returns-then-file-start c =
+pub returns-then-is_cut : goal.returns-then-is_cut
+returns-then-is_cut c =
     let b = c.args.before.now in
-    let q = head_cut b.most b.file.now c.args.at (tables b) c.if-file-start.true in
+    let q = file_cut b.most b.file.now c.args.at (tables b) (sym c.is_cut.ensures ∙ c.if-is_cut.true) in
     (q, omega (arith, q))
 
-pub returns-then-file-start-2 : goal.returns-then-file-start-2
-returns-then-file-start-2 c =
-    let b = c.args.before.now in
-    let q = payload_cut b.most b.file.now c.args.at (tables b) c.if-file-start.false c.get-len.ensures c.if-file-start-2.true in
-    (q, omega (arith, q))
+pub get-len-requires : goal.get-len-requires
+get-len-requires c = let w = not_cut _ _ (sym c.is_cut.ensures ∙ c.if-is_cut.false) in omega (arith, w.0)
+
+pub get-requires : goal.get-requires
+get-requires c = let w = not_cut _ _ (sym c.is_cut.ensures ∙ c.if-is_cut.false) in omega (arith, w.0)
+
+pub invariant_of-payload : goal.invariant_of-payload
+invariant_of-payload c = let w = not_cut _ _ (sym c.is_cut.ensures ∙ c.if-is_cut.false) in omega (arith, w.1, c.get-len.ensures)
 
 pub returns-in_err-kind : goal.returns-in_err-kind
 returns-in_err-kind c =
@@ -41,7 +45,7 @@ returns-in_err-kind c =
     let q : c.in_err-kind.field-0.0 ≡ record_number b.most b.file.now c.args.at (tables b) =
     e.0
     ∙ kind_unknown b.most b.file.now (c.args.at + 6) c.get-len.result (tables b) c.get.result e.1
-    ∙ payload_whole b.most b.file.now c.args.at (tables b) c.if-file-start.false c.get-len.ensures c.get.ensures c.if-file-start-2.false in
+    ∙ file_whole b.most b.file.now c.args.at (tables b) (sym c.is_cut.ensures ∙ c.if-is_cut.false) c.get-len.ensures c.get.ensures in
     rw (is_err _ c.from_residual.ensures.1) (q, omega (arith, q, e.0))
 
 pub returns-in_err-kind_number : goal.returns-in_err-kind_number

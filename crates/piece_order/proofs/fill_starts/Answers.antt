@@ -12,7 +12,7 @@ use Rattle.piece_order.proofs.Laws.{starts_turn, starts_end}
 use Rattle.piece_order.proofs.fill_starts.Goals as goal
 
 pub next_at-at-requires : goal.next_at-at-requires
-next_at-at-requires c = (whole_turn _ _ _ _ c.loop-start-test.true c.loop-start.invariant.0).0
+next_at-at-requires c = let lying = (whole_turn _ _ _ _ c.loop-start-test.true c.loop-start.invariant.0).0 in (lying.head, lying.payload)
 
 pub loop-start-preserved : goal.loop-start-preserved
 loop-start-preserved c =

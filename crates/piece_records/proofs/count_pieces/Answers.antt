@@ -21,7 +21,7 @@ returns-then-n-ge-MOST_PIECES c =
     ∙ l.invariant.2
 
 pub next_at-at-requires : goal.next_at-at-requires
-next_at-at-requires c = not_bad_lies _ _ (sym c.record_bad.ensures ∙ c.if-record_bad.false)
+next_at-at-requires c = let lying = not_bad_lies _ _ (sym c.record_bad.ensures ∙ c.if-record_bad.false) in (lying.head, lying.payload)
 
 pub loop-at-preserved : goal.loop-at-preserved
 loop-at-preserved c =
