@@ -85,7 +85,7 @@ fn is_outside(sections: &[u8], b: &[u8], at: usize) -> bool
         return true;
     }
     let s = head_of(sections, n);
-    s.is_bss() | (p.address < s.address) | (s.end() < p.end())
+    s.is_bss() | (p.address < s.address) | ((s.end() as usize) < p.end())
 }
 
 // Some of the n pieces is.

@@ -21,10 +21,10 @@ pub struct PieceHead {
 
 impl PieceHead {
     // The address after its last byte.
-    pub fn end(&self) -> u64
+    pub fn end(&self) -> usize
         ensures { result ≡ self.now.address + self.now.«length» }
     {
-        u64::from(self.address) + u64::from(self.length)
+        (self.address as usize) + (self.length as usize)
     }
 }
 
