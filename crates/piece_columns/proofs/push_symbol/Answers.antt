@@ -1,4 +1,5 @@
 -- `piece_columns::push_symbol` meets its contract: the entry is put behind the others in its table, and one more is made.
+-- `push_piece` has the same record but for the table that grows: of a lemma for both, each equation of the record would be an argument.
 use mathlib.Core.Path.{refl}
 use native.Mathlib.Omega.{arith}
 use Rattle.piece_columns.proofs.push_symbol.Goals as goal
