@@ -18,7 +18,6 @@ use Rattle.stage_walk.specs.Room.{room_in}
 use Rattle.stage_walk.proofs.Room.{room_low, room_pieces, room_12, room_8}
 use Rattle.run.specs.declared.Ran.{Ran}
 use Rattle.order.specs.declared.Unlinked.{Unlinked}
-use Rattle.order.specs.declared.Unlinked.TheVariants.{Refused, Cycle}
 use Rattle.run.specs.Run.{Rooms, Ended, stages, run_of}
 use Rattle.run.specs.Answers.{ran_in}
 use Rattle.run_file.specs.RunFile.{rooms_in, Holds, Runs}
@@ -81,8 +80,7 @@ module _ (file places lengths : List ℕ) (counts : load.Counts) (c : Beside) (t
               (e ∙ run_stages file _ _ l) h.0.packed h.2;
         },
       )
-  run_printable (Err (Cycle n)) e h loaded long lengths_long pieces_long entries-long offsets_long = tt
-  run_printable (Err (Refused r)) e h loaded long lengths_long pieces_long entries-long offsets_long = tt
+  run_printable (Err why) e h loaded long lengths_long pieces_long entries-long offsets_long = tt
 
 -- THEOREM: what the run of a file left can be printed
 pub runs_printable : {file places lengths : List ℕ} {c : Beside} {table : Columns} {units pieces entries offsets : List ℕ} {units-room a b d : ℕ} (r : RanFile)

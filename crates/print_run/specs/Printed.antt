@@ -10,7 +10,7 @@ use Rattle.pieces.specs.declared.Counts.{Counts}
 use Rattle.run.specs.declared.Ran.{Ran}
 use Rattle.std.specs.Prelude.{Result, Ok, Err}
 use Rattle.order.specs.declared.Unlinked.{Unlinked}
-use Rattle.order.specs.declared.Unlinked.TheVariants.{Refused, Cycle}
+use Rattle.order.specs.Columns.{refusal_of}
 use Rattle.run_file.specs.declared.RanFile.{RanFile}
 use Rattle.run_file.specs.RunFile.{Runs}
 use Rattle.splits.specs.Columns.{Columns}
@@ -40,8 +40,7 @@ PrintableLists file counts places lengths added units n l =
 abbrev pub PrintableIf : (file : List ℕ) → load.Counts → (places lengths : List ℕ) → Beside → (units pieces entries offsets : List ℕ) → Result Ran Unlinked → Type 0
 PrintableIf file counts places lengths added units pieces entries offsets (Ok r) =
     Kept pieces entries offsets r.made × Printable file counts places lengths added units r.units pieces entries offsets r.made
-PrintableIf file counts places lengths added units pieces entries offsets (Err (Cycle n)) = Unit {0}
-PrintableIf file counts places lengths added units pieces entries offsets (Err (Refused r)) = Unit {0}
+PrintableIf file counts places lengths added units pieces entries offsets (Err why) = Unit {0}
 
 -- ---- what is written
 
@@ -57,8 +56,8 @@ lists_text file counts places lengths added units n l =
 -- of each answer of a run: "A refusal prints only `refused`, number, section, address", and "61 cycle" is a refusal here, at section and address 0
 abbrev pub text_of : (file : List ℕ) → load.Counts → (places lengths : List ℕ) → Beside → (units pieces entries offsets : List ℕ) → Result Ran Unlinked → List ℕ
 text_of file counts places lengths added units pieces entries offsets (Ok r) = done_text file counts places lengths added units r.units pieces entries offsets r.made
-text_of file counts places lengths added units pieces entries offsets (Err (Cycle n)) = refused_line 61 0 0
-text_of file counts places lengths added units pieces entries offsets (Err (Refused r)) = refused_line r.number r.section r.address
+text_of file counts places lengths added units pieces entries offsets (Err why) =
+    refused_line (refusal_of why).number (refusal_of why).section (refusal_of why).address
 
 -- "Outputs: 1,024 pieces, 4,096 piece symbols, 4,096 piece relocations"
 abbrev pub main_room : Counts

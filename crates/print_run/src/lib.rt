@@ -15,9 +15,9 @@ ghost use Rattle.print_run.specs.Printed.{PrintableLists, lists_text, PrintableI
 use gap_splits::AddedNames;
 use lines::write_refused;
 use listing::{Cursor, Line, ListedTables, PieceLists, next_line};
-use load::{Counts, NAMES, RELOCATIONS, SYMBOLS};
+use load::{Counts, NAMES, RELOCATIONS, SYMBOLS, part};
 use names::{Names, Room};
-use obj::Table;
+use obj::{Refusal, Table};
 use order::Unlinked;
 use run::{Ran, RunTables};
 use run_file::run_file;
@@ -72,7 +72,8 @@ fn print_lines<'a, W: Write>(
 }
 
 // The listing of a run that was done, of n units: the parts of the column of places are the tables of names, symbols and relocations.
-// They stay apart, since it reads two of the file's columns and one of the run's tables; n says how many records stand at the front of `units`, of which the rest is not written.
+// They stay apart, since it reads two of the file's columns and one of the run's tables. n says how many records stand at the front of `units`: the run's answer has the count, and of
+// a slice that is cut to 8 * n bytes it would be divided out again.
 fn print_done<'a, W: Write>(
     out: &mut W,
     file: &'a [u8],
@@ -89,9 +90,6 @@ fn print_done<'a, W: Write>(
         (lists_text file.now counts places.now lengths.now (columns_of added.now) units.now n lists.now)) }
 {
     let names = counts.names;
-    let names_end = NAMES + names;
-    let symbols_end = SYMBOLS + counts.symbols;
-    let relocs_end = RELOCATIONS + counts.relocations;
     let mut unit_places = [0u32; 1024];
     let mut line = [0u8; 208];
     fill_places(&mut unit_places[..n], 8);
@@ -99,17 +97,17 @@ fn print_done<'a, W: Write>(
         out,
         &Names {
             bytes: file,
-            places: &places[NAMES..names_end],
+            places: part(places, NAMES, names),
             lengths: &lengths[..names],
         },
         added,
         &Table {
             bytes: file,
-            places: &places[SYMBOLS..symbols_end],
+            places: part(places, SYMBOLS, counts.symbols),
         },
         &Table {
             bytes: file,
-            places: &places[RELOCATIONS..relocs_end],
+            places: part(places, RELOCATIONS, counts.relocations),
         },
         &Table {
             bytes: units,
@@ -121,12 +119,12 @@ fn print_done<'a, W: Write>(
 }
 
 // "A refusal prints only `refused`, number, section, address."
-fn print_refused<W: Write>(out: &mut W, number: u16, section: u16, address: u32) -> io::Result<()>
+fn print_refused<W: Write>(out: &mut W, r: Refusal) -> io::Result<()>
     ensures { OnOk result (Appends (W.contents out.old) (W.contents out.new)
-        (refused_line number section address)) }
+        (refused_line r.number r.section r.address)) }
 {
     let mut line = [0u8; 208];
-    let n = write_refused(&mut line, number, section, address);
+    let n = write_refused(&mut line, r.number, r.section, r.address);
     out.write_all(&line[..n])
 }
 
@@ -161,8 +159,7 @@ fn print_ran<'a, W: Write>(
                 made: done.made,
             },
         ),
-        Err(Unlinked::Cycle(_)) => print_refused(out, 61, 0, 0),
-        Err(Unlinked::Refused(r)) => print_refused(out, r.number, r.section, r.address),
+        Err(why) => print_refused(out, Refusal::from(why)),
     }
 }
 
