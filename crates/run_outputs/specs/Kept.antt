@@ -11,6 +11,7 @@ use Rattle.run.specs.Answers.{units_at, Names, Units}
 use Rattle.run.specs.declared.Ran.{Ran}
 use Rattle.order.specs.declared.Unlinked.{Unlinked}
 use Rattle.order.specs.declared.Unlinked.TheVariants.{Refused, Cycle}
+use Rattle.order.specs.Columns.{refusal_of}
 use Rattle.std.specs.Prelude.{Ok, Err}
 use Rattle.std.specs.Prelude as std
 use Rattle.obj.specs.Records.{split_width}
@@ -27,8 +28,7 @@ kept_by (Err (Refused r)) = record { names = 0; used = 0; splits = 0; units = 0;
 -- its word
 abbrev pub word_of : std.Result Ran Unlinked → ℕ
 word_of (Ok r) = 0
-word_of (Err (Cycle units)) = refusal_word 61 0 0
-word_of (Err (Refused r)) = refusal_word r.number r.section r.address
+word_of (Err why) = refusal_word (refusal_of why).number (refusal_of why).section (refusal_of why).address
 
 -- what the tables hold, of which so many records are kept
 abbrev pub left_in : Beside → Columns → (units pieces entries offsets : List ℕ) → Ran → Result

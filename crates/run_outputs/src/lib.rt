@@ -12,7 +12,7 @@ ghost use Rattle.run_outputs.specs.Kept.{kept_by, word_of, Countable, listed};
 ghost use Rattle.run_outputs.specs.Outputs.{beside_of, left_to, FitsIn, LaidIn, SameOutputs};
 
 use names::Names;
-use obj::{refuse, word_of};
+use obj::{Refusal, word_of};
 use order::Unlinked;
 use outputs::{clear_from, put_counts};
 use run::Ran;
@@ -39,6 +39,7 @@ pub struct RunOutputs<'e, 'b, 's, 'u, 'p, 'y, 'o, 'c> {
 pub fn kept_of(r: Result<Ran, Unlinked>) -> Kept
     ensures { result ≡ kept_by r }
 {
+    // by a match: each of the three keeps something else, and a closure for the error would take it apart by the same match
     let units = match r {
         Ok(ran) => return ran,
         Err(Unlinked::Cycle(units)) => units,
@@ -56,8 +57,7 @@ pub fn word_for(r: Result<Ran, Unlinked>) -> u64
 {
     match r {
         Ok(_) => 0,
-        Err(Unlinked::Cycle(_)) => word_of(refuse(61, 0, 0)),
-        Err(Unlinked::Refused(refusal)) => word_of(Err(refusal)),
+        Err(why) => word_of(Err(Refusal::from(why))),
     }
 }
 
