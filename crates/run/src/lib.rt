@@ -9,7 +9,6 @@ ghost use Rattle.names.specs.Append.{Columns as Beside};
 ghost use Rattle.splits.specs.Table.{columns_of, rows_of};
 ghost use Rattle.gap_splits.specs.Added.{added};
 ghost use Rattle.gap_splits.specs.Answers as entering;
-ghost use Rattle.stage_walk.specs.Room.{room_in};
 ghost use Rattle.run.specs.Run.{walked};
 ghost use Rattle.run.specs.Answers.{units_at, PreparedIn, Tabled, Units, Keeps, WalkGives, walked_tables, walked_after};
 ghost use Rattle.run.specs.Outputs.{room_lent, ran_to, SameLent};
@@ -45,28 +44,29 @@ pub struct RunTables<'u, 'p, 'e, 'o> {
 }
 
 // The walk of the rows into the lent tables, with columns of its own for the units: how many records are made. The first `count` records of the unit table are the units
-// in link order. The three tables are lent one by one: `RunTables` has the units too, which are read here while the three are written.
+// in link order: their number stands in the answer of the link order, and of a slice that is cut to 8 * count bytes it would be divided out again.
 fn walk_lent(
     loaded: &Loaded,
     splits: &SplitColumns,
-    unit_table: &[u8],
     count: usize,
-    pieces: &mut [u8],
-    entries: &mut [u8],
-    offsets: &mut [u8],
+    out: &mut RunTables,
 ) -> Result<Counts, Refusal>
     requires { PreparedIn loaded.now
         × Tabled (length loaded.now.sections.now) (columns_of splits.now) splits.now.count
-        × Units unit_table.now count
-        × All (λ (u : unit_records.Unit). u.name < 4096) (units_at unit_table.now count) }
-    ensures { WalkGives
-        (walked loaded.now.file.now (walked_tables loaded.now)
-        (room_in (length pieces.old) (length entries.old) (length offsets.old))
-        (rows_of splits.now) (units_at unit_table.now count))
-        (room_in (length pieces.old) (length entries.old) (length offsets.old)) result pieces.new entries.new offsets.new }
+        × Units out.old.units.now count
+        × All (λ (u : unit_records.Unit). u.name < 4096) (units_at out.old.units.now count) }
+    ensures gives { WalkGives
+        (walked loaded.now.file.now (walked_tables loaded.now) (room_lent out.old) (rows_of splits.now) (units_at out.old.units.now count))
+        (room_lent out.old) result out.new.pieces.now out.new.entries.now out.new.offsets.now }
+    ensures units { out.new.units.now ≡ out.old.units.now }
+    ensures lent { SameLent out.old out.new }
 {
     let mut places = [0u32; 1024];
     let mut unit_numbers = [0u16; 4096];
+    let unit_table = &mut *out.units;
+    let pieces = &mut *out.pieces;
+    let entries = &mut *out.entries;
+    let offsets = &mut *out.offsets;
     fill_places(&mut places[..count], 8);
     let unit_records = Table {
         bytes: unit_table,
@@ -133,16 +133,7 @@ pub fn order_and_walk(
         out.units,
     );
     let k = linked?;
-    let unit_table = &mut *out.units;
-    let made = walk_lent(
-        loaded,
-        splits,
-        unit_table,
-        k,
-        out.pieces,
-        out.entries,
-        out.offsets,
-    )?;
+    let made = walk_lent(loaded, splits, k, out)?;
     Ok(Ran {
         names,
         used,

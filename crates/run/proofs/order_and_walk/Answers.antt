@@ -75,10 +75,10 @@ returns-in_err-made-clause-run c =
     let w = q.1 c.in_ok-filled.was in
     let o = c.ordered-linked in
     let linked = rw (c.heads.ensures, c.names.ensures) at o.ensures in
-    let n = c.walk_lent.new in
+    let n = c.walk_lent.new.out in
     rw (is_err _ r.ensures.1)
-    (entered_before a.loaded.now.file.now t (room_lent out) table a.names a.used a.splits.now.count o.new.out n.pieces n.entries n.offsets (length out.units.now / 8) a.filled c.in_ok-filled.was
-    (refused_right a.loaded.now.file.now t (room_lent out) table a.names a.used a.splits.now.count o.new.out n.pieces n.entries n.offsets q.0.usable w (length out.units.now) linked _ c.in_ok-k.was _ c.in_err-made.ensures))
+    (entered_before a.loaded.now.file.now t (room_lent out) table a.names a.used a.splits.now.count o.new.out n.pieces.now n.entries.now n.offsets.now (length out.units.now / 8) a.filled c.in_ok-filled.was
+    (refused_right a.loaded.now.file.now t (room_lent out) table a.names a.used a.splits.now.count o.new.out n.pieces.now n.entries.now n.offsets.now q.0.usable w (length out.units.now) linked _ c.in_ok-k.was _ c.in_err-made.ensures.gives))
 
 pub returns-clause-run : goal.returns-clause-run
 returns-clause-run c =
@@ -90,6 +90,7 @@ returns-clause-run c =
     let w = q.1 c.in_ok-filled.was in
     let o = c.ordered-linked in
     let linked = rw (c.heads.ensures, c.names.ensures) at o.ensures in
-    let n = c.walk_lent.new in
-    entered_before a.loaded.now.file.now t (room_lent out) table a.names a.used a.splits.now.count o.new.out n.pieces n.entries n.offsets (length out.units.now / 8) a.filled c.in_ok-filled.was
-    (made_right a.loaded.now.file.now t (room_lent out) table a.names a.used a.splits.now.count o.new.out n.pieces n.entries n.offsets q.0.usable w (length out.units.now) linked _ c.in_ok-k.was _ c.in_ok-made.ensures)
+    let n = c.walk_lent.new.out in
+    rw c.in_ok-made.ensures.units
+    (entered_before a.loaded.now.file.now t (room_lent out) table a.names a.used a.splits.now.count o.new.out n.pieces.now n.entries.now n.offsets.now (length out.units.now / 8) a.filled c.in_ok-filled.was
+    (made_right a.loaded.now.file.now t (room_lent out) table a.names a.used a.splits.now.count o.new.out n.pieces.now n.entries.now n.offsets.now q.0.usable w (length out.units.now) linked _ c.in_ok-k.was _ c.in_ok-made.ensures.gives))
