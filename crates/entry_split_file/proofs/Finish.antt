@@ -27,7 +27,8 @@ use Rattle.order.specs.declared.Unlinked.{Unlinked}
 use Rattle.order.specs.declared.Unlinked.TheVariants.{Refused, Cycle}
 use Rattle.run_file.specs.RunFile.{Holds}
 use Rattle.run_outputs.specs.Laid.{Sizes, Laid}
-use Rattle.run_outputs.specs.Kept.{kept_by, word_of, left_in, Fits, OutputFits}
+use Rattle.run_outputs.specs.Kept.{kept_by, word_of, left_in, Fits}
+use Rattle.stage_walk.specs.Laid.{OutputFits}
 use Rattle.entry_split_file.specs.Entry.{left_by, word_by, Leaves}
 
 -- ---- nothing
