@@ -164,10 +164,10 @@ fn string_length(table: &[u8], at: usize) -> usize
     requires { at ≤ length table.now }
     ensures { Spanned table.now at result }
 {
-    match table[at..].iter().position(|byte| *byte == 0) {
-        Some(length) => length,
-        None => table.len() - at,
-    }
+    table[at..]
+        .iter()
+        .position(|byte| *byte == 0)
+        .unwrap_or(table.len() - at)
 }
 
 // The string at `at`: a part of its table, without the NUL; past the table the empty one.
@@ -185,8 +185,8 @@ pub fn string_at<'a>(table: &'a [u8], at: usize) -> &'a [u8]
 pub fn ended_below(table: &[u8]) -> usize
     ensures { EndedBelow table.now result }
 {
-    match table.iter().rposition(|byte| *byte == 0) {
-        Some(last) => last + 1,
-        None => 0,
-    }
+    table
+        .iter()
+        .rposition(|byte| *byte == 0)
+        .map_or(0, |k| k + 1)
 }
