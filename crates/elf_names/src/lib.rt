@@ -10,10 +10,10 @@ ghost use Rattle.number_names.specs.Tables.{room_of, SameTable, HeldBy, EnteredB
 ghost use Rattle.elf_names.specs.Names.{section_names, symbol_names, enter_section};
 ghost use Rattle.elf_names.specs.Seen.{Seen, EnteredSeen};
 
-use elf::{SymbolEntry, string_at};
+use elf::{SectionHeader, SymbolEntry, string_at};
 use elf_file::{header_of, is_allocated};
 use number_names::{NumberedNames, enter_name};
-use obj::{Refusal, record_in};
+use obj::{Record, Refusal, record_in};
 
 // ---- offsets whose strings are among the names
 //
@@ -86,7 +86,7 @@ pub fn enter_sections(
         → HeldBy held ends₀ bytes₀ names.old
         → EnteredBy (enter_names (room_of names.old) held (section_names headers.now strings.now)) ends₀ bytes₀ names.new result) }
 {
-    let n = headers.len() / 40;
+    let n = headers.len() / SectionHeader::WIDTH;
     let mut seen = [0usize; 64];
     // by number: a header is read at its number, which also picks its slot
     for i in 0..n {
@@ -104,7 +104,7 @@ pub fn enter_symbols(table: &[u8], strings: &[u8], names: &mut NumberedNames) ->
         → HeldBy held ends₀ bytes₀ names.old
         → EnteredBy (enter_names (room_of names.old) held (symbol_names table.now strings.now)) ends₀ bytes₀ names.new result) }
 {
-    let n = table.len() / 16;
+    let n = table.len() / SymbolEntry::WIDTH;
     let mut seen = [0usize; 64];
     // by number, as the sections
     for i in 1..n {
