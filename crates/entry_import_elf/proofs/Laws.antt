@@ -221,7 +221,7 @@ pub tables-written : (file : List ℕ) {o : Outcome (List (List ℕ))} {ends₀ 
     → (n : NumberedAll o ends₀ bytes₀ ends bytes k)
     → RowsWritten checks (tables_of file n.names) sections₀ places₀ symbols₀ sections places symbols g
     → Written (tables_of file n.names) ends₀ bytes₀ sections₀ places₀ symbols₀ ends bytes sections places symbols
-    (record { names = k.names; used = k.used; sections = g.sections; symbols = g.symbols })
+    (record { names = k; rows = g })
 tables-written file {ends₀ = ends₀} {bytes₀ = bytes₀} n g = record {
   ends_written = n.ends_are ∙ ap (λ (x : List (List ℕ)). sets ends₀ 0 (name_ends x)) same;
   bytes_written = n.bytes_are ∙ ap (λ (x : List (List ℕ)). sets bytes₀ 0 (flat x)) same;
@@ -244,7 +244,7 @@ module _ {o : Outcome Tables} (ends₀ bytes₀ sections₀ places₀ symbols₀
   -- an accepted import: its tables at the front
   pub leaves_tables : {r : Imported} {ends bytes sections places symbols counts : List ℕ}
       → TablesWritten o ends₀ bytes₀ sections₀ places₀ symbols₀ ends bytes sections places symbols r
-      → counts ≡ store_counts 0 (r.names ∷ r.used ∷ r.sections ∷ r.sections ∷ r.symbols ∷ []) counts₀
+      → counts ≡ store_counts 0 (r.names.names ∷ r.names.used ∷ r.rows.sections ∷ r.rows.sections ∷ r.rows.symbols ∷ []) counts₀
       → Leaves o 0 ends₀ bytes₀ sections₀ places₀ symbols₀ counts₀ ends bytes sections places symbols counts
   leaves_tables g f =
       let v = g.written in
