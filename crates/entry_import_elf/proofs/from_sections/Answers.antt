@@ -1,5 +1,5 @@
 -- Too many are refused; else they are written, and what was written is asked.
-use Rattle.std.proofs.Common.{ℕ, ◌*◌, ◌≤◌, ◌/◌, ◌∙◌, List, sym, ap, arith, length, length-take-le}
+use Rattle.std.proofs.Common.{ℕ, ◌/◌, ◌∙◌, List, sym, ap, arith, length, length-take-le}
 use Rattle.lists.specs.Outcome.{refused}
 use Rattle.elf_file.specs.File.{taken}
 use Rattle.number_names.specs.Tables.{listed}

@@ -1,5 +1,4 @@
 -- The tables stay where they were written, with their counts.
-use Rattle.obj.proofs.Errors.{is_err}
 use Rattle.entry_import_elf.proofs.Laws.{leaves_tables}
 use Rattle.entry_import_elf.proofs.import_counted.Goals as goal
 
