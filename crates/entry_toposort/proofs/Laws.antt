@@ -2,6 +2,7 @@
 -- Assumes nothing.
 use Prim.Native.Nat.{ℕ, ◌+◌, ◌*◌, ◌/◌, ◌%◌, ◌≤◌, ◌<◌}
 use mathlib.Core.Path.{◌≡◌, refl, sym, ap, subst, ◌∙◌}
+use mathlib.Core.Bool.{Bool, true, false}
 use mathlib.Core.List.{List, [], ◌∷◌, ◌++◌}
 use native.Mathlib.Nat.{add-zero}
 use native.Mathlib.Omega.{arith}
@@ -11,11 +12,14 @@ use lib.ListN.{length, take, length-append}
 use lib.Seq.{sets, length-take-le, take-append-le}
 use Rattle.lists.specs.Rows.{clear_from, tabulate}
 use Rattle.lists.proofs.Outcomes.{fails, passes}
+use Rattle.lists.proofs.Binds.{after_goes, after-stops}
 use Rattle.fields.specs.Fields.{le16}
-use Rattle.lists.specs.Outcome.{Outcome, refused, refuse, ◌>>◌}
-use Rattle.obj.specs.Answers.{word, refusal_word, place}
-use Rattle.std.specs.Prelude.{Result, Ok, Err}
-use Rattle.lists.specs.Tables.{laid}
+use Rattle.lists.specs.Outcome.{Outcome, accepted, refused, refuse, ◌>>◌}
+use Rattle.obj.specs.Answers.{word, refusal_word, place, meaning as obj_meaning}
+use Rattle.obj.specs.declared.Refusal.{Refusal}
+use Rattle.std.specs.Prelude.{Result, Ok, Err, MatchResult}
+use Rattle.tables.specs.Tables.{size_check}
+use Rattle.tables.proofs.Laws.{size_passed}
 use Rattle.outputs.specs.Outputs.{halves, counts_of}
 use Rattle.outputs.specs.Room.{room_for}
 use Rattle.outputs.proofs.Laws.{length-halves, laid-after}
@@ -24,7 +28,7 @@ use Rattle.toposort.specs.Search.{Graph, End}
 use Rattle.toposort.specs.Sorting.{sort_of, meaning, kept, Sorts, answer_of, nodes_left}
 use Rattle.toposort.specs.declared.Unsorted.{Unsorted}
 use Rattle.toposort.specs.declared.Unsorted.TheVariants.{Cycle, NoNode, Short}
-use Rattle.entry_toposort.specs.Entry.{starts_of, goals_of, graph_of, toposort_of, word_of, Ends, Leaves}
+use Rattle.entry_toposort.specs.Entry.{starts_of, goals_of, graph_of, toposort_of, word_of, Checked, Ends, Leaves}
 
 -- what an answer leaves is what its outcome says
 said : (r : Result ℕ Unsorted) (t : List ℕ) (o : Outcome End) → meaning r t ≡ o → word (answer_of r) ≡ word_of o
@@ -115,6 +119,15 @@ graph_made n edges long same e q =
     λ z. record { count = n; from = from_is z; to = to_is z }
 
 -- ---- the checks in order
+
+-- two tests and then the rest are both tests as one check before it
+two_first : {B : Type 0} (a b c d e f : ℕ) (t u : Bool) (m : Outcome B)
+    → ((refuse a b c t >> (refuse d e f u >> accepted tt)) >> m) ≡ (refuse a b c t >> (refuse d e f u >> m))
+unfolding refuse ◌>>◌
+two_first a b c d e f true u m = refl
+two_first a b c d e f false true m = refl
+two_first a b c d e f false false m = refl
+
 module _ (nodes : ℕ) (edges : List ℕ) (size : ℕ) where
   pub many_nodes : 1024 < nodes → toposort_of nodes edges size ≡ refused 2 0 1024
   unfolding toposort_of
@@ -135,3 +148,19 @@ module _ (nodes : ℕ) (edges : List ℕ) (size : ℕ) where
 
       pub table_sorted : length edges / 4 ≤ 2048 → toposort_of nodes edges size ≡ sort_of (graph_of nodes edges) (size / 2)
       table_sorted h = first_two ∙ passes 2 0 2048 _ _ (le-ltb _ _ h)
+
+-- the edge table is checked as every table of records
+module _ (nodes : ℕ) (edges : List ℕ) (few : nodes ≤ 1024) where
+  size_first : (size : ℕ) → toposort_of nodes edges size ≡ (size_check 4 2048 (length edges) >> sort_of (graph_of nodes edges) (size / 2))
+  unfolding toposort_of size_check
+  size_first size = passes 2 0 1024 _ _ (le-ltb _ _ few) ∙ sym (two_first 1 0 (place (length edges / 4)) 2 0 2048 _ _ _)
+
+  pub checked : (r : Result (Unit {0}) Refusal) → obj_meaning r ≡ size_check 4 2048 (length edges)
+      → MatchResult r (λ _. Checked nodes edges) (λ q. (size : ℕ) → toposort_of nodes edges size ≡ refused q.number q.section q.address)
+  checked (Ok u) e =
+      record {
+        few_nodes = few;
+        few_edges = (size_passed 4 2048 (length edges) (sym e)).1;
+        sorted = λ size. size_first size ∙ after_goes _ _ (sym e);
+      }
+  checked (Err q) e = λ size. size_first size ∙ after-stops _ _ q.number q.section q.address (sym e)

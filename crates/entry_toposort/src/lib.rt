@@ -11,8 +11,9 @@ ghost use Rattle.toposort.specs.Lent.{graph_in};
 ghost use Rattle.entry_toposort.specs.Entry.{graph_of, toposort_of, Checked, Ends, Leaves};
 
 use fields::Field;
-use obj::{Refusal, place_of, refuse, word_of};
+use obj::{Refusal, refuse, word_of};
 use outputs::{clear_from, put_counts, put_halves, room_for};
+use tables::table_size;
 use toposort::{EdgeTable, Unsorted, answer_of, kept};
 
 // One column of the edge table: the number at byte `at` of each edge.
@@ -67,13 +68,8 @@ fn check_tables(nodes: u32, edges: &[u8]) -> Result<(), Refusal>
     if 1024 < nodes {
         return refuse(2, 0, 1024);
     }
-    if edges.len() % 4 != 0 {
-        return refuse(1, 0, place_of(edges.len() / 4));
-    }
-    if 2048 < edges.len() / 4 {
-        return refuse(2, 0, 2048);
-    }
-    Ok(())
+    // "2,048 edges"
+    table_size(edges.len(), 4, 2048)
 }
 
 // The two outputs, as C lends them, once the nodes stand at the front of the node table: zeros after them, and their number.
