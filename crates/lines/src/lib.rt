@@ -10,7 +10,7 @@ ghost use Rattle.names.specs.Fixed.{codes};
 ghost use Rattle.lines.specs.Lines.{shown, owner_of, unit_line, piece_line, sym_line, reloc_line, total_line, refused_line, Adds, Written};
 
 use names::put_bytes;
-use obj::Reloc;
+use obj::{Refusal, Reloc};
 use pieces::Piece;
 
 const SPACE: u8 = 32;
@@ -148,14 +148,14 @@ pub fn write_total(out: &mut [u8], units: u16, pieces: u16, bytes: u64) -> usize
 
 // "A refusal prints only `refused`, number, section, address."
 // As `write_total`, another of document 01's lines, of other fields.
-pub fn write_refused(out: &mut [u8], number: u16, section: u16, address: u32) -> usize
+pub fn write_refused(out: &mut [u8], r: Refusal) -> usize
     requires { 208 ≤ length out.old }
-    ensures { Written out.old out.new (refused_line number section address) result }
+    ensures { Written out.old out.new (refused_line r.number r.section r.address) result }
 {
     let mut text = Text { bytes: out, at: 0 };
     text.put_field(b"refused");
-    text.put_decimal(number as u64, SPACE);
-    text.put_decimal(section as u64, SPACE);
-    text.put_hex8(address, NEWLINE);
+    text.put_decimal(r.number as u64, SPACE);
+    text.put_decimal(r.section as u64, SPACE);
+    text.put_hex8(r.address, NEWLINE);
     text.at
 }

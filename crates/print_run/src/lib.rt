@@ -124,7 +124,7 @@ fn print_refused<W: Write>(out: &mut W, r: Refusal) -> io::Result<()>
         (refused_line r.number r.section r.address)) }
 {
     let mut line = [0u8; 208];
-    let n = write_refused(&mut line, r.number, r.section, r.address);
+    let n = write_refused(&mut line, r);
     out.write_all(&line[..n])
 }
 

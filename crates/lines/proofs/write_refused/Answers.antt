@@ -11,7 +11,7 @@ pub returns : goal.returns
 unfolding codes line
 returns c =
     let line = adds_more (codes "refused") 32 c.put_field.ensures
-    (adds_more (decimal c.args.number) 32 c.put_decimal.ensures
-    (adds_more (decimal c.args.section) 32 c.put_decimal-2.ensures
+    (adds_more (decimal c.args.r.number) 32 c.put_decimal.ensures
+    (adds_more (decimal c.args.r.section) 32 c.put_decimal-2.ensures
     c.put_hex8.ensures)) in
     rw (c.out-1.given.1.1 (sym line.lent)) (written _ line.put (grind (arith, fields)))
