@@ -13,9 +13,10 @@ use names::put_bytes;
 use obj::{Refusal, Reloc};
 use pieces::Piece;
 
-const SPACE: u8 = 32;
+// What ends a field, and what ends a line.
+pub const SPACE: u8 = b' ';
 
-const NEWLINE: u8 = 10;
+pub const NEWLINE: u8 = b'\n';
 
 // A lent buffer, of which the bytes up to `at` are written.
 #[derive(Drop)]

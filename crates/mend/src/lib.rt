@@ -12,14 +12,10 @@ ghost use Rattle.lines.specs.Lines.{Written};
 ghost use Rattle.mend.specs.Mend.{section_ends_of, next_of, wrong_end, limit_of, replacement, mend_line, mend_check};
 ghost use Rattle.mend.specs.Steps.{Joins, Turned, Fills, Mends, LowHeads};
 
-use lines::Text;
+use lines::{NEWLINE, SPACE, Text};
 use names::put_bytes;
 use obj::{Refusal, Section, Split, Table, refuse};
 use splits::{SplitColumns, SplitEnds, row, section_of};
-
-const SPACE: u8 = 32;
-
-const NEWLINE: u8 = 10;
 
 // ---- one row
 
