@@ -32,10 +32,7 @@ pub struct LentSections<'h, 'p, 'i> {
 fn reach_of(image: usize) -> usize
     ensures { result ≡ reach image }
 {
-    if image < 0xFFFF_FFFF {
-        return image;
-    }
-    0xFFFF_FFFF
+    image.min(0xFFFF_FFFF)
 }
 
 // The piece starts below its section's start, or ends above its end. Nothing was checked of the two yet, so either end may be above all addresses.
@@ -87,10 +84,10 @@ fn find_in_section(lent: &LentSections, p: Piece) -> Result<Place, Refusal>
     ensures { meaning result ≡ in_lent lent.now p }
 {
     let n = p.section as usize;
-    if lent.heads.len() / 15 <= n {
+    if lent.heads.len() / Section::WIDTH <= n {
         return refuse(20, p.section, 0);
     }
-    find_within(lent, Section::read(lent.heads, 15 * n), p)
+    find_within(lent, record_in(lent.heads, n), p)
 }
 
 // The place of the piece of this number: 20 where it is not there.
@@ -108,7 +105,7 @@ fn find_piece(lent: &LentSections, pieces: &[u8], which: u32) -> Result<Place, R
 fn find(lent: &LentSections, pieces: &[u8], which: u32) -> Result<Place, Refusal>
     ensures { meaning result ≡ place_of lent.now.heads.now lent.now.places.now lent.now.image.now pieces.now which }
 {
-    table_size(lent.heads.len(), 15, 64)?;
+    table_size(lent.heads.len(), Section::WIDTH, 64)?;
     table_size(pieces.len(), PIECE_BYTES, 1024)?;
     find_piece(lent, pieces, which)
 }

@@ -20,5 +20,5 @@ pub returns : goal.returns
 returns c =
     let a = c.args in
     c.find_within.ensures
-    ∙ ap (λ (s : Section). within (image_places_of a.lent.now.places.now) (length a.lent.now.image.now) s a.p) c.read.ensures
+    ∙ ap (λ (s : Section). within (image_places_of a.lent.now.places.now) (length a.lent.now.image.now) s a.p) c.record_in.ensures
     ∙ sym (section_there a.lent.now.heads.now (image_places_of a.lent.now.places.now) (length a.lent.now.image.now) a.p c.if-lent-n.false)
