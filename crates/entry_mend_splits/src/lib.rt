@@ -12,6 +12,7 @@ ghost use Rattle.mend_outputs.specs.Lent.{GivesIn, SameLent};
 ghost use Rattle.tables.specs.Lent.{HeadsHeld};
 ghost use Rattle.entry_mend_splits.specs.Lent.{splits_outcome, sections_outcome};
 
+use lent_tables::{NO_TABLES, StageTables};
 use mend::{fill_section_ends, mend_table};
 use mend_outputs::{MendOutputs, finish, give_mended};
 use name_table::{NameColumns, check_names};
@@ -83,36 +84,29 @@ fn from_splits(
 // The sections and where each ends, and the split table after them.
 fn from_sections(
     lengths: &[u8],
-    sections: &[u8],
-    splits: &[u8],
+    lent: &StageTables,
     outputs: &mut MendOutputs,
 ) -> Result<(), Refusal>
-    ensures gives { GivesIn (sections_outcome lengths.now sections.now splits.now (length outputs.old.splits.now) (length outputs.old.lines.now)) result outputs.old outputs.new }
+    ensures gives { GivesIn (sections_outcome lengths.now lent.now.sections.now lent.now.splits.now (length outputs.old.splits.now) (length outputs.old.lines.now)) result outputs.old outputs.new }
     ensures lent { SameLent outputs.old outputs.new }
 {
     let mut places = [0u32; 64];
     let mut section_ends = [0u32; 64];
     // "64 sections"
-    let heads = take_sections(lengths, sections, 64, &mut places)?;
+    let heads = take_sections(lengths, lent.sections, 64, &mut places)?;
     let n = heads.places.len();
     fill_section_ends(&heads, &mut section_ends);
-    from_splits(lengths, &heads, &section_ends[..n], splits, outputs)
+    from_splits(lengths, &heads, &section_ends[..n], lent.splits, outputs)
 }
 
 // All tables, and the outputs where they pass.
-fn checked(
-    name_ends: &[u8],
-    name_bytes: &[u8],
-    sections: &[u8],
-    splits: &[u8],
-    outputs: &mut MendOutputs,
-) -> Result<(), Refusal>
-    ensures gives { GivesIn (mend_splits_of name_ends.now name_bytes.now sections.now splits.now (length outputs.old.splits.now) (length outputs.old.lines.now)) result outputs.old outputs.new }
+fn checked(lent: &StageTables, outputs: &mut MendOutputs) -> Result<(), Refusal>
+    ensures gives { GivesIn (mend_splits_of lent.now.name_ends.now lent.now.name_bytes.now lent.now.sections.now lent.now.splits.now (length outputs.old.splits.now) (length outputs.old.lines.now)) result outputs.old outputs.new }
     ensures lent { SameLent outputs.old outputs.new }
 {
     let mut lengths = [0u8; 4096];
-    take_lengths(name_ends, name_bytes, &mut lengths)?;
-    from_sections(&lengths[..name_ends.len() / 2], sections, splits, outputs)
+    take_lengths(lent.name_ends, lent.name_bytes, &mut lengths)?;
+    from_sections(&lengths[..lent.name_ends.len() / 2], lent, outputs)
 }
 
 // The entry: the mended split table with its lines, or a refusal, and every byte of the outputs.
@@ -133,6 +127,13 @@ pub fn mend_splits(
         lines,
         counts,
     };
-    let a = checked(name_ends, name_bytes, sections, splits, &mut outputs);
+    let lent = StageTables {
+        name_ends,
+        name_bytes,
+        sections,
+        splits,
+        ..NO_TABLES
+    };
+    let a = checked(&lent, &mut outputs);
     finish(a, &mut outputs)
 }

@@ -22,11 +22,11 @@ pub fill_section_ends-requires : goal.fill_section_ends-requires
 fill_section_ends-requires c =
     let a = c.args in
     let k = c.in_ok-heads.ensures in
-    (heads_low a.lengths.now a.sections.now k, omega (arith, heads_few a.lengths.now a.sections.now k))
+    (heads_low a.lengths.now a.lent.now.sections.now k, omega (arith, heads_few a.lengths.now a.lent.now.sections.now k))
 
 pub slice_bounds-from_splits-end : goal.slice_bounds-from_splits-end
 slice_bounds-from_splits-end c =
-    sym (length-take-le _ _ (omega (arith, heads_few c.args.lengths.now c.args.sections.now c.in_ok-heads.ensures, c.fill_section_ends.auto.section_ends)))
+    sym (length-take-le _ _ (omega (arith, heads_few c.args.lengths.now c.args.lent.now.sections.now c.in_ok-heads.ensures, c.fill_section_ends.auto.section_ends)))
 
 pub from_splits-requires : goal.from_splits-requires
 from_splits-requires c = (c.in_ok-heads.ensures.table.held, c.fill_section_ends.ensures)
@@ -38,6 +38,6 @@ returns-clause-gives c =
     let k = c.in_ok-heads.ensures in
     gives_goes (sym k.said)
     (gives_as
-    (ap (λ (l : List ℕ). from_splits a.lengths.now (sections_in a.sections.now l) a.splits.now (room_of (length a.outputs.now.splits.now)) (length a.outputs.now.lines.now))
+    (ap (λ (l : List ℕ). from_splits a.lengths.now (sections_in a.lent.now.sections.now l) a.lent.now.splits.now (room_of (length a.outputs.now.splits.now)) (length a.outputs.now.lines.now))
     k.table.places)
     (rw k.table.bytes at c.from_splits.ensures.gives))
