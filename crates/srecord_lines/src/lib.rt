@@ -24,7 +24,7 @@ fn put_head(out: &mut [u8], at: usize, kind: u8, count: u8, address: u32)
     requires { at + 12 ≤ length out.old }
     ensures { out.new ≡ sets out.old at (line_head kind count address) }
 {
-    out[at] = 83;
+    out[at] = b'S';
     out[at + 1] = kind;
     put_hexes(out, at + 2, &[count]);
     put_hexes(out, at + 4, &address.to_be_bytes());
@@ -36,7 +36,7 @@ fn put_tail(out: &mut [u8], at: usize, check: u8)
     ensures { out.new ≡ sets out.old at (line_tail check) }
 {
     put_hexes(out, at, &[check]);
-    out[at + 2] = 10;
+    out[at + 2] = b'\n';
 }
 
 // The checksum of a line: "the ones' complement of the low byte of the sum of count, address and data".

@@ -85,7 +85,7 @@ pub fn write_lines(sections: &[u8], out: &mut [u8], from: usize)
         at += lines_size(size);
         read += size as usize;
     }
-    put_line(out, at, 55, 0, &[]);
+    put_line(out, at, b'7', 0, &[]);
 }
 
 // The pieces laid at the end of the room for the lines, and the lines written over it; bytes past the lines stay.
