@@ -8,7 +8,7 @@ ghost use Rattle.tables.specs.Tables.{AllHeld};
 ghost use Rattle.entry_check_tables.specs.Entry.{tables_of};
 ghost use Rattle.entry_check_tables.specs.Lines.{from_symbols_in, tables_in};
 
-use lent_tables::StageTables;
+use lent_tables::{NO_TABLES, StageTables};
 use name_table::NameArrays;
 use obj::{Refusal, Table, word_of};
 use stage_tables::{take_image, take_relocs, take_splits, take_symbols, take_units};
@@ -86,8 +86,8 @@ pub fn check_tables(
         image,
         symbols,
         relocs: relocations,
-        partials: &[],
         splits,
         units,
+        ..NO_TABLES
     }))
 }

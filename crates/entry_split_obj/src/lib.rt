@@ -11,7 +11,7 @@ ghost use Rattle.stage_walk.specs.Laid.{OutputFits};
 ghost use Rattle.entry_split_obj.specs.Entry.{split_obj_of, Laid, Leaves};
 ghost use Rattle.entry_split_obj.specs.Lines.{from_symbols_in, split_obj_in, made_by, sizes_of};
 
-use lent_tables::StageTables;
+use lent_tables::{NO_TABLES, StageTables};
 use name_table::NameArrays;
 use names::Names;
 use obj::{Refusal, Table, word_of};
@@ -125,9 +125,9 @@ pub fn split_obj(
             image,
             symbols,
             relocs,
-            partials: &[],
             splits,
             units: unit_table,
+            ..NO_TABLES
         },
         &mut tables,
     );
