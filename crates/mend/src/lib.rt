@@ -61,10 +61,7 @@ fn decide(splits: &SplitColumns, section_ends: &[u32], i: usize) -> Option<u32>
 {
     let split = row(splits, i);
     let next = next_of(splits, i);
-    if wrong_end(split.start, split.end, next) {
-        return Some(limit_of(section_ends, split.section, next));
-    }
-    None
+    wrong_end(split.start, split.end, next).then(|| limit_of(section_ends, split.section, next))
 }
 
 // "86, a new end would be 0 or below its start", of the rows in table order.
