@@ -59,6 +59,8 @@ fn pieces_size(lists: &PieceLists, unit: u16) -> u64
     ensures { Summed lists.now.made.pieces (sizes (pieces_of unit (listed_pieces lists.now))) result }
 {
     let mut sum: u64 = 0;
+    // a loop, here and in `commons_size`: std's `sum` asks of every run of a `map` that its sum is below 2^64, and what bounds it is what `size_in` and `common_in` say of
+    // each k; the invariant of a loop takes that as it is, and of the items of a mapped range it would be shown first
     for k in 0..lists.made.pieces {
         sum += size_in(lists, k, unit);
     }

@@ -21,6 +21,7 @@ fn is_inside(symbols: &CheckedSymbols, section: u16, address: u32) -> bool
         ≡ ltb address (end_below (symbol_of symbols.now.table.bytes.now symbols.now.table.places.now) (length symbols.now.table.places.now) section address) }
 {
     let table = &symbols.table;
+    // a `match`: `record` asks that there is a symbol i, so the closure of an `is_some_and` needs clauses of its own, which are longer than the two arms
     match last_below(
         table.bytes,
         table.places,
