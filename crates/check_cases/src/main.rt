@@ -22,12 +22,18 @@ pub enum Mode {
 }
 
 // How far a case is read: table k ends at cuts[k].
-#[derive(Drop)]
-pub struct Reading<'b> {
-    pub case: CaseReader<'b>,
+#[derive(Clone, Copy)]
+pub struct Reading {
     pub mode: Mode,
     pub table: usize,
     pub cuts: [usize; 9],
+}
+
+// The cases: the reader of their bytes, and how far the one that is read is read.
+#[derive(Drop)]
+pub struct Cases<'b> {
+    pub case: CaseReader<'b>,
+    pub reading: Reading,
 }
 
 // Bytes more.
@@ -53,7 +59,7 @@ fn push_names(bytes: &mut Gathered) {
 
 // ---- a character more. Each kind of character takes the reading, what is printed to and the character: a struct of these would be made for one character.
 
-impl Reading<'_> {
+impl Cases<'_> {
     fn add_names(&mut self) {
         push_names(&mut self.case.bytes);
         self.case.high = None;
@@ -61,7 +67,7 @@ impl Reading<'_> {
 
     fn in_text(&mut self, c: u8) {
         if c == b'"' {
-            self.mode = Mode::Case;
+            self.reading.mode = Mode::Case;
             return;
         }
         self.case.add(c);
@@ -70,40 +76,42 @@ impl Reading<'_> {
     fn in_width(&mut self, width: usize, c: u8) {
         if let Some(d @ 0..=9) = digit(c) {
             let width = longer(width, d);
-            self.mode = Mode::Width { width };
+            self.reading.mode = Mode::Width { width };
             return;
         }
-        self.mode = Mode::Case;
+        self.reading.mode = Mode::Case;
         self.case.start_count(width);
     }
 
     // Table k ends where the bytes so far do.
     fn cut(&mut self) {
-        if self.table < 9 {
-            self.cuts[self.table] = self.case.bytes.used;
-            self.table += 1;
+        if self.reading.table < 9 {
+            self.reading.cuts[self.reading.table] = self.case.bytes.used;
+            self.reading.table += 1;
         }
     }
 
     fn in_keep(&mut self, c: u8) {
-        self.mode = Mode::Case;
+        self.reading.mode = Mode::Case;
         if let Some(k @ 1..=8) = digit(c) {
-            self.table = k as usize;
-            self.case.bytes.take_up(self.cuts[self.table - 1]);
+            self.reading.table = k as usize;
+            self.case
+                .bytes
+                .take_up(self.reading.cuts[self.reading.table - 1]);
         }
     }
 
     // The next case begins.
     fn next_case(&mut self) {
         self.case.clear();
-        self.table = 0;
+        self.reading.table = 0;
     }
 
     fn on_sign(&mut self, rt: &impl Print, c: u8) -> io::Result<()> {
         match c {
-            b'"' => self.mode = Mode::Text,
-            b'@' => self.mode = Mode::Width { width: 0 },
-            b'<' => self.mode = Mode::Keep,
+            b'"' => self.reading.mode = Mode::Text,
+            b'@' => self.reading.mode = Mode::Width { width: 0 },
+            b'<' => self.reading.mode = Mode::Keep,
             b'|' => self.cut(),
             b'N' => self.add_names(),
             b'?' => return self.check_file(rt),
@@ -125,7 +133,7 @@ impl Reading<'_> {
     }
 
     fn turn(&mut self, rt: &impl Print, c: u8) -> io::Result<()> {
-        match self.mode {
+        match self.reading.mode {
             Mode::Case => return self.in_case(rt, c),
             Mode::Text => self.in_text(c),
             Mode::Width { width } => self.in_width(width, c),
@@ -151,7 +159,7 @@ fn part(bytes: &[u8], from: usize, to: usize) -> &[u8] {
     bytes.get(from..to).unwrap_or(&[])
 }
 
-impl Reading<'_> {
+impl Cases<'_> {
     fn check_file(&self, rt: &impl Print) -> io::Result<()> {
         let mut counts = [9u8; 12];
         let answer = Answer {
@@ -163,14 +171,15 @@ impl Reading<'_> {
 
     // Where table k ends: tables that a case doesn't have are empty.
     fn end(&self, k: usize) -> usize {
-        if (self.table <= k) | (9 <= k) {
+        if (self.reading.table <= k) | (9 <= k) {
             return self.case.bytes.used;
         }
-        self.cuts[k]
+        self.reading.cuts[k]
     }
 
+    // Out of the whole buffer: `<k` may take up fewer bytes than an earlier cut has.
     fn table(&self, k: usize) -> &[u8] {
-        let bytes = self.case.bytes.bytes();
+        let bytes = &*self.case.bytes.buffer;
         if k == 0 {
             return part(bytes, 0, self.end(0));
         }
@@ -198,11 +207,13 @@ impl Reading<'_> {
 // ---- all cases
 
 fn run(rt: &impl Print, text: &[u8], buffer: &mut [u8]) -> io::Result<()> {
-    let mut s = Reading {
+    let mut s = Cases {
         case: CaseReader::new(buffer),
-        mode: Mode::Case,
-        table: 0,
-        cuts: [0; 9],
+        reading: Reading {
+            mode: Mode::Case,
+            table: 0,
+            cuts: [0; 9],
+        },
     };
     for c in text {
         s.turn(rt, *c)?;

@@ -9,16 +9,22 @@ use std::io::Read;
 // ---- a case is run
 
 // How far the cases are read: `open` says that there is one.
-#[derive(Drop)]
-pub struct Reading<'b> {
-    pub case: CaseReader<'b>,
+#[derive(Clone, Copy)]
+pub struct Reading {
     pub open: bool,
 }
 
-impl Reading<'_> {
+// The cases: the reader of their bytes, and how far they are read.
+#[derive(Drop)]
+pub struct Cases<'b> {
+    pub case: CaseReader<'b>,
+    pub reading: Reading,
+}
+
+impl Cases<'_> {
     // What the case that was read prints, where there is one.
     fn close(&self, rt: &impl Print) -> io::Result<()> {
-        if self.open {
+        if self.reading.open {
             print_run::print_run(&mut io::writer(rt), self.case.bytes.bytes())?;
         }
         Ok(())
@@ -29,7 +35,7 @@ impl Reading<'_> {
         self.close(rt)?;
         self.case.clear();
         self.case.high = None;
-        self.open = true;
+        self.reading.open = true;
         rt.write_all(b"=")
     }
 
@@ -57,9 +63,9 @@ impl Reading<'_> {
 fn run(rt: &(impl Input + Print), buffer: &mut [u8]) -> io::Result<()> {
     let mut text = [0u8; 4096];
     let mut input = rt.reader();
-    let mut s = Reading {
+    let mut s = Cases {
         case: CaseReader::new(buffer),
-        open: false,
+        reading: Reading { open: false },
     };
     for _ in 0..u64::MAX {
         let n = input.read(&mut text)?;
