@@ -1,7 +1,7 @@
 // All names of an ELF file, "numbered by first use, sections first", in the lent name table.
 #![tactic(auto)]
 
-ghost use Rattle.std.specs.Prelude.{[], List, ℕ, length};
+ghost use Rattle.std.specs.Prelude.{◌≡◌, [], List, ℕ, length};
 ghost use Rattle.number_names.specs.Tables.{room_of, SameTable, HeldBy, EnteredBy};
 ghost use Rattle.import.specs.Import.{names_of};
 ghost use Rattle.import_names.specs.Numbered.{name_room, Numbered};
@@ -14,6 +14,21 @@ use names::Room;
 use number_names::{Count, NumberedNames};
 use obj::Refusal;
 use stage_names::{bytes_room, names_room};
+
+// A name has no place: the refusal, and how many names of how many bytes have one before it.
+#[derive(Clone, Copy)]
+pub struct Full {
+    pub refusal: Refusal,
+    pub count: Count,
+}
+
+impl From<Full> for Refusal {
+    ghost from_gives = { λ full r. r ≡ full.refusal };
+
+    fn from(full: Full) -> Refusal {
+        full.refusal
+    }
+}
 
 // All names of a file, in a table that has no name yet.
 fn number_in(file: &ElfFile, names: &mut NumberedNames) -> Result<(), Refusal>
@@ -33,7 +48,7 @@ pub fn number_all(
     file: &ElfFile,
     name_ends: &mut [u8],
     name_bytes: &mut [u8],
-) -> Result<Count, Refusal>
+) -> Result<Count, Full>
     ensures { Numbered (names_of file.now.bytes.now (name_room (length name_ends.old) (length name_bytes.old))) name_ends.old name_bytes.old name_ends.new name_bytes.new result }
 {
     let mut heads = [0u16; 8192];
@@ -50,6 +65,11 @@ pub fn number_all(
         count: Count { names: 0, used: 0 },
         most,
     };
-    number_in(file, &mut names)?;
-    Ok(names.count)
+    match number_in(file, &mut names) {
+        Ok(()) => Ok(names.count),
+        Err(refusal) => Err(Full {
+            refusal,
+            count: names.count,
+        }),
+    }
 }
