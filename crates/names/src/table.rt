@@ -11,7 +11,10 @@ pub fn put_bytes(out: &mut [u8], at: usize, from: &[u8])
     requires { at + length from.now ≤ length out.old }
     ensures { out.new ≡ sets out.old at from.now }
 {
-    out[at..at + from.len()].copy_from_slice(from);
+    // byte by byte: `copy_from_slice` calls `memmove`, which the archive for C would need from outside
+    for (i, byte) in from.iter().enumerate() {
+        out[at + i] = *byte;
+    }
 }
 
 // Appends the name as number n, its bytes from `used` on, unless the table is full; says whether it did. As a method of `gap_splits::AddedNames`, whose columns these are,

@@ -1,6 +1,6 @@
 -- `srecord_text::write_section` meets its contract. Invariant: `Left`, that writing the lines of what is left is writing all, and that it is still there to be read.
 -- Assumes nothing.
-use Rattle.std.proofs.Common.{◌≡◌, ◌+◌, ◌*◌, ◌≤◌, ℕ, ap, subst, arith}
+use Rattle.std.proofs.Common.{◌≡◌, ◌+◌, ◌*◌, ℕ, subst, arith}
 use Rattle.srecord_text.proofs.Laws.{Left, left_turn, left_end}
 use Rattle.srecord_text.proofs.write_section.Goals as goal
 
