@@ -200,7 +200,8 @@ impl Cases<'_> {
                 self.table(8),
             ),
         };
-        println!(rt; "{answer}")
+        print!(rt; "{answer}")?;
+        println!(rt; "")
     }
 }
 
