@@ -8,6 +8,9 @@ use native.Mathlib.Omega.{arith}
 use lib.ListN.{length, take, set}
 use lib.Seq.{length-take-le}
 use borrow.Author.Tests.{lt-ltb, le-ltb}
+use mathlib.Core.List.{◌∷◌, [], ◌++◌}
+use lib.ListN.{get_or, length-append}
+use lib.Seq.{get_or-append_seam}
 use Rattle.std.proofs.lemmas.Bool.{cases_lt}
 use Rattle.std.proofs.lemmas.List.{take_more_set}
 use Rattle.program_input.specs.Cases.{pushed, before, again, repeated}
@@ -41,3 +44,28 @@ module _ (room width n : ℕ) (start : List ℕ) where
   -- .. and the last
   pub repeat_ended : (m : ℕ) {bytes : List ℕ} → n - 1 ≡ m - 1 → bytes ≡ repeated room width (n - 1) start → bytes ≡ repeated room width (m - 1) start
   repeat_ended m q e = e ∙ ap (λ (k : ℕ). repeated room width k start) q
+
+-- ---- one byte
+-- a byte that stands once more is the last one again
+pub last_again : (room : ℕ) (bytes : List ℕ) → before 1 (pushed room bytes (before 1 bytes)) ≡ before 1 bytes
+last_again room bytes = go (cases_lt (length bytes) room)
+  where
+    v : ℕ
+    v = before 1 bytes
+
+    long : length (bytes ++ (v ∷ [])) ≡ length bytes + 1
+    long = simp length-append refl
+
+    here : before 1 (bytes ++ (v ∷ [])) ≡ v
+    here = rw (long, le-ltb (length bytes + 1) 1 (omega arith)) (ap (λ (i : ℕ). get_or (bytes ++ (v ∷ [])) i 0) (let z : length bytes + 1 - 1 ≡ length bytes = omega arith in z) ∙ get_or-append_seam bytes v [] 0)
+
+    go : (length bytes < room) ⊎ (room ≤ length bytes) → before 1 (pushed room bytes v) ≡ v
+    go (inl h) = rw (lt-ltb _ _ h) here
+    go (inr h) = rw (le-ltb _ _ h) refl
+
+module _ (room n : ℕ) (start : List ℕ) where
+  -- a turn of `repeat_byte`
+  pub byte_turn : {len v : ℕ} {bytes more : List ℕ} → len ≡ room → 1 ≤ n → bytes ≡ repeated room 1 (n - 1) start → v ≡ before 1 bytes → more ≡ pushed len bytes v
+      → more ≡ repeated room 1 (n + 1 - 1) start
+  unfolding again
+  byte_turn {bytes = bytes} q h e b p = repeat_turn room 1 n start q h e (p ∙ ap (pushed _ bytes) b)

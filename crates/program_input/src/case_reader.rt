@@ -107,11 +107,26 @@ impl CaseReader<'_> {
         }
     }
 
+    // The last byte so many times in all. It is read once: what is pushed is the last byte again.
+    fn repeat_byte(&mut self, count: usize)
+        ensures is { gathered self.new.bytes ≡ repeated (length self.old.bytes.buffer.now) 1 (count - 1) (gathered self.old.bytes) }
+        ensures lent { self.new.bytes.buffer.ghost_name ≡ self.old.bytes.buffer.ghost_name }
+    {
+        let byte = self.before(1);
+        for _time in 1..count {
+            self.bytes.push(byte);
+        }
+    }
+
     // The last `width` bytes so many times in all.
     fn repeat(&mut self, width: usize, count: usize)
         ensures is { gathered self.new.bytes ≡ repeated (length self.old.bytes.buffer.now) width (count - 1) (gathered self.old.bytes) }
         ensures lent { self.new.bytes.buffer.ghost_name ≡ self.old.bytes.buffer.ghost_name }
     {
+        if width == 1 {
+            self.repeat_byte(count);
+            return;
+        }
         for _i in 1..count {
             self.again(width);
         }
