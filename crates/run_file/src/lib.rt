@@ -22,7 +22,7 @@ use run_splits::split_table;
 use splits::SplitTable;
 
 // What the run answers, and how many records of each kind the file has.
-// The counts stand beside the result, since they are promised with every answer, a cycle's and a refusal's too.
+// The counts stand beside the result, since they are promised with an order and with a cycle; with a refusal they are zeros.
 #[derive(Clone, Copy)]
 pub struct RanFile {
     pub ran: Result<Ran, Unlinked>,
@@ -107,7 +107,7 @@ pub fn run_file(
     ensures added { SameNames added.old added.new }
     ensures lent { SameLent out.old out.new }
 {
-    // no `?`: the answer is a struct, as the counts are promised with every answer
+    // no `?`: the answer is a struct, as the counts stand beside every result
     let prepared = match prepare(file, columns) {
         Ok(prepared) => prepared,
         Err(refusal) => {
