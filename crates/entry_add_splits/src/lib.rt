@@ -14,7 +14,7 @@ use name_table::NameArrays;
 use obj::{Refusal, Table};
 use splits::SplitTable;
 use stage_splits::{SplitOutput, finish, give_splits, room_of, take_split_columns};
-use stage_tables::{take_partials, take_sections};
+use stage_tables::{partials_table, sections_table};
 
 // The split table, whose room is that of the output, the partial list, and the merge of both, which is then given. `lengths` are those of the names; `places` has those
 // of the splits and, once they are in the table, those of the partial splits.
@@ -39,7 +39,7 @@ fn from_splits(
     };
     take_split_columns(lengths, heads, lent.splits, &mut places, &mut table)?;
     // "1,024 splits"
-    let partials = take_partials(lengths, lent.partials, 1024, &mut places)?;
+    let partials = partials_table(lengths, lent.partials, 1024, &mut places)?;
     merge::add_splits(&mut table, heads, &partials)?;
     give_splits(&table.columns(), output);
     Ok(())
@@ -55,7 +55,7 @@ fn checked(lent: &StageTables, output: &mut SplitOutput) -> Result<(), Refusal>
     columns.check(lent.name_ends, lent.name_bytes, 4096)?;
     let named = &columns.lengths[..lent.name_ends.len() / 2];
     // "64 sections"
-    let heads = take_sections(named, lent.sections, 64, &mut columns.places)?;
+    let heads = sections_table(named, lent.sections, 64, &mut columns.places)?;
     from_splits(named, &heads, lent, output)
 }
 

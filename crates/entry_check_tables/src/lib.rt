@@ -11,7 +11,7 @@ ghost use Rattle.entry_check_tables.specs.Lines.{from_symbols_in, tables_in};
 use lent_tables::{NO_TABLES, StageTables};
 use name_table::NameArrays;
 use obj::{Refusal, Table, word_of};
-use stage_tables::{take_image, take_relocs, take_splits, take_symbols, take_units};
+use stage_tables::{image_table, symbols_table, take_relocs, take_splits, take_units};
 use tables::main_ceilings;
 
 // The tables from the symbols on. `lengths` are those of the names, `heads` the sections at their places.
@@ -23,7 +23,7 @@ fn with_symbols(lengths: &[u8], heads: &Table, lent: &StageTables) -> Result<(),
     // the places of the table that is looked at, and a number of each section
     let mut places = [0u32; 4096];
     let mut floors = [0u32; 64];
-    let symbols = take_symbols(
+    let symbols = symbols_table(
         lengths.len(),
         heads,
         lent.symbols,
@@ -40,8 +40,7 @@ fn with_symbols(lengths: &[u8], heads: &Table, lent: &StageTables) -> Result<(),
         &mut floors,
     )?;
     take_splits(lengths, heads, lent.splits, most.splits, &mut places)?;
-    take_units(lengths, lent.units, most.units, &mut places)?;
-    Ok(())
+    take_units(lengths, lent.units, most.units, &mut places)
 }
 
 // All tables: the names, the sections, and what comes after them.
@@ -53,7 +52,7 @@ fn checked(lent: &StageTables) -> Result<(), Refusal>
     columns.check(lent.name_ends, lent.name_bytes, most.names)?;
     let names = columns.names(lent.name_ends, lent.name_bytes);
     let mut places = [0u32; 64];
-    let heads = take_image(
+    let heads = image_table(
         names.lengths,
         lent.section_places,
         lent.image.len(),

@@ -19,7 +19,7 @@ use name_table::{NameColumns, check_names};
 use obj::{Refusal, Table};
 use splits::{SplitEnds, SplitTable};
 use stage_splits::{room_of, take_split_columns};
-use stage_tables::take_sections;
+use stage_tables::sections_table;
 
 // Names, checked, and how many bytes each has at the front of the column. Only that is asked later: the other columns, 40 kB of the stack, are gone before those
 // of the splits come.
@@ -93,7 +93,7 @@ fn from_sections(
     let mut places = [0u32; 64];
     let mut section_ends = [0u32; 64];
     // "64 sections"
-    let heads = take_sections(lengths, lent.sections, 64, &mut places)?;
+    let heads = sections_table(lengths, lent.sections, 64, &mut places)?;
     let n = heads.places.len();
     fill_section_ends(&heads, &mut section_ends);
     from_splits(lengths, &heads, &section_ends[..n], lent.splits, outputs)

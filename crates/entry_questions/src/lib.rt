@@ -18,7 +18,7 @@ use obj::{Refusal, Section, Split, Table, refuse, word_of};
 use outputs::clear_from;
 use sections::Obj;
 use stage_sections::{SectionArrays, SymbolArrays};
-use stage_tables::take_splits;
+use stage_tables::splits_table;
 
 // What is asked: the splitting end of a section, or the alignment of a split of the table.
 // An enum, as the contract says the answer by its cases: a closure would go through two functions with a contract of its own.
@@ -71,7 +71,7 @@ fn with_symbols(
     let mut symbols = SymbolArrays::new();
     let obj = symbols.take(names, heads, lent.symbols)?;
     let mut split_places = [0u32; 1024];
-    let splits = take_splits(names.lengths, heads, lent.splits, 1024, &mut split_places)?;
+    let splits = splits_table(names.lengths, heads, lent.splits, 1024, &mut split_places)?;
     match question {
         Question::End { section } => splitting_end(&obj, image, section),
         Question::Alignment { split } => alignment(&obj, &splits, split),

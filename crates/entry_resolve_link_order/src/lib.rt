@@ -16,7 +16,7 @@ use order::{Unlinked, answer_of, kept, ordered};
 use outputs::{clear_from, put_count};
 use splits::SplitTable;
 use stage_splits::take_split_columns;
-use stage_tables::{take_sections, take_units};
+use stage_tables::{sections_table, units_table};
 
 // The splits, the units, and then the stage. `places` is for the places of the splits, and then of the units.
 fn with_splits(
@@ -40,7 +40,7 @@ fn with_splits(
     };
     take_split_columns(names.lengths, heads, lent.splits, &mut places, &mut table)?;
     // "1,024 units"
-    let units = take_units(names.lengths, lent.units, 1024, &mut places)?;
+    let units = units_table(names.lengths, lent.units, 1024, &mut places)?;
     let tables = LinkTables {
         splits: table.columns(),
         heads: *heads,
@@ -60,7 +60,7 @@ fn checked(lent: &StageTables, out: &mut [u8]) -> Result<usize, Unlinked>
     let names = columns.names(lent.name_ends, lent.name_bytes);
     let mut places = [0u32; 64];
     // "64 sections"
-    let heads = take_sections(names.lengths, lent.sections, 64, &mut places)?;
+    let heads = sections_table(names.lengths, lent.sections, 64, &mut places)?;
     with_splits(&heads, &names, lent, out)
 }
 

@@ -18,7 +18,7 @@ use obj::{Refusal, Table, word_of};
 use outputs::{clear_from, put_counts};
 use pieces::{Counts, PieceTables};
 use stage_sections::{SectionArrays, SymbolArrays};
-use stage_tables::take_relocs;
+use stage_tables::relocs_table;
 use stage_walk::{lay_output, room_of, with_splits};
 
 // The symbols with their order, the relocations, and the tables after them.
@@ -39,7 +39,7 @@ fn with_symbols(
     let n = obj.symbols.places.len();
     let mut reloc_places = [0u32; 4096];
     let mut floors = [0u32; 64];
-    let relocs = take_relocs(heads, n, lent.relocs, 4096, &mut reloc_places, &mut floors)?;
+    let relocs = relocs_table(heads, n, lent.relocs, 4096, &mut reloc_places, &mut floors)?;
     with_splits(&obj, image, &relocs, lent.splits, lent.units, tables)
 }
 

@@ -18,7 +18,7 @@ use names::Names;
 use obj::{Refusal, Table};
 use splits::{SplitRest, SplitTable};
 use stage_splits::{SplitOutput, finish, give_splits, room_of, take_split_columns};
-use stage_tables::take_sections;
+use stage_tables::sections_table;
 
 // The splits and the stage on their table, which is then given.
 fn from_splits(
@@ -71,7 +71,7 @@ fn from_sections(
     ensures lent { SameLent output.old output.new }
 {
     let mut places = [0u32; 64];
-    let heads = take_sections(names.lengths, lent.sections, 64, &mut places)?;
+    let heads = sections_table(names.lengths, lent.sections, 64, &mut places)?;
     from_splits(names, &heads, lent.splits, given, output)
 }
 

@@ -16,7 +16,7 @@ use sections::Obj;
 use splits::SplitTable;
 use stage_sections::SymbolArrays;
 use stage_splits::take_split_columns;
-use stage_tables::take_sections;
+use stage_tables::sections_table;
 use validate::validate;
 
 // The splits, and the check.
@@ -63,7 +63,7 @@ fn checked(lent: &StageTables) -> Result<(), Refusal>
     columns.check(lent.name_ends, lent.name_bytes, 4096)?;
     let names = columns.names(lent.name_ends, lent.name_bytes);
     let mut places = [0u32; 64];
-    let heads = take_sections(names.lengths, lent.sections, 64, &mut places)?;
+    let heads = sections_table(names.lengths, lent.sections, 64, &mut places)?;
     with_symbols(&names, &heads, lent)
 }
 

@@ -5,7 +5,7 @@ ghost use Rattle.stage_sections.specs.Arrays.{TakesSections};
 
 use obj::{Refusal, Table};
 use stage_symbols::take_image_places;
-use stage_tables::take_image;
+use stage_tables::image_table;
 
 // Where each section's record lies in its table, and where its bytes do in the image.
 #[derive(Drop)]
@@ -45,7 +45,7 @@ impl SectionArrays {
         let places = &mut self.places;
         let images = &mut self.images;
         let n = take_image_places(section_places, images);
-        let heads = take_image(lengths, section_places, image.len(), sections, 64, places)?;
+        let heads = image_table(lengths, section_places, image.len(), sections, 64, places)?;
         Ok(SectionTables {
             heads,
             image: Table {

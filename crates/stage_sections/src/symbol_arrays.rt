@@ -8,7 +8,7 @@ ghost use Rattle.stage_sections.specs.Arrays.{TakesSymbols};
 use names::Names;
 use obj::{Refusal, Table};
 use sections::Obj;
-use stage_symbols::take_symbol_order;
+use stage_symbols::ordered_symbols;
 
 // Where each symbol's record lies in its table, and the order.
 #[derive(Drop)]
@@ -42,7 +42,7 @@ impl SymbolArrays {
         let places = &mut self.places;
         let order = &mut self.order;
         let mut scratch = [0u16; 4096];
-        let ordered = take_symbol_order(
+        let ordered = ordered_symbols(
             names.lengths.len(),
             heads,
             symbols,

@@ -23,7 +23,7 @@ use obj::{Refusal, SPLIT_BYTES, Table, word_of};
 pub use output::SplitOutput;
 use outputs::{clear_from, put_counts, room_for};
 use splits::{SplitColumns, SplitTable, load, store};
-use stage_tables::take_splits;
+use stage_tables::splits_table;
 
 // How many splits a stage may hold and give back in an output of `size` bytes.
 #[tactic(auto, unfolding(crate::specs::StageSplits::room_of, outputs::specs::Room::room_for))]
@@ -46,7 +46,7 @@ pub fn take_split_columns(
         (rows_in table.new) }
     ensures lent { SameTable table.old table.new }
 {
-    let splits = take_splits(lengths, heads, b, table.room, places)?;
+    let splits = splits_table(lengths, heads, b, table.room, places)?;
     load(&splits, table);
     Ok(())
 }

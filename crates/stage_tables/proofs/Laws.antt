@@ -4,13 +4,14 @@
 use borrow.Author.Tests.{le-ltb}
 use Prim.Native.Nat.{ℕ, ◌*◌, ◌/◌, ◌%◌, ◌≤◌}
 use mathlib.Core.Path.{◌≡◌, sym, ap, ◌∙◌, refl}
-use mathlib.Core.List.{List, []}
+use mathlib.Core.List.{List, [], ◌++◌}
 use native.Mathlib.Nat.{mul-le-mul, mul-div-le}
 use native.Mathlib.Omega.{arith}
-use lib.ListN.{length, length-map}
+use lib.ListN.{length, length-map, take}
+use lib.Seq.{take_all, take-append-le}
 use Rattle.std.specs.Prelude.{Ok, Err}
 use Rattle.lists.specs.Outcome.{Outcome, accepted}
-use Rattle.lists.proofs.Outcomes.{then_stops, then_goes, then_both, passes}
+use Rattle.lists.proofs.Outcomes.{not_both, then_stops, then_goes, then_both, passes}
 use Rattle.lists.specs.Rows.{tabulate}
 use Rattle.obj.specs.Records.{stage_places, section_at, split_at, split_width}
 use Rattle.obj.proofs.Laws.{length-stage_places}
@@ -18,11 +19,11 @@ use Rattle.obj.specs.Answers.{meaning}
 use Rattle.obj.specs.declared.Refusal.{Refusal}
 use Rattle.obj.specs.declared.Section.{Section}
 use Rattle.obj.specs.declared.Table.{Table}
-use Rattle.tables.specs.Tables.{size_check, records_check}
+use Rattle.tables.specs.Tables.{size_check, records_check, AllHeld}
 use Rattle.tables.proofs.Lookups.{stage_held}
 use Rattle.tables.proofs.Laws.{size_passed, records_pass}
 use Rattle.tables.specs.Records.{split_fault}
-use Rattle.stage_tables.specs.StageTables.{stage_sections, stage_splits, table_check, Taken, Whole, splits_check}
+use Rattle.stage_tables.specs.StageTables.{stage_sections, stage_splits, table_check, Filled, Taken, Whole, splits_check}
 
 -- ---- a table that passed
 pub table_passed : (width ceiling : ℕ) (b : List ℕ) (fault : ℕ → ℕ) → table_check width ceiling b fault ≡ accepted tt
@@ -46,40 +47,69 @@ taken-count width b w = ap length w.places ∙ length-stage_places width (length
 pub places_fit : (width n : ℕ) → width ≤ 64 → n ≤ 4096 → width * n ≤ 4294967295
 places_fit width n w h = omega (arith, mul-le-mul w h)
 
--- places that were filled are those of the table
-pub size_taken : (width ceiling : ℕ) (b : List ℕ) (t : Table) → accepted tt ≡ size_check width ceiling (length b) → ceiling ≤ 4096 → t.bytes.now ≡ b
-    → t.places.now ≡ stage_places width (length b / width) → Taken (size_check width ceiling (length b)) width b (Ok t)
-size_taken width ceiling b t said few bytes places =
-    let s = size_passed width ceiling (length b) (sym said) in
-    record {
-      said = said;
-      table = record { bytes = bytes; places = places; held = rw (bytes, places) (stage_held width (length b / width) b (omega (arith, s.1, few)) (mul-div-le (length b) width)) };
-    }
+-- a column whose front was filled
+pub front_filled : (width n : ℕ) (front rest : List ℕ) {m : ℕ} → front ≡ stage_places width m → m ≡ n → take n (front ++ rest) ≡ stage_places width n
+front_filled width n front rest {m} is few =
+    let long = ap length is ∙ length-stage_places width m in
+    take-append-le n front rest (omega (arith, long, few)) ∙ take_all n front (omega (arith, long, few)) ∙ is ∙ ap (stage_places width) few
 
--- a refused size is the table's refusal
-pub size_refused : (width ceiling : ℕ) (b : List ℕ) (fault : ℕ → ℕ) {r : Refusal} → Taken (size_check width ceiling (length b)) width b (Err r)
-    → Taken (table_check width ceiling b fault) width b (Err r)
-unfolding table_check
-size_refused width ceiling b fault k = record { said = then_stops k.said (records_check fault (length b / width)) refl; table = k.table }
+-- the places of an accepted table are those of its records, which lie in it
+pub table-held : (width : ℕ) (b places : List ℕ) {answer want : Outcome (Unit {0})} → Filled answer want width (length b) places → want ≡ accepted tt
+    → length b / width ≤ 4096 → AllHeld width b (take (length b / width) places)
+table-held width b places f e few = rw (f.filled e) (stage_held width (length b / width) b (omega arith) (mul-div-le (length b) width))
 
-module _ (width ceiling : ℕ) (b : List ℕ) {t : Table} (k : Taken (size_check width ceiling (length b)) width b (Ok t)) (fault : List ℕ → ℕ → ℕ) where
-  -- what was said of the records at the places is said of the table's
-  records_said : {answer : Outcome (Unit {0})} → answer ≡ records_check (fault t.places.now) (length t.places.now)
-      → answer ≡ table_check width ceiling b (fault (stage_places width (length b / width)))
+module _ (width ceiling : ℕ) (b places : List ℕ) where
+  -- a refused size is the table's refusal
+  pub size_refused : (fault : ℕ → ℕ) {r : Refusal} → Filled (meaning {A = Unit {0}} (Err r)) (size_check width ceiling (length b)) width (length b) places
+      → Filled (meaning {A = Unit {0}} (Err r)) (table_check width ceiling b fault) width (length b) places
   unfolding table_check
-  records_said a =
-      a
-      ∙ ap (λ (l : List ℕ). records_check (fault l) (length l)) k.table.places
-      ∙ ap (records_check (fault (stage_places width (length b / width)))) (length-stage_places width (length b / width))
-      ∙ then_goes k.said _ refl
+  size_refused fault f =
+      let said = then_stops f.said (records_check fault (length b / width)) refl in
+      record { said = said; filled = λ q. absurd (not_both (said ∙ q)) }
 
-  pub records_refused : {r : Refusal} → meaning {A = Unit {0}} (Err r) ≡ records_check (fault t.places.now) (length t.places.now)
-      → Taken (table_check width ceiling b (fault (stage_places width (length b / width)))) width b (Err r)
-  records_refused a = record { said = records_said a; table = tt }
+  module _ (f : Filled (accepted tt) (size_check width ceiling (length b)) width (length b) places) where
+    pub size_few : length b / width ≤ ceiling
+    size_few = (size_passed width ceiling (length b) (sym f.said)).1
 
-  pub records_taken : accepted tt ≡ records_check (fault t.places.now) (length t.places.now)
-      → Taken (table_check width ceiling b (fault (stage_places width (length b / width)))) width b (Ok t)
-  records_taken a = record { said = records_said a; table = k.table }
+    pub size_held : ceiling ≤ 4096 → AllHeld width b (take (length b / width) places)
+    size_held few = table-held width b places f (sym f.said) (omega (arith, size_few))
+
+    -- what was said of the records at the places is said of the table's
+    pub records_said : (fault : List ℕ → ℕ → ℕ) {answer : Outcome (Unit {0})}
+        → answer ≡ records_check (fault (take (length b / width) places)) (length (take (length b / width) places))
+        → Filled answer (table_check width ceiling b (fault (stage_places width (length b / width)))) width (length b) places
+    unfolding table_check
+    records_said fault a =
+        let p = f.filled (sym f.said) in record {
+          said =
+              a
+              ∙ ap (λ (l : List ℕ). records_check (fault l) (length l)) p
+              ∙ ap (records_check (fault (stage_places width (length b / width)))) (length-stage_places width (length b / width))
+              ∙ then_goes f.said _ refl;
+          filled = λ _. p;
+        }
+
+-- ---- a column that was filled, and the table at its places
+module _ (width ceiling : ℕ) (b places : List ℕ) (fault : ℕ → ℕ) (f : Filled (accepted tt) (table_check width ceiling b fault) width (length b) places) where
+  pub filled_few : length b / width ≤ ceiling
+  filled_few = (table_passed width ceiling b fault (sym f.said)).1
+
+  pub filled-count : length (take (length b / width) places) ≡ length b / width
+  filled-count = ap length (f.filled (sym f.said)) ∙ length-stage_places width (length b / width)
+
+  pub filled-held : ceiling ≤ 4096 → AllHeld width b (take (length b / width) places)
+  filled-held low = table-held width b places f (sym f.said) (omega (arith, filled_few))
+
+  pub table_taken : ceiling ≤ 4096 → (t : Table) → t.bytes.now ≡ b → t.places.now ≡ take (length b / width) places → Taken (table_check width ceiling b fault) width b (Ok t)
+  table_taken low t bytes there =
+      record {
+        said = f.said;
+        table = record {
+          bytes = bytes;
+          places = there ∙ f.filled (sym f.said);
+          held = rw (bytes, there) (filled-held low);
+        };
+      }
 
 -- there are as many sections, and splits, as their table has records
 pub length_sections : (sections : List ℕ) → length (stage_sections sections) ≡ length sections / 15

@@ -2,7 +2,7 @@
 -- 2, then its kind's number" (DECISIONS.md, 9). One outcome for each table, so that an entry's definition has a line for each table that it takes.
 -- `lengths` are the lengths of the names, `sections` the sections that a record may refer to. What a table that passed is: `table_passed` of
 -- proofs/Laws.antt, and the laws of `tables` on its records.
-use Rattle.std.specs.Prelude.{ℕ, ◌/◌, ◌≤◌, ◌≡◌, List, length, Result, Ok, Err, IfOk}
+use Rattle.std.specs.Prelude.{ℕ, ◌/◌, ◌≤◌, ◌≡◌, List, length, take, Result, Ok, Err, IfOk}
 use Rattle.lists.specs.Outcome.{Outcome, accepted, ◌>>◌}
 use Rattle.obj.specs.Records.{stage_places, split_width, partial_width}
 use Rattle.obj.specs.Answers.{Answer, meaning}
@@ -73,6 +73,11 @@ units_check ceiling lengths b = table_check 8 ceiling b (unit_fault lengths (sta
 pub record Room (ceiling : ℕ) (places : List ℕ) : Type 0 where
   pub few : ceiling ≤ 4096
   pub long : ceiling ≤ length places
+
+-- what was answered of a table of `size` bytes, and the places of its records if it was accepted
+pub record Filled (answer want : Outcome (Unit {0})) (width size : ℕ) (places : List ℕ) : Type 0 where
+  pub said : answer ≡ want
+  pub filled : want ≡ accepted tt → take (size / width) places ≡ stage_places width (size / width)
 
 -- what was answered, whatever comes with it
 abbrev pub answered : {A : Type 0} → Result A Refusal → Answer

@@ -21,7 +21,7 @@ use sections::Obj;
 use split_obj::walk_sections;
 use splits::{SplitColumns, SplitTable};
 use stage_splits::take_split_columns;
-use stage_tables::take_units;
+use stage_tables::units_table;
 use units::number_units;
 use walk::NumberedUnits;
 
@@ -113,7 +113,7 @@ fn with_units(
 {
     let mut places = [0u32; 1024];
     let mut unit_numbers = [0u16; 4096];
-    let unit_records = take_units(obj.names.lengths, unit_table, 1024, &mut places)?;
+    let unit_records = units_table(obj.names.lengths, unit_table, 1024, &mut places)?;
     number_units(&unit_records, &mut unit_numbers);
     let units = NumberedUnits {
         table: unit_records,

@@ -31,16 +31,6 @@ returns-in_err-take_splits c =
     let splits = below _ _ _ _ _ c.in_err-take_splits.ensures.said (ap (λ (m : Ceilings). m.splits) c.main_ceilings-most.ensures) in
     rw (is_err _ c.from_residual-in_err-take_splits.ensures.1) (then_stops splits _ refl ∙ then_goes relocs _ refl ∙ then_goes symbols _ refl)
 
-pub returns-in_err-take_units : goal.returns-in_err-take_units
-unfolding from_symbols
-returns-in_err-take_units c =
-    let k = c.in_ok-symbols.ensures in
-    let symbols = below _ _ _ _ _ k.said (ap (λ (m : Ceilings). m.symbols) c.main_ceilings-most.ensures) in
-    let relocs = below _ _ _ _ _ (rw (taken-count 20 c.args.lent.now.symbols.now k.table) at c.in_ok-take_relocs.ensures.said) (ap (λ (m : Ceilings). m.relocations) c.main_ceilings-most.ensures) in
-    let splits = below _ _ _ _ _ c.in_ok-take_splits.ensures.said (ap (λ (m : Ceilings). m.splits) c.main_ceilings-most.ensures) in
-    rw (is_err _ c.from_residual-in_err-take_units.ensures.1)
-    (below _ _ _ _ _ c.in_err-take_units.ensures.said (ap (λ (m : Ceilings). m.units) c.main_ceilings-most.ensures) ∙ then_goes splits _ refl ∙ then_goes relocs _ refl ∙ then_goes symbols _ refl)
-
 pub returns : goal.returns
 unfolding from_symbols
 returns c =
@@ -48,4 +38,4 @@ returns c =
     let symbols = below _ _ _ _ _ k.said (ap (λ (m : Ceilings). m.symbols) c.main_ceilings-most.ensures) in
     let relocs = below _ _ _ _ _ (rw (taken-count 20 c.args.lent.now.symbols.now k.table) at c.in_ok-take_relocs.ensures.said) (ap (λ (m : Ceilings). m.relocations) c.main_ceilings-most.ensures) in
     let splits = below _ _ _ _ _ c.in_ok-take_splits.ensures.said (ap (λ (m : Ceilings). m.splits) c.main_ceilings-most.ensures) in
-    below _ _ _ _ _ c.in_ok-take_units.ensures.said (ap (λ (m : Ceilings). m.units) c.main_ceilings-most.ensures) ∙ then_goes splits _ refl ∙ then_goes relocs _ refl ∙ then_goes symbols _ refl
+    below _ _ _ _ _ c.take_units.ensures.said (ap (λ (m : Ceilings). m.units) c.main_ceilings-most.ensures) ∙ then_goes splits _ refl ∙ then_goes relocs _ refl ∙ then_goes symbols _ refl

@@ -3,26 +3,27 @@
 use mathlib.Core.Path.{sym}
 use native.Mathlib.Omega.{arith}
 use lib.Seq.{length-take-le}
-use Rattle.obj.proofs.Errors.{is_err}
-use Rattle.stage_tables.proofs.Laws.{taken_few, taken-count}
-use Rattle.stage_symbols.proofs.Orders.{order_room, symbols_whole, order_is}
+use Rattle.stage_tables.proofs.Laws.{filled_few}
+use Rattle.stage_symbols.proofs.Orders.{order_room, symbols_whole, led_in_order}
 use Rattle.stage_symbols.proofs.take_symbol_order.Goals as goal
 
-pub returns-in_err-table : goal.returns-in_err-table
-returns-in_err-table c = rw (is_err _ c.from_residual.ensures.1) (record { said = c.in_err-table.ensures.said; symbols = tt })
+pub slice_bounds-table-end : goal.slice_bounds-table-end
+slice_bounds-table-end c =
+    let few = filled_few 20 c.args.ceiling c.args.symbols.now _ _ c.in_ok-take_symbols.ensures in
+    omega (arith, few, c.requires.1.places_long, c.take_symbols.auto.places)
 
-pub make_order-n-requires : goal.make_order-n-requires
-make_order-n-requires c =
-    let k = c.in_ok-table.ensures in
-    (order_room c.args.ceiling c.args.symbols.now _ k c.requires.1, symbols_whole c.args.ceiling c.args.symbols.now _ k)
+pub slice_bounds-table-end-2 : goal.slice_bounds-table-end-2
+slice_bounds-table-end-2 c =
+    let few = filled_few 20 c.args.ceiling c.args.symbols.now _ _ c.in_ok-take_symbols.ensures in
+    sym (length-take-le _ _ (omega (arith, few, c.requires.1.places_long, c.take_symbols.auto.places)))
 
-pub slice_bounds-result-end : goal.slice_bounds-result-end
-slice_bounds-result-end c =
-    let k = c.in_ok-table.ensures in
-    let o = c.make_order-n in
-    sym (length-take-le _ _ (omega (arith, o.ensures.small, taken-count 20 c.args.symbols.now k.table, taken_few 20 c.args.ceiling c.args.symbols.now _ k, o.auto.order, c.requires.1.order_long)))
+pub make_order-requires : goal.make_order-requires
+make_order-requires c =
+    let a = c.args in
+    let f = c.in_ok-take_symbols.ensures in
+    (order_room a.ceiling a.symbols.now _ _ f c.requires.1, symbols_whole a.ceiling a.symbols.now _ _ f c.requires.1.few)
 
 pub returns : goal.returns
 returns c =
-    let k = c.in_ok-table.ensures in
-    record { said = k.said; symbols = record { table = k.table; order = order_is c.args.ceiling c.args.symbols.now _ k _ c.make_order-n.ensures } }
+    let f = c.in_ok-take_symbols.ensures in
+    record { said = f.said; placed = f.filled; led = led_in_order c.args.ceiling c.args.symbols.now _ _ f _ c.make_order.ensures }

@@ -4,4 +4,4 @@ use Rattle.tables.specs.Records.{partials_in, partial_fault}
 use Rattle.stage_tables.proofs.take_partials.Goals as goal
 
 pub returns : goal.returns
-returns c = let a = c.args in c.take_table.ensures (λ p. partial_fault a.lengths.now (partials_in a.b.now p)) (λ t r e q. rw (← e) (search rules))
+returns c = let a = c.args in c.check_table.ensures (λ p. partial_fault a.lengths.now (partials_in a.b.now p)) (λ t r e q. rw (← e) (search rules))

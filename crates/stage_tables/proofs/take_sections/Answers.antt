@@ -4,4 +4,4 @@ use Rattle.tables.specs.Records.{sections_in, section_fault}
 use Rattle.stage_tables.proofs.take_sections.Goals as goal
 
 pub returns : goal.returns
-returns c = let a = c.args in c.take_table.ensures (λ p. section_fault a.lengths.now (sections_in a.b.now p)) (λ t r e q. rw (← e) (search rules))
+returns c = let a = c.args in c.check_table.ensures (λ p. section_fault a.lengths.now (sections_in a.b.now p)) (λ t r e q. rw (← e) (search rules))

@@ -4,4 +4,4 @@ use Rattle.tables.specs.Records.{sections_in, splits_in, split_fault}
 use Rattle.stage_tables.proofs.take_splits.Goals as goal
 
 pub returns : goal.returns
-returns c = let a = c.args in c.take_table.ensures (λ p. split_fault a.lengths.now (sections_in a.heads.now.bytes.now a.heads.now.places.now) (splits_in a.b.now p)) (λ t r e q. rw (← e) (search rules))
+returns c = let a = c.args in c.check_table.ensures (λ p. split_fault a.lengths.now (sections_in a.heads.now.bytes.now a.heads.now.places.now) (splits_in a.b.now p)) (λ t r e q. rw (← e) (search rules))

@@ -4,4 +4,4 @@ use Rattle.tables.specs.Records.{units_in, unit_fault}
 use Rattle.stage_tables.proofs.take_units.Goals as goal
 
 pub returns : goal.returns
-returns c = let a = c.args in c.take_table.ensures (λ p. unit_fault a.lengths.now (units_in a.b.now p)) (λ t r e q. rw (← e) (search rules))
+returns c = let a = c.args in c.check_table.ensures (λ p. unit_fault a.lengths.now (units_in a.b.now p)) (λ t r e q. rw (← e) (search rules))
