@@ -47,6 +47,46 @@ taken-count width b w = ap length w.places ∙ length-stage_places width (length
 pub places_fit : (width n : ℕ) → width ≤ 64 → n ≤ 4096 → width * n ≤ 4294967295
 places_fit width n w h = omega (arith, mul-le-mul w h)
 
+-- what was said of the records at a table's places is said of the table
+records_asked : (width ceiling : ℕ) (b : List ℕ) → accepted tt ≡ size_check width ceiling (length b) → (fault : List ℕ → ℕ → ℕ) {places : List ℕ} {answer : Outcome (Unit {0})}
+    → places ≡ stage_places width (length b / width) → answer ≡ records_check (fault places) (length places)
+    → answer ≡ table_check width ceiling b (fault (stage_places width (length b / width)))
+unfolding table_check
+records_asked width ceiling b said fault there a =
+    a
+    ∙ ap (λ (l : List ℕ). records_check (fault l) (length l)) there
+    ∙ ap (records_check (fault (stage_places width (length b / width)))) (length-stage_places width (length b / width))
+    ∙ then_goes said _ refl
+
+-- ---- .. of a table that is answered
+
+-- places that were filled are those of the table
+pub size_taken : (width ceiling : ℕ) (b : List ℕ) (t : Table) → accepted tt ≡ size_check width ceiling (length b) → ceiling ≤ 4096 → t.bytes.now ≡ b
+    → t.places.now ≡ stage_places width (length b / width) → Taken (size_check width ceiling (length b)) width b (Ok t)
+size_taken width ceiling b t said few bytes places =
+    let s = size_passed width ceiling (length b) (sym said) in
+    record {
+      said = said;
+      table = record { bytes = bytes; places = places; held = rw (bytes, places) (stage_held width (length b / width) b (omega (arith, s.1, few)) (mul-div-le (length b) width)) };
+    }
+
+-- a refused size is the table's refusal
+pub size_refused : (width ceiling : ℕ) (b : List ℕ) (fault : ℕ → ℕ) {r : Refusal} → Taken (size_check width ceiling (length b)) width b (Err r)
+    → Taken (table_check width ceiling b fault) width b (Err r)
+unfolding table_check
+size_refused width ceiling b fault k = record { said = then_stops k.said (records_check fault (length b / width)) refl; table = k.table }
+
+module _ (width ceiling : ℕ) (b : List ℕ) {t : Table} (k : Taken (size_check width ceiling (length b)) width b (Ok t)) (fault : List ℕ → ℕ → ℕ) where
+  pub records_refused : {r : Refusal} → meaning {A = Unit {0}} (Err r) ≡ records_check (fault t.places.now) (length t.places.now)
+      → Taken (table_check width ceiling b (fault (stage_places width (length b / width)))) width b (Err r)
+  records_refused a = record { said = records_asked width ceiling b k.said fault k.table.places a; table = tt }
+
+  pub records_taken : accepted tt ≡ records_check (fault t.places.now) (length t.places.now)
+      → Taken (table_check width ceiling b (fault (stage_places width (length b / width)))) width b (Ok t)
+  records_taken a = record { said = records_asked width ceiling b k.said fault k.table.places a; table = k.table }
+
+-- ---- .. of a column
+
 -- a column whose front was filled
 pub front_filled : (width n : ℕ) (front rest : List ℕ) {m : ℕ} → front ≡ stage_places width m → m ≡ n → take n (front ++ rest) ≡ stage_places width n
 front_filled width n front rest {m} is few =
@@ -60,10 +100,10 @@ table-held width b places f e few = rw (f.filled e) (stage_held width (length b 
 
 module _ (width ceiling : ℕ) (b places : List ℕ) where
   -- a refused size is the table's refusal
-  pub size_refused : (fault : ℕ → ℕ) {r : Refusal} → Filled (meaning {A = Unit {0}} (Err r)) (size_check width ceiling (length b)) width (length b) places
+  pub filled_refused : (fault : ℕ → ℕ) {r : Refusal} → Filled (meaning {A = Unit {0}} (Err r)) (size_check width ceiling (length b)) width (length b) places
       → Filled (meaning {A = Unit {0}} (Err r)) (table_check width ceiling b fault) width (length b) places
   unfolding table_check
-  size_refused fault f =
+  filled_refused fault f =
       let said = then_stops f.said (records_check fault (length b / width)) refl in
       record { said = said; filled = λ q. absurd (not_both (said ∙ q)) }
 
@@ -78,16 +118,8 @@ module _ (width ceiling : ℕ) (b places : List ℕ) where
     pub records_said : (fault : List ℕ → ℕ → ℕ) {answer : Outcome (Unit {0})}
         → answer ≡ records_check (fault (take (length b / width) places)) (length (take (length b / width) places))
         → Filled answer (table_check width ceiling b (fault (stage_places width (length b / width)))) width (length b) places
-    unfolding table_check
     records_said fault a =
-        let p = f.filled (sym f.said) in record {
-          said =
-              a
-              ∙ ap (λ (l : List ℕ). records_check (fault l) (length l)) p
-              ∙ ap (records_check (fault (stage_places width (length b / width)))) (length-stage_places width (length b / width))
-              ∙ then_goes f.said _ refl;
-          filled = λ _. p;
-        }
+        let p = f.filled (sym f.said) in record { said = records_asked width ceiling b f.said fault p a; filled = λ _. p }
 
 -- ---- a column that was filled, and the table at its places
 module _ (width ceiling : ℕ) (b places : List ℕ) (fault : ℕ → ℕ) (f : Filled (accepted tt) (table_check width ceiling b fault) width (length b) places) where

@@ -4,7 +4,7 @@ use mathlib.Core.Path.{sym}
 use native.Mathlib.Omega.{arith}
 use lib.Seq.{length-take-le}
 use Rattle.stage_tables.proofs.Laws.{filled_few}
-use Rattle.stage_symbols.proofs.Orders.{order_room, symbols_whole, led_in_order}
+use Rattle.stage_symbols.proofs.Orders.{filled_room, filled_whole, led_in_order}
 use Rattle.stage_symbols.proofs.take_symbol_order.Goals as goal
 
 pub slice_bounds-table-end : goal.slice_bounds-table-end
@@ -21,7 +21,7 @@ pub make_order-requires : goal.make_order-requires
 make_order-requires c =
     let a = c.args in
     let f = c.in_ok-take_symbols.ensures in
-    (order_room a.ceiling a.symbols.now _ _ f c.requires.1, symbols_whole a.ceiling a.symbols.now _ _ f c.requires.1.few)
+    (filled_room a.ceiling a.symbols.now _ _ f c.requires.1, filled_whole a.ceiling a.symbols.now _ _ f c.requires.1.few)
 
 pub returns : goal.returns
 returns c =

@@ -2,13 +2,13 @@
 use Rattle.std.proofs.Common.{◌/◌, arith, length}
 use Rattle.obj.specs.Records.{stage_places}
 use Rattle.obj.proofs.Errors.{is_err}
-use Rattle.stage_tables.proofs.Laws.{size_refused, size_few, size_held, records_said}
+use Rattle.stage_tables.proofs.Laws.{filled_refused, size_few, size_held, records_said}
 use Rattle.stage_tables.proofs.check_table.Goals as goal
 
 pub returns-in_err-fill_table : goal.returns-in_err-fill_table
 returns-in_err-fill_table g c = λ fault h.
     let a = c.args in
-    rw (is_err _ c.from_residual.ensures.1) (size_refused a.width _ a.b.now _ (fault (stage_places a.width (length a.b.now / a.width))) c.in_err-fill_table.ensures)
+    rw (is_err _ c.from_residual.ensures.1) (filled_refused a.width _ a.b.now _ (fault (stage_places a.width (length a.b.now / a.width))) c.in_err-fill_table.ensures)
 
 pub table_at-requires : goal.table_at-requires
 table_at-requires g c =

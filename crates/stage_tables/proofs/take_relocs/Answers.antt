@@ -7,14 +7,14 @@ use lib.ListN.{length}
 use Rattle.obj.specs.Records.{stage_places}
 use Rattle.obj.proofs.Errors.{is_err}
 use Rattle.tables.specs.Records.{sections_in, relocs_in, reloc_fault}
-use Rattle.stage_tables.proofs.Laws.{size_refused, size_few, size_held, records_said}
+use Rattle.stage_tables.proofs.Laws.{filled_refused, size_few, size_held, records_said}
 use Rattle.stage_tables.proofs.take_relocs.Goals as goal
 
 pub returns-in_err-fill_table : goal.returns-in_err-fill_table
 returns-in_err-fill_table c =
     let a = c.args in
     let fault : List ℕ → ℕ → ℕ = λ p. reloc_fault (sections_in a.heads.now.bytes.now a.heads.now.places.now) a.symbols (relocs_in a.b.now p) in
-    rw (is_err _ c.from_residual.ensures.1) (size_refused 23 _ a.b.now _ (fault (stage_places 23 (length a.b.now / 23))) c.in_err-fill_table.ensures)
+    rw (is_err _ c.from_residual.ensures.1) (filled_refused 23 _ a.b.now _ (fault (stage_places 23 (length a.b.now / 23))) c.in_err-fill_table.ensures)
 
 pub table_at-requires : goal.table_at-requires
 table_at-requires c =
